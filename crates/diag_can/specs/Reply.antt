@@ -1,0 +1,21 @@
+-- The line of a frame that a tester was sent, in candump's log notation.
+use Rattle.std.specs.Prelude.{ℕ, ◌-◌, ◌/◌, ◌%◌, codes, true, List, ◌++◌, length, replicate}
+use Rattle.std.specs.Fmt.{decimal, digits}
+use Rattle.hex.specs.Hex.{encode_upper}
+use Rattle.diag_can.specs.declared.frame.Frame.{Frame}
+
+-- the digits with zeros before them, up to a width
+abbrev pub zero_filled : ℕ → List ℕ → List ℕ
+zero_filled width ds = replicate (width - length ds) 48 ++ ds
+
+-- `(SECONDS.MILLISECONDS000)` of a time in milliseconds
+abbrev pub stamp : ℕ → List ℕ
+stamp at = codes "(" ++ zero_filled 10 (decimal (at / 1000)) ++ codes "." ++ zero_filled 3 (decimal (at % 1000)) ++ codes "000)"
+
+-- the identifier in three hex digits, and the bytes
+abbrev pub frame_text : Frame → List ℕ
+frame_text frame = zero_filled 3 (digits 16 true frame.id) ++ codes "#" ++ encode_upper frame.bytes
+
+-- a frame that a tester was sent at a time, by the tester's name
+abbrev pub reply_line : List ℕ → ℕ → Frame → List ℕ
+reply_line name at frame = stamp at ++ codes " " ++ name ++ codes " " ++ frame_text frame ++ codes "\n"
