@@ -1,0 +1,4 @@
+pub mod SortLemmas
+pub mod SetupLemmas
+pub mod FitLemmas
+mod SetupExamples

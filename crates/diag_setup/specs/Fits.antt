@@ -1,0 +1,62 @@
+-- What the rows of a setup without a fault keep to, as bounds.
+use Rattle.std.specs.Prelude.{◌≤◌, length, Option, Some, None}
+use Rattle.std.specs.List.{All}
+use Rattle.diag_setup.specs.declared.raw.RawSetup.{RawSetup}
+use Rattle.diag_setup.specs.declared.raw.RawTester.{RawTester}
+use Rattle.diag_setup.specs.declared.raw.RawDid.{RawDid}
+use Rattle.diag_setup.specs.declared.raw.RawCode.{RawCode}
+use Rattle.diag_setup.specs.declared.raw.RawRoutine.{RawRoutine}
+use Rattle.diag_setup.specs.declared.raw.RawKeyRow.{RawKeyRow}
+use Rattle.diag_setup.specs.declared.raw.RawLevel.{RawLevel}
+
+pub record TesterFits (tester : RawTester) : Type 0 where
+  pub request : tester.request ≤ 0x7FF
+  pub response : tester.response ≤ 0x7FF
+
+pub record DidFits (did : RawDid) : Type 0 where
+  pub id : did.id ≤ 0xFFFF
+  pub value : length did.value ≤ 255
+  pub read_level : did.read_level ≤ 65
+  pub write_level : did.write_level ≤ 65
+
+pub record CodeFits (row : RawCode) : Type 0 where
+  pub code : row.code ≤ 0xFFFFFE
+  pub status : row.status ≤ 0xFF
+
+abbrev pub OnDoneFits : Option RawCode → Type 0
+OnDoneFits None = Unit {0}
+OnDoneFits (Some row) = row.status ≤ 0xFF
+
+pub record RoutineFits (routine : RawRoutine) : Type 0 where
+  pub id : routine.id ≤ 0xFFFF
+  pub result : length routine.result ≤ 32
+  pub level : routine.level ≤ 65
+  pub on_done : OnDoneFits routine.on_done
+
+pub record KeyRowFits (row : RawKeyRow) : Type 0 where
+  pub seed : length row.seed ≤ 16
+  pub key : length row.key ≤ 16
+
+pub record LevelFits (level : RawLevel) : Type 0 where
+  pub sub : level.sub ≤ 65
+  pub some : 1 ≤ length level.rows
+  pub few : length level.rows ≤ 64
+  pub rows : All KeyRowFits level.rows
+
+-- the numbers that stand beside the tables
+pub record NumbersFit (raw : RawSetup) : Type 0 where
+  pub p2_ms : raw.p2_ms ≤ 0xFFFF
+  pub p2_star_10ms : raw.p2_star_10ms ≤ 0xFFFF
+  pub n_bs_some : 1 ≤ raw.n_bs_ms
+  pub n_bs_ms : raw.n_bs_ms ≤ 60000
+  pub n_cr_some : 1 ≤ raw.n_cr_ms
+  pub n_cr_ms : raw.n_cr_ms ≤ 60000
+  pub block_size : raw.block_size ≤ 0xFF
+  pub st_min : raw.st_min ≤ 0xFF
+  pub max_request : raw.max_request ≤ 0xFFFF
+  pub pad_byte : raw.pad_byte ≤ 0xFF
+  pub functional : raw.functional ≤ 0x7FF
+  pub availability : raw.availability ≤ 0xFF
+  pub attempts_some : 1 ≤ raw.attempts
+  pub attempts : raw.attempts ≤ 0xFF
+  pub delay_ms : 1 ≤ raw.delay_ms

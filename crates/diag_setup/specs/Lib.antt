@@ -1,0 +1,4 @@
+pub mod Rows
+pub mod Setup
+pub mod Fits
+pub mod Fault

@@ -1,0 +1,245 @@
+-- Which raw setups are refused, with which fault, what setup the others are, and what a setup tells.
+use Rattle.std.specs.Prelude.{◌≡◌, ◌==◌, ◌&&◌, ◌||◌, ◌%◌, ◌+◌, ◌-◌, bytes_eq, ℕ, Bool, true, false, not, List, [], ◌∷◌, ◌++◌, length, Option, Some, None, Result, Ok, Err, if◌then◌else◌, nat_le, nat_lt, slice_get, unwrap_or}
+use Rattle.std.specs.List.{list_all, list_any, flat_map}
+use Rattle.diag_can.specs.declared.frame.Ids.{Ids}
+use Rattle.diag_tp.specs.declared.setup.LinkSetup.{LinkSetup}
+use Rattle.diag_setup.specs.declared.setup.Values.{Values}
+use Rattle.diag_setup.specs.Rows.{is_between, has_length, have_one_length, has_key, has_repeat, in_order, is_rising}
+use Rattle.diag_setup.specs.declared.raw.RawSetup.{RawSetup}
+use Rattle.diag_setup.specs.declared.raw.RawTester.{RawTester}
+use Rattle.diag_setup.specs.declared.raw.RawDid.{RawDid}
+use Rattle.diag_setup.specs.declared.raw.RawCode.{RawCode}
+use Rattle.diag_setup.specs.declared.raw.RawRoutine.{RawRoutine}
+use Rattle.diag_setup.specs.declared.raw.RawKeyRow.{RawKeyRow}
+use Rattle.diag_setup.specs.declared.raw.RawLevel.{RawLevel}
+use Rattle.diag_setup.specs.declared.fault.SetupFault.{SetupFault}
+use Rattle.diag_setup.specs.declared.fault.SetupFault.TheVariants.{Range, Empty, DuplicateId, UnknownCode, UnknownLevel}
+
+-- the keys by which the tables are looked up
+abbrev pub did_id : RawDid → ℕ
+did_id did = did.id
+
+abbrev pub dtc_code : RawCode → ℕ
+dtc_code row = row.code
+
+abbrev pub routine_id : RawRoutine → ℕ
+routine_id routine = routine.id
+
+abbrev pub level_sub : RawLevel → ℕ
+level_sub level = level.sub
+
+-- letters, digits and the underscore
+abbrev pub is_name_byte : ℕ → Bool
+is_name_byte b = is_between 48 57 b || is_between 65 90 b || is_between 97 122 b || b == 95
+
+abbrev pub is_can_id : ℕ → Bool
+is_can_id id = nat_le id 0x7FF
+
+abbrev pub tester_is_in_range : RawTester → Bool
+tester_is_in_range tester =
+    has_length 1 16 tester.name && list_all is_name_byte tester.name && is_can_id tester.request && is_can_id tester.response
+
+abbrev pub did_is_in_range : RawDid → Bool
+did_is_in_range did = nat_le did.id 0xFFFF && has_length 1 255 did.value
+
+abbrev pub code_is_in_range : RawCode → Bool
+code_is_in_range row = nat_le row.code 0xFFFFFE && nat_le row.status 0xFF
+
+-- the code that a routine names is one of the list, so it has no range of its own
+abbrev pub on_done_is_in_range : Option RawCode → Bool
+on_done_is_in_range None = true
+on_done_is_in_range (Some row) = nat_le row.status 0xFF
+
+abbrev pub routine_is_in_range : RawRoutine → Bool
+routine_is_in_range routine =
+    nat_le routine.id 0xFFFF && is_between 1 600000 routine.time_ms && nat_le (length routine.result) 32 && on_done_is_in_range routine.on_done
+
+abbrev pub key_row_is_in_range : RawKeyRow → Bool
+key_row_is_in_range row = has_length 1 16 row.seed && list_any (λ b. not (b == 0)) row.seed && has_length 1 16 row.key
+
+abbrev pub seed_of : RawKeyRow → List ℕ
+seed_of row = row.seed
+
+abbrev pub key_of : RawKeyRow → List ℕ
+key_of row = row.key
+
+-- in one level all seeds have one length, and all keys have one
+abbrev pub level_is_in_range : RawLevel → Bool
+level_is_in_range level =
+    is_between 1 65 level.sub && level.sub % 2 == 1 && nat_le (length level.rows) 64 && list_all key_row_is_in_range level.rows && have_one_length seed_of level.rows && have_one_length key_of level.rows
+
+abbrev pub is_st_min : ℕ → Bool
+is_st_min st = nat_le st 127 || is_between 241 249 st
+
+abbrev pub times_are_in_range : RawSetup → Bool
+times_are_in_range raw =
+    nat_le raw.p2_ms 0xFFFF && nat_le raw.p2_star_10ms 0xFFFF && is_between 1 600000 raw.s3_ms && is_between 1 60000 raw.n_bs_ms && is_between 1 60000 raw.n_cr_ms
+
+abbrev pub link_is_in_range : RawSetup → Bool
+link_is_in_range raw =
+    nat_le raw.block_size 0xFF && is_st_min raw.st_min && is_between 8 0xFFFF raw.max_request && nat_le raw.pad_byte 0xFF && is_can_id raw.functional
+
+abbrev pub server_is_in_range : RawSetup → Bool
+server_is_in_range raw = nat_le raw.availability 0xFF && is_between 1 0xFF raw.attempts && is_between 1 600000 raw.delay_ms
+
+abbrev pub testers_are_in_range : List RawTester → Bool
+testers_are_in_range testers = nat_le (length testers) 8 && list_all tester_is_in_range testers
+
+abbrev pub dids_are_in_range : List RawDid → Bool
+dids_are_in_range dids = nat_le (length dids) 64 && list_all did_is_in_range dids
+
+abbrev pub codes_are_in_range : List RawCode → Bool
+codes_are_in_range codes = nat_le (length codes) 256 && list_all code_is_in_range codes
+
+abbrev pub routines_are_in_range : List RawRoutine → Bool
+routines_are_in_range routines = nat_le (length routines) 16 && list_all routine_is_in_range routines
+
+abbrev pub levels_are_in_range : List RawLevel → Bool
+levels_are_in_range levels = nat_le (length levels) 4 && list_all level_is_in_range levels
+
+-- Range: every value and every number of rows is one that the table allows
+abbrev pub is_in_range : RawSetup → Bool
+is_in_range raw =
+    times_are_in_range raw && link_is_in_range raw && server_is_in_range raw && testers_are_in_range raw.testers && dids_are_in_range raw.dids && codes_are_in_range raw.codes && routines_are_in_range raw.routines && levels_are_in_range raw.levels
+
+abbrev pub has_no_rows : RawLevel → Bool
+has_no_rows level = length level.rows == 0
+
+-- Empty: no tester, or a level without a row
+abbrev pub lacks_rows : RawSetup → Bool
+lacks_rows raw = length raw.testers == 0 || list_any has_no_rows raw.levels
+
+abbrev pub has_name : List RawTester → List ℕ → Bool
+has_name testers name = list_any (λ tester. bytes_eq tester.name name) testers
+
+abbrev pub has_repeated_name : List RawTester → Bool
+has_repeated_name [] = false
+has_repeated_name (tester ∷ testers) = has_name testers tester.name || has_repeated_name testers
+
+-- the identifiers of a tester alone
+abbrev pub own_ids : RawTester → List ℕ
+own_ids tester = tester.request ∷ tester.response ∷ []
+
+-- all identifiers on the bus
+abbrev pub can_ids : List RawTester → ℕ → List ℕ
+can_ids testers functional = flat_map own_ids testers ++ functional ∷ []
+
+abbrev pub itself : ℕ → ℕ
+itself n = n
+
+-- DuplicateId: two testers of one name, two equal identifiers, or two rows of one key
+abbrev pub has_duplicates : RawSetup → Bool
+has_duplicates raw =
+    has_repeated_name raw.testers || has_repeat itself (can_ids raw.testers raw.functional) || has_repeat did_id raw.dids || has_repeat dtc_code raw.codes || has_repeat routine_id raw.routines || has_repeat level_sub raw.levels
+
+abbrev pub is_known_code : List RawCode → Option RawCode → Bool
+is_known_code codes None = true
+is_known_code codes (Some row) = has_key dtc_code codes row.code
+
+-- a level that is 0 is open
+abbrev pub is_known_level : List RawLevel → ℕ → Bool
+is_known_level levels level = level == 0 || has_key level_sub levels level
+
+abbrev pub done_code_is_known : List RawCode → RawRoutine → Bool
+done_code_is_known codes routine = is_known_code codes routine.on_done
+
+abbrev pub routine_level_is_known : List RawLevel → RawRoutine → Bool
+routine_level_is_known levels routine = is_known_level levels routine.level
+
+-- UnknownCode: a routine names a code that isn't in the list
+abbrev pub names_unknown_code : RawSetup → Bool
+names_unknown_code raw = not (list_all (done_code_is_known raw.codes) raw.routines)
+
+abbrev pub did_levels_are_known : List RawLevel → RawDid → Bool
+did_levels_are_known levels did = is_known_level levels did.read_level && is_known_level levels did.write_level
+
+-- UnknownLevel: an identifier or a routine names a level that isn't in the list
+abbrev pub names_unknown_level : RawSetup → Bool
+names_unknown_level raw =
+    not (list_all (did_levels_are_known raw.levels) raw.dids && list_all (routine_level_is_known raw.levels) raw.routines)
+
+-- what is looked at, in this order, and the fault where it holds
+abbrev pub faults : RawSetup → List (Bool × SetupFault)
+faults raw =
+    (not (is_in_range raw), Range)
+    ∷ (lacks_rows raw, Empty)
+    ∷ (has_duplicates raw, DuplicateId)
+    ∷ (names_unknown_code raw, UnknownCode)
+    ∷ (names_unknown_level raw, UnknownLevel)
+    ∷ []
+
+abbrev pub first_holding : {X : Type 0} → List (Bool × X) → Option X
+first_holding [] = None
+first_holding (check ∷ rest) = if check.0 then Some check.1 else first_holding rest
+
+abbrev pub fault_of : RawSetup → Option SetupFault
+fault_of raw = first_holding (faults raw)
+
+-- the same setup with its tables in rising order
+abbrev pub sorted : RawSetup → RawSetup
+sorted raw = record raw {
+  dids = in_order did_id raw.dids;
+  codes = in_order dtc_code raw.codes;
+  routines = in_order routine_id raw.routines;
+  levels = in_order level_sub raw.levels;
+}
+
+-- whether the tables are in rising order, each key once
+abbrev pub tables_rise : RawSetup → Bool
+tables_rise raw = is_rising did_id raw.dids && is_rising dtc_code raw.codes && is_rising routine_id raw.routines && is_rising level_sub raw.levels
+
+-- what a setup is: a raw one without a fault, its tables in rising order
+abbrev pub IsSetup : RawSetup → Type 0
+IsSetup raw = (fault_of raw ≡ None) × (tables_rise raw ≡ true)
+
+abbrev pub setup_or_fault : Option SetupFault → RawSetup → Result RawSetup SetupFault
+setup_or_fault None raw = Ok (sorted raw)
+setup_or_fault (Some fault) raw = Err fault
+
+-- the setup that a raw one is, or its first fault
+abbrev pub checked : RawSetup → Result RawSetup SetupFault
+checked raw = setup_or_fault (fault_of raw) raw
+
+-- the tester at an index from 0, by its place
+abbrev pub who_at : RawSetup → ℕ → Option ℕ
+who_at setup i = if nat_lt i (length setup.testers) then Some (i + 1) else None
+
+-- what stands for the tester of a place that has none
+abbrev pub nobody : RawTester
+nobody = record { name = []; request = 0; response = 0 }
+
+-- the tester of a place from 1
+abbrev pub tester_of : RawSetup → ℕ → RawTester
+tester_of setup who = unwrap_or (slice_get setup.testers (who - 1)) nobody
+
+abbrev pub name_of : RawSetup → ℕ → List ℕ
+name_of setup who = (tester_of setup who).name
+
+-- the identifiers of a tester's link
+abbrev pub ids_of : RawSetup → ℕ → Ids
+ids_of setup who = record {
+  request = (tester_of setup who).request;
+  response = (tester_of setup who).response;
+  functional = setup.functional;
+}
+
+-- the settings of a tester's link
+abbrev pub link_of : RawSetup → ℕ → LinkSetup
+link_of setup who = record {
+  ids = ids_of setup who;
+  block_size = setup.block_size;
+  st_min = setup.st_min;
+  max_request = setup.max_request;
+  pad = if setup.pad then Some setup.pad_byte else None;
+  n_bs = setup.n_bs_ms;
+  n_cr = setup.n_cr_ms;
+}
+
+-- the values that the services answer with
+abbrev pub values_of : RawSetup → Values
+values_of setup = record {
+  p2_ms = setup.p2_ms;
+  p2_star_10ms = setup.p2_star_10ms;
+  s3_ms = setup.s3_ms;
+  availability = setup.availability;
+}

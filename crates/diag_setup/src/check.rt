@@ -1,0 +1,400 @@
+//! The tests that a raw setup has to pass.
+
+ghost use Rattle.std.specs.Prelude.{◌≡◌, ◌==◌, ◌≤◌, length, not};
+ghost use Rattle.std.specs.List.{list_all, list_any};
+ghost use Rattle.std.specs.Bool.{OnTrue};
+ghost use Rattle.diag_setup.specs.Rows.{is_between, have_one_length};
+ghost use Rattle.diag_setup.specs.Setup.{can_ids, has_name, has_repeated_name, has_no_rows, is_known_level, done_code_is_known, did_levels_are_known, routine_level_is_known, lacks_rows, has_duplicates, names_unknown_code, names_unknown_level, key_of, seed_of, fault_of, is_in_range, times_are_in_range, link_is_in_range, server_is_in_range, testers_are_in_range, dids_are_in_range, codes_are_in_range, routines_are_in_range, levels_are_in_range, tester_is_in_range, did_is_in_range, code_is_in_range, routine_is_in_range, key_row_is_in_range, level_is_in_range, is_st_min, is_name_byte, is_can_id};
+
+use crate::fault::SetupFault;
+use crate::keyed::{has_key, has_repeat};
+use crate::raw::{RawCode, RawDid, RawKeyRow, RawLevel, RawRoutine, RawSetup, RawTester};
+use arrayvec::ArrayVec;
+
+impl RawSetup {
+    fn times_are_in_range(&self) -> bool
+        ensures { result ≡ times_are_in_range self.now }
+    {
+        self.p2_ms <= 0xFFFF
+            && self.p2_star_10ms <= 0xFFFF
+            && is_between(1, 600_000, self.s3_ms)
+            && is_between(1, 60_000, self.n_bs_ms)
+            && is_between(1, 60_000, self.n_cr_ms)
+    }
+
+    fn link_is_in_range(&self) -> bool
+        ensures { result ≡ link_is_in_range self.now }
+    {
+        self.block_size <= 0xFF
+            && is_st_min(self.st_min)
+            && is_between(8, 0xFFFF, self.max_request)
+            && self.pad_byte <= 0xFF
+            && is_can_id(self.functional)
+    }
+
+    fn server_is_in_range(&self) -> bool
+        ensures { result ≡ server_is_in_range self.now }
+    {
+        self.availability <= 0xFF
+            && is_between(1, 0xFF, self.attempts)
+            && is_between(1, 600_000, self.delay_ms)
+    }
+
+    fn is_in_range(&self) -> bool
+        ensures answer { result ≡ is_in_range self.now }
+        ensures testers { OnTrue result (length self.now.testers ≤ 8) }
+    {
+        self.times_are_in_range()
+            && self.link_is_in_range()
+            && self.server_is_in_range()
+            && testers_are_in_range(self.testers.as_slice())
+            && dids_are_in_range(self.dids.as_slice())
+            && codes_are_in_range(self.codes.as_slice())
+            && routines_are_in_range(self.routines.as_slice())
+            && levels_are_in_range(self.levels.as_slice())
+    }
+}
+
+fn testers_are_in_range(testers: &[RawTester]) -> bool
+    ensures answer { result ≡ testers_are_in_range testers.now }
+    ensures few { OnTrue result (length testers.now ≤ 8) }
+{
+    testers.len() <= 8 && all_testers_are_in_range(testers)
+}
+
+fn all_testers_are_in_range(testers: &[RawTester]) -> bool
+    ensures { result ≡ list_all tester_is_in_range testers.now }
+{
+    testers.iter().all(|tester| tester.is_in_range())
+}
+
+fn dids_are_in_range(dids: &[RawDid]) -> bool
+    ensures { result ≡ dids_are_in_range dids.now }
+{
+    dids.len() <= 64 && all_dids_are_in_range(dids)
+}
+
+fn all_dids_are_in_range(dids: &[RawDid]) -> bool
+    ensures { result ≡ list_all did_is_in_range dids.now }
+{
+    dids.iter().all(|did| did.is_in_range())
+}
+
+fn codes_are_in_range(codes: &[RawCode]) -> bool
+    ensures { result ≡ codes_are_in_range codes.now }
+{
+    codes.len() <= 256 && all_codes_are_in_range(codes)
+}
+
+fn all_codes_are_in_range(codes: &[RawCode]) -> bool
+    ensures { result ≡ list_all code_is_in_range codes.now }
+{
+    codes.iter().all(|row| row.is_in_range())
+}
+
+fn routines_are_in_range(routines: &[RawRoutine]) -> bool
+    ensures { result ≡ routines_are_in_range routines.now }
+{
+    routines.len() <= 16 && all_routines_are_in_range(routines)
+}
+
+fn all_routines_are_in_range(routines: &[RawRoutine]) -> bool
+    ensures { result ≡ list_all routine_is_in_range routines.now }
+{
+    routines.iter().all(|routine| routine.is_in_range())
+}
+
+fn levels_are_in_range(levels: &[RawLevel]) -> bool
+    ensures { result ≡ levels_are_in_range levels.now }
+{
+    levels.len() <= 4 && all_levels_are_in_range(levels)
+}
+
+fn all_levels_are_in_range(levels: &[RawLevel]) -> bool
+    ensures { result ≡ list_all level_is_in_range levels.now }
+{
+    levels.iter().all(|level| level.is_in_range())
+}
+
+impl RawTester {
+    fn is_in_range(&self) -> bool
+        ensures { result ≡ tester_is_in_range self.now }
+    {
+        is_between_len(1, 16, self.name.len())
+            && is_name(self.name.as_slice())
+            && is_can_id(self.request)
+            && is_can_id(self.response)
+    }
+}
+
+impl RawDid {
+    fn is_in_range(&self) -> bool
+        ensures { result ≡ did_is_in_range self.now }
+    {
+        self.id <= 0xFFFF && is_between_len(1, 255, self.value.len())
+    }
+}
+
+impl RawCode {
+    fn is_in_range(&self) -> bool
+        ensures { result ≡ code_is_in_range self.now }
+    {
+        self.code <= 0xFF_FFFE && self.status <= 0xFF
+    }
+}
+
+impl RawRoutine {
+    fn is_in_range(&self) -> bool
+        ensures { result ≡ routine_is_in_range self.now }
+    {
+        self.id <= 0xFFFF
+            && is_between(1, 600_000, self.time_ms)
+            && self.result.len() <= 32
+            && match &self.on_done {
+                Some(row) => row.status <= 0xFF,
+                None => true,
+            }
+    }
+}
+
+impl RawKeyRow {
+    fn is_in_range(&self) -> bool
+        ensures { result ≡ key_row_is_in_range self.now }
+    {
+        is_between_len(1, 16, self.seed.len())
+            && has_a_bit(self.seed.as_slice())
+            && is_between_len(1, 16, self.key.len())
+    }
+}
+
+impl RawLevel {
+    fn is_in_range(&self) -> bool
+        ensures { result ≡ level_is_in_range self.now }
+    {
+        is_between(1, 65, self.sub)
+            && self.sub % 2 == 1
+            && self.rows.len() <= 64
+            && all_key_rows_are_in_range(self.rows.as_slice())
+            && seeds_have_one_length(self.rows.as_slice())
+            && keys_have_one_length(self.rows.as_slice())
+    }
+}
+
+fn seeds_have_one_length(rows: &[RawKeyRow]) -> bool
+    ensures { result ≡ have_one_length seed_of rows.now }
+{
+    let length = match rows {
+        [first, ..] => first.seed.len(),
+        [] => 0,
+    };
+    rows.iter().all(|row| row.seed.len() == length)
+}
+
+fn keys_have_one_length(rows: &[RawKeyRow]) -> bool
+    ensures { result ≡ have_one_length key_of rows.now }
+{
+    let length = match rows {
+        [first, ..] => first.key.len(),
+        [] => 0,
+    };
+    rows.iter().all(|row| row.key.len() == length)
+}
+
+fn is_between(low: u32, high: u32, n: u32) -> bool
+    ensures { result ≡ is_between low high n }
+{
+    low <= n && n <= high
+}
+
+fn is_between_len(low: usize, high: usize, n: usize) -> bool
+    ensures { result ≡ is_between low high n }
+{
+    low <= n && n <= high
+}
+
+fn is_st_min(st: u32) -> bool
+    ensures { result ≡ is_st_min st }
+{
+    st <= 127 || is_between(241, 249, st)
+}
+
+fn is_can_id(id: u32) -> bool
+    ensures { result ≡ is_can_id id }
+{
+    id <= 0x7FF
+}
+
+fn is_name_byte(byte: u8) -> bool
+    ensures { result ≡ is_name_byte byte }
+{
+    matches!(byte, b'0'..=b'9' | b'A'..=b'Z' | b'a'..=b'z' | b'_')
+}
+
+fn is_name(bytes: &[u8]) -> bool
+    ensures { result ≡ list_all is_name_byte bytes.now }
+{
+    bytes.iter().all(|byte| is_name_byte(*byte))
+}
+
+fn has_a_bit(bytes: &[u8]) -> bool
+    ensures { result ≡ list_any (λ b. not (b == 0)) bytes.now }
+{
+    bytes.iter().any(|byte| *byte != 0)
+}
+
+fn all_key_rows_are_in_range(rows: &[RawKeyRow]) -> bool
+    ensures { result ≡ list_all key_row_is_in_range rows.now }
+{
+    rows.iter().all(|row| row.is_in_range())
+}
+
+/// The identifiers on the bus: requests, responses and the functional one.
+fn can_ids(testers: &[RawTester], functional: u32) -> ArrayVec<u32, 17>
+    requires { length testers.now ≤ 8 }
+    ensures { result.items ≡ can_ids testers.now functional }
+{
+    let mut ids = ArrayVec::new();
+    for tester in testers {
+        ids.push(tester.request);
+        ids.push(tester.response);
+    }
+    ids.push(functional);
+    ids
+}
+
+fn has_name(testers: &[RawTester], name: &[u8]) -> bool
+    ensures { result ≡ has_name testers.now name.now }
+{
+    testers.iter().any(|tester| tester.name.as_slice() == name)
+}
+
+fn has_repeated_name(testers: &[RawTester]) -> bool
+    ensures { result ≡ has_repeated_name testers.now }
+{
+    let mut rest = testers;
+    while let [first, tail @ ..] = rest {
+        if has_name(tail, first.name.as_slice()) {
+            return true;
+        }
+        rest = tail;
+    }
+    false
+}
+
+impl RawLevel {
+    fn has_no_rows(&self) -> bool
+        ensures { result ≡ has_no_rows self.now }
+    {
+        self.rows.len() == 0
+    }
+}
+
+fn any_level_has_no_rows(levels: &[RawLevel]) -> bool
+    ensures { result ≡ list_any has_no_rows levels.now }
+{
+    levels.iter().any(|level| level.has_no_rows())
+}
+
+fn is_known_level(levels: &[RawLevel], level: u32) -> bool
+    ensures { result ≡ is_known_level levels.now level }
+{
+    level == 0 || has_key(levels, level)
+}
+
+fn done_code_is_known(codes: &[RawCode], routine: &RawRoutine) -> bool
+    ensures { result ≡ done_code_is_known codes.now routine.now }
+{
+    match &routine.on_done {
+        Some(row) => has_key(codes, row.code),
+        None => true,
+    }
+}
+
+fn done_codes_are_known(codes: &[RawCode], routines: &[RawRoutine]) -> bool
+    ensures { result ≡ list_all (done_code_is_known codes.now) routines.now }
+{
+    routines
+        .iter()
+        .all(|routine| done_code_is_known(codes, routine))
+}
+
+fn did_levels_are_known(levels: &[RawLevel], did: &RawDid) -> bool
+    ensures { result ≡ did_levels_are_known levels.now did.now }
+{
+    is_known_level(levels, did.read_level) && is_known_level(levels, did.write_level)
+}
+
+fn all_did_levels_are_known(levels: &[RawLevel], dids: &[RawDid]) -> bool
+    ensures { result ≡ list_all (did_levels_are_known levels.now) dids.now }
+{
+    dids.iter().all(|did| did_levels_are_known(levels, did))
+}
+
+fn routine_level_is_known(levels: &[RawLevel], routine: &RawRoutine) -> bool
+    ensures { result ≡ routine_level_is_known levels.now routine.now }
+{
+    is_known_level(levels, routine.level)
+}
+
+fn routine_levels_are_known(levels: &[RawLevel], routines: &[RawRoutine]) -> bool
+    ensures { result ≡ list_all (routine_level_is_known levels.now) routines.now }
+{
+    routines
+        .iter()
+        .all(|routine| routine_level_is_known(levels, routine))
+}
+
+impl RawSetup {
+    fn lacks_rows(&self) -> bool
+        ensures { result ≡ lacks_rows self.now }
+    {
+        self.testers.len() == 0 || any_level_has_no_rows(self.levels.as_slice())
+    }
+
+    fn has_duplicates(&self) -> bool
+        requires { length self.now.testers ≤ 8 }
+        ensures { result ≡ has_duplicates self.now }
+    {
+        has_repeated_name(self.testers.as_slice())
+            || has_repeat(can_ids(self.testers.as_slice(), self.functional).as_slice())
+            || has_repeat(self.dids.as_slice())
+            || has_repeat(self.codes.as_slice())
+            || has_repeat(self.routines.as_slice())
+            || has_repeat(self.levels.as_slice())
+    }
+
+    fn names_unknown_code(&self) -> bool
+        ensures { result ≡ names_unknown_code self.now }
+    {
+        !done_codes_are_known(self.codes.as_slice(), self.routines.as_slice())
+    }
+
+    fn names_unknown_level(&self) -> bool
+        ensures { result ≡ names_unknown_level self.now }
+    {
+        !(all_did_levels_are_known(self.levels.as_slice(), self.dids.as_slice())
+            && routine_levels_are_known(self.levels.as_slice(), self.routines.as_slice()))
+    }
+
+    /// The first fault of the setup, in the order in which it is looked at.
+    pub(crate) fn first_fault(&self) -> Option<SetupFault>
+        ensures { result ≡ fault_of self.now }
+    {
+        if !self.is_in_range() {
+            return Some(SetupFault::Range);
+        }
+        if self.lacks_rows() {
+            return Some(SetupFault::Empty);
+        }
+        if self.has_duplicates() {
+            return Some(SetupFault::DuplicateId);
+        }
+        if self.names_unknown_code() {
+            return Some(SetupFault::UnknownCode);
+        }
+        if self.names_unknown_level() {
+            return Some(SetupFault::UnknownLevel);
+        }
+        None
+    }
+}

@@ -1,0 +1,16 @@
+//! The setup of the server: as it was read, the tests that it has to pass, and what it tells.
+#![tactic(auto)]
+
+mod check;
+mod fault;
+mod items;
+mod keyed;
+mod raw;
+mod setup;
+mod who;
+
+pub use fault::SetupFault;
+pub use items::Items;
+pub use raw::{Keyed, RawCode, RawDid, RawKeyRow, RawLevel, RawRoutine, RawSetup, RawTester};
+pub use setup::{Setup, Values};
+pub use who::Who;

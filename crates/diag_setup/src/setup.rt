@@ -1,0 +1,222 @@
+//! A setup that passed all tests.
+
+ghost use Rattle.std.specs.Prelude.{IsTrue, ◌≡◌, ◌≤◌, ◌-◌, length, Some, slice_get};
+ghost use Rattle.std.specs.List.{All};
+ghost use Rattle.diag_setup.specs.Setup.{checked, did_id, dtc_code, routine_id, level_sub, who_at, name_of, ids_of, link_of, values_of};
+ghost use Rattle.diag_setup.specs.Rows.{is_rising};
+ghost use Rattle.diag_setup.specs.Fits.{TesterFits, DidFits, CodeFits, RoutineFits, LevelFits, NumbersFit};
+
+use crate::fault::SetupFault;
+use crate::raw::{RawCode, RawDid, RawLevel, RawRoutine, RawSetup, RawTester};
+use crate::who::Who;
+use diag_can::{CanId, Ids, TickCount};
+use diag_tp::LinkSetup;
+use std::marker::Model;
+
+/// A setup without a fault, its tables in rising order.
+#[derive(Drop)]
+pub struct Setup {
+    raw: RawSetup,
+}
+
+impl Model for Setup {
+    ghost use Rattle.diag_setup.specs.declared.raw.RawSetup.{RawSetup};
+    ghost use Rattle.diag_setup.specs.Setup.{IsSetup};
+
+    ghost Value = { RawSetup };
+
+    ghost view = { λ s. s.raw };
+
+    ghost invariant = { λ s. IsSetup s.raw };
+}
+
+/// The values that the services answer with.
+#[derive(Clone, Copy, PartialEq, Eq, Debug, Drop)]
+pub struct Values {
+    pub p2_ms: u16,
+    pub p2_star_10ms: u16,
+    pub s3_ms: u32,
+    pub availability: u8,
+}
+
+impl RawSetup {
+    /// The setup, its tables sorted where they stand, or the first fault.
+    pub fn check(self) -> Result<Setup, SetupFault>
+        ensures { result ≡ checked self }
+    {
+        if let Some(fault) = self.first_fault() {
+            return Err(fault);
+        }
+        let mut raw = self;
+        raw.dids.sort();
+        raw.codes.sort();
+        raw.routines.sort();
+        raw.levels.sort();
+        Ok(Setup { raw })
+    }
+}
+
+impl Setup {
+    /// How many testers there are.
+    #[tactic(auto, using(crate::proofs::FitLemmas::testers_few))]
+    pub fn testers(&self) -> usize
+        ensures same { result ≡ length self.now.testers }
+        ensures few { result ≤ 8 }
+    {
+        self.raw.testers.len()
+    }
+
+    /// The tester at an index from 0.
+    pub fn who(&self, i: usize) -> Option<Who>
+        ensures { result ≡ who_at self.now i }
+    {
+        if i < self.testers() {
+            Who::new(i as u8 + 1)
+        } else {
+            None
+        }
+    }
+
+    /// A tester's name.
+    pub fn name(&self, who: Who) -> &[u8]
+        requires { who ≤ length self.now.testers }
+        ensures { result.now ≡ name_of self.now who }
+    {
+        self.tester(who).name.as_slice()
+    }
+
+    /// The identifiers of a tester's link.
+    pub fn ids(&self, who: Who) -> Ids
+        requires { who ≤ length self.now.testers }
+        ensures { result ≡ ids_of self.now who }
+    {
+        let tester = self.tester(who);
+        Ids {
+            request: can_id(tester.request),
+            response: can_id(tester.response),
+            functional: self.functional(),
+        }
+    }
+
+    /// The identifier of functional requests.
+    pub fn functional(&self) -> CanId
+        ensures { result ≡ self.now.functional }
+    {
+        can_id(self.numbers().functional)
+    }
+
+    /// The settings of a tester's link.
+    pub fn link(&self, who: Who) -> LinkSetup
+        requires { who ≤ length self.now.testers }
+        ensures { result ≡ link_of self.now who }
+    {
+        let ids = self.ids(who);
+        let raw = self.numbers();
+        LinkSetup {
+            ids,
+            block_size: raw.block_size as u8,
+            st_min: raw.st_min as u8,
+            max_request: raw.max_request as u16,
+            pad: if raw.pad {
+                Some(raw.pad_byte as u8)
+            } else {
+                None
+            },
+            n_bs: tick_count(raw.n_bs_ms),
+            n_cr: tick_count(raw.n_cr_ms),
+        }
+    }
+
+    /// The values that the services answer with.
+    pub fn values(&self) -> Values
+        ensures { result ≡ values_of self.now }
+    {
+        let raw = self.numbers();
+        Values {
+            p2_ms: raw.p2_ms as u16,
+            p2_star_10ms: raw.p2_star_10ms as u16,
+            s3_ms: raw.s3_ms,
+            availability: raw.availability as u8,
+        }
+    }
+
+    #[tactic(auto, using(crate::proofs::FitLemmas::testers_fit))]
+    fn tester(&self, who: Who) -> &RawTester
+        requires { who ≤ length self.now.testers }
+        ensures same { slice_get self.now.testers (who - 1) ≡ Some result.now }
+        ensures fits { TesterFits result.now }
+    {
+        &self.raw.testers.as_slice()[who.index()]
+    }
+
+    /// The setup as it was read, whose numbers fit.
+    #[tactic(auto, using(crate::proofs::FitLemmas::numbers_fit))]
+    pub fn numbers(&self) -> &RawSetup
+        ensures same { result.now ≡ self.now }
+        ensures fits { NumbersFit self.now }
+    {
+        &self.raw
+    }
+
+    #[tactic(auto, using(crate::proofs::FitLemmas::dids_fit, crate::proofs::FitLemmas::dids_few, crate::proofs::FitLemmas::dids_rise))]
+    pub fn dids(&self) -> &[RawDid]
+        ensures same { result.now ≡ self.now.dids }
+        ensures rising { IsTrue (is_rising did_id result.now) }
+        ensures few { length result.now ≤ 64 }
+        ensures fit { All DidFits result.now }
+    {
+        self.raw.dids.as_slice()
+    }
+
+    #[tactic(auto, using(crate::proofs::FitLemmas::codes_fit, crate::proofs::FitLemmas::codes_few, crate::proofs::FitLemmas::codes_rise))]
+    pub fn codes(&self) -> &[RawCode]
+        ensures same { result.now ≡ self.now.codes }
+        ensures rising { IsTrue (is_rising dtc_code result.now) }
+        ensures few { length result.now ≤ 256 }
+        ensures fit { All CodeFits result.now }
+    {
+        self.raw.codes.as_slice()
+    }
+
+    #[tactic(auto, using(crate::proofs::FitLemmas::routines_fit, crate::proofs::FitLemmas::routines_few, crate::proofs::FitLemmas::routines_rise))]
+    pub fn routines(&self) -> &[RawRoutine]
+        ensures same { result.now ≡ self.now.routines }
+        ensures rising { IsTrue (is_rising routine_id result.now) }
+        ensures few { length result.now ≤ 16 }
+        ensures fit { All RoutineFits result.now }
+    {
+        self.raw.routines.as_slice()
+    }
+
+    #[tactic(auto, using(crate::proofs::FitLemmas::levels_fit, crate::proofs::FitLemmas::levels_few))]
+    pub fn levels(&self) -> &[RawLevel]
+        ensures same { result.now ≡ self.now.levels }
+        ensures few { length result.now ≤ 4 }
+        ensures fit { All LevelFits result.now }
+    {
+        self.raw.levels.as_slice()
+    }
+}
+
+/// The identifier of a number that one has.
+fn can_id(number: u32) -> CanId
+    requires { number ≤ 0x7FF }
+    ensures { result ≡ number }
+{
+    let Some(id) = CanId::new(number as u16) else {
+        unreachable!()
+    };
+    id
+}
+
+/// That many ticks.
+fn tick_count(count: u32) -> TickCount
+    requires some { 1 ≤ count }
+    requires most { count ≤ 60000 }
+    ensures { result ≡ count }
+{
+    let Some(ticks) = TickCount::new(count as u16) else {
+        unreachable!()
+    };
+    ticks
+}

@@ -1,0 +1,6 @@
+pub mod Rows
+pub mod Dids
+pub mod Dtcs
+pub mod Routines
+pub mod Security
+pub mod Opening

@@ -1,0 +1,158 @@
+//! The data identifiers.
+
+ghost use Rattle.std.specs.Prelude.{◌≡◌, ◌≤◌, OnOk, OnErr, IfOk, option_copied, position, length};
+ghost use Rattle.diag_store.specs.Dids.{value_of, rule_of, write_answer, with_value, has_id, row_of};
+ghost use Rattle.diag_setup.specs.Fits.{DidFits};
+ghost use Rattle.diag_store.specs.Opening.{opening_dids, did_row};
+
+use arrayvec::ArrayVec;
+use diag_setup::{RawDid, Setup};
+use std::alloc::{AllocError, Global};
+use std::marker::Model;
+
+/// Who may read and write a data identifier; a level of 0 is open.
+#[derive(Clone, Copy, PartialEq, Eq, Debug, Drop)]
+pub struct DidRule {
+    pub read_level: u8,
+    pub write: bool,
+    pub write_level: u8,
+}
+
+/// A data identifier with its value.
+#[derive(Clone, Drop)]
+pub struct DidRow {
+    pub id: u16,
+    pub value: ArrayVec<u8, 255>,
+    pub rule: DidRule,
+}
+
+/// Why a value was not written.
+#[derive(Clone, Copy, PartialEq, Eq, Debug, Drop)]
+pub enum DidFault {
+    Unknown,
+    Length,
+}
+
+/// The data identifiers, in rising order.
+#[derive(Drop)]
+pub struct Dids {
+    rows: Vec<DidRow>,
+}
+
+impl Model for Dids {
+    ghost use Rattle.std.specs.Prelude.{List, length, ◌≤◌};
+    ghost use Rattle.diag_store.specs.declared.dids.DidRow.{DidRow};
+
+    ghost Value = { List DidRow };
+
+    ghost view = { λ d. d.rows.items };
+
+    ghost use Rattle.std.specs.Prelude.{◌≡◌, true};
+    ghost use Rattle.diag_setup.specs.Rows.{is_rising};
+    ghost use Rattle.diag_store.specs.Dids.{id_of};
+
+    ghost invariant = { λ d. (length d.rows.items ≤ 64) × (is_rising id_of d.rows.items ≡ true) };
+}
+
+impl Dids {
+    /// The identifiers with their values at the opening.
+    pub fn new(alloc: Global, setup: &Setup) -> Result<Dids, AllocError>
+        ensures { IfOk result (λ dids. dids ≡ opening_dids setup.now) }
+    {
+        let dids = setup.dids();
+        let mut rows = Vec::new(alloc);
+        for did in dids {
+            rows.push(did_row(did))?;
+        }
+        Ok(Dids { rows })
+    }
+
+    /// Another table with the same rows.
+    pub fn try_copy(&self) -> Result<Dids, AllocError>
+        ensures { IfOk result (λ copy. copy ≡ self.now) }
+    {
+        let rows = self.rows.clone()?;
+        Ok(Dids { rows })
+    }
+
+    /// The value of an identifier.
+    pub fn get(&self, id: u16) -> Option<&[u8]>
+        ensures { option_copied result ≡ value_of self.now id }
+    {
+        let row = find_row(&self.rows, id)?;
+        Some(row.value.as_slice())
+    }
+
+    /// Who may read and write an identifier.
+    pub fn rule(&self, id: u16) -> Option<DidRule>
+        ensures { result ≡ rule_of self.now id }
+    {
+        let row = find_row(&self.rows, id)?;
+        Some(row.rule)
+    }
+
+    /// Writes a value of the same length; after an error all is as before.
+    pub fn write(&mut self, id: u16, value: &[u8]) -> Result<(), DidFault>
+        ensures answer { result ≡ write_answer self.old id value.now }
+        ensures ok { OnOk result (self.new ≡ with_value self.old id value.now) }
+        ensures err { OnErr result (self.new ≡ self.old) }
+    {
+        let Some(row) = find_row(&self.rows, id) else {
+            return Err(DidFault::Unknown);
+        };
+        if row.value.len() != value.len() {
+            return Err(DidFault::Length);
+        }
+        set_value(&mut self.rows, id, value);
+        Ok(())
+    }
+}
+
+/// Puts a value in the row of an identifier, if there is one.
+#[tactic(auto, using(crate::proofs::RowLemmas::change_at))]
+fn set_value(rows: &mut [DidRow], id: u16, value: &[u8])
+    requires { length value.now ≤ 255 }
+    ensures { rows.new ≡ with_value rows.old id value.now }
+{
+    if let Some(place) = find_place(rows, id) {
+        rows[place].value = kept(value);
+    }
+}
+
+fn kept(value: &[u8]) -> ArrayVec<u8, 255>
+    requires { length value.now ≤ 255 }
+    ensures { result.items ≡ value.now }
+{
+    let mut bytes = ArrayVec::new();
+    let _ = bytes.try_extend_from_slice(value);
+    bytes
+}
+
+/// The row of an identifier.
+fn find_row(rows: &[DidRow], id: u16) -> Option<&DidRow>
+    ensures { option_copied result ≡ row_of rows.now id }
+{
+    rows.iter().find(|row| row.id == id)
+}
+
+/// The index of the row of an identifier.
+fn find_place(rows: &[DidRow], id: u16) -> Option<usize>
+    ensures { result ≡ position (has_id id) rows.now }
+{
+    rows.iter().position(|row| row.id == id)
+}
+
+fn did_row(did: &RawDid) -> DidRow
+    requires { DidFits did.now }
+    ensures { result ≡ did_row did.now }
+{
+    DidRow {
+        id: did.id as u16,
+        value: kept(did.value.as_slice()),
+        rule: DidRule {
+            read_level: did.read_level as u8,
+            write: did.write,
+            write_level: did.write_level as u8,
+        },
+    }
+}

@@ -1,0 +1,18 @@
+//! The tables of the ECU: data identifiers, trouble codes, routines and security levels.
+#![tactic(auto)]
+
+mod dids;
+mod dtcs;
+mod routines;
+mod security;
+
+pub use diag_setup::{
+    Items, RawCode, RawDid, RawKeyRow, RawLevel, RawRoutine, RawSetup, RawTester, Setup,
+    SetupFault, Values, Who,
+};
+pub use dids::{DidFault, DidRow, DidRule, Dids};
+pub use dtcs::{Dtc, DtcMemory};
+pub use routines::{DtcOnDone, Routine, RoutineState, Routines};
+pub use security::{
+    KeyAnswer, KeyRow, KeyRows, Level, Levels, Outstanding, Security, SecurityState, SeedAnswer,
+};

@@ -1,0 +1,267 @@
+//! The routines.
+
+ghost use Rattle.std.specs.Prelude.{◌≡◌, ◌≤◌, length, option_map, IsTrue, IfOk, IfSome, is_some, option_copied, position, if◌then◌else◌};
+ghost use Rattle.diag_store.specs.Routines.{has_id, routine_of, state_of, routine_level, result_of, started, stopped, all_idle, state_after_tick, ends_now, rows_after_tick, reported, codes_after_tick};
+ghost use Rattle.diag_setup.specs.Fits.{RoutineFits, OnDoneFits};
+ghost use Rattle.diag_store.specs.Opening.{opening_routines, routine_row, on_done_row};
+
+use crate::dtcs::DtcMemory;
+use arrayvec::ArrayVec;
+use diag_setup::{RawCode, RawRoutine, Setup};
+use std::alloc::{AllocError, Global};
+use std::marker::Model;
+
+/// What a routine does now.
+#[derive(Clone, Copy, PartialEq, Eq, Debug, Drop)]
+pub enum RoutineState {
+    Idle,
+    Running(u32),
+    Done,
+}
+
+/// The status that a code gets when a routine is done.
+#[derive(Clone, Copy, PartialEq, Eq, Debug, Drop)]
+pub struct DtcOnDone {
+    pub code: u32,
+    pub status: u8,
+}
+
+/// A routine.
+#[derive(Clone, Drop)]
+pub struct Routine {
+    pub id: u16,
+    pub time_ms: u32,
+    pub result: ArrayVec<u8, 32>,
+    pub level: u8,
+    pub on_done: Option<DtcOnDone>,
+    pub state: RoutineState,
+}
+
+/// The routines, in rising order.
+#[derive(Drop)]
+pub struct Routines {
+    rows: Vec<Routine>,
+}
+
+impl Model for Routines {
+    ghost use Rattle.std.specs.Prelude.{List, length, ◌≤◌};
+    ghost use Rattle.diag_store.specs.declared.routines.Routine.{Routine};
+
+    ghost Value = { List Routine };
+
+    ghost view = { λ d. d.rows.items };
+
+    ghost use Rattle.std.specs.Prelude.{◌≡◌, true};
+    ghost use Rattle.diag_setup.specs.Rows.{is_rising};
+    ghost use Rattle.diag_store.specs.Routines.{id_of};
+
+    ghost invariant = { λ d. (length d.rows.items ≤ 16) × (is_rising id_of d.rows.items ≡ true) };
+}
+
+impl Routines {
+    /// The routines, all idle.
+    pub fn new(alloc: Global, setup: &Setup) -> Result<Routines, AllocError>
+        ensures { IfOk result (λ routines. routines ≡ opening_routines setup.now) }
+    {
+        let routines = setup.routines();
+        let mut rows = Vec::new(alloc);
+        for routine in routines {
+            rows.push(routine_row(routine))?;
+        }
+        Ok(Routines { rows })
+    }
+
+    /// Other routines, equal to these.
+    pub fn try_copy(&self) -> Result<Routines, AllocError>
+        ensures { IfOk result (λ copy. copy ≡ self.now) }
+    {
+        let rows = self.rows.clone()?;
+        Ok(Routines { rows })
+    }
+
+    /// What a routine does now.
+    pub fn state(&self, id: u16) -> Option<RoutineState>
+        ensures { result ≡ state_of self.now id }
+    {
+        let row = find_row(&self.rows, id)?;
+        Some(row.state)
+    }
+
+    /// The level that a routine needs; 0 is open.
+    pub fn level(&self, id: u16) -> Option<u8>
+        ensures { result ≡ routine_level self.now id }
+    {
+        let row = find_row(&self.rows, id)?;
+        Some(row.level)
+    }
+
+    /// What a routine gives when it is done.
+    pub fn result(&self, id: u16) -> Option<&[u8]>
+        ensures same { option_copied result ≡ result_of self.now id }
+        ensures short { IfSome result (λ bytes. length bytes.now ≤ 32) }
+    {
+        let row = find_row(&self.rows, id)?;
+        Some(row.result.as_slice())
+    }
+
+    /// Starts a routine.
+    pub fn start(&mut self, id: u16)
+        requires { IsTrue (is_some (routine_of self.old id)) }
+        ensures { self.new ≡ started self.old id }
+    {
+        run(&mut self.rows, id);
+    }
+
+    /// Makes a routine idle.
+    pub fn stop(&mut self, id: u16)
+        requires { IsTrue (is_some (routine_of self.old id)) }
+        ensures { self.new ≡ stopped self.old id }
+    {
+        make_idle(&mut self.rows, id);
+    }
+
+    /// One tick of the running routines; with the setting, those that end report their codes.
+    pub fn tick(&mut self, codes: &mut DtcMemory, setting: bool)
+        ensures rows { self.new ≡ rows_after_tick self.old }
+        ensures codes { codes.new ≡ (if setting then codes_after_tick self.old codes.old else codes.old) }
+    {
+        if setting {
+            report(&self.rows, codes);
+        }
+        tick_all(&mut self.rows);
+    }
+
+    /// Makes all routines idle.
+    pub fn idle_all(&mut self)
+        ensures { self.new ≡ all_idle self.old }
+    {
+        make_all_idle(&mut self.rows);
+    }
+}
+
+impl Routine {
+    fn ends_now(&self) -> bool
+        ensures { result ≡ ends_now self.now.state }
+    {
+        match self.state {
+            RoutineState::Running(left) => left <= 1,
+            RoutineState::Idle | RoutineState::Done => false,
+        }
+    }
+}
+
+impl RoutineState {
+    fn after_tick(self) -> RoutineState
+        ensures { result ≡ state_after_tick self }
+    {
+        match self {
+            RoutineState::Running(left) if left <= 1 => RoutineState::Done,
+            RoutineState::Running(left) => RoutineState::Running(left - 1),
+            other => other,
+        }
+    }
+}
+
+/// The row of a routine.
+fn find_row(rows: &[Routine], id: u16) -> Option<&Routine>
+    ensures { option_copied result ≡ routine_of rows.now id }
+{
+    rows.iter().find(|row| row.id == id)
+}
+
+/// The index of the row of a routine.
+fn find_place(rows: &[Routine], id: u16) -> Option<usize>
+    ensures { result ≡ position (has_id id) rows.now }
+{
+    rows.iter().position(|row| row.id == id)
+}
+
+#[tactic(auto, using(crate::proofs::RowLemmas::change_at))]
+fn run(rows: &mut [Routine], id: u16)
+    ensures { rows.new ≡ started rows.old id }
+{
+    if let Some(place) = find_place(rows, id) {
+        let row = &mut rows[place];
+        row.state = RoutineState::Running(row.time_ms);
+    }
+}
+
+#[tactic(auto, using(crate::proofs::RowLemmas::change_at))]
+fn make_idle(rows: &mut [Routine], id: u16)
+    ensures { rows.new ≡ stopped rows.old id }
+{
+    if let Some(place) = find_place(rows, id) {
+        rows[place].state = RoutineState::Idle;
+    }
+}
+
+fn make_all_idle(rows: &mut [Routine])
+    ensures { rows.new ≡ all_idle rows.old }
+{
+    for row in rows.iter_mut() {
+        row.state = RoutineState::Idle;
+    }
+}
+
+fn tick_all(rows: &mut [Routine])
+    ensures { rows.new ≡ rows_after_tick rows.old }
+{
+    for row in rows.iter_mut() {
+        row.state = row.state.after_tick();
+    }
+}
+
+/// Sets the codes of the routines that end at this tick, in order.
+fn report(rows: &[Routine], codes: &mut DtcMemory)
+    ensures { codes.new ≡ codes_after_tick rows.now codes.old }
+{
+    for row in rows {
+        if row.ends_now() {
+            report_one(row.on_done, codes);
+        }
+    }
+}
+
+fn report_one(on_done: Option<DtcOnDone>, codes: &mut DtcMemory)
+    ensures { codes.new ≡ reported codes.old on_done }
+{
+    if let Some(on_done) = on_done {
+        codes.set(on_done.code, on_done.status);
+    }
+}
+
+fn routine_row(routine: &RawRoutine) -> Routine
+    requires { RoutineFits routine.now }
+    ensures { result ≡ routine_row routine.now }
+{
+    Routine {
+        id: routine.id as u16,
+        time_ms: routine.time_ms,
+        result: kept(routine.result.as_slice()),
+        level: routine.level as u8,
+        on_done: on_done_row(&routine.on_done),
+        state: RoutineState::Idle,
+    }
+}
+
+fn on_done_row(on_done: &Option<RawCode>) -> Option<DtcOnDone>
+    requires { OnDoneFits on_done.now }
+    ensures { result ≡ option_map on_done_row on_done.now }
+{
+    match on_done {
+        Some(row) => Some(DtcOnDone {
+            code: row.code,
+            status: row.status as u8,
+        }),
+        None => None,
+    }
+}
+
+fn kept(bytes: &[u8]) -> ArrayVec<u8, 32>
+    requires { length bytes.now ≤ 32 }
+    ensures { result.items ≡ bytes.now }
+{
+    let mut kept = ArrayVec::new();
+    let _ = kept.try_extend_from_slice(bytes);
+    kept
+}
