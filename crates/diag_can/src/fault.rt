@@ -1,0 +1,49 @@
+//! What is wrong with a line, and with a log.
+
+ghost use Rattle.std.specs.Prelude.{Some};
+ghost use Rattle.diag_can.specs.Fault.{line_fault_text};
+
+use std::error::Error;
+use std::fmt;
+
+/// What is wrong with a line of a log.
+#[derive(Clone, Copy, Debug, PartialEq, Eq)]
+pub enum LineFault {
+    /// The line is no `tick` line and no frame in candump's log format with an identifier that a bus has.
+    BadLine,
+    /// The line begins with `tick` and isn't `tick` or `tick N` with N from 1 to 60000 without leading zero.
+    BadTick,
+    /// The frame has more than 16 hex digits.
+    TooManyBytes,
+}
+
+impl fmt::Display for LineFault {
+    ghost output = { λ x. Some (line_fault_text x) };
+
+    fn fmt<W: fmt::Write>(&self, f: &mut fmt::Formatter<W>) -> fmt::Result {
+        match self {
+            LineFault::BadLine => write!(f, "bad line"),
+            LineFault::BadTick => write!(f, "bad tick"),
+            LineFault::TooManyBytes => write!(f, "too many bytes"),
+        }
+    }
+}
+
+impl Error for LineFault {}
+
+/// Why a log can't be read: the first fault in the order of its lines, or want of memory.
+#[derive(Clone, Copy, Debug, PartialEq, Eq, thiserror::Error)]
+pub enum LogFault {
+    /// The line of that number, counted from 1.
+    #[error("line {0}: {1}")]
+    Line(u32, LineFault),
+    /// More than 1,000,000 lines.
+    #[error("too many lines")]
+    TooManyLines,
+    /// Memory is refused.
+    #[error("memory")]
+    Memory,
+    /// More than 1,000,000 events.
+    #[error("too many events")]
+    TooManyEvents,
+}
