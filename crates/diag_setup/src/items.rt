@@ -23,6 +23,7 @@ impl<T> Model for Items<T> {
 }
 
 impl<T> Items<T> {
+    /// No rows.
     pub fn new(alloc: Global) -> Items<T>
         ensures { result ≡ [] }
     {
@@ -31,12 +32,21 @@ impl<T> Items<T> {
         }
     }
 
+    /// These rows or bytes.
+    pub fn from_vec(kept: Vec<T>) -> Items<T>
+        ensures { result ≡ kept.items }
+    {
+        Items { kept }
+    }
+
+    /// How many there are.
     pub fn len(&self) -> usize
         ensures { result ≡ length self.now }
     {
         self.kept.len()
     }
 
+    /// All of them in order.
     pub fn as_slice(&self) -> &[T]
         ensures { result.now ≡ self.now }
     {
