@@ -75,6 +75,11 @@ impl Dids {
         Ok(Dids { rows })
     }
 
+    /// The allocator that the table was made with.
+    pub fn alloc(&self) -> Global {
+        *self.rows.allocator()
+    }
+
     /// The value of an identifier.
     pub fn get(&self, id: u16) -> Option<&[u8]>
         ensures { option_copied result ≡ value_of self.now id }

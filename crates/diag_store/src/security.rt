@@ -175,6 +175,14 @@ impl Security {
         self.state.seed(who, sub)
     }
 
+    /// What a request for a seed of a level is answered; nothing changes.
+    pub fn seed_answer(&self, who: Who, sub: u8) -> SeedAnswer
+        requires { IsTrue (is_some (level_of self.now sub)) }
+        ensures { result ≡ seed_answer self.now who sub }
+    {
+        self.state.seed_answer(who, sub)
+    }
+
     /// Takes a tester's key for a level.
     pub fn key(&mut self, who: Who, sub: u8, key: &[u8]) -> KeyAnswer
         requires { IsTrue (is_some (level_of self.old sub)) }
@@ -182,6 +190,14 @@ impl Security {
         ensures state { self.new ≡ after_key self.old who sub key.now }
     {
         self.state.key(who, sub, key)
+    }
+
+    /// What a tester's key for a level is answered; nothing changes.
+    pub fn key_answer(&self, who: Who, sub: u8, key: &[u8]) -> KeyAnswer
+        requires { IsTrue (is_some (level_of self.now sub)) }
+        ensures { result ≡ key_answer self.now who sub key.now }
+    {
+        self.state.key_answer(who, sub, key)
     }
 
     /// One tick of a tester's delay.
@@ -273,6 +289,42 @@ impl SecurityState {
         self.outstanding = Some(Outstanding { level: sub, row });
         self.levels.move_on(sub);
         SeedAnswer::Seed(seed)
+    }
+
+    fn seed_answer(&self, who: Who, sub: u8) -> SeedAnswer
+        ensures { result ≡ seed_answer self.now who sub }
+    {
+        if self.is_delayed(who) {
+            return SeedAnswer::Delayed;
+        }
+        if self.is_unlocked(sub) {
+            return SeedAnswer::Seed(zeros(self.seed_at(sub, 0).len()));
+        }
+        let row = match self.outstanding_row(sub) {
+            Some(row) => row,
+            None => self.next_row(sub),
+        };
+        SeedAnswer::Seed(self.seed_at(sub, row))
+    }
+
+    fn key_answer(&self, who: Who, sub: u8, key: &[u8]) -> KeyAnswer
+        requires { IsSecurity self.now }
+        ensures { result ≡ key_answer self.now who sub key.now }
+    {
+        if self.is_delayed(who) {
+            return KeyAnswer::Delayed;
+        }
+        let Some(row) = self.outstanding_row(sub) else {
+            return KeyAnswer::NoSeed;
+        };
+        if self.is_key_at(sub, row, key) {
+            return KeyAnswer::Right;
+        }
+        if u32::from(self.wrong_keys[who.index()]) + 1 < u32::from(self.attempts) {
+            KeyAnswer::Wrong
+        } else {
+            KeyAnswer::TooMany
+        }
     }
 
     fn key(&mut self, who: Who, sub: u8, key: &[u8]) -> KeyAnswer
