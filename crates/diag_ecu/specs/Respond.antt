@@ -1,0 +1,347 @@
+-- What the ECU answers a request, and what it is then: the checks in their order, then the service's row.
+use Rattle.std.specs.Prelude.{ℕ, ◌-◌, ◌%◌, ◌==◌, ◌&&◌, ◌||◌, Bool, true, false, not, List, [], ◌∷◌, ◌++◌, length, drop, flat_map, Option, Some, None, is_some, is_none, option_map, if◌then◌else◌, nat_lt, bit_and, slice_index, Result, Ok, Err}
+use Rattle.std.specs.List.{list_any, list_all}
+use Rattle.diag_store.specs.Dids as dids
+use Rattle.diag_store.specs.Dtcs as dtcs
+use Rattle.diag_store.specs.Routines as routines
+use Rattle.diag_store.specs.Security as security
+use Rattle.diag_store.specs.declared.dids.DidRule.{DidRule}
+use Rattle.diag_store.specs.declared.dtcs.Dtc.{Dtc}
+use Rattle.diag_store.specs.declared.routines.Routine.{Routine}
+use Rattle.diag_store.specs.declared.routines.RoutineState.{RoutineState}
+use Rattle.diag_store.specs.declared.routines.RoutineState.TheVariants.{Idle, Running, Done}
+use Rattle.diag_store.specs.declared.security.SeedAnswer.{SeedAnswer}
+use Rattle.diag_store.specs.declared.security.SeedAnswer.TheVariants.{Delayed, Seed}
+use Rattle.diag_store.specs.declared.security.KeyAnswer.{KeyAnswer}
+use Rattle.diag_store.specs.declared.security.KeyAnswer.TheVariants.{Delayed as KeyDelayed, NoSeed, Right, Wrong, TooMany}
+use Rattle.diag_ecu.specs.declared.service.Service.{Service}
+use Rattle.diag_ecu.specs.declared.service.Service.TheVariants.{DiagnosticSessionControl, EcuReset, ClearDiagnosticInformation, ReadDtcInformation, ReadDataByIdentifier, SecurityAccess, WriteDataByIdentifier, RoutineControl, TesterPresent, ControlDtcSetting}
+use Rattle.diag_ecu.specs.declared.service.Nrc.{Nrc}
+use Rattle.diag_ecu.specs.declared.service.Nrc.TheVariants.{ServiceNotSupported, SubFunctionNotSupported, IncorrectMessageLength, ResponseTooLong, BusyRepeatRequest, ConditionsNotCorrect, RequestSequenceError, RequestOutOfRange, SecurityAccessDenied, InvalidKey, ExceededNumberOfAttempts, RequiredTimeDelayNotExpired, ServiceNotSupportedInActiveSession}
+use Rattle.diag_ecu.specs.Bytes.{bytes_16, bytes_24, number_16, number_24, has_bit_7, without_bit_7}
+use Rattle.diag_ecu.specs.Service.{service_of, nrc_code, has_sub_function, needs_extended, shortest, is_silent}
+use Rattle.diag_ecu.specs.State.{State, is_holder, is_held_by_another, is_open, relocked, session_ended, s3_filled}
+
+-- ---- the parts of a request
+
+abbrev pub sid : List ℕ → ℕ
+sid p = slice_index p 0
+
+-- the second byte without the suppress bit
+abbrev pub sub : List ℕ → ℕ
+sub p = without_bit_7 (slice_index p 1)
+
+-- the identifiers of a request to read data
+abbrev pub ids_in : List ℕ → List ℕ
+ids_in [] = []
+ids_in (high ∷ []) = []
+ids_in (high ∷ low ∷ rest) = number_16 (high ∷ low ∷ []) 0 ∷ ids_in rest
+
+abbrev pub ids : List ℕ → List ℕ
+ids p = ids_in (drop 1 p)
+
+-- ---- the table of services
+
+-- which requests are busy while another tester is the holder
+abbrev pub needs_no_other_holder : Service → List ℕ → Bool
+needs_no_other_holder EcuReset p = true
+needs_no_other_holder ClearDiagnosticInformation p = true
+needs_no_other_holder DiagnosticSessionControl p = sub p == 0x03
+needs_no_other_holder _ p = false
+
+-- whether the service has this sub-function
+abbrev pub is_sub_function : State → Service → ℕ → Bool
+is_sub_function s DiagnosticSessionControl n = (n == 0x01) || (n == 0x03)
+is_sub_function s EcuReset n = (n == 0x01) || (n == 0x02) || (n == 0x03)
+is_sub_function s ReadDtcInformation n = (n == 0x01) || (n == 0x02) || (n == 0x0A)
+is_sub_function s SecurityAccess n = is_some (security.level_of s.security n) || is_some (security.level_of s.security (n - 1))
+is_sub_function s RoutineControl n = (n == 0x01) || (n == 0x02) || (n == 0x03)
+is_sub_function s TesterPresent n = n == 0x00
+is_sub_function s ControlDtcSetting n = (n == 0x01) || (n == 0x02)
+is_sub_function s _ n = true
+
+-- whether a request for a seed, and not a key, is meant
+abbrev pub is_seed_request : State → List ℕ → Bool
+is_seed_request s p = is_some (security.level_of s.security (sub p))
+
+-- the level that a key is for
+abbrev pub key_level : List ℕ → ℕ
+key_level p = sub p - 1
+
+-- whether the length fits the service and its sub-function
+abbrev pub has_exact_length : State → Service → List ℕ → Bool
+has_exact_length s DiagnosticSessionControl p = length p == 2
+has_exact_length s EcuReset p = length p == 2
+has_exact_length s ClearDiagnosticInformation p = length p == 4
+has_exact_length s ReadDtcInformation p = if sub p == 0x0A then length p == 2 else length p == 3
+has_exact_length s ReadDataByIdentifier p = length p % 2 == 1
+has_exact_length s SecurityAccess p = if is_seed_request s p then length p == 2 else security.option_is (security.key_len s.security (key_level p)) (length (drop 2 p))
+has_exact_length s WriteDataByIdentifier p = true
+has_exact_length s RoutineControl p = length p == 4
+has_exact_length s TesterPresent p = length p == 2
+has_exact_length s ControlDtcSetting p = (length p == 2) || (length p == 5)
+
+-- ---- positive replies
+
+-- a code with its reported status
+abbrev pub report : ℕ → Dtc → List ℕ
+report availability row = bytes_24 row.code ++ bit_and row.status availability ∷ []
+
+abbrev pub counted : State → List ℕ → List Dtc
+counted s p = dtcs.matching s.codes (bit_and (slice_index p 2) s.values.availability)
+
+-- the codes that have a bit of the mask, and all codes
+abbrev pub counted_reply : State → ℕ → List ℕ
+counted_reply s mask = 0x59 ∷ 0x02 ∷ s.values.availability ∷ flat_map (report s.values.availability) (dtcs.matching s.codes mask)
+
+abbrev pub all_reply : State → List ℕ
+all_reply s = 0x59 ∷ 0x0A ∷ s.values.availability ∷ flat_map (report s.values.availability) s.codes
+
+abbrev pub dtc_reply : State → List ℕ → List ℕ
+dtc_reply s p =
+    if sub p == 0x01 then 0x59 ∷ 0x01 ∷ s.values.availability ∷ 0x01 ∷ bytes_16 (length (counted s p))
+    else if sub p == 0x02 then counted_reply s (bit_and (slice_index p 2) s.values.availability)
+    else all_reply s
+
+-- whether there is such an identifier
+abbrev pub knows : State → ℕ → Bool
+knows s id = is_some (dids.value_of s.dids id)
+
+-- an identifier with its value, and nothing for one that is unknown
+abbrev pub did_record : ℕ → Option (List ℕ) → List ℕ
+did_record id None = []
+did_record id (Some value) = bytes_16 id ++ value
+
+abbrev pub record_of : State → ℕ → List ℕ
+record_of s id = did_record id (dids.value_of s.dids id)
+
+abbrev pub data_records : State → List ℕ → List ℕ
+data_records s ids = 0x62 ∷ flat_map (record_of s) ids
+
+abbrev pub data_reply : State → List ℕ → List ℕ
+data_reply s p = data_records s (ids p)
+
+abbrev pub result_record : RoutineState → List ℕ → List ℕ
+result_record Idle result = []
+result_record (Running left) result = 0x01 ∷ []
+result_record Done result = 0x00 ∷ result
+
+abbrev pub routine_results : Option Routine → List ℕ
+routine_results None = []
+routine_results (Some row) = result_record row.state row.result.items
+
+abbrev pub routine_of : State → List ℕ → Option Routine
+routine_of s p = routines.routine_of s.routines (number_16 p 2)
+
+abbrev pub routine_reply : State → ℕ → ℕ → List ℕ
+routine_reply s n id = 0x71 ∷ n ∷ bytes_16 id ++ (if n == 0x03 then routine_results (routines.routine_of s.routines id) else [])
+
+-- the positive reply of a service, by the state before
+abbrev pub positive_reply : State → Service → List ℕ → List ℕ
+positive_reply s DiagnosticSessionControl p = 0x50 ∷ sub p ∷ bytes_16 s.values.p2_ms ++ bytes_16 s.values.p2_star_10ms
+positive_reply s EcuReset p = 0x51 ∷ sub p ∷ []
+positive_reply s ClearDiagnosticInformation p = 0x54 ∷ []
+positive_reply s ReadDtcInformation p = dtc_reply s p
+positive_reply s ReadDataByIdentifier p = data_reply s p
+positive_reply s SecurityAccess p = 0x67 ∷ sub p ∷ (if is_seed_request s p then security.seed_given s.security (sub p) else [])
+positive_reply s WriteDataByIdentifier p = 0x6E ∷ bytes_16 (number_16 p 1)
+positive_reply s RoutineControl p = routine_reply s (sub p) (number_16 p 2)
+positive_reply s TesterPresent p = 0x7E ∷ 0x00 ∷ []
+positive_reply s ControlDtcSetting p = 0xC5 ∷ sub p ∷ []
+
+-- ---- the checks
+
+-- a condition, and the negative response code that it gives
+abbrev pub Check : Type 0
+Check = Bool × Nrc
+
+-- the checks that every service has
+abbrev pub common_checks : State → ℕ → Service → List ℕ → List Check
+common_checks s who service p =
+    (needs_extended service && not (is_holder s who), ServiceNotSupportedInActiveSession)
+    ∷ (is_held_by_another s who && needs_no_other_holder service p, BusyRepeatRequest)
+    ∷ (nat_lt (length p) (shortest service), IncorrectMessageLength)
+    ∷ (not (is_sub_function s service (sub p)), SubFunctionNotSupported)
+    ∷ (not (has_exact_length s service p), IncorrectMessageLength)
+    ∷ []
+
+-- whether the tester may read by a rule; an unknown identifier has none
+abbrev pub allows_reading : State → ℕ → Option DidRule → Bool
+allows_reading s who None = true
+allows_reading s who (Some rule) = is_open s who rule.read_level
+
+abbrev pub may_read : State → ℕ → ℕ → Bool
+may_read s who id = allows_reading s who (dids.rule_of s.dids id)
+
+abbrev pub is_writable : Option DidRule → Bool
+is_writable None = false
+is_writable (Some rule) = rule.write
+
+abbrev pub write_level : Option DidRule → ℕ
+write_level None = 0
+write_level (Some rule) = rule.write_level
+
+abbrev pub write_checks : State → ℕ → List ℕ → List Check
+write_checks s who p =
+    let id = number_16 p 1 in
+    (not (is_writable (dids.rule_of s.dids id)), RequestOutOfRange)
+    ∷ (not (is_open s who (write_level (dids.rule_of s.dids id))), SecurityAccessDenied)
+    ∷ (not (security.option_is (option_map (λ v. length v) (dids.value_of s.dids id)) (length (drop 3 p))), IncorrectMessageLength)
+    ∷ []
+
+abbrev pub security_checks : State → ℕ → List ℕ → List Check
+security_checks s who p =
+    let is_key = not (is_seed_request s p) in
+    (security.is_delayed s.security who, RequiredTimeDelayNotExpired)
+    ∷ (is_key && is_none (security.outstanding_row s.security.outstanding (key_level p)), RequestSequenceError)
+    ∷ (is_key && not (security.is_right_key s.security (key_level p) (drop 2 p)), if security.is_last_attempt s.security who then ExceededNumberOfAttempts else InvalidKey)
+    ∷ []
+
+abbrev pub state_is_idle : RoutineState → Bool
+state_is_idle Idle = true
+state_is_idle _ = false
+
+abbrev pub state_is_running : RoutineState → Bool
+state_is_running (Running left) = true
+state_is_running _ = false
+
+abbrev pub routine_checks_of : State → ℕ → ℕ → Option Routine → List Check
+routine_checks_of s who n None = (true, RequestOutOfRange) ∷ []
+routine_checks_of s who n (Some row) =
+    (not (is_open s who row.level), SecurityAccessDenied)
+    ∷ (not (n == 0x01) && state_is_idle row.state, RequestSequenceError)
+    ∷ ((n == 0x01) && state_is_running row.state, ConditionsNotCorrect)
+    ∷ []
+
+abbrev pub clear_checks : State → List ℕ → List Check
+clear_checks s p = (not (dtcs.is_known_group s.codes (number_24 p 1)), RequestOutOfRange) ∷ []
+
+abbrev pub read_checks : State → ℕ → List ℕ → List Check
+read_checks s who p =
+    (not (list_any (knows s) (ids p)), RequestOutOfRange)
+    ∷ (not (list_all (may_read s who) (ids p)), SecurityAccessDenied)
+    ∷ (nat_lt 65535 (length (data_reply s p)), ResponseTooLong)
+    ∷ []
+
+abbrev pub setting_checks : List ℕ → List Check
+setting_checks p = ((length p == 5) && not (number_24 p 2 == 0xFFFFFF), RequestOutOfRange) ∷ []
+
+abbrev pub routine_checks : State → ℕ → List ℕ → List Check
+routine_checks s who p = routine_checks_of s who (sub p) (routine_of s p)
+
+-- the checks of one service alone
+abbrev pub own_checks : State → ℕ → Service → List ℕ → List Check
+own_checks s who ClearDiagnosticInformation p = clear_checks s p
+own_checks s who ReadDataByIdentifier p = read_checks s who p
+own_checks s who SecurityAccess p = security_checks s who p
+own_checks s who WriteDataByIdentifier p = write_checks s who p
+own_checks s who RoutineControl p = routine_checks s who p
+own_checks s who ControlDtcSetting p = setting_checks p
+own_checks s who _ p = []
+
+abbrev pub checks : State → ℕ → Service → List ℕ → List Check
+checks s who service p = common_checks s who service p ++ own_checks s who service p
+
+-- the code of the first check that holds
+abbrev pub first_holding : List Check → Option Nrc
+first_holding [] = None
+first_holding (check ∷ rest) = if check.0 then Some check.1 else first_holding rest
+
+-- ---- effects
+
+abbrev pub session_effect : State → ℕ → ℕ → State
+session_effect s who n =
+    if n == 0x03 then s3_filled (record (relocked s) { holder = Some who })
+    else if is_holder s who then session_ended s
+    else s
+
+abbrev pub security_effect : State → ℕ → List ℕ → State
+security_effect s who p =
+    if is_seed_request s p then record s { security = security.after_seed s.security who (sub p) }
+    else record s { security = security.after_key s.security who (key_level p) (drop 2 p) }
+
+abbrev pub routine_effect : State → ℕ → ℕ → State
+routine_effect s id n =
+    if n == 0x01 then record s { routines = routines.started s.routines id }
+    else if n == 0x02 then record s { routines = routines.stopped s.routines id }
+    else s
+
+-- what a request that passes all checks does
+abbrev pub effect : State → ℕ → Service → List ℕ → State
+effect s who DiagnosticSessionControl p = session_effect s who (sub p)
+effect s who EcuReset p = session_ended s
+effect s who ClearDiagnosticInformation p = record s { codes = dtcs.cleared s.codes (number_24 p 1) }
+effect s who SecurityAccess p = security_effect s who p
+effect s who WriteDataByIdentifier p = record s { dids = dids.with_value s.dids (number_16 p 1) (drop 3 p) }
+effect s who RoutineControl p = routine_effect s (number_16 p 2) (sub p)
+effect s who ControlDtcSetting p = record s { status_update = sub p == 0x01 }
+effect s who _ p = s
+
+-- a refused request changes nothing, but for a wrong key
+abbrev pub refused : State → ℕ → Nrc → State
+refused s who InvalidKey = record s { security = security.after_wrong_key s.security who }
+refused s who ExceededNumberOfAttempts = record s { security = security.after_wrong_key s.security who }
+refused s who _ = s
+
+-- ---- the response
+
+-- the answer to a request: the positive reply or a negative response code, and the state after it
+pub record Outcome : Type 0 where
+  pub state : State
+  pub answer : Result (List ℕ) Nrc
+
+abbrev pub outcome_of : State → ℕ → Service → List ℕ → Option Nrc → Outcome
+outcome_of s who service p (Some nrc) = record { state = refused s who nrc; answer = Err nrc }
+outcome_of s who service p None = record { state = effect s who service p; answer = Ok (positive_reply s service p) }
+
+-- the outcome where the checks of every service have passed
+abbrev pub own_outcome : State → ℕ → Service → List ℕ → Outcome
+own_outcome s who service p = outcome_of s who service p (first_holding (own_checks s who service p))
+
+abbrev pub served : State → ℕ → Option Service → List ℕ → Outcome
+served s who None p = record { state = s; answer = Err ServiceNotSupported }
+served s who (Some service) p = outcome_of s who service p (first_holding (checks s who service p))
+
+-- whether the request asks that no positive reply be sent
+abbrev pub is_suppressed : Option Service → List ℕ → Bool
+is_suppressed None p = false
+is_suppressed (Some service) p = has_sub_function service && has_bit_7 (slice_index p 1)
+
+-- what is sent where a negative response code is the answer: not each of them on a functional request
+abbrev pub sent_negative : Bool → ℕ → Nrc → Option (List ℕ)
+sent_negative functional sid nrc = if functional && is_silent nrc then None else Some (0x7F ∷ sid ∷ nrc_code nrc ∷ [])
+
+-- what is sent of an answer
+abbrev pub sent : Bool → List ℕ → Result (List ℕ) Nrc → Option (List ℕ)
+sent functional p (Ok reply) = if is_suppressed (service_of (sid p)) p then None else Some reply
+sent functional p (Err nrc) = sent_negative functional (sid p) nrc
+
+-- S3 is full after every request of the holder
+abbrev pub kept_alive : State → ℕ → State
+kept_alive s who = if is_holder s who then s3_filled s else s
+
+abbrev pub outcome : State → ℕ → List ℕ → Outcome
+outcome s who p = served s who (service_of (sid p)) p
+
+-- the state after a request, which is the same for a functional and a physical one
+abbrev pub after_request : State → ℕ → Bool → List ℕ → State
+after_request s who functional p = kept_alive (outcome s who p).state who
+
+-- the reply that is sent, or none
+abbrev pub reply : State → ℕ → Bool → List ℕ → Option (List ℕ)
+reply s who functional p = sent functional p (outcome s who p).answer
+
+abbrev pub respond : State → ℕ → Bool → List ℕ → State × Option (List ℕ)
+respond s who functional p = (after_request s who functional p, reply s who functional p)
+
+-- the negative response code of what security access is answered, told by the table of levels
+abbrev pub seed_refusal : SeedAnswer → Option Nrc
+seed_refusal Delayed = Some RequiredTimeDelayNotExpired
+seed_refusal (Seed seed) = None
+
+abbrev pub key_refusal : KeyAnswer → Option Nrc
+key_refusal KeyDelayed = Some RequiredTimeDelayNotExpired
+key_refusal NoSeed = Some RequestSequenceError
+key_refusal Right = None
+key_refusal Wrong = Some InvalidKey
+key_refusal TooMany = Some ExceededNumberOfAttempts

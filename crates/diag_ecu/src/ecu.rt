@@ -1,0 +1,333 @@
+//! The ECU: what it holds, and what it does with a request.
+ghost use Rattle.std.specs.Prelude.{◌≡◌, ◌≤◌, ◌+◌, ◌++◌, None, Some, length, IfOk, IfNone, OnOk, OnErr};
+ghost use Rattle.diag_ecu.specs.State.{opening, is_holder, is_held_by_another, is_open};
+ghost use Rattle.diag_ecu.specs.Respond.{first_holding, common_checks, own_checks, checks, after_request, reply, outcome, served, own_outcome, effect, positive_reply, kept_alive, sent_negative, is_suppressed};
+
+use crate::bytes::sub_of;
+use crate::service::{Nrc, Service};
+use crate::trouble_codes::setting_refusal;
+use diag_store::{Dids, DtcMemory, Routines, Security, Setup, Values, Who};
+use diag_tp::Message;
+use std::alloc::{AllocError, Global};
+
+/// The ECU: the sequential server of all testers, of whom one at most is in the extended session, the holder.
+#[derive(Drop)]
+pub struct Ecu {
+    pub(crate) values: Values,
+    pub(crate) dids: Dids,
+    pub(crate) codes: DtcMemory,
+    pub(crate) routines: Routines,
+    pub(crate) security: Security,
+    pub(crate) holder: Option<Who>,
+    /// The ticks left of S3; 0 while nobody is the holder.
+    pub(crate) s3_left: u32,
+    /// Whether routines that are done set status bits (ISO 14229-1, 9.8).
+    pub(crate) status_update: bool,
+}
+
+impl Ecu {
+    /// The ECU of a setup at the opening: nobody is the holder, all is locked, and the routines are idle.
+    pub fn new(alloc: Global, setup: &Setup) -> Result<Ecu, AllocError>
+        ensures { IfOk result (λ ecu. ecu ≡ opening setup.now) }
+    {
+        let dids = Dids::new(alloc, setup)?;
+        let codes = DtcMemory::new(alloc, setup)?;
+        let routines = Routines::new(alloc, setup)?;
+        let security = Security::new(alloc, setup)?;
+        Ok(Ecu {
+            values: setup.values(),
+            dids,
+            codes,
+            routines,
+            security,
+            holder: None,
+            s3_left: 0,
+            status_update: true,
+        })
+    }
+
+    /// Another ECU in the same state.
+    pub fn try_copy(&self) -> Result<Ecu, AllocError>
+        ensures { IfOk result (λ copy. copy ≡ self.now) }
+    {
+        let dids = self.dids.try_copy()?;
+        let codes = self.codes.try_copy()?;
+        let routines = self.routines.try_copy()?;
+        let security = self.security.try_copy()?;
+        Ok(Ecu {
+            values: self.values,
+            dids,
+            codes,
+            routines,
+            security,
+            holder: self.holder,
+            s3_left: self.s3_left,
+            status_update: self.status_update,
+        })
+    }
+
+    /// The tester in the extended session, if there is one.
+    pub fn holder(&self) -> Option<Who>
+        ensures { result ≡ self.now.holder }
+    {
+        self.holder
+    }
+
+    /// The trouble codes with their status.
+    pub fn codes(&self) -> &DtcMemory
+        ensures { result.now ≡ self.now.codes }
+    {
+        &self.codes
+    }
+
+    /// The data identifiers with their values.
+    pub fn dids(&self) -> &Dids
+        ensures { result.now ≡ self.now.dids }
+    {
+        &self.dids
+    }
+
+    /// The reply to a tester's request, or none where none is sent. Nothing changes.
+    pub fn reply(
+        &self,
+        who: Who,
+        functional: bool,
+        message: &Message,
+    ) -> Result<Option<Message>, AllocError>
+        ensures { IfOk result (λ r. r ≡ reply self.now who functional message.now) }
+    {
+        let p = message.bytes();
+        let Some(service) = Service::of(p[0]) else {
+            return self.negative_reply(functional, p[0], Nrc::ServiceNotSupported);
+        };
+        match self.refusal(who, service, p) {
+            Some(nrc) => self.negative_reply(functional, p[0], nrc),
+            None if is_suppressed(service, p) => Ok(None),
+            None => {
+                let reply = self.positive_reply(who, service, p)?;
+                Ok(Some(reply))
+            }
+        }
+    }
+
+    /// Goes to the state after a tester's request. It takes no memory.
+    pub fn settle(&mut self, who: Who, functional: bool, message: &Message)
+        ensures { self.new ≡ after_request self.old who functional message.now }
+    {
+        let _ = functional;
+        self.serve(who, message.bytes());
+        self.keep_alive(who);
+    }
+
+    /// Answers a tester's request and goes to the state after it; where memory is refused, all is as before.
+    pub fn request(
+        &mut self,
+        who: Who,
+        functional: bool,
+        message: &Message,
+    ) -> Result<Option<Message>, AllocError>
+        ensures reply { IfOk result (λ r. r ≡ reply self.old who functional message.now) }
+        ensures state { OnOk result (self.new ≡ after_request self.old who functional message.now) }
+        ensures refused { OnErr result (self.new ≡ self.old) }
+    {
+        let reply = self.reply(who, functional, message)?;
+        self.settle(who, functional, message);
+        Ok(reply)
+    }
+}
+
+impl Ecu {
+    /// The code of the first check of the service that holds.
+    fn refusal(&self, who: Who, service: Service, p: &[u8]) -> Option<Nrc>
+        requires { 1 ≤ length p.now }
+        ensures first { result ≡ first_holding (checks self.now who service p.now) }
+        ensures common { IfNone result (first_holding (common_checks self.now who service p.now) ≡ None) }
+        ensures own { IfNone result (first_holding (own_checks self.now who service p.now) ≡ None) }
+    {
+        match self.common_refusal(who, service, p) {
+            Some(nrc) => Some(nrc),
+            None => self.own_refusal(who, service, p),
+        }
+    }
+
+    /// The code of the first check of this service alone that holds.
+    fn own_refusal(&self, who: Who, service: Service, p: &[u8]) -> Option<Nrc>
+        requires some { 1 ≤ length p.now }
+        requires passed { first_holding (common_checks self.now who service p.now) ≡ None }
+        ensures { result ≡ first_holding (own_checks self.now who service p.now) }
+    {
+        match service {
+            Service::ClearDiagnosticInformation => self.clear_refusal(p),
+            Service::ReadDataByIdentifier => self.read_refusal(who, p),
+            Service::SecurityAccess => self.security_refusal(who, p),
+            Service::WriteDataByIdentifier => self.write_refusal(who, p),
+            Service::RoutineControl => self.routine_refusal(who, p),
+            Service::ControlDtcSetting => setting_refusal(p),
+            Service::DiagnosticSessionControl
+            | Service::EcuReset
+            | Service::ReadDtcInformation
+            | Service::TesterPresent => None,
+        }
+    }
+
+    /// The positive reply to a request that passes all checks.
+    fn positive_reply(&self, who: Who, service: Service, p: &[u8]) -> Result<Message, AllocError>
+        requires some { 1 ≤ length p.now }
+        requires common { first_holding (common_checks self.now who service p.now) ≡ None }
+        requires own { first_holding (own_checks self.now who service p.now) ≡ None }
+        ensures { IfOk result (λ reply. reply ≡ positive_reply self.now service p.now) }
+    {
+        match service {
+            Service::DiagnosticSessionControl => self.session_reply(p),
+            Service::EcuReset => self.say(&[0x51, sub_of(p)]),
+            Service::ClearDiagnosticInformation => self.say(&[0x54]),
+            Service::ReadDtcInformation => self.codes_reply(p),
+            Service::ReadDataByIdentifier => self.data_reply(p),
+            Service::SecurityAccess => self.security_reply(who, p),
+            Service::WriteDataByIdentifier => self.write_reply(p),
+            Service::RoutineControl => self.routine_reply(p),
+            Service::TesterPresent => self.say(&[0x7E, 0x00]),
+            Service::ControlDtcSetting => self.say(&[0xC5, sub_of(p)]),
+        }
+    }
+
+    /// What is sent where a negative response code is the answer.
+    fn negative_reply(
+        &self,
+        functional: bool,
+        sid: u8,
+        nrc: Nrc,
+    ) -> Result<Option<Message>, AllocError>
+        ensures { IfOk result (λ r. r ≡ sent_negative functional sid nrc) }
+    {
+        if functional && nrc.is_silent() {
+            return Ok(None);
+        }
+        let reply = self.say(&[0x7F, sid, nrc.code()])?;
+        Ok(Some(reply))
+    }
+
+    /// Does what a request does, but for S3.
+    fn serve(&mut self, who: Who, p: &[u8])
+        requires { 1 ≤ length p.now }
+        ensures { self.new ≡ (outcome self.old who p.now).state }
+    {
+        if let Some(service) = Service::of(p[0]) {
+            self.serve_known(who, service, p);
+        }
+    }
+
+    fn serve_known(&mut self, who: Who, service: Service, p: &[u8])
+        requires { 1 ≤ length p.now }
+        ensures { self.new ≡ (served self.old who (Some service) p.now).state }
+    {
+        match self.common_refusal(who, service, p) {
+            Some(_) => {}
+            None => self.perform(who, service, p),
+        }
+    }
+
+    /// Does what a request does that passes the checks of every service.
+    fn perform(&mut self, who: Who, service: Service, p: &[u8])
+        requires some { 1 ≤ length p.now }
+        requires passed { first_holding (common_checks self.old who service p.now) ≡ None }
+        ensures { self.new ≡ (own_outcome self.old who service p.now).state }
+    {
+        match service {
+            Service::SecurityAccess => self.access_security(who, p),
+            _ => match self.own_refusal(who, service, p) {
+                Some(_) => {}
+                None => self.take_effect(who, service, p),
+            },
+        }
+    }
+
+    /// The effect of a request that passes all checks.
+    fn take_effect(&mut self, who: Who, service: Service, p: &[u8])
+        requires some { 1 ≤ length p.now }
+        requires common { first_holding (common_checks self.old who service p.now) ≡ None }
+        requires own { first_holding (own_checks self.old who service p.now) ≡ None }
+        ensures { self.new ≡ effect self.old who service p.now }
+    {
+        match service {
+            Service::DiagnosticSessionControl => self.control_session(who, p),
+            Service::EcuReset => self.end_session(),
+            Service::ClearDiagnosticInformation => self.clear(p),
+            Service::SecurityAccess => self.access_security(who, p),
+            Service::WriteDataByIdentifier => self.write_data(p),
+            Service::RoutineControl => self.control_routine(p),
+            Service::ControlDtcSetting => self.control_setting(p),
+            Service::ReadDtcInformation | Service::ReadDataByIdentifier | Service::TesterPresent =>
+                {}
+        }
+    }
+
+    /// S3 is full after every request of the holder.
+    fn keep_alive(&mut self, who: Who)
+        ensures { self.new ≡ kept_alive self.old who }
+    {
+        if self.is_holder(who) {
+            self.s3_left = self.values.s3_ms;
+        }
+    }
+}
+
+impl Ecu {
+    pub(crate) fn is_holder(&self, who: Who) -> bool
+        ensures { result ≡ is_holder self.now who }
+    {
+        match self.holder {
+            Some(holder) => holder.place() == who.place(),
+            None => false,
+        }
+    }
+
+    pub(crate) fn is_held_by_another(&self, who: Who) -> bool
+        ensures { result ≡ is_held_by_another self.now who }
+    {
+        self.holder.is_some() && !self.is_holder(who)
+    }
+
+    /// Whether a level that a row names is open to the tester.
+    pub(crate) fn is_open(&self, who: Who, level: u8) -> bool
+        ensures { result ≡ is_open self.now who level }
+    {
+        level == 0 || (self.is_holder(who) && self.security.unlocked() == Some(level))
+    }
+
+    /// The allocator that the ECU was made with.
+    pub(crate) fn alloc(&self) -> Global {
+        self.dids.alloc()
+    }
+
+    /// The message of these bytes.
+    pub(crate) fn say(&self, bytes: &[u8]) -> Result<Message, AllocError>
+        requires some { 1 ≤ length bytes.now }
+        requires fits { length bytes.now ≤ 65535 }
+        ensures { IfOk result (λ message. message ≡ bytes.now) }
+    {
+        Message::of(self.alloc(), bytes)
+    }
+
+    /// The message of these bytes, the second part right after the first.
+    pub(crate) fn say_with(&self, head: &[u8], tail: &[u8]) -> Result<Message, AllocError>
+        requires some { 1 ≤ length head.now }
+        requires fits { length head.now + length tail.now ≤ 65535 }
+        ensures { IfOk result (λ message. message ≡ head.now ++ tail.now) }
+    {
+        let mut bytes = Vec::with_capacity(self.alloc(), head.len() + tail.len())?;
+        bytes.extend_from_slice(head)?;
+        bytes.extend_from_slice(tail)?;
+        Ok(Message::from_vec(bytes))
+    }
+}
+
+/// Whether a request asks that no positive reply be sent.
+fn is_suppressed(service: Service, p: &[u8]) -> bool
+    ensures { result ≡ is_suppressed (Some service) p.now }
+{
+    match p {
+        [_, second, ..] => service.has_sub_function() && *second >= 128,
+        _ => false,
+    }
+}

@@ -1,0 +1,18 @@
+//! The diagnostic services of one ECU: a request or a tick is one move of the server.
+#![tactic(auto)]
+
+mod bytes;
+mod checks;
+mod ecu;
+mod read_data;
+mod routine_control;
+mod security_access;
+mod service;
+mod session;
+mod ticks;
+mod trouble_codes;
+mod write_data;
+
+pub use ecu::Ecu;
+pub use service::{Nrc, Service};
+pub use session::Session;

@@ -1,0 +1,78 @@
+//! Security access: seeds and keys (ISO 14229-1, 9.4).
+ghost use Rattle.std.specs.Prelude.{◌≡◌, ◌≤◌, ◌-◌, length, is_some, false, IsTrue, IfOk};
+ghost use Rattle.diag_store.specs.Security.{level_of, is_delayed};
+ghost use Rattle.diag_ecu.specs.Respond.{own_outcome, security_checks, first_holding, positive_reply, is_sub_function, sub, seed_refusal, key_refusal};
+
+use crate::bytes::sub_of;
+use crate::ecu::Ecu;
+use crate::service::{Nrc, Service};
+use diag_store::{KeyAnswer, SeedAnswer, Who};
+use diag_tp::Message;
+use std::alloc::AllocError;
+
+impl Ecu {
+    /// The code of the first check of a seed or key that holds.
+    pub(crate) fn security_refusal(&self, who: Who, p: &[u8]) -> Option<Nrc>
+        requires long { 2 ≤ length p.now }
+        requires known { IsTrue (is_sub_function self.now Service.SecurityAccess (sub p.now)) }
+        ensures { result ≡ first_holding (security_checks self.now who p.now) }
+    {
+        let sub = sub_of(p);
+        if self.has_level(sub) {
+            return seed_refusal(&self.security.seed_answer(who, sub));
+        }
+        key_refusal(
+            self.security
+                .key_answer(who, sub.saturating_sub(1), &p[2..]),
+        )
+    }
+
+    /// The seed, or the word that the key was right.
+    pub(crate) fn security_reply(&self, who: Who, p: &[u8]) -> Result<Message, AllocError>
+        requires { is_delayed self.now.security who ≡ false }
+        ensures { IfOk result (λ reply. reply ≡ positive_reply self.now Service.SecurityAccess p.now) }
+    {
+        let sub = sub_of(p);
+        if self.has_level(sub)
+            && let SeedAnswer::Seed(seed) = self.security.seed_answer(who, sub)
+        {
+            return self.say_with(&[0x67, sub], seed.as_slice());
+        }
+        self.say(&[0x67, sub])
+    }
+
+    /// Gives a seed, or takes a key: what a key does that is wrong is here too.
+    pub(crate) fn access_security(&mut self, who: Who, p: &[u8])
+        requires long { 2 ≤ length p.now }
+        requires known { IsTrue (is_sub_function self.old Service.SecurityAccess (sub p.now)) }
+        ensures { self.new ≡ (own_outcome self.old who Service.SecurityAccess p.now).state }
+    {
+        let sub = sub_of(p);
+        if self.has_level(sub) {
+            self.security.seed(who, sub);
+        } else {
+            self.security.key(who, sub.saturating_sub(1), &p[2..]);
+        }
+    }
+}
+
+fn seed_refusal(answer: &SeedAnswer) -> Option<Nrc>
+    ensures { result ≡ seed_refusal answer.now }
+{
+    match answer {
+        SeedAnswer::Delayed => Some(Nrc::RequiredTimeDelayNotExpired),
+        SeedAnswer::Seed(_) => None,
+    }
+}
+
+fn key_refusal(answer: KeyAnswer) -> Option<Nrc>
+    ensures { result ≡ key_refusal answer }
+{
+    match answer {
+        KeyAnswer::Delayed => Some(Nrc::RequiredTimeDelayNotExpired),
+        KeyAnswer::NoSeed => Some(Nrc::RequestSequenceError),
+        KeyAnswer::Right => None,
+        KeyAnswer::Wrong => Some(Nrc::InvalidKey),
+        KeyAnswer::TooMany => Some(Nrc::ExceededNumberOfAttempts),
+    }
+}

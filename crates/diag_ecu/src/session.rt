@@ -1,0 +1,64 @@
+//! Diagnostic session control and ECU reset (ISO 14229-1, 9.2 and 9.3).
+ghost use Rattle.std.specs.Prelude.{◌≡◌, IfOk};
+ghost use Rattle.diag_ecu.specs.Respond.{positive_reply, session_effect, sub};
+ghost use Rattle.diag_ecu.specs.State.{session_of, session_ended};
+
+use crate::bytes::{bytes_16, sub_of};
+use crate::ecu::Ecu;
+use crate::service::Service;
+use diag_store::Who;
+use diag_tp::Message;
+use std::alloc::AllocError;
+
+/// The session of a tester.
+#[derive(Clone, Copy, PartialEq, Eq, Debug, Drop)]
+pub enum Session {
+    Default,
+    Extended,
+}
+
+impl Ecu {
+    /// The session of a tester: the holder is in the extended one, all others are in the default one.
+    pub fn session_of(&self, who: Who) -> Session
+        ensures { result ≡ session_of self.now who }
+    {
+        if self.is_holder(who) {
+            Session::Extended
+        } else {
+            Session::Default
+        }
+    }
+
+    /// The reply to session control: the sub-function, P2 in milliseconds and P2* in units of 10 milliseconds.
+    pub(crate) fn session_reply(&self, p: &[u8]) -> Result<Message, AllocError>
+        ensures { IfOk result (λ reply. reply ≡ positive_reply self.now Service.DiagnosticSessionControl p.now) }
+    {
+        let [p2_high, p2_low] = bytes_16(self.values.p2_ms);
+        let [star_high, star_low] = bytes_16(self.values.p2_star_10ms);
+        self.say(&[0x50, sub_of(p), p2_high, p2_low, star_high, star_low])
+    }
+
+    /// Enters or leaves the extended session. Who enters it again finds all locked again.
+    pub(crate) fn control_session(&mut self, who: Who, p: &[u8])
+        ensures { self.new ≡ session_effect self.old who (sub p.now) }
+    {
+        if sub_of(p) == 0x03 {
+            self.security.lock();
+            self.holder = Some(who);
+            self.s3_left = self.values.s3_ms;
+        } else if self.is_holder(who) {
+            self.end_session();
+        }
+    }
+
+    /// The session ends: all is locked, the setting of status bits is on, and the routines are idle.
+    pub(crate) fn end_session(&mut self)
+        ensures { self.new ≡ session_ended self.old }
+    {
+        self.security.lock();
+        self.routines.idle_all();
+        self.status_update = true;
+        self.holder = None;
+        self.s3_left = 0;
+    }
+}
