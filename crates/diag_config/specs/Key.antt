@@ -1,0 +1,28 @@
+-- Why the keys of a setup could not be read, and what a reader returns beside what a definition says.
+use Rattle.std.specs.Prelude.{◌≡◌, ℕ, List, Result, Ok, Err}
+use Rattle.diag_setup.specs.declared.fault.SetupFault.{SetupFault}
+use Rattle.diag_config.specs.declared.fault.KeyFault.{KeyFault}
+use Rattle.diag_config.specs.declared.fault.KeyFault.TheVariants.{Missing, BadValue, Memory}
+
+-- a fault of a setup's text, where a key is written as in the table of keys
+pub data Fault : Type 0 where
+  syntax : Fault
+  missing : List ℕ → Fault
+  bad_value : List ℕ → Fault
+  refused : SetupFault → Fault
+
+infixl 10 ◌>>=◌
+abbrev pub ◌>>=◌ : {A B : Type 0} → Result A Fault → (A → Result B Fault) → Result B Fault
+(Ok x) >>= f = f x
+(Err e) >>= f = Err e
+
+-- the fault is the one that the definition answers, unless memory ran out
+abbrev pub KeyFails : {Y : Type 0} → KeyFault → Result Y Fault → Type 0
+KeyFails Memory said = Unit {0}
+KeyFails (Missing key) said = said ≡ Err (missing key.now)
+KeyFails (BadValue key) said = said ≡ Err (bad_value key.now)
+
+-- what a reader returned, seen by view, is what the definition says, unless memory ran out
+abbrev pub KeyGives : {X Y : Type 0} → (X → Y) → Result X KeyFault → Result Y Fault → Type 0
+KeyGives view (Ok x) said = said ≡ Ok (view x)
+KeyGives view (Err e) said = KeyFails e said

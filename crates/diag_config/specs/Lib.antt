@@ -1,0 +1,4 @@
+pub mod Fault
+pub mod Key
+pub mod Setup
+pub mod Text

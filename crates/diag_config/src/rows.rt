@@ -1,0 +1,344 @@
+//! The tables of a setup.
+
+ghost use Rattle.std.specs.Prelude.{◌≡◌};
+ghost use Rattle.toml.specs.View.{view, table_view};
+ghost use Rattle.diag_setup.specs.declared.raw.RawTester.{RawTester as ATester};
+ghost use Rattle.diag_setup.specs.declared.raw.RawDid.{RawDid as ADid};
+ghost use Rattle.diag_setup.specs.declared.raw.RawCode.{RawCode as ACode};
+ghost use Rattle.diag_setup.specs.declared.raw.RawRoutine.{RawRoutine as ARoutine};
+ghost use Rattle.diag_setup.specs.declared.raw.RawKeyRow.{RawKeyRow as ARow};
+ghost use Rattle.diag_setup.specs.declared.raw.RawLevel.{RawLevel as ALevel};
+ghost use Rattle.diag_config.specs.Key.{KeyGives};
+ghost use Rattle.diag_config.specs.Setup.{row, tester_at, did_at, code_at, done_at, routine_at, row_at, level_at, timing_at, transport_at, server_at, setup_at};
+
+use crate::fault::KeyFault;
+use crate::table::{optional, required, with_default};
+use crate::value::{FromValue, Hex, Text};
+use diag_setup::{Items, RawCode, RawDid, RawKeyRow, RawLevel, RawRoutine, RawSetup, RawTester};
+use std::alloc::Global;
+use toml::{Table, Value};
+
+/// The times of the server, in milliseconds (P2* in ten).
+#[derive(Clone, Copy)]
+struct Times {
+    p2_ms: u32,
+    p2_star_10ms: u32,
+    s3_ms: u32,
+    n_bs_ms: u32,
+    n_cr_ms: u32,
+}
+
+/// What the links have in common.
+#[derive(Clone, Copy)]
+struct LinkValues {
+    block_size: u32,
+    st_min: u32,
+    max_request: u32,
+    pad: bool,
+    pad_byte: u32,
+}
+
+/// What the services have in common.
+#[derive(Clone, Copy)]
+struct ServerValues {
+    availability: u32,
+    functional: u32,
+    attempts: u32,
+    delay_ms: u32,
+}
+
+#[tactic(auto, unfolding(crate::specs::Setup::tester_at))]
+fn tester(alloc: Global, table: &Table) -> Result<RawTester, KeyFault>
+    ensures { KeyGives (λ x. x) result (tester_at (table_view table.now)) }
+{
+    let name: Text = required(alloc, table, "name", "tester.name")?;
+    let request: u32 = required(alloc, table, "request", "tester.request")?;
+    let response: u32 = required(alloc, table, "response", "tester.response")?;
+    Ok(RawTester {
+        name: name.0,
+        request,
+        response,
+    })
+}
+
+#[tactic(auto, unfolding(crate::specs::Setup::did_at))]
+fn did(alloc: Global, table: &Table) -> Result<RawDid, KeyFault>
+    ensures { KeyGives (λ x. x) result (did_at (table_view table.now)) }
+{
+    let id: u32 = required(alloc, table, "id", "did.id")?;
+    let value: Hex = required(alloc, table, "value", "did.value")?;
+    let read_level = with_default(alloc, table, "read_level", "did.read_level", 0u32)?;
+    let write = with_default(alloc, table, "write", "did.write", false)?;
+    let write_level = with_default(alloc, table, "write_level", "did.write_level", 0u32)?;
+    Ok(RawDid {
+        id,
+        value: value.0,
+        read_level,
+        write,
+        write_level,
+    })
+}
+
+#[tactic(auto, unfolding(crate::specs::Setup::code_at))]
+fn code(alloc: Global, table: &Table) -> Result<RawCode, KeyFault>
+    ensures { KeyGives (λ x. x) result (code_at (table_view table.now)) }
+{
+    let code: u32 = required(alloc, table, "code", "code.code")?;
+    let status: u32 = required(alloc, table, "status", "code.status")?;
+    Ok(RawCode { code, status })
+}
+
+#[tactic(auto, unfolding(crate::specs::Setup::done_at))]
+fn done(alloc: Global, table: &Table) -> Result<Option<RawCode>, KeyFault>
+    ensures { KeyGives (λ x. x) result (done_at (table_view table.now)) }
+{
+    let code: Option<u32> = optional(alloc, table, "code", "routine.code")?;
+    match code {
+        None => Ok(None),
+        Some(code) => {
+            let status: u32 = required(alloc, table, "status", "routine.status")?;
+            Ok(Some(RawCode { code, status }))
+        }
+    }
+}
+
+#[tactic(auto, unfolding(crate::specs::Setup::routine_at))]
+fn routine(alloc: Global, table: &Table) -> Result<RawRoutine, KeyFault>
+    ensures { KeyGives (λ x. x) result (routine_at (table_view table.now)) }
+{
+    let id: u32 = required(alloc, table, "id", "routine.id")?;
+    let time_ms: u32 = required(alloc, table, "time_ms", "routine.time_ms")?;
+    let nothing = Hex(Items::new(alloc));
+    let outcome = with_default(alloc, table, "result", "routine.result", nothing)?;
+    let level = with_default(alloc, table, "level", "routine.level", 0u32)?;
+    let on_done = done(alloc, table)?;
+    Ok(RawRoutine {
+        id,
+        time_ms,
+        result: outcome.0,
+        level,
+        on_done,
+    })
+}
+
+#[tactic(auto, unfolding(crate::specs::Setup::row_at))]
+fn seed_row(alloc: Global, table: &Table) -> Result<RawKeyRow, KeyFault>
+    ensures { KeyGives (λ x. x) result (row_at (table_view table.now)) }
+{
+    let seed: Hex = required(alloc, table, "seed", "level.row.seed")?;
+    let key: Hex = required(alloc, table, "key", "level.row.key")?;
+    Ok(RawKeyRow {
+        seed: seed.0,
+        key: key.0,
+    })
+}
+
+#[tactic(auto, unfolding(crate::specs::Setup::level_at))]
+fn level(alloc: Global, table: &Table) -> Result<RawLevel, KeyFault>
+    ensures { KeyGives (λ x. x) result (level_at (table_view table.now)) }
+{
+    let sub: u32 = required(alloc, table, "sub", "level.sub")?;
+    let rows = with_default(
+        alloc,
+        table,
+        "row",
+        "level.row",
+        Items::<RawKeyRow>::new(alloc),
+    )?;
+    Ok(RawLevel { sub, rows })
+}
+
+#[tactic(auto, unfolding(crate::specs::Setup::timing_at))]
+fn timing(alloc: Global, table: &Table) -> Result<Times, KeyFault>
+    ensures { KeyGives (λ x. x) result (timing_at (table_view table.now)) }
+{
+    let p2_ms = with_default(alloc, table, "p2_ms", "p2_ms", 50u32)?;
+    let p2_star_10ms = with_default(alloc, table, "p2_star_10ms", "p2_star_10ms", 500u32)?;
+    let s3_ms = with_default(alloc, table, "s3_ms", "s3_ms", 5000u32)?;
+    let n_bs_ms = with_default(alloc, table, "n_bs_ms", "n_bs_ms", 1000u32)?;
+    let n_cr_ms = with_default(alloc, table, "n_cr_ms", "n_cr_ms", 1000u32)?;
+    Ok(Times {
+        p2_ms,
+        p2_star_10ms,
+        s3_ms,
+        n_bs_ms,
+        n_cr_ms,
+    })
+}
+
+#[tactic(auto, unfolding(crate::specs::Setup::transport_at))]
+fn transport(alloc: Global, table: &Table) -> Result<LinkValues, KeyFault>
+    ensures { KeyGives (λ x. x) result (transport_at (table_view table.now)) }
+{
+    let block_size = with_default(alloc, table, "block_size", "block_size", 0u32)?;
+    let st_min = with_default(alloc, table, "st_min", "st_min", 0u32)?;
+    let max_request = with_default(alloc, table, "max_request", "max_request", 4095u32)?;
+    let pad = with_default(alloc, table, "pad", "pad", true)?;
+    let pad_byte = with_default(alloc, table, "pad_byte", "pad_byte", 204u32)?;
+    Ok(LinkValues {
+        block_size,
+        st_min,
+        max_request,
+        pad,
+        pad_byte,
+    })
+}
+
+#[tactic(auto, unfolding(crate::specs::Setup::server_at))]
+fn server(alloc: Global, table: &Table) -> Result<ServerValues, KeyFault>
+    ensures { KeyGives (λ x. x) result (server_at (table_view table.now)) }
+{
+    let availability = with_default(alloc, table, "availability", "availability", 255u32)?;
+    let functional = with_default(alloc, table, "functional", "functional", 2015u32)?;
+    let attempts = with_default(alloc, table, "attempts", "attempts", 3u32)?;
+    let delay_ms = with_default(alloc, table, "delay_ms", "delay_ms", 10000u32)?;
+    Ok(ServerValues {
+        availability,
+        functional,
+        attempts,
+        delay_ms,
+    })
+}
+
+#[tactic(auto, unfolding(crate::specs::Setup::setup_at))]
+pub fn setup(alloc: Global, table: &Table) -> Result<RawSetup, KeyFault>
+    ensures { KeyGives (λ x. x) result (setup_at (table_view table.now)) }
+{
+    let timing = timing(alloc, table)?;
+    let transport = transport(alloc, table)?;
+    let server = server(alloc, table)?;
+    let testers = with_default(
+        alloc,
+        table,
+        "tester",
+        "tester",
+        Items::<RawTester>::new(alloc),
+    )?;
+    let dids = with_default(alloc, table, "did", "did", Items::<RawDid>::new(alloc))?;
+    let codes = with_default(alloc, table, "code", "code", Items::<RawCode>::new(alloc))?;
+    let routines = with_default(
+        alloc,
+        table,
+        "routine",
+        "routine",
+        Items::<RawRoutine>::new(alloc),
+    )?;
+    let levels = with_default(
+        alloc,
+        table,
+        "level",
+        "level",
+        Items::<RawLevel>::new(alloc),
+    )?;
+    Ok(RawSetup {
+        p2_ms: timing.p2_ms,
+        p2_star_10ms: timing.p2_star_10ms,
+        s3_ms: timing.s3_ms,
+        n_bs_ms: timing.n_bs_ms,
+        n_cr_ms: timing.n_cr_ms,
+        block_size: transport.block_size,
+        st_min: transport.st_min,
+        max_request: transport.max_request,
+        pad: transport.pad,
+        pad_byte: transport.pad_byte,
+        availability: server.availability,
+        functional: server.functional,
+        attempts: server.attempts,
+        delay_ms: server.delay_ms,
+        testers,
+        dids,
+        codes,
+        routines,
+        levels,
+    })
+}
+
+impl FromValue for RawTester {
+    ghost Said = { ATester };
+
+    ghost said = { λ x. x };
+
+    ghost kind = { row tester_at };
+
+    fn from_value(alloc: Global, key: &'static str, value: &Value) -> Result<RawTester, KeyFault> {
+        match value {
+            Value::Table(table) => tester(alloc, table),
+            _ => Err(KeyFault::BadValue(key)),
+        }
+    }
+}
+
+impl FromValue for RawRoutine {
+    ghost Said = { ARoutine };
+
+    ghost said = { λ x. x };
+
+    ghost kind = { row routine_at };
+
+    fn from_value(alloc: Global, key: &'static str, value: &Value) -> Result<RawRoutine, KeyFault> {
+        match value {
+            Value::Table(table) => routine(alloc, table),
+            _ => Err(KeyFault::BadValue(key)),
+        }
+    }
+}
+
+impl FromValue for RawKeyRow {
+    ghost Said = { ARow };
+
+    ghost said = { λ x. x };
+
+    ghost kind = { row row_at };
+
+    fn from_value(alloc: Global, key: &'static str, value: &Value) -> Result<RawKeyRow, KeyFault> {
+        match value {
+            Value::Table(table) => seed_row(alloc, table),
+            _ => Err(KeyFault::BadValue(key)),
+        }
+    }
+}
+
+impl FromValue for RawLevel {
+    ghost Said = { ALevel };
+
+    ghost said = { λ x. x };
+
+    ghost kind = { row level_at };
+
+    fn from_value(alloc: Global, key: &'static str, value: &Value) -> Result<RawLevel, KeyFault> {
+        match value {
+            Value::Table(table) => level(alloc, table),
+            _ => Err(KeyFault::BadValue(key)),
+        }
+    }
+}
+
+impl FromValue for RawDid {
+    ghost Said = { ADid };
+
+    ghost said = { λ x. x };
+
+    ghost kind = { row did_at };
+
+    fn from_value(alloc: Global, key: &'static str, value: &Value) -> Result<RawDid, KeyFault> {
+        match value {
+            Value::Table(table) => did(alloc, table),
+            _ => Err(KeyFault::BadValue(key)),
+        }
+    }
+}
+
+impl FromValue for RawCode {
+    ghost Said = { ACode };
+
+    ghost said = { λ x. x };
+
+    ghost kind = { row code_at };
+
+    fn from_value(alloc: Global, key: &'static str, value: &Value) -> Result<RawCode, KeyFault> {
+        match value {
+            Value::Table(table) => code(alloc, table),
+            _ => Err(KeyFault::BadValue(key)),
+        }
+    }
+}

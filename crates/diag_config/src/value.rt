@@ -1,0 +1,108 @@
+//! Kinds of TOML value, each read in one way.
+
+ghost use Rattle.std.specs.Prelude.{◌≡◌, ℕ, Bool, List, Result, Option, option_map, map, IfOk};
+ghost use Rattle.toml.specs.Data.{Data, Members, get_member};
+ghost use Rattle.toml.specs.View.{view, table_view};
+ghost use Rattle.diag_config.specs.Key.{Fault, KeyGives};
+ghost use Rattle.diag_config.specs.Setup.{number, truth, text, hex, list, optional, required};
+
+use crate::fault::KeyFault;
+use diag_setup::Items;
+use hex::FromHexError;
+use std::alloc::{AllocError, Global};
+use toml::{Table, Value};
+
+/// What a value of one kind says.
+pub trait FromValue: Sized + Drop {
+    ghost Said: { Type 0 };
+
+    ghost said: { Self → Said };
+    // what a value says, or that its key holds a bad one
+    ghost kind: { List ℕ → Data → Result Said Fault };
+
+    fn from_value(alloc: Global, key: &'static str, value: &Value) -> Result<Self, KeyFault>
+        ensures { KeyGives said result (kind key.now (view value.now)) };
+}
+
+impl FromValue for u32 {
+    ghost Said = { ℕ };
+
+    ghost said = { λ n. n };
+
+    ghost kind = { number };
+
+    fn from_value(_alloc: Global, key: &'static str, value: &Value) -> Result<u32, KeyFault> {
+        match value {
+            Value::Integer(n) if 0 <= *n && *n <= 4294967295 => Ok(*n as u32),
+            _ => Err(KeyFault::BadValue(key)),
+        }
+    }
+}
+
+impl FromValue for bool {
+    ghost Said = { Bool };
+
+    ghost said = { λ b. b };
+
+    ghost kind = { truth };
+
+    fn from_value(_alloc: Global, key: &'static str, value: &Value) -> Result<bool, KeyFault> {
+        match value {
+            Value::Boolean(b) => Ok(*b),
+            _ => Err(KeyFault::BadValue(key)),
+        }
+    }
+}
+
+/// These bytes, as a setup keeps them.
+fn kept(alloc: Global, bytes: &[u8]) -> Result<Items<u8>, AllocError>
+    ensures { IfOk result (λ items. items ≡ bytes.now) }
+{
+    let mut items = Items::new(alloc);
+    for byte in bytes {
+        items.push(*byte)?;
+    }
+    Ok(items)
+}
+
+/// The bytes of a text.
+#[derive(Drop)]
+pub struct Text(pub Items<u8>);
+
+impl FromValue for Text {
+    ghost Said = { List ℕ };
+
+    ghost said = { λ t. t.0 };
+
+    ghost kind = { text };
+
+    fn from_value(alloc: Global, key: &'static str, value: &Value) -> Result<Text, KeyFault> {
+        match value {
+            Value::String(s) => Ok(Text(kept(alloc, s.as_bytes())?)),
+            _ => Err(KeyFault::BadValue(key)),
+        }
+    }
+}
+
+/// The bytes that a hex text stands for.
+#[derive(Drop)]
+pub struct Hex(pub Items<u8>);
+
+impl FromValue for Hex {
+    ghost Said = { List ℕ };
+
+    ghost said = { λ t. t.0 };
+
+    ghost kind = { hex };
+
+    fn from_value(alloc: Global, key: &'static str, value: &Value) -> Result<Hex, KeyFault> {
+        let Value::String(s) = value else {
+            return Err(KeyFault::BadValue(key));
+        };
+        match hex::decode(alloc, s.as_str()) {
+            Ok(bytes) => Ok(Hex(kept(alloc, bytes.as_slice())?)),
+            Err(FromHexError::OutOfMemory) => Err(KeyFault::Memory),
+            Err(_) => Err(KeyFault::BadValue(key)),
+        }
+    }
+}
