@@ -1,0 +1,23 @@
+use Rattle.std.proofs.Common.{arith}
+use Rattle.diag_tp.proofs.Views.{all_none, none_pending, handed, handed-fewer, room-parts, room-made, reply-room, reply-room-made, waiting-same}
+use Rattle.diag_tp.proofs.link.Link.next_frame.Goals as goal
+
+pub returns : goal.returns
+returns c =
+    let done = c.next_due.ensures in
+    let view = c.args.self.now in
+    let old = c.args.self.now.state in
+    let new = c.next_due.new.self.state in
+    record {
+      next = handed old new c.next_due.result done.some done.current done.waiting done.partial done.setup done.now;
+      fewer = handed-fewer old new c.next_due.result done.some done.current done.waiting done.setup;
+      none = none_pending old c.next_due.result done.none.0 done.none.1;
+      all = λ s E A Q h. all_none s old E A Q c.next_due.result done.none.0 done.none.1 h;
+      same = done.same;
+      waiting = waiting-same old new done.waiting;
+      room = λ event h.
+          let room = room-parts view event h in
+          let reply = done.reply_room in
+          room-made c.next_due.new.self event (rw (done.setup, done.room) room.0) (let some = room.1 in omega arith);
+      reply_room = λ h. let some = reply-room view h in let reply = done.reply_room in reply-room-made c.next_due.new.self (omega arith);
+    }

@@ -1,0 +1,168 @@
+-- How many frames are left, and how many replies wait, after each move of a link.
+use Rattle.std.proofs.Common.{◌≡◌, ℕ, suc, ◌+◌, ◌-◌, ◌<◌, ◌≤◌, true, false, List, [], ◌∷◌, ◌++◌, length, take, drop, refl, ap, arith, length-append, length-drop}
+use Rattle.std.specs.Prelude.{Option, Some, None, sum_by, nat_le, ◌==◌, if◌then◌else◌}
+use Rattle.std.proofs.lemmas.List.{length-take}
+use Rattle.std.proofs.lemmas.List.Sums.{sum_by-cons}
+use Rattle.std.proofs.lemmas.Bool.Decides.{nat_tests}
+use Rattle.diag_can.specs.declared.frame.Event.{Event}
+use Rattle.diag_can.specs.declared.frame.Event.TheVariants.{Physical, Functional, Ticks}
+use Rattle.diag_tp.specs.declared.setup.LinkSetup.{LinkSetup}
+use Rattle.diag_tp.specs.declared.pci.Pci.{Pci}
+use Rattle.diag_tp.specs.declared.pci.Pci.TheVariants.{Single, First, TooLong, Consecutive, Flow, Nothing}
+use Rattle.diag_tp.specs.declared.sender.Phase.{Phase}
+use Rattle.diag_tp.specs.declared.sender.Phase.TheVariants.{AwaitsFlow, InBlock}
+use Rattle.diag_tp.specs.Kind.{kind}
+use Rattle.diag_tp.specs.Cut.{cut}
+use Rattle.diag_tp.specs.Sending.{Decision, Go, Wait, GiveUp, block_size, flow_decision}
+use Rattle.diag_tp.proofs.Settled.{some-frame}
+use Rattle.diag_tp.specs.Sender.{Current, SenderState, frame_count, current_left, started, before_these, resting, in_phase, advanced, within_block, block_begun, decided_so, flow_in, tick_in, sender_flow, sender_tick, sender_frame, sender_event, no_flow, replied, replied_in}
+
+-- the frames that a sender may still hand out
+abbrev pub total : LinkSetup → SenderState → ℕ
+total s r = length r.due + current_left s r.current + sum_by (frame_count s) r.waiting
+
+-- at most so many frames, and at most so many replies that wait
+pub record IsWithin (s : LinkSetup) (r : SenderState) (most many : ℕ) : Type 0 where
+  pub frames : total s r ≤ most
+  pub replies : length r.waiting ≤ many
+
+abbrev left : LinkSetup → Option Current → List (List ℕ) → ℕ
+left s cur W = current_left s cur + sum_by (frame_count s) W
+
+pub started-total : (s : LinkSetup) (W : List (List ℕ)) → total s (started s W) ≡ sum_by (frame_count s) W
+started-total s [] = refl
+started-total s (P ∷ W) =
+    let rest = started-total s W in
+    let sum = sum_by-cons (frame_count s) P W in
+    let one = length-take 1 (cut P s.pad) in
+    let some = some-frame s P in
+    let more = length-append (take 1 (cut P s.pad)) (started s W).due in
+    elim (nat_le (frame_count s P) 1) as (λ b. nat_le (frame_count s P) 1 ≡ b → total s (if b then before_these (take 1 (cut P s.pad)) (started s W) else record { due = take 1 (cut P s.pad); current = Some (record { message = P; gone = 1; phase = AwaitsFlow s.n_bs }); waiting = W }) ≡ sum_by (frame_count s) (P ∷ W)) [
+      | true ↦ λ t. let short : frame_count s P ≤ 1 = grind (arith, nat_tests) in omega arith
+      | false ↦ λ f. let long : 1 < frame_count s P = grind (arith, nat_tests) in omega arith
+    ] refl
+
+pub advanced-total : (s : LinkSetup) (k : ℕ) (phase : Phase) (c : Current) (W : List (List ℕ)) → total s (advanced s k phase c W) ≡ left s (Some c) W
+advanced-total s k phase c W =
+    let rest = started-total s W in
+    let all = cut c.message s.pad in
+    let taken = length-take k (drop c.gone all) in
+    let kept = length-drop c.gone all in
+    let more = length-append (take k (drop c.gone all)) (started s W).due in
+    elim (c.gone + k == frame_count s c.message) as (λ b. (c.gone + k == frame_count s c.message) ≡ b → total s (if b then before_these (take k (drop c.gone all)) (started s W) else record { due = take k (drop c.gone all); current = Some (record { message = c.message; gone = c.gone + k; phase = phase }); waiting = W }) ≡ left s (Some c) W) [
+      | true ↦ λ t. let whole : c.gone + k ≡ frame_count s c.message = grind (arith, nat_tests) in omega arith
+      | false ↦ λ f. omega arith
+    ] refl
+
+pub started-within : (s : LinkSetup) (W : List (List ℕ)) → IsWithin s (started s W) (sum_by (frame_count s) W) (length W)
+started-within s [] = record { frames = omega arith; replies = omega arith }
+started-within s (P ∷ W) =
+    let rest = started-within s W in
+    let frames = rest.frames in
+    let replies = rest.replies in
+    let sum = sum_by-cons (frame_count s) P W in
+    let one = length-take 1 (cut P s.pad) in
+    let more = length-append (take 1 (cut P s.pad)) (started s W).due in
+    elim (nat_le (frame_count s P) 1) as (λ b. nat_le (frame_count s P) 1 ≡ b → IsWithin s (if b then before_these (take 1 (cut P s.pad)) (started s W) else record { due = take 1 (cut P s.pad); current = Some (record { message = P; gone = 1; phase = AwaitsFlow s.n_bs }); waiting = W }) (sum_by (frame_count s) (P ∷ W)) (suc (length W))) [
+      | true ↦ λ t. record { frames = omega arith; replies = omega arith }
+      | false ↦ λ f. let long : 1 < frame_count s P = grind (arith, nat_tests) in record { frames = omega arith; replies = omega arith }
+    ] refl
+
+pub advanced-within : (s : LinkSetup) (k : ℕ) (phase : Phase) (c : Current) (W : List (List ℕ)) → IsWithin s (advanced s k phase c W) (left s (Some c) W) (length W)
+advanced-within s k phase c W =
+    let rest = started-within s W in
+    let frames = rest.frames in
+    let replies = rest.replies in
+    let all = cut c.message s.pad in
+    let taken = length-take k (drop c.gone all) in
+    let kept = length-drop c.gone all in
+    let more = length-append (take k (drop c.gone all)) (started s W).due in
+    elim (c.gone + k == frame_count s c.message) as (λ b. (c.gone + k == frame_count s c.message) ≡ b → IsWithin s (if b then before_these (take k (drop c.gone all)) (started s W) else record { due = take k (drop c.gone all); current = Some (record { message = c.message; gone = c.gone + k; phase = phase }); waiting = W }) (left s (Some c) W) (length W)) [
+      | true ↦ λ t. record { frames = omega arith; replies = omega arith }
+      | false ↦ λ f. record { frames = omega arith; replies = omega arith }
+    ] refl
+
+resting-within : (s : LinkSetup) (c : Current) (phase : Phase) (W : List (List ℕ)) → IsWithin s (resting (in_phase c phase) W) (left s (Some c) W) (length W)
+resting-within s c phase W = record { frames = omega arith; replies = omega arith }
+
+started-left : (s : LinkSetup) (c : Current) (W : List (List ℕ)) → IsWithin s (started s W) (left s (Some c) W) (length W)
+started-left s c W =
+    let h = started-within s W in
+    let frames = h.frames in
+    record { frames = omega arith; replies = h.replies }
+
+tick-within : (s : LinkSetup) (p : Phase) (c : Current) (W : List (List ℕ)) → IsWithin s (tick_in s p c W) (left s (Some c) W) (length W)
+tick-within s (AwaitsFlow ticks) c W =
+    elim (nat_le ticks 1) as (λ b. IsWithin s (if b then started s W else resting (in_phase c (AwaitsFlow (ticks - 1))) W) (left s (Some c) W) (length W)) [
+      | true ↦ started-left s c W
+      | false ↦ resting-within s c (AwaitsFlow (ticks - 1)) W
+    ]
+tick-within s (InBlock rest gap ticks) c W =
+    elim (nat_le ticks 1) as (λ b. IsWithin s (if b then advanced s 1 (within_block s (rest - 1) gap) c W else resting (in_phase c (InBlock rest gap (ticks - 1))) W) (left s (Some c) W) (length W)) [
+      | true ↦ advanced-within s 1 (within_block s (rest - 1) gap) c W
+      | false ↦ resting-within s c (InBlock rest gap (ticks - 1)) W
+    ]
+
+block-within : (s : LinkSetup) (b gap : ℕ) (c : Current) (W : List (List ℕ)) → IsWithin s (block_begun s b gap c W) (left s (Some c) W) (length W)
+block-within s b gap c W =
+    elim (gap == 0) as (λ v. IsWithin s (if v then advanced s b (AwaitsFlow s.n_bs) c W else advanced s 1 (within_block s (b - 1) gap) c W) (left s (Some c) W) (length W)) [
+      | true ↦ advanced-within s b (AwaitsFlow s.n_bs) c W
+      | false ↦ advanced-within s 1 (within_block s (b - 1) gap) c W
+    ]
+
+decided-within : (s : LinkSetup) (choice : Decision) (c : Current) (W : List (List ℕ)) → IsWithin s (decided_so s choice c W) (left s (Some c) W) (length W)
+decided-within s (Go block gap) c W = block-within s (block_size block (frame_count s c.message - c.gone)) gap c W
+decided-within s Wait c W = resting-within s c (AwaitsFlow s.n_bs) W
+decided-within s GiveUp c W = started-left s c W
+
+flow-within : (s : LinkSetup) (p : Phase) (choice : Decision) (c : Current) (W : List (List ℕ)) → IsWithin s (flow_in s p choice c W) (left s (Some c) W) (length W)
+flow-within s (AwaitsFlow ticks) choice c W = decided-within s choice c W
+flow-within s (InBlock rest gap ticks) choice c W = record { frames = omega arith; replies = omega arith }
+
+sender-flow-within : (s : LinkSetup) (choice : Decision) (cur : Option Current) (W : List (List ℕ)) → IsWithin s (sender_flow s choice cur W) (left s cur W) (length W)
+sender-flow-within s choice None W = record { frames = omega arith; replies = omega arith }
+sender-flow-within s choice (Some c) W = flow-within s c.phase choice c W
+
+pub sender-tick-within : (s : LinkSetup) (cur : Option Current) (W : List (List ℕ)) → IsWithin s (sender_tick s cur W) (left s cur W) (length W)
+sender-tick-within s None W = record { frames = omega arith; replies = omega arith }
+sender-tick-within s (Some c) W = tick-within s c.phase c W
+
+no-flow-within : (s : LinkSetup) (cur : Option Current) (W : List (List ℕ)) → IsWithin s (no_flow cur W) (left s cur W) (length W)
+no-flow-within s cur W = record { frames = omega arith; replies = omega arith }
+
+frame-within : (s : LinkSetup) (k : Pci) (cur : Option Current) (W : List (List ℕ)) → IsWithin s (sender_frame s k cur W) (left s cur W) (length W)
+frame-within s (Flow status block st) cur W = sender-flow-within s (flow_decision status block st) cur W
+frame-within s (Single payload) cur W = no-flow-within s cur W
+frame-within s (First len head) cur W = no-flow-within s cur W
+frame-within s TooLong cur W = no-flow-within s cur W
+frame-within s (Consecutive number part) cur W = no-flow-within s cur W
+frame-within s Nothing cur W = no-flow-within s cur W
+
+-- an event leaves no more frames and no more replies than there were
+pub event-within : (s : LinkSetup) (x : Event) (cur : Option Current) (W : List (List ℕ)) → IsWithin s (sender_event s x cur W) (left s cur W) (length W)
+event-within s (Physical bytes) cur W = frame-within s (kind bytes s.max_request) cur W
+event-within s (Functional bytes) cur W = no-flow-within s cur W
+event-within s (Ticks n) cur W = sender-tick-within s cur W
+
+-- one more reply: at most one more frame is due, and one more waits
+pub replied-numbers : (s : LinkSetup) (P : List ℕ) (r : SenderState) → (length (replied s P r).due ≤ length r.due + 1) × (length (replied s P r).waiting ≤ length r.waiting + 1)
+replied-numbers s P r = go r.current
+  where
+    go : (cur : Option Current) → (length (replied_in s P r.due cur r.waiting).due ≤ length r.due + 1) × (length (replied_in s P r.due cur r.waiting).waiting ≤ length r.waiting + 1)
+    go (Some c) = let sum = length-append r.waiting (P ∷ []) in (omega arith, omega arith)
+    go None =
+        let one = length-take 1 (cut P s.pad) in
+        let none : List (List ℕ) = [] in
+        elim (nat_le (frame_count s P) 1) as (λ b. (n : SenderState) → n ≡ (if b then before_these (take 1 (cut P s.pad)) (started s []) else record { due = take 1 (cut P s.pad); current = Some (record { message = P; gone = 1; phase = AwaitsFlow s.n_bs }); waiting = none }) → (length (r.due ++ n.due) ≤ length r.due + 1) × (length n.waiting ≤ length r.waiting + 1)) [
+          | true ↦ λ n e.
+              let due = ap (λ q. length q.due) e in
+              let waiting = ap (λ q. length q.waiting) e in
+              let sum = length-append r.due n.due in
+              let more = length-append (take 1 (cut P s.pad)) none in
+              (omega arith, omega arith)
+          | false ↦ λ n e.
+              let due = ap (λ q. length q.due) e in
+              let waiting = ap (λ q. length q.waiting) e in
+              let sum = length-append r.due n.due in
+              (omega arith, omega arith)
+        ] (started s (P ∷ [])) refl

@@ -1,0 +1,24 @@
+-- Small laws over the definitions, for who goes on from a link's history.
+use Rattle.std.specs.Prelude.{◌≡◌, ℕ, ◌+◌, List, [], ◌∷◌, ◌++◌, Some, IsSome, IsTrue}
+use Rattle.diag_can.specs.declared.frame.Event.{Event}
+use Rattle.diag_can.specs.declared.frame.Event.TheVariants.{Ticks}
+use Rattle.diag_tp.specs.declared.setup.LinkSetup.{LinkSetup}
+use Rattle.diag_tp.specs.declared.step.Step.TheVariants as step
+use Rattle.diag_tp.specs.Moments.{moments, last_time}
+use Rattle.diag_tp.specs.Gives.{gives, is_request}
+use Rattle.diag_tp.specs.Link.{is_frame}
+
+pub record TimeLaw : Type 0 where
+  -- the moments of events and further events
+  pub append : (E D : List Event) → moments (E ++ D) ≡ moments E ++ moments D
+  -- one tick count after another is their sum
+  pub sum : (E : List Event) (n m : ℕ) → moments ((E ++ Ticks n ∷ []) ++ Ticks m ∷ []) ≡ moments (E ++ Ticks (n + m) ∷ [])
+  -- a frame takes no time, a tick count the time that it says
+  pub frame : (E : List Event) (e : Event) → IsTrue (is_frame e) → last_time (E ++ e ∷ []) ≡ last_time E
+  pub ticks : (E : List Event) (n : ℕ) → last_time (E ++ Ticks n ∷ []) ≡ last_time E + n
+
+pub record GivesLaw (s : LinkSetup) (E : List Event) : Type 0 where
+  -- a tick count gives the step of so many ticks
+  pub ticks : (n : ℕ) → gives s E (Ticks n) ≡ Some (step.Ticks n)
+  -- what a frame gives is a request
+  pub frame : (e : Event) → IsTrue (is_frame e) → IsSome (gives s E e) → IsTrue (is_request (gives s E e))

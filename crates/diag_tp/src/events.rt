@@ -1,0 +1,240 @@
+//! What a link does with an event, field by field.
+
+ghost use Rattle.std.specs.Prelude.{
+  ◌≡◌,
+  ◌↔◌,
+  ◌≤◌,
+  ◌+◌,
+  [],
+  ◌∷◌,
+  length,
+  min,
+  None,
+  option_and_then,
+  IfSome,
+  IsNone,
+  IfNone,
+  IfOk,
+  OnOk,
+  IsTrue,
+  ◌<◌,
+};
+ghost use Rattle.diag_tp.specs.Kind.{kind};
+ghost use Rattle.diag_tp.specs.Gives.{is_request};
+ghost use Rattle.diag_tp.specs.Sender.{sender_event, sender_frame, sender_tick};
+ghost use Rattle.diag_tp.specs.Receiver.{
+  open_after,
+  completed_by,
+  granted_by,
+  one_tick_later,
+  IsRead,
+  needed_for,
+};
+ghost use Rattle.diag_tp.specs.State.{due};
+ghost use Rattle.diag_tp.specs.Link.{
+  is_frame,
+  last_tick,
+  single_only,
+  needed,
+  asked_of,
+  partial_after,
+  grant_after,
+  step_after,
+  IsReadHere,
+};
+
+use crate::kind::only_single;
+use crate::link::Link;
+use crate::message::Message;
+use crate::pci::Pci;
+use crate::step::Request;
+use diag_can::{Event, Frame, FrameBytes};
+use std::alloc::AllocError;
+
+impl Link {
+    /// Makes room, field by field.
+    pub(crate) fn reserve(&mut self, event: &Event) -> Result<(), AllocError>
+        ensures same { self.new.state ≡ self.old.state }
+        ensures room { OnOk result ((needed self.new.state.setup event.now ≤ self.new.room) × (0 < self.new.reply_room)) }
+    {
+        let kind = match event {
+            Event::Physical(bytes) => self.kind(bytes),
+            Event::Functional(bytes) => only_single(self.kind(bytes)),
+            Event::Ticks(_) => Pci::Nothing,
+        };
+        self.receiver.make_room(&kind)?;
+        self.sender.make_room()
+    }
+
+    /// The next frame, field by field.
+    pub(crate) fn next_due(&mut self) -> Option<Frame>
+        ensures some { IfSome result (λ frame. (due self.old.state ≡ frame.bytes ∷ due self.new.state) × (frame.id ≡ self.old.state.setup.ids.response)) }
+        ensures none { IsNone result ↔ (due self.old.state ≡ []) }
+        ensures same { IfNone result (self.new ≡ self.old) }
+        ensures current { self.new.state.sender.current ≡ self.old.state.sender.current }
+        ensures waiting { self.new.state.sender.waiting ≡ self.old.state.sender.waiting }
+        ensures partial { self.new.state.partial ≡ self.old.state.partial }
+        ensures room { self.new.room ≡ self.old.room }
+        ensures reply_room { self.old.reply_room ≤ self.new.reply_room }
+        ensures setup { self.new.state.setup ≡ self.old.state.setup }
+        ensures now { self.new.state.now ≡ self.old.state.now }
+    {
+        let bytes = self.next_bytes()?;
+        Some(Frame {
+            id: self.setup.ids.response,
+            bytes,
+        })
+    }
+
+    /// The bytes of the next frame: flow control goes first.
+    fn next_bytes(&mut self) -> Option<FrameBytes>
+        ensures some { IfSome result (λ bytes. due self.old.state ≡ bytes ∷ due self.new.state) }
+        ensures none { IsNone result ↔ (due self.old.state ≡ []) }
+        ensures same { IfNone result (self.new ≡ self.old) }
+        ensures current { self.new.state.sender.current ≡ self.old.state.sender.current }
+        ensures waiting { self.new.state.sender.waiting ≡ self.old.state.sender.waiting }
+        ensures partial { self.new.state.partial ≡ self.old.state.partial }
+        ensures room { self.new.room ≡ self.old.room }
+        ensures reply_room { self.old.reply_room ≤ self.new.reply_room }
+        ensures setup { self.new.state.setup ≡ self.old.state.setup }
+        ensures now { self.new.state.now ≡ self.old.state.now }
+    {
+        match self.grant.take() {
+            Some(grant) => Some(grant),
+            None => self.sender.next_frame(&self.setup),
+        }
+    }
+
+    /// Whether neither flow control nor a frame of a message is due.
+    pub(crate) fn has_none_due(&self) -> bool
+        ensures { IsTrue result ↔ (length (due self.now.state) ≡ 0) }
+    {
+        self.grant.is_none() && self.sender.is_drained()
+    }
+
+    /// What a frame is here.
+    pub(crate) fn kind(&self, bytes: &FrameBytes) -> Pci
+        ensures kind { result ≡ kind bytes.now self.now.state.setup.max_request }
+        ensures read { IsRead self.now.state.setup.max_request result }
+    {
+        Pci::read(bytes.as_slice(), self.setup.max_request)
+    }
+
+    /// Whether the event completes a request, from the fields.
+    pub(crate) fn gives_request(&self, event: &Event) -> bool
+        ensures value { result ≡ is_request (step_after self.now.state.setup self.now.state.partial event.now) }
+        ensures ticks { IsTrue result → IsTrue (is_frame event.now) }
+    {
+        match event {
+            Event::Physical(bytes) => self.receiver.completes(&self.kind(bytes)),
+            Event::Functional(bytes) => matches!(self.kind(bytes), Pci::Single(_)),
+            Event::Ticks(_) => false,
+        }
+    }
+
+    /// What feeding this event would answer, from the fields.
+    pub(crate) fn peek_request(&self, event: &Event) -> Result<Option<Request>, AllocError>
+        requires frame { IsTrue (is_frame event.now) }
+        ensures { IfOk result (λ request. asked_of request ≡ step_after self.now.state.setup self.now.state.partial event.now) }
+    {
+        let (functional, kind) = match event {
+            Event::Physical(bytes) => (false, self.kind(bytes)),
+            Event::Functional(bytes) => (true, only_single(self.kind(bytes))),
+            Event::Ticks(_) => return Ok(None),
+        };
+        let Some(message) = self.receiver.peek(&kind)? else {
+            return Ok(None);
+        };
+        Ok(Some(Request {
+            functional,
+            message,
+        }))
+    }
+
+    /// Takes a frame, field by field.
+    pub(crate) fn receive(&mut self, event: &Event) -> Option<Request>
+        requires frame { IsTrue (is_frame event.now) }
+        requires drained { self.old.state.sender.due ≡ [] }
+        requires room { needed self.old.state.setup event.now ≤ self.old.room }
+        ensures answer { asked_of result ≡ step_after self.old.state.setup self.old.state.partial event.now }
+        ensures read { IsReadHere self.old.state.setup event.now }
+        ensures partial { self.new.state.partial ≡ partial_after self.old.state.setup self.old.state.partial event.now }
+        ensures grant { self.old.state.grant ≡ None → self.new.state.grant ≡ grant_after self.old.state.setup self.old.state.partial event.now }
+        ensures reply_room { self.new.reply_room ≡ self.old.reply_room }
+        ensures setup { self.new.state.setup ≡ self.old.state.setup }
+        ensures now { self.new.state.now ≡ self.old.state.now }
+        ensures sender { self.new.state.sender ≡ sender_event self.old.state.setup event.now self.old.state.sender.current self.old.state.sender.waiting }
+    {
+        match event {
+            Event::Physical(bytes) => {
+                let message = self.physical(bytes)?;
+                Some(Request {
+                    functional: false,
+                    message,
+                })
+            }
+            Event::Functional(bytes) => {
+                let message = self.functional(bytes)?;
+                Some(Request {
+                    functional: true,
+                    message,
+                })
+            }
+            Event::Ticks(_) => None,
+        }
+    }
+
+    /// Takes a frame with the tester's own identifier.
+    fn physical(&mut self, bytes: &FrameBytes) -> Option<Message>
+        requires drained { self.old.state.sender.due ≡ [] }
+        requires room { needed_for (kind bytes.now self.old.state.setup.max_request) ≤ self.old.room }
+        ensures read { IsRead self.old.state.setup.max_request (kind bytes.now self.old.state.setup.max_request) }
+        ensures partial { self.new.state.partial ≡ open_after self.old.state.partial (kind bytes.now self.old.state.setup.max_request) }
+        ensures message { result ≡ completed_by self.old.state.partial (kind bytes.now self.old.state.setup.max_request) }
+        ensures grant { self.new.state.grant ≡ granted_by self.old.state.setup self.old.state.partial (kind bytes.now self.old.state.setup.max_request) }
+        ensures reply_room { self.new.reply_room ≡ self.old.reply_room }
+        ensures setup { self.new.state.setup ≡ self.old.state.setup }
+        ensures now { self.new.state.now ≡ self.old.state.now }
+        ensures sender { self.new.state.sender ≡ sender_frame self.old.state.setup (kind bytes.now self.old.state.setup.max_request) self.old.state.sender.current self.old.state.sender.waiting }
+    {
+        let kind = self.kind(bytes);
+        if let Pci::Flow { status, block, gap } = kind {
+            self.sender.flow(&self.setup, status, block, gap);
+        }
+        let received = self.receiver.receive(&self.setup, &kind);
+        self.grant = received.grant;
+        received.message
+    }
+
+    /// Takes a frame with the functional identifier.
+    fn functional(&mut self, bytes: &FrameBytes) -> Option<Message>
+        requires room { needed_for (single_only (kind bytes.now self.old.state.setup.max_request)) ≤ self.old.room }
+        ensures message { result ≡ completed_by None (single_only (kind bytes.now self.old.state.setup.max_request)) }
+        ensures partial { self.new.state.partial ≡ self.old.state.partial }
+        ensures grant { self.new.state.grant ≡ self.old.state.grant }
+        ensures reply_room { self.new.reply_room ≡ self.old.reply_room }
+        ensures setup { self.new.state.setup ≡ self.old.state.setup }
+        ensures now { self.new.state.now ≡ self.old.state.now }
+        ensures sender { self.new.state.sender ≡ self.old.state.sender }
+    {
+        match self.kind(bytes) {
+            Pci::Single(payload) => Some(self.receiver.short_message(payload.as_slice())),
+            _ => None,
+        }
+    }
+
+    /// One unit tick.
+    pub(crate) fn pass_tick(&mut self)
+        requires drained { self.old.state.sender.due ≡ [] }
+        ensures partial { self.new.state.partial ≡ option_and_then (one_tick_later self.old.state.setup.n_cr) self.old.state.partial }
+        ensures grant { self.new.state.grant ≡ self.old.state.grant }
+        ensures sender { self.new.state.sender ≡ sender_tick self.old.state.setup self.old.state.sender.current self.old.state.sender.waiting }
+        ensures reply_room { self.new.reply_room ≡ self.old.reply_room }
+        ensures setup { self.new.state.setup ≡ self.old.state.setup }
+        ensures now { self.new.state.now ≡ min (self.old.state.now + 1) last_tick }
+    {
+        self.ticks = self.ticks.saturating_add(1);
+        self.receiver.tick(self.setup.n_cr.get());
+        self.sender.tick(&self.setup);
+    }
+}
