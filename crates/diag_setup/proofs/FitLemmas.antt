@@ -236,3 +236,6 @@ codes_rise raw h = (tables raw h).1
 
 pub routines_rise : (raw : RawSetup) → IsSetup raw → IsTrue (is_rising routine_id raw.routines)
 routines_rise raw h = (tables raw h).2
+
+pub levels_rise : (raw : RawSetup) → IsSetup raw → IsTrue (is_rising level_sub raw.levels)
+levels_rise raw h = (tables raw h).3

@@ -158,6 +158,7 @@ impl Setup {
         &self.raw
     }
 
+    /// The data identifiers in rising order.
     #[tactic(auto, using(crate::proofs::FitLemmas::dids_fit, crate::proofs::FitLemmas::dids_few, crate::proofs::FitLemmas::dids_rise))]
     pub fn dids(&self) -> &[RawDid]
         ensures same { result.now ≡ self.now.dids }
@@ -168,6 +169,7 @@ impl Setup {
         self.raw.dids.as_slice()
     }
 
+    /// The trouble codes in rising order.
     #[tactic(auto, using(crate::proofs::FitLemmas::codes_fit, crate::proofs::FitLemmas::codes_few, crate::proofs::FitLemmas::codes_rise))]
     pub fn codes(&self) -> &[RawCode]
         ensures same { result.now ≡ self.now.codes }
@@ -178,6 +180,7 @@ impl Setup {
         self.raw.codes.as_slice()
     }
 
+    /// The routines by rising identifier.
     #[tactic(auto, using(crate::proofs::FitLemmas::routines_fit, crate::proofs::FitLemmas::routines_few, crate::proofs::FitLemmas::routines_rise))]
     pub fn routines(&self) -> &[RawRoutine]
         ensures same { result.now ≡ self.now.routines }
@@ -188,9 +191,11 @@ impl Setup {
         self.raw.routines.as_slice()
     }
 
-    #[tactic(auto, using(crate::proofs::FitLemmas::levels_fit, crate::proofs::FitLemmas::levels_few))]
+    /// The security levels by rising sub-function.
+    #[tactic(auto, using(crate::proofs::FitLemmas::levels_fit, crate::proofs::FitLemmas::levels_few, crate::proofs::FitLemmas::levels_rise))]
     pub fn levels(&self) -> &[RawLevel]
         ensures same { result.now ≡ self.now.levels }
+        ensures rising { IsTrue (is_rising level_sub result.now) }
         ensures few { length result.now ≤ 4 }
         ensures fit { All LevelFits result.now }
     {

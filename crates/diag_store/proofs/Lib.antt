@@ -1,3 +1,4 @@
 pub mod RowLemmas
+pub mod SearchLemmas
 pub mod SecurityLemmas
 pub mod TableLemmas
