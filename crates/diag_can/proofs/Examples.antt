@@ -1,0 +1,184 @@
+-- Worked examples of the definitions, computed.
+use Rattle.std.proofs.Common.{◌≡◌, ℕ, List, [], ◌∷◌, ◌++◌, codes, refl}
+use Rattle.std.specs.Fmt.{digits}
+use Rattle.std.specs.Prelude.{Option, Some, None, Result, Ok, Err}
+use Rattle.hex.proofs.OnLiterals.{hex_on_literals}
+use Rattle.diag_can.specs.declared.fault.LineFault.{LineFault}
+use Rattle.diag_can.specs.declared.fault.LineFault.TheVariants.{BadLine, BadTick, TooManyBytes}
+use Rattle.diag_can.specs.declared.fault.LogFault.TheVariants.{Line}
+use Rattle.diag_can.specs.declared.frame.Ids.{Ids}
+use Rattle.diag_can.specs.declared.frame.Event.{Event}
+use Rattle.diag_can.specs.declared.frame.Event.TheVariants.{Physical, Functional, Ticks}
+use Rattle.diag_can.specs.declared.log.Timing.TheVariants.{Lines, Stamps}
+use Rattle.diag_can.specs.Line.{line_event}
+use Rattle.diag_can.specs.Log.{events}
+use Rattle.diag_can.specs.Reply.{reply_line}
+
+abbrev ids : Ids
+ids = record { request = 0x7E0; response = 0x7E8; functional = 0x7DF }
+
+-- a line of a frame, by its text
+abbrev framed : List ℕ → List ℕ
+framed text = codes "(0000000000.000000) can0 " ++ text
+
+abbrev of_line : List ℕ → Result (Option Event) LineFault
+of_line line = line_event line ids
+
+-- ---- the forms of a line
+
+session_request : of_line (framed (codes "7E0#021003")) ≡ Ok (Some (Physical (0x02 ∷ 0x10 ∷ 0x03 ∷ [])))
+unfolding hex_on_literals
+session_request = refl
+
+fraction_of_seven_digits : of_line (codes "(1436509052.2497131)   can1  7df#023e80 R") ≡ Ok (Some (Functional (0x02 ∷ 0x3E ∷ 0x80 ∷ [])))
+unfolding hex_on_literals
+fraction_of_seven_digits = refl
+
+suffix_and_more : of_line (codes "(1436509052.249903)   can1  7df#023e00AAAAAAAAAA_9 R") ≡ Ok (Some (Functional (0x02 ∷ 0x3E ∷ 0x00 ∷ 0xAA ∷ 0xAA ∷ 0xAA ∷ 0xAA ∷ 0xAA ∷ [])))
+unfolding hex_on_literals
+suffix_and_more = refl
+
+two_bytes : of_line (framed (codes "7E0#023E")) ≡ Ok (Some (Physical (0x02 ∷ 0x3E ∷ [])))
+unfolding hex_on_literals
+two_bytes = refl
+
+no_bytes : of_line (framed (codes "7E0#")) ≡ Ok (Some (Physical []))
+unfolding hex_on_literals
+no_bytes = refl
+
+other_identifier : of_line (framed (codes "123#DEADBEEF")) ≡ Ok None
+unfolding hex_on_literals
+other_identifier = refl
+
+wide_identifier : of_line (framed (codes "18DB33F1#0210030000000000")) ≡ Ok None
+wide_identifier = refl
+
+wide_identifier_of_anything : of_line (framed (codes "00000000#zz")) ≡ Ok None
+wide_identifier_of_anything = refl
+
+remote_frame : of_line (framed (codes "7E0#RX")) ≡ Ok None
+remote_frame = refl
+
+fd_frame : of_line (framed (codes "7E0##1021001")) ≡ Ok None
+fd_frame = refl
+
+odd_digits : of_line (framed (codes "7E0#023E0")) ≡ Err BadLine
+odd_digits = refl
+
+no_digit : of_line (framed (codes "7E0#02G")) ≡ Err BadLine
+no_digit = refl
+
+four_digits : of_line (framed (codes "07E0#00")) ≡ Err BadLine
+four_digits = refl
+
+early_suffix : of_line (framed (codes "7E0#021003_9")) ≡ Err BadLine
+early_suffix = refl
+
+empty_suffix : of_line (framed (codes "7E0#023E00AAAAAAAAAA_")) ≡ Err BadLine
+empty_suffix = refl
+
+too_large_identifier : of_line (framed (codes "800#00")) ≡ Err BadLine
+too_large_identifier = refl
+
+too_large_identifier_first : of_line (framed (codes "FFF#R")) ≡ Err BadLine
+too_large_identifier_first = refl
+
+ten_bytes : of_line (framed (codes "7E0#021003000000000000")) ≡ Err TooManyBytes
+ten_bytes = refl
+
+seventeen_digits : of_line (framed (codes "7E0#02100300000000000!")) ≡ Err TooManyBytes
+seventeen_digits = refl
+
+short_fraction : of_line (codes "(0.00000) can0 7E0#00") ≡ Err BadLine
+short_fraction = refl
+
+long_seconds : of_line (codes "(0000000000000.000000) can0 7E0#00") ≡ Err BadLine
+long_seconds = refl
+
+no_name : of_line (codes "(0.000000) 7E0#00") ≡ Err BadLine
+no_name = refl
+
+no_text : of_line (0xFF ∷ []) ≡ Err BadLine
+no_text = refl
+
+empty_line : of_line [] ≡ Ok None
+empty_line = refl
+
+one_tick : of_line (codes "tick") ≡ Ok (Some (Ticks 1))
+one_tick = refl
+
+most_ticks : of_line (codes "tick 60000") ≡ Ok (Some (Ticks 60000))
+most_ticks = refl
+
+too_many_ticks : of_line (codes "tick 60001") ≡ Err BadTick
+too_many_ticks = refl
+
+no_ticks : of_line (codes "tick 0") ≡ Err BadTick
+no_ticks = refl
+
+leading_zero : of_line (codes "tick 01") ≡ Err BadTick
+leading_zero = refl
+
+two_spaces : of_line (codes "tick  5") ≡ Err BadTick
+two_spaces = refl
+
+trailing_space : of_line (codes "tick 5 ") ≡ Err BadTick
+trailing_space = refl
+
+other_word : of_line (codes "tickle") ≡ Err BadTick
+other_word = refl
+
+-- ---- logs
+
+empty_log : events [] ids Stamps ≡ Ok []
+unfolding events
+empty_log = refl
+
+returns_and_feeds : events (codes "tick\r\n\ntick 2") ids Lines ≡ Ok (Ticks 1 ∷ Ticks 2 ∷ [])
+unfolding events
+returns_and_feeds = refl
+
+two_returns : events (codes "tick 2\n\ntick\r\r\n") ids Lines ≡ Err (Line 3 BadTick)
+unfolding events
+two_returns = refl
+
+fault_on_line_two : events (codes "tick\n(0.000000) can0 7E0#023\ntick 0\n") ids Lines ≡ Err (Line 2 BadLine)
+unfolding events
+fault_on_line_two = refl
+
+-- two frames 200 milliseconds apart: with stamps that is time
+abbrev two_frames : List ℕ
+two_frames = codes "(1436509052.249713) can0 7E0#0210\n(1436509052.449902) can0 123#DE\n(1436509052.449903) can0 7E0#023e\n"
+
+frames_without_time : events two_frames ids Lines ≡ Ok (Physical (0x02 ∷ 0x10 ∷ []) ∷ Physical (0x02 ∷ 0x3E ∷ []) ∷ [])
+unfolding events hex_on_literals
+frames_without_time = refl
+
+frames_with_time : events two_frames ids Stamps ≡ Ok (Physical (0x02 ∷ 0x10 ∷ []) ∷ Ticks 200 ∷ Physical (0x02 ∷ 0x3E ∷ []) ∷ [])
+unfolding events hex_on_literals
+frames_with_time = refl
+
+-- a stamp that goes back leaves the reference where it was
+abbrev back_and_on : List ℕ
+back_and_on = codes "(5.000000) a 7E0#\ntick 3\n(4.000000) a 7DF#\n(6.000000) a 7E0#\n"
+
+reference_stays : events back_and_on ids Stamps ≡ Ok (Physical [] ∷ Ticks 3 ∷ Functional [] ∷ Ticks 1000 ∷ Physical [] ∷ [])
+unfolding events hex_on_literals
+reference_stays = refl
+
+-- 130 seconds
+long_time : events (codes "(0.000000) a 7E0#023E00\n(130.000000) a 7E0#023E00\n") ids Stamps ≡ Ok (Physical (0x02 ∷ 0x3E ∷ 0x00 ∷ []) ∷ Ticks 60000 ∷ Ticks 60000 ∷ Ticks 10000 ∷ Physical (0x02 ∷ 0x3E ∷ 0x00 ∷ []) ∷ [])
+unfolding events hex_on_literals
+long_time = refl
+
+-- ---- what is written
+
+first_reply :
+    reply_line (codes "A") 0 (record { id = 0x7E8; bytes = 0x06 ∷ 0x50 ∷ 0x03 ∷ 0x00 ∷ 0x32 ∷ 0x01 ∷ 0xF4 ∷ 0xCC ∷ [] })
+    ≡ codes "(0000000000.000000) A 7E8#065003003201F4CC\n"
+unfolding hex_on_literals digits
+first_reply = refl
+
+late_reply : reply_line (codes "B") 5003 (record { id = 0x7E; bytes = 0x30 ∷ [] }) ≡ codes "(0000000005.003000) B 07E#30\n"
+unfolding hex_on_literals digits
+late_reply = refl
