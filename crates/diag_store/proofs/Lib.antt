@@ -1,4 +1,4 @@
 pub mod RowLemmas
+pub mod SearchLemmas
 pub mod SecurityLemmas
 pub mod TableLemmas
-pub mod DelayLemmas

@@ -11,7 +11,7 @@ use Rattle.diag_setup.specs.declared.raw.RawSetup.{RawSetup}
 use Rattle.diag_setup.specs.declared.raw.RawLevel.{RawLevel}
 use Rattle.diag_setup.specs.Fits.{LevelFits, NumbersFit}
 use Rattle.diag_store.specs.Opening.{level_row, key_row, opening_security}
-use Rattle.diag_store.specs.declared.security.Level.{Level}
+use Rattle.diag_store.specs.declared.levels.Level.{Level}
 use Rattle.diag_store.specs.declared.security.SecurityState.{SecurityState}
 use Rattle.diag_store.specs.Rows.{change_first}
 use Rattle.diag_store.specs.Security.{with_new_seed, is_unlocked, IsSecurity, has_sub, moved_on, next_is_in_range, is_delayed, outstanding_row, is_right_key, is_last_attempt, after_key, after_right_key, after_wrong_key, after_seed}

@@ -11,8 +11,8 @@ use Rattle.diag_store.specs.declared.dtcs.Dtc.{Dtc}
 use Rattle.diag_store.specs.declared.routines.Routine.{Routine}
 use Rattle.diag_store.specs.declared.routines.DtcOnDone.{DtcOnDone}
 use Rattle.diag_store.specs.declared.routines.RoutineState.TheVariants.{Idle}
-use Rattle.diag_store.specs.declared.security.KeyRow.{KeyRow}
-use Rattle.diag_store.specs.declared.security.Level.{Level}
+use Rattle.diag_store.specs.declared.levels.KeyRow.{KeyRow}
+use Rattle.diag_store.specs.declared.levels.Level.{Level}
 use Rattle.diag_store.specs.declared.security.SecurityState.{SecurityState}
 
 abbrev pub did_row : RawDid → DidRow

@@ -1,12 +1,14 @@
 //! The data identifiers.
 
-ghost use Rattle.std.specs.Prelude.{◌≡◌, ◌≤◌, OnOk, OnErr, IfOk, option_copied, position, length};
-ghost use Rattle.diag_store.specs.Dids.{value_of, rule_of, write_answer, with_value, has_id, row_of};
+ghost use Rattle.std.specs.Prelude.{◌≡◌, ◌≤◌, true, OnOk, OnErr, IfOk, IsTrue, option_copied, position, length};
+ghost use Rattle.diag_store.specs.Dids.{id_of, has_id, value_of, rule_of, write_answer, with_value};
 ghost use Rattle.diag_setup.specs.Fits.{DidFits};
+ghost use Rattle.diag_setup.specs.Rows.{is_rising};
 ghost use Rattle.diag_store.specs.Opening.{opening_dids, did_row};
 
+use crate::search::{find_place, find_row};
 use arrayvec::ArrayVec;
-use diag_setup::{RawDid, Setup};
+use diag_setup::{Keyed, RawDid, Setup};
 use std::alloc::{AllocError, Global};
 use std::marker::Model;
 
@@ -31,6 +33,14 @@ pub struct DidRow {
 pub enum DidFault {
     Unknown,
     Length,
+}
+
+impl Keyed for DidRow {
+    ghost key_of = { id_of };
+
+    fn key(&self) -> u32 {
+        u32::from(self.id)
+    }
 }
 
 /// The data identifiers, in rising order.
@@ -80,11 +90,13 @@ impl Dids {
         *self.rows.allocator()
     }
 
-    /// The value of an identifier.
+    /// The value of an identifier; each stands once, in rising order.
     pub fn get(&self, id: u16) -> Option<&[u8]>
-        ensures { option_copied result ≡ value_of self.now id }
+        ensures same { option_copied result ≡ value_of self.now id }
+        ensures few { length self.now ≤ 64 }
+        ensures rising { IsTrue (is_rising id_of self.now) }
     {
-        let row = find_row(&self.rows, id)?;
+        let row = find_row(&self.rows, u32::from(id))?;
         Some(row.value.as_slice())
     }
 
@@ -92,7 +104,7 @@ impl Dids {
     pub fn rule(&self, id: u16) -> Option<DidRule>
         ensures { result ≡ rule_of self.now id }
     {
-        let row = find_row(&self.rows, id)?;
+        let row = find_row(&self.rows, u32::from(id))?;
         Some(row.rule)
     }
 
@@ -102,7 +114,7 @@ impl Dids {
         ensures ok { OnOk result (self.new ≡ with_value self.old id value.now) }
         ensures err { OnErr result (self.new ≡ self.old) }
     {
-        let Some(row) = find_row(&self.rows, id) else {
+        let Some(row) = find_row(&self.rows, u32::from(id)) else {
             return Err(DidFault::Unknown);
         };
         if row.value.len() != value.len() {
@@ -116,12 +128,21 @@ impl Dids {
 /// Puts a value in the row of an identifier, if there is one.
 #[tactic(auto, using(crate::proofs::RowLemmas::change_at))]
 fn set_value(rows: &mut [DidRow], id: u16, value: &[u8])
-    requires { length value.now ≤ 255 }
+    requires rising { is_rising id_of rows.old ≡ true }
+    requires fits { length value.now ≤ 255 }
     ensures { rows.new ≡ with_value rows.old id value.now }
 {
-    if let Some(place) = find_place(rows, id) {
+    if let Some(place) = place_of(rows, id) {
         rows[place].value = kept(value);
     }
+}
+
+/// The index of the row of an identifier.
+fn place_of(rows: &[DidRow], id: u16) -> Option<usize>
+    requires { is_rising id_of rows.now ≡ true }
+    ensures { result ≡ position (has_id id) rows.now }
+{
+    find_place(rows, u32::from(id))
 }
 
 fn kept(value: &[u8]) -> ArrayVec<u8, 255>
@@ -131,20 +152,6 @@ fn kept(value: &[u8]) -> ArrayVec<u8, 255>
     let mut bytes = ArrayVec::new();
     let _ = bytes.try_extend_from_slice(value);
     bytes
-}
-
-/// The row of an identifier.
-fn find_row(rows: &[DidRow], id: u16) -> Option<&DidRow>
-    ensures { option_copied result ≡ row_of rows.now id }
-{
-    rows.iter().find(|row| row.id == id)
-}
-
-/// The index of the row of an identifier.
-fn find_place(rows: &[DidRow], id: u16) -> Option<usize>
-    ensures { result ≡ position (has_id id) rows.now }
-{
-    rows.iter().position(|row| row.id == id)
 }
 
 fn did_row(did: &RawDid) -> DidRow

@@ -1,13 +1,14 @@
 //! The trouble codes.
 
-ghost use Rattle.std.specs.Prelude.{IsTrue, ◌≡◌, ◌≤◌, ℕ, IfOk, is_some, option_map, length, map, position, option_copied, find, slice_get};
+ghost use Rattle.std.specs.Prelude.{IsTrue, ◌≡◌, ◌≤◌, ℕ, true, IfOk, is_some, option_map, length, map, slice_get};
 ghost use Rattle.std.specs.Bool.{OnFalse};
 ghost use Rattle.diag_setup.specs.Rows.{is_rising};
-ghost use Rattle.diag_store.specs.Dtcs.{code_of, has_code, status_of, with_status, set_status, is_known_group, cleared, cleared_status, matching, matches_mask, row_pair};
+ghost use Rattle.diag_store.specs.Dtcs.{code_of, status_of, with_status, set_status, is_known_group, cleared, cleared_status, matching, matches_mask, row_pair};
 ghost use Rattle.diag_setup.specs.Fits.{CodeFits};
 ghost use Rattle.diag_store.specs.Opening.{opening_codes, dtc_row};
 
-use diag_setup::{RawCode, Setup};
+use crate::search::{find_place, find_row};
+use diag_setup::{Keyed, RawCode, Setup};
 use std::alloc::{AllocError, Global};
 use std::marker::Model;
 
@@ -16,6 +17,14 @@ use std::marker::Model;
 pub struct Dtc {
     pub code: u32,
     pub status: u8,
+}
+
+impl Keyed for Dtc {
+    ghost key_of = { code_of };
+
+    fn key(&self) -> u32 {
+        self.code
+    }
 }
 
 /// The trouble codes, in rising order.
@@ -124,23 +133,10 @@ impl DtcMemory {
     }
 }
 
-/// The row of a code.
-fn find_row(rows: &[Dtc], code: u32) -> Option<&Dtc>
-    ensures { option_copied result ≡ find (has_code code) rows.now }
-{
-    rows.iter().find(|row| row.code == code)
-}
-
-/// The index of the row of a code.
-fn find_place(rows: &[Dtc], code: u32) -> Option<usize>
-    ensures { result ≡ position (has_code code) rows.now }
-{
-    rows.iter().position(|row| row.code == code)
-}
-
 /// Puts a status in the row of a code, if there is one.
 #[tactic(auto, using(crate::proofs::RowLemmas::change_at))]
 fn put_status(rows: &mut [Dtc], code: u32, status: u8)
+    requires { is_rising code_of rows.old ≡ true }
     ensures { rows.new ≡ with_status rows.old code status }
 {
     if let Some(place) = find_place(rows, code) {

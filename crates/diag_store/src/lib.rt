@@ -3,7 +3,9 @@
 
 mod dids;
 mod dtcs;
+mod levels;
 mod routines;
+mod search;
 mod security;
 
 pub use diag_setup::{
@@ -12,7 +14,6 @@ pub use diag_setup::{
 };
 pub use dids::{DidFault, DidRow, DidRule, Dids};
 pub use dtcs::{Dtc, DtcMemory};
+pub use levels::{KeyRow, KeyRows, Level, Levels};
 pub use routines::{DtcOnDone, Routine, RoutineState, Routines};
-pub use security::{
-    KeyAnswer, KeyRow, KeyRows, Level, Levels, Outstanding, Security, SecurityState, SeedAnswer,
-};
+pub use security::{KeyAnswer, Outstanding, Security, SecurityState, SeedAnswer};

@@ -1,13 +1,15 @@
 //! The routines.
 
-ghost use Rattle.std.specs.Prelude.{◌≡◌, ◌≤◌, length, option_map, IsTrue, IfOk, IfSome, is_some, option_copied, position, if◌then◌else◌};
-ghost use Rattle.diag_store.specs.Routines.{has_id, routine_of, state_of, routine_level, result_of, started, stopped, all_idle, state_after_tick, ends_now, rows_after_tick, quiet_in, quiet_ticks, state_later, rows_later, reported, codes_after_tick};
+ghost use Rattle.std.specs.Prelude.{◌≡◌, ◌≤◌, true, length, option_map, IsTrue, IfOk, IfSome, is_some, option_copied, position, if◌then◌else◌};
+ghost use Rattle.diag_store.specs.Routines.{id_of, has_id, routine_of, state_of, routine_level, result_of, started, stopped, all_idle, state_after_tick, ends_now, rows_after_tick, reported, codes_after_tick};
 ghost use Rattle.diag_setup.specs.Fits.{RoutineFits, OnDoneFits};
+ghost use Rattle.diag_setup.specs.Rows.{is_rising};
 ghost use Rattle.diag_store.specs.Opening.{opening_routines, routine_row, on_done_row};
 
 use crate::dtcs::DtcMemory;
+use crate::search::{find_place, find_row};
 use arrayvec::ArrayVec;
-use diag_setup::{RawCode, RawRoutine, Setup};
+use diag_setup::{Keyed, RawCode, RawRoutine, Setup};
 use std::alloc::{AllocError, Global};
 use std::marker::Model;
 
@@ -35,6 +37,14 @@ pub struct Routine {
     pub level: u8,
     pub on_done: Option<DtcOnDone>,
     pub state: RoutineState,
+}
+
+impl Keyed for Routine {
+    ghost key_of = { id_of };
+
+    fn key(&self) -> u32 {
+        u32::from(self.id)
+    }
 }
 
 /// The routines, in rising order.
@@ -79,11 +89,13 @@ impl Routines {
         Ok(Routines { rows })
     }
 
-    /// What a routine does now.
+    /// What a routine does now; each identifier stands once, in rising order.
     pub fn state(&self, id: u16) -> Option<RoutineState>
-        ensures { result ≡ state_of self.now id }
+        ensures same { result ≡ state_of self.now id }
+        ensures few { length self.now ≤ 16 }
+        ensures rising { IsTrue (is_rising id_of self.now) }
     {
-        let row = find_row(&self.rows, id)?;
+        let row = find_row(&self.rows, u32::from(id))?;
         Some(row.state)
     }
 
@@ -91,7 +103,7 @@ impl Routines {
     pub fn level(&self, id: u16) -> Option<u8>
         ensures { result ≡ routine_level self.now id }
     {
-        let row = find_row(&self.rows, id)?;
+        let row = find_row(&self.rows, u32::from(id))?;
         Some(row.level)
     }
 
@@ -100,7 +112,7 @@ impl Routines {
         ensures same { option_copied result ≡ result_of self.now id }
         ensures short { IfSome result (λ bytes. length bytes.now ≤ 32) }
     {
-        let row = find_row(&self.rows, id)?;
+        let row = find_row(&self.rows, u32::from(id))?;
         Some(row.result.as_slice())
     }
 
@@ -129,21 +141,6 @@ impl Routines {
             report(&self.rows, codes);
         }
         tick_all(&mut self.rows);
-    }
-
-    /// How many ticks pass at least before one ends a routine: all but the last of the one that ends first.
-    pub fn quiet_ticks(&self) -> u32
-        ensures { result ≡ quiet_ticks self.now }
-    {
-        quiet_ticks(&self.rows)
-    }
-
-    /// So many ticks that end no routine, in one move.
-    pub fn pass(&mut self, count: u32)
-        requires { count ≤ quiet_ticks self.old }
-        ensures { self.new ≡ rows_later count self.old }
-    {
-        pass_all(&mut self.rows, count);
     }
 
     /// Makes all routines idle.
@@ -177,47 +174,20 @@ impl RoutineState {
     }
 }
 
-impl RoutineState {
-    /// How many ticks don't end the routine.
-    fn quiet_ticks(self) -> u32
-        ensures { result ≡ quiet_in self }
-    {
-        match self {
-            RoutineState::Running(left) => left.saturating_sub(1),
-            RoutineState::Idle | RoutineState::Done => u32::MAX,
-        }
-    }
-
-    /// The state so many ticks later.
-    fn later(self, count: u32) -> RoutineState
-        ensures { result ≡ state_later count self }
-    {
-        match self {
-            RoutineState::Running(left) => RoutineState::Running(left.saturating_sub(count)),
-            other => other,
-        }
-    }
-}
-
-/// The row of a routine.
-fn find_row(rows: &[Routine], id: u16) -> Option<&Routine>
-    ensures { option_copied result ≡ routine_of rows.now id }
-{
-    rows.iter().find(|row| row.id == id)
-}
-
 /// The index of the row of a routine.
-fn find_place(rows: &[Routine], id: u16) -> Option<usize>
+fn place_of(rows: &[Routine], id: u16) -> Option<usize>
+    requires { is_rising id_of rows.now ≡ true }
     ensures { result ≡ position (has_id id) rows.now }
 {
-    rows.iter().position(|row| row.id == id)
+    find_place(rows, u32::from(id))
 }
 
 #[tactic(auto, using(crate::proofs::RowLemmas::change_at))]
 fn run(rows: &mut [Routine], id: u16)
+    requires { is_rising id_of rows.old ≡ true }
     ensures { rows.new ≡ started rows.old id }
 {
-    if let Some(place) = find_place(rows, id) {
+    if let Some(place) = place_of(rows, id) {
         let row = &mut rows[place];
         row.state = RoutineState::Running(row.time_ms);
     }
@@ -225,9 +195,10 @@ fn run(rows: &mut [Routine], id: u16)
 
 #[tactic(auto, using(crate::proofs::RowLemmas::change_at))]
 fn make_idle(rows: &mut [Routine], id: u16)
+    requires { is_rising id_of rows.old ≡ true }
     ensures { rows.new ≡ stopped rows.old id }
 {
-    if let Some(place) = find_place(rows, id) {
+    if let Some(place) = place_of(rows, id) {
         rows[place].state = RoutineState::Idle;
     }
 }
@@ -245,24 +216,6 @@ fn tick_all(rows: &mut [Routine])
 {
     for row in rows.iter_mut() {
         row.state = row.state.after_tick();
-    }
-}
-
-fn quiet_ticks(rows: &[Routine]) -> u32
-    ensures { result ≡ quiet_ticks rows.now }
-{
-    let mut least = u32::MAX;
-    for row in rows {
-        least = least.min(row.state.quiet_ticks());
-    }
-    least
-}
-
-fn pass_all(rows: &mut [Routine], count: u32)
-    ensures { rows.new ≡ rows_later count rows.old }
-{
-    for row in rows.iter_mut() {
-        row.state = row.state.later(count);
     }
 }
 

@@ -1,66 +1,14 @@
-//! The security levels.
+//! The security access of the testers: seeds, keys, and the delay after too many wrong keys.
 
-ghost use Rattle.std.specs.Prelude.{◌≡◌, ◌≤◌, ◌<◌, ◌-◌, ◌+◌, ◌%◌, ℕ, true, bytes_eq, option_and_then, is_some, option_copied, find, position, replicate, length, slice_get, slice_index, IsTrue, IfOk};
-ghost use Rattle.diag_store.specs.Rows.{change_first};
-ghost use Rattle.diag_store.specs.Security.{IsSecurity, is_unlocked, level_of, key_len, has_sub, first_key_len, locked, is_delayed, outstanding_row, seed_at, key_at, next_row, moved_on, with_new_seed, seed_answer, after_seed, key_answer, after_key, after_right_key, after_wrong_key, after_tick, after_ticks, is_last_attempt};
-ghost use Rattle.std.specs.Prelude.{map};
-ghost use Rattle.std.specs.List.{All};
-ghost use Rattle.diag_setup.specs.Fits.{LevelFits, KeyRowFits};
-ghost use Rattle.diag_store.specs.Opening.{opening_security, level_row, key_row};
+ghost use Rattle.std.specs.Prelude.{◌≡◌, ◌≤◌, ◌<◌, bytes_eq, is_some, replicate, length, IsTrue, IfOk};
+ghost use Rattle.diag_store.specs.Security.{IsSecurity, is_unlocked, level_of, key_len, locked, is_delayed, outstanding_row, seed_at, key_at, next_row, seed_answer, after_seed, key_answer, after_key, after_tick};
+ghost use Rattle.diag_store.specs.Opening.{opening_security};
 
+use crate::levels::{Levels, bytes_of};
 use arrayvec::ArrayVec;
-use diag_setup::{RawKeyRow, RawLevel, Setup, Who};
+use diag_setup::{Setup, Who};
 use std::alloc::{AllocError, Global};
 use std::marker::Model;
-
-/// A seed with its key.
-#[derive(Clone, Drop)]
-pub struct KeyRow {
-    pub seed: ArrayVec<u8, 16>,
-    pub key: ArrayVec<u8, 16>,
-}
-
-/// The rows of a level, one at least.
-#[derive(Drop)]
-pub struct KeyRows {
-    rows: Vec<KeyRow>,
-}
-
-impl Model for KeyRows {
-    ghost use Rattle.std.specs.Prelude.{List, length, ◌≤◌};
-    ghost use Rattle.diag_store.specs.declared.security.KeyRow.{KeyRow};
-
-    ghost Value = { List KeyRow };
-
-    ghost view = { λ d. d.rows.items };
-
-    ghost invariant = { λ d. (1 ≤ length d.rows.items) × (length d.rows.items ≤ 64) };
-}
-
-/// A security level: its odd sub-function, its rows, and which row is next.
-#[derive(Drop)]
-pub struct Level {
-    pub sub: u8,
-    pub rows: KeyRows,
-    pub next: u8,
-}
-
-/// The security levels.
-#[derive(Drop)]
-pub struct Levels {
-    rows: Vec<Level>,
-}
-
-impl Model for Levels {
-    ghost use Rattle.std.specs.Prelude.{List, length, ◌≤◌};
-    ghost use Rattle.diag_store.specs.declared.security.Level.{Level};
-
-    ghost Value = { List Level };
-
-    ghost view = { λ d. d.rows.items };
-
-    ghost invariant = { λ d. length d.rows.items ≤ 4 };
-}
 
 /// The seed that a tester was given last.
 #[derive(Clone, Copy, PartialEq, Eq, Debug, Drop)]
@@ -205,13 +153,6 @@ impl Security {
         ensures { self.new ≡ after_tick self.old who }
     {
         self.state.tick(who);
-    }
-
-    /// So many ticks of a tester's delay, in one move.
-    pub fn pass(&mut self, who: Who, count: u32)
-        ensures { self.new ≡ after_ticks self.old who count }
-    {
-        self.state.pass(who, count);
     }
 
     /// Nothing is unlocked and no seed is outstanding.
@@ -360,25 +301,6 @@ impl SecurityState {
         KeyAnswer::TooMany
     }
 
-    #[tactic(auto, using(crate::proofs::DelayLemmas::no_delay, crate::proofs::DelayLemmas::shorter, crate::proofs::DelayLemmas::over))]
-    fn pass(&mut self, who: Who, count: u32)
-        requires { IsSecurity self.old }
-        ensures state { self.new ≡ after_ticks self.old who count }
-        ensures keeps { IsSecurity self.new }
-    {
-        let tester = who.index();
-        let left = self.delays[tester];
-        if left == 0 {
-            return;
-        }
-        if count < left {
-            self.delays[tester] = left - count;
-        } else {
-            self.delays[tester] = 0;
-            self.wrong_keys[tester] = 0;
-        }
-    }
-
     fn tick(&mut self, who: Who)
         ensures { self.new ≡ after_tick self.old who }
     {
@@ -394,145 +316,6 @@ impl SecurityState {
     }
 }
 
-impl Levels {
-    fn new(alloc: Global, levels: &[RawLevel]) -> Result<Levels, AllocError>
-        requires few { length levels.now ≤ 4 }
-        requires fit { All LevelFits levels.now }
-        ensures { IfOk result (λ made. made ≡ map level_row levels.now) }
-    {
-        let mut rows = Vec::new(alloc);
-        for level in levels {
-            rows.push(level_row(alloc, level)?)?;
-        }
-        Ok(Levels { rows })
-    }
-
-    fn try_copy(&self) -> Result<Levels, AllocError>
-        ensures { IfOk result (λ copy. copy ≡ self.now) }
-    {
-        let mut rows = Vec::new(*self.rows.allocator());
-        for level in &self.rows {
-            rows.push(level.try_copy()?)?;
-        }
-        Ok(Levels { rows })
-    }
-
-    fn find(&self, sub: u8) -> Option<&Level>
-        ensures { option_copied result ≡ find (has_sub sub) self.now }
-    {
-        self.rows.iter().find(|level| level.sub == sub)
-    }
-
-    /// A row of a level.
-    fn row_at(&self, sub: u8, row: u8) -> Option<&KeyRow>
-        ensures { option_copied result ≡ option_and_then (λ level. slice_get level.rows row) (find (has_sub sub) self.now) }
-    {
-        let level = self.find(sub)?;
-        level.rows.get(row)
-    }
-
-    /// Goes to the next row of a level, after the last to the first.
-    fn move_on(&mut self, sub: u8)
-        ensures { self.new ≡ change_first (has_sub sub) moved_on self.old }
-    {
-        move_on(&mut self.rows, sub);
-    }
-}
-
-fn level_row(alloc: Global, level: &RawLevel) -> Result<Level, AllocError>
-    requires { LevelFits level.now }
-    ensures { IfOk result (λ made. made ≡ level_row level.now) }
-{
-    let rows = KeyRows::new(alloc, level.rows.as_slice())?;
-    Ok(Level {
-        sub: level.sub as u8,
-        rows,
-        next: 0,
-    })
-}
-
-impl Level {
-    fn try_copy(&self) -> Result<Level, AllocError>
-        ensures { IfOk result (λ copy. copy ≡ self.now) }
-    {
-        let rows = self.rows.try_copy()?;
-        Ok(Level {
-            sub: self.sub,
-            rows,
-            next: self.next,
-        })
-    }
-}
-
-impl KeyRows {
-    fn try_copy(&self) -> Result<KeyRows, AllocError>
-        ensures { IfOk result (λ copy. copy ≡ self.now) }
-    {
-        let rows = self.rows.clone()?;
-        Ok(KeyRows { rows })
-    }
-
-    fn new(alloc: Global, key_rows: &[RawKeyRow]) -> Result<KeyRows, AllocError>
-        requires some { 1 ≤ length key_rows.now }
-        requires few { length key_rows.now ≤ 64 }
-        requires fit { All KeyRowFits key_rows.now }
-        ensures { IfOk result (λ made. made ≡ map key_row key_rows.now) }
-    {
-        let mut rows = Vec::new(alloc);
-        for row in key_rows {
-            rows.push(key_row(row))?;
-        }
-        Ok(KeyRows { rows })
-    }
-
-    fn len(&self) -> usize
-        ensures same { result ≡ length self.now }
-        ensures some { 1 ≤ result }
-        ensures fits { result ≤ 64 }
-    {
-        self.rows.len()
-    }
-
-    fn get(&self, row: u8) -> Option<&KeyRow>
-        ensures { option_copied result ≡ slice_get self.now row }
-    {
-        self.rows.get(row as usize)
-    }
-
-    fn key_len(&self) -> usize
-        ensures { result ≡ first_key_len self.now }
-    {
-        match self.rows.as_slice() {
-            [first, ..] => first.key.len(),
-            [] => 0,
-        }
-    }
-}
-
-#[tactic(auto, using(crate::proofs::RowLemmas::change_at))]
-fn move_on(levels: &mut [Level], sub: u8)
-    ensures { levels.new ≡ change_first (has_sub sub) moved_on levels.old }
-{
-    if let Some(place) = find_place(levels, sub) {
-        let level = &mut levels[place];
-        level.next = row_after(level.next, level.rows.len());
-    }
-}
-
-/// The row after, and after the last the first.
-fn row_after(row: u8, rows: usize) -> u8
-    requires { (1 ≤ rows) × (rows ≤ 64) }
-    ensures { result ≡ (row + 1) % rows }
-{
-    ((row as usize + 1) % rows) as u8
-}
-
-fn find_place(levels: &[Level], sub: u8) -> Option<usize>
-    ensures { result ≡ position (has_sub sub) levels.now }
-{
-    levels.iter().position(|level| level.sub == sub)
-}
-
 fn zeros(count: usize) -> ArrayVec<u8, 16>
     requires { count ≤ 16 }
     ensures { result.items ≡ replicate count 0 }
@@ -542,23 +325,4 @@ fn zeros(count: usize) -> ArrayVec<u8, 16>
         bytes.push(0);
     }
     bytes
-}
-
-fn bytes_of(bytes: &[u8]) -> ArrayVec<u8, 16>
-    requires { length bytes.now ≤ 16 }
-    ensures { result.items ≡ bytes.now }
-{
-    let mut kept = ArrayVec::new();
-    let _ = kept.try_extend_from_slice(bytes);
-    kept
-}
-
-fn key_row(row: &RawKeyRow) -> KeyRow
-    requires { KeyRowFits row.now }
-    ensures { result ≡ key_row row.now }
-{
-    KeyRow {
-        seed: bytes_of(row.seed.as_slice()),
-        key: bytes_of(row.key.as_slice()),
-    }
 }

@@ -3,7 +3,7 @@ use Rattle.std.specs.Prelude.{map}
 use Rattle.std.specs.List.{All}
 use Rattle.diag_setup.specs.Fits.{KeyRowFits}
 use Rattle.diag_store.specs.Opening.{key_row}
-use Rattle.diag_store.proofs.security.KeyRows.new.Given as goal
+use Rattle.diag_store.proofs.levels.KeyRows.new.Given as goal
 
 -- the rows of those so far
 abbrev pub invariant-loop-row : goal.invariant-loop-row
