@@ -15,7 +15,7 @@ use Rattle.diag_tp.specs.Kind.{kind}
 use Rattle.diag_tp.specs.Cut.{cut}
 use Rattle.diag_tp.specs.Sending.{Decision, Go, Wait, GiveUp, block_size, flow_decision}
 use Rattle.diag_tp.proofs.Settled.{some-frame}
-use Rattle.diag_tp.specs.Sender.{Current, SenderState, frame_count, current_left, started, before_these, resting, in_phase, advanced, within_block, block_begun, decided_so, flow_in, tick_in, sender_flow, sender_tick, sender_frame, sender_event, no_flow, replied, replied_in}
+use Rattle.diag_tp.specs.Sender.{Current, SenderState, frame_count, current_left, started, before_these, resting, in_phase, advanced, within_block, block_begun, decided_so, flow_in, ticks_in, sender_flow, sender_ticks, sender_frame, sender_event, no_flow, replied, replied_in}
 
 -- the frames that a sender may still hand out
 abbrev pub total : LinkSetup → SenderState → ℕ
@@ -91,16 +91,16 @@ started-left s c W =
     let frames = h.frames in
     record { frames = omega arith; replies = h.replies }
 
-tick-within : (s : LinkSetup) (p : Phase) (c : Current) (W : List (List ℕ)) → IsWithin s (tick_in s p c W) (left s (Some c) W) (length W)
-tick-within s (AwaitsFlow ticks) c W =
-    elim (nat_le ticks 1) as (λ b. IsWithin s (if b then started s W else resting (in_phase c (AwaitsFlow (ticks - 1))) W) (left s (Some c) W) (length W)) [
+tick-within : (s : LinkSetup) (n : ℕ) (p : Phase) (c : Current) (W : List (List ℕ)) → IsWithin s (ticks_in s n p c W) (left s (Some c) W) (length W)
+tick-within s n (AwaitsFlow ticks) c W =
+    elim (nat_le ticks n) as (λ b. IsWithin s (if b then started s W else resting (in_phase c (AwaitsFlow (ticks - n))) W) (left s (Some c) W) (length W)) [
       | true ↦ started-left s c W
-      | false ↦ resting-within s c (AwaitsFlow (ticks - 1)) W
+      | false ↦ resting-within s c (AwaitsFlow (ticks - n)) W
     ]
-tick-within s (InBlock rest gap ticks) c W =
-    elim (nat_le ticks 1) as (λ b. IsWithin s (if b then advanced s 1 (within_block s (rest - 1) gap) c W else resting (in_phase c (InBlock rest gap (ticks - 1))) W) (left s (Some c) W) (length W)) [
+tick-within s n (InBlock rest gap ticks) c W =
+    elim (nat_le ticks n) as (λ b. IsWithin s (if b then advanced s 1 (within_block s (rest - 1) gap) c W else resting (in_phase c (InBlock rest gap (ticks - n))) W) (left s (Some c) W) (length W)) [
       | true ↦ advanced-within s 1 (within_block s (rest - 1) gap) c W
-      | false ↦ resting-within s c (InBlock rest gap (ticks - 1)) W
+      | false ↦ resting-within s c (InBlock rest gap (ticks - n)) W
     ]
 
 block-within : (s : LinkSetup) (b gap : ℕ) (c : Current) (W : List (List ℕ)) → IsWithin s (block_begun s b gap c W) (left s (Some c) W) (length W)
@@ -123,9 +123,9 @@ sender-flow-within : (s : LinkSetup) (choice : Decision) (cur : Option Current) 
 sender-flow-within s choice None W = record { frames = omega arith; replies = omega arith }
 sender-flow-within s choice (Some c) W = flow-within s c.phase choice c W
 
-pub sender-tick-within : (s : LinkSetup) (cur : Option Current) (W : List (List ℕ)) → IsWithin s (sender_tick s cur W) (left s cur W) (length W)
-sender-tick-within s None W = record { frames = omega arith; replies = omega arith }
-sender-tick-within s (Some c) W = tick-within s c.phase c W
+pub sender-ticks-within : (s : LinkSetup) (n : ℕ) (cur : Option Current) (W : List (List ℕ)) → IsWithin s (sender_ticks s n cur W) (left s cur W) (length W)
+sender-ticks-within s n None W = record { frames = omega arith; replies = omega arith }
+sender-ticks-within s n (Some c) W = tick-within s n c.phase c W
 
 no-flow-within : (s : LinkSetup) (cur : Option Current) (W : List (List ℕ)) → IsWithin s (no_flow cur W) (left s cur W) (length W)
 no-flow-within s cur W = record { frames = omega arith; replies = omega arith }
@@ -142,7 +142,7 @@ frame-within s Nothing cur W = no-flow-within s cur W
 pub event-within : (s : LinkSetup) (x : Event) (cur : Option Current) (W : List (List ℕ)) → IsWithin s (sender_event s x cur W) (left s cur W) (length W)
 event-within s (Physical bytes) cur W = frame-within s (kind bytes s.max_request) cur W
 event-within s (Functional bytes) cur W = no-flow-within s cur W
-event-within s (Ticks n) cur W = sender-tick-within s cur W
+event-within s (Ticks n) cur W = sender-ticks-within s 1 cur W
 
 -- one more reply: at most one more frame is due, and one more waits
 pub replied-numbers : (s : LinkSetup) (P : List ℕ) (r : SenderState) → (length (replied s P r).due ≤ length r.due + 1) × (length (replied s P r).waiting ≤ length r.waiting + 1)

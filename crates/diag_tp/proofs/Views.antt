@@ -9,10 +9,10 @@ use Rattle.diag_tp.specs.declared.setup.LinkSetup.{LinkSetup}
 use Rattle.diag_tp.specs.declared.sent.Sent.{Sent}
 use Rattle.diag_tp.specs.State.{LinkState, LinkView, due}
 use Rattle.diag_tp.specs.Wire.{Placed, wire}
-use Rattle.diag_tp.specs.Sender.{SenderState, sender_event, sender_tick, replied, frame_count, current_left}
+use Rattle.diag_tp.specs.Sender.{SenderState, sender_event, sender_ticks, replied, frame_count, current_left}
 use Rattle.diag_tp.specs.Link.{StandsFor, EachHistory, pending, unsent, waiting_count, has_room, has_reply_room, needed}
 use Rattle.diag_tp.proofs.Lists.{length-zero}
-use Rattle.diag_tp.proofs.Numbers.{total, IsWithin, event-within, sender-tick-within, replied-numbers}
+use Rattle.diag_tp.proofs.Numbers.{total, IsWithin, event-within, sender-ticks-within, replied-numbers}
 use Rattle.diag_tp.proofs.History.{stands_all, stands_length, stands_next}
 
 both : (p q : Bool) → IsTrue (p && q) → IsTrue p × IsTrue q
@@ -85,11 +85,11 @@ pub fed-numbers : (link link' : LinkState) (x : Event) → link'.setup ≡ link.
 fed-numbers link link' x same sender =
     within-numbers link link' (sender_event link.setup x link.sender.current link.sender.waiting) 1 (grant-few link'.grant) same sender (event-within link.setup x link.sender.current link.sender.waiting)
 
--- a tick
-pub tick-numbers : (link link' : LinkState) → link'.grant ≡ None → link'.setup ≡ link.setup → link'.sender ≡ sender_tick link.setup link.sender.current link.sender.waiting → Numbers link link' 0
-tick-numbers link link' none same sender =
+-- ticks
+pub ticks-numbers : (link link' : LinkState) (n : ℕ) → link'.grant ≡ None → link'.setup ≡ link.setup → link'.sender ≡ sender_ticks link.setup n link.sender.current link.sender.waiting → Numbers link link' 0
+ticks-numbers link link' n none same sender =
     let few = ap (λ g. length (option_to_list g)) none in
-    within-numbers link link' (sender_tick link.setup link.sender.current link.sender.waiting) 0 (omega arith) same sender (sender-tick-within link.setup link.sender.current link.sender.waiting)
+    within-numbers link link' (sender_ticks link.setup n link.sender.current link.sender.waiting) 0 (omega arith) same sender (sender-ticks-within link.setup n link.sender.current link.sender.waiting)
 
 -- a reply
 pub answered-numbers : (link link' : LinkState) (P : List ℕ) → link'.grant ≡ link.grant → link'.sender ≡ replied link.setup P link.sender → (pending link' ≤ pending link + 1) × (waiting_count link' ≤ waiting_count link + 1)

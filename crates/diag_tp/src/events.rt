@@ -9,6 +9,7 @@ ghost use Rattle.std.specs.Prelude.{
   ◌∷◌,
   length,
   min,
+  max,
   None,
   option_and_then,
   IfSome,
@@ -21,16 +22,17 @@ ghost use Rattle.std.specs.Prelude.{
 };
 ghost use Rattle.diag_tp.specs.Kind.{kind};
 ghost use Rattle.diag_tp.specs.Gives.{is_request};
-ghost use Rattle.diag_tp.specs.Sender.{sender_event, sender_frame, sender_tick};
+ghost use Rattle.diag_tp.specs.Sender.{sender_event, sender_frame, sender_ticks};
 ghost use Rattle.diag_tp.specs.Receiver.{
   open_after,
   completed_by,
   granted_by,
-  one_tick_later,
+  ticks_later,
   IsRead,
   needed_for,
 };
 ghost use Rattle.diag_tp.specs.State.{due};
+ghost use Rattle.diag_tp.specs.Quiet.{reception_quiet, sender_quiet};
 ghost use Rattle.diag_tp.specs.Link.{
   is_frame,
   last_tick,
@@ -223,18 +225,27 @@ impl Link {
         }
     }
 
-    /// One unit tick.
-    pub(crate) fn pass_tick(&mut self)
+    /// So many ticks, before the last of which nothing falls due.
+    pub(crate) fn pass(&mut self, count: u16)
         requires drained { self.old.state.sender.due ≡ [] }
-        ensures partial { self.new.state.partial ≡ option_and_then (one_tick_later self.old.state.setup.n_cr) self.old.state.partial }
+        ensures partial { self.new.state.partial ≡ option_and_then (ticks_later self.old.state.setup.n_cr count) self.old.state.partial }
         ensures grant { self.new.state.grant ≡ self.old.state.grant }
-        ensures sender { self.new.state.sender ≡ sender_tick self.old.state.setup self.old.state.sender.current self.old.state.sender.waiting }
+        ensures sender { self.new.state.sender ≡ sender_ticks self.old.state.setup count self.old.state.sender.current self.old.state.sender.waiting }
         ensures reply_room { self.new.reply_room ≡ self.old.reply_room }
         ensures setup { self.new.state.setup ≡ self.old.state.setup }
-        ensures now { self.new.state.now ≡ min (self.old.state.now + 1) last_tick }
+        ensures now { self.new.state.now ≡ min (self.old.state.now + count) last_tick }
     {
-        self.ticks = self.ticks.saturating_add(1);
-        self.receiver.tick(self.setup.n_cr.get());
-        self.sender.tick(&self.setup);
+        self.ticks = self.ticks.saturating_add(u64::from(count));
+        self.receiver.pass(self.setup.n_cr.get(), count);
+        self.sender.pass(&self.setup, count);
+    }
+
+    /// For how many ticks nothing falls due and nothing ends, from the fields.
+    pub(crate) fn quiet_ticks(&self) -> u64
+        requires drained { self.now.state.sender.due ≡ [] }
+        ensures { result ≡ max (min (reception_quiet self.now.state.setup.n_cr self.now.state.partial) (sender_quiet self.now.state.sender.current)) 1 }
+    {
+        let reception = self.receiver.quiet(self.setup.n_cr.get());
+        reception.min(self.sender.quiet()).max(1)
     }
 }

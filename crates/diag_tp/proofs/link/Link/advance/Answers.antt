@@ -1,0 +1,40 @@
+use Rattle.std.proofs.Common.{◌≡◌, ◌∙◌, ◌+◌, arith, ap, min}
+use Rattle.std.specs.Prelude.{option_and_then}
+use Rattle.diag_tp.specs.State.{due}
+use Rattle.diag_tp.specs.Receiver.{ticks_later}
+use Rattle.diag_tp.specs.Sender.{sender_ticks}
+use Rattle.diag_tp.specs.Link.{pending, last_tick}
+use Rattle.diag_tp.proofs.Lists.{length-zero}
+use Rattle.diag_tp.proofs.History.{drained-parts}
+use Rattle.diag_tp.proofs.Silence.{stands_ticks, silent}
+use Rattle.diag_tp.proofs.Views.{ticks-numbers, reply-room, reply-room-made}
+use Rattle.diag_tp.proofs.link.Link.advance.Goals as goal
+
+pub pass-requires : goal.pass-requires
+unfolding pending
+pass-requires c = record { drained = (drained-parts c.args.self.now.state.grant c.args.self.now.state.sender.due c.requires.drained).1 }
+
+pub returns : goal.returns
+unfolding pending
+returns c =
+    let old = c.args.self.now.state in
+    let new = c.pass.new.self.state in
+    let n = c.args.count in
+    let same : c.get.result ≡ n = c.get.ensures.value in
+    let some = c.get.ensures.in_range.0 in
+    let none = length-zero (due old) c.requires.drained in
+    let idle = (drained-parts old.grant old.sender.due c.requires.drained).0 in
+    let done = c.pass.ensures in
+    let grant = done.grant ∙ idle in
+    let sender = done.sender ∙ ap (λ k. sender_ticks old.setup k old.sender.current old.sender.waiting) same in
+    let partial = done.partial ∙ ap (λ k. option_and_then (ticks_later old.setup.n_cr k) old.partial) same in
+    let now = done.now ∙ ap (λ k. min (old.now + k) last_tick) same in
+    let numbers = ticks-numbers old new n grant done.setup sender in
+    record {
+      stands = λ s E A Q h. stands_ticks s old new E A Q n (omega arith) c.requires.quiet none grant sender partial done.setup now h;
+      silent = λ h. silent old.setup n old new (omega arith) none h grant sender;
+      reply_room = λ h. reply-room-made c.pass.new.self (rw done.reply_room (reply-room c.args.self.now h));
+      unsent = let fewer = numbers.frames in omega arith;
+      due = numbers.now;
+      waiting = numbers.replies;
+    }
