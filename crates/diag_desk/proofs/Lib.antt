@@ -1,0 +1,10 @@
+pub mod EntryLemmas
+pub mod CountText
+pub mod CutText
+pub mod HexText
+pub mod LineText
+pub mod ClockLemmas
+pub mod FlatLemmas
+pub mod ReadLemmas
+pub mod Runs
+pub mod Unlocking

@@ -1,0 +1,12 @@
+pub mod Entry
+pub mod Entries
+pub mod Flat
+pub mod Text
+pub mod Fault
+pub mod Cut
+pub mod Line
+pub mod Clocks
+pub mod PartRead
+pub mod Legal
+pub mod Replay
+pub mod Unlocking

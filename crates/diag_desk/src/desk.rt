@@ -1,0 +1,137 @@
+//! The desk: the ECU with its journal.
+ghost use Rattle.std.specs.Prelude.{◌≡◌, ◌<◌, ◌≤◌, ◌↔◌, [], length, IsTrue, OnErr, IfOk, IfErr, Err, None};
+ghost use Rattle.diag_ecu.specs.State.{opening};
+ghost use Rattle.diag_desk.specs.Entries.{entry};
+ghost use Rattle.diag_desk.specs.Entry.{IsJournal};
+ghost use Rattle.diag_desk.specs.Legal.{Legal, after, after_step, reply_to, entered, is_ticks};
+
+use crate::journal::Journal;
+use diag_ecu::Ecu;
+use diag_store::{Setup, Who};
+use diag_tp::{Message, Step};
+use std::alloc::{AllocError, Global};
+use std::marker::Model;
+use thiserror::Error;
+
+/// Why a step was not taken.
+#[derive(Clone, Copy, PartialEq, Eq, Debug, Drop, Error)]
+pub enum StepFault {
+    /// Memory was refused.
+    #[error("no memory")]
+    Memory,
+    /// The journal has 1,000,000 entries.
+    #[error("the journal is full")]
+    JournalFull,
+}
+
+impl From<AllocError> for StepFault {
+    ghost use Rattle.diag_desk.specs.declared.desk.StepFault.TheVariants as fault;
+
+    ghost from_gives = { λ e f. f ≡ fault.Memory };
+
+    fn from(_refused: AllocError) -> StepFault {
+        StepFault::Memory
+    }
+}
+
+/// The ECU with its journal, and a copy of the ECU as it was opened.
+///
+/// The journal is a legal run of the sequential server from that opening, and the ECU is what the run makes of it.
+#[derive(Drop)]
+pub struct Desk {
+    opening: Ecu,
+    ecu: Ecu,
+    journal: Journal,
+}
+
+impl Model for Desk {
+    ghost use Rattle.std.specs.Prelude.{◌≡◌};
+    ghost use Rattle.diag_desk.specs.Entry.{IsJournal};
+    ghost use Rattle.diag_desk.specs.Legal.{Run, Legal, after};
+
+    ghost Value = { Run };
+
+    ghost view = { λ d. record { opening = d.opening; journal = d.journal.entries } };
+
+    ghost invariant = { λ d. Legal d.opening d.journal.entries × (d.ecu ≡ after d.opening d.journal.entries) × IsJournal d.journal.entries };
+}
+
+impl Desk {
+    /// The desk of a setup, with no entry.
+    pub fn new(alloc: Global, setup: &Setup) -> Result<Desk, AllocError>
+        ensures { IfOk result (λ desk. desk ≡ record { opening = opening setup.now; journal = [] }) }
+    {
+        let ecu = Ecu::new(alloc, setup)?;
+        Ok(Desk {
+            opening: ecu.try_copy()?,
+            ecu,
+            journal: Journal::new(alloc),
+        })
+    }
+
+    /// The entries so far, which are a legal run from the desk's opening.
+    pub fn journal(&self) -> &Journal
+        ensures list { result.now.entries ≡ self.now.journal }
+        ensures legal { Legal self.now.opening self.now.journal }
+        ensures journal { IsJournal self.now.journal }
+        ensures limit { length self.now.journal ≤ 1000000 }
+    {
+        &self.journal
+    }
+
+    /// The ECU as the entries have made it.
+    pub fn ecu(&self) -> &Ecu
+        ensures { result.now ≡ after self.now.opening self.now.journal }
+    {
+        &self.ecu
+    }
+
+    /// Takes a step: the reply is asked for, entered, and then the ECU settles.
+    ///
+    /// JournalFull is looked at first. After a refusal all is as before. Ticks have no reply.
+    pub fn step(&mut self, who: Who, step: &Step) -> Result<Option<Message>, StepFault>
+        ensures ok { IfOk result (λ reply. self.new ≡ entered self.old (entry who step.now reply)) }
+        ensures quiet { IsTrue (is_ticks step.now) → IfOk result (λ reply. reply ≡ None) }
+        ensures err { OnErr result (self.new ≡ self.old) }
+        ensures full { (result ≡ Err StepFault.JournalFull) ↔ (length self.old.journal ≡ 1000000) }
+        ensures room { IfErr result (λ fault. fault ≡ StepFault.Memory → length self.old.journal < 1000000) }
+        ensures limit { length self.new.journal ≤ 1000000 }
+    {
+        if self.journal.is_full() {
+            return Err(StepFault::JournalFull);
+        }
+        self.journal.make_room(step)?;
+        let reply = reply_of(&self.ecu, who, step)?;
+        if self.journal.push(who, step, reply.as_ref()).is_err() {
+            unreachable!();
+        }
+        settle(&mut self.ecu, who, step);
+        Ok(reply)
+    }
+}
+
+/// The reply to a step, none for ticks.
+fn reply_of(ecu: &Ecu, who: Who, step: &Step) -> Result<Option<Message>, AllocError>
+    ensures { IfOk result (λ reply. reply ≡ reply_to ecu.now who step.now) }
+{
+    match step {
+        Step::Request {
+            functional,
+            message,
+        } => ecu.reply(who, *functional, message),
+        Step::Ticks(_) => Ok(None),
+    }
+}
+
+/// Brings the ECU to the state after a step.
+fn settle(ecu: &mut Ecu, who: Who, step: &Step)
+    ensures { ecu.new ≡ after_step ecu.old who step.now }
+{
+    match step {
+        Step::Request {
+            functional,
+            message,
+        } => ecu.settle(who, *functional, message),
+        Step::Ticks(count) => ecu.ticks(who, *count),
+    }
+}

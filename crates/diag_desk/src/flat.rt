@@ -1,0 +1,258 @@
+//! How the journal keeps its entries: a small head for each, and the bytes of all messages in one list.
+ghost use Rattle.std.specs.Prelude.{◌≡◌, ◌≤◌, ◌+◌, ◌++◌, ◌∷◌, [], length, OnErr, IfOk, ◌/◌, None, option_map, option_copied, unwrap_or, vec_len, vec_capacity};
+ghost use Rattle.diag_desk.specs.Entries.{entry};
+ghost use Rattle.diag_desk.specs.Entry.{entry_seen, HasNoReply, step_len, entry_bytes, IsEntry, IsMessage, IsReply};
+ghost use Rattle.hex.specs.Hex.{IsBytes};
+ghost use Rattle.diag_desk.specs.Flat.{HeadFits, entry_of};
+ghost use Rattle.diag_desk.specs.Line.{HasHex, IsHex, IsHexReply, decoded, line_entry};
+
+use crate::entry::{EntryRef, StepRef};
+use crate::line::{Line, LineStep};
+use diag_can::TickCount;
+use diag_store::Who;
+use diag_tp::{Message, Step};
+use std::alloc::AllocError;
+
+/// Where the bytes of an entry stand: the reply's right after the request's.
+#[derive(Clone, Copy, Drop)]
+pub(crate) enum Head {
+    Request {
+        who: Who,
+        functional: bool,
+        start: usize,
+        request_len: u16,
+        reply_len: Option<u16>,
+    },
+    Ticks {
+        who: Who,
+        count: TickCount,
+    },
+}
+
+const _: () = prove!(size_of::<Head>() <= 24);
+
+/// The number of bytes of a step's message.
+pub(crate) fn step_len(step: &Step) -> usize
+    ensures same { result ≡ step_len step.now }
+    ensures bound { result ≤ 65535 }
+{
+    match step {
+        Step::Request { message, .. } => message.bytes().len(),
+        Step::Ticks(_) => 0,
+    }
+}
+
+/// Tells that bytes are numbers below 256.
+fn tell_bytes(bytes: &[u8])
+    ensures { IsBytes bytes.now }
+{}
+
+/// The bytes of a message.
+fn message_bytes(message: &Message) -> &[u8]
+    ensures same { result.now ≡ message.now }
+    ensures message { IsMessage message.now }
+{
+    let bytes = message.bytes();
+    tell_bytes(bytes);
+    bytes
+}
+
+/// The bytes of a reply, if there is one.
+pub(crate) fn bytes_of(reply: Option<&Message>) -> Option<&[u8]>
+    ensures same { option_copied result ≡ option_copied reply.entry }
+    ensures reply { IsReply (option_copied result) }
+    ensures bound { length (unwrap_or (option_copied result) []) ≤ 65535 }
+{
+    match reply {
+        Some(message) => Some(message_bytes(message)),
+        None => None,
+    }
+}
+
+/// The length of a reply, if there is one.
+pub(crate) fn len_of(reply: Option<&[u8]>) -> usize
+    requires { length (unwrap_or (option_copied reply) []) ≤ 65535 }
+    ensures { result ≡ length (unwrap_or (option_copied reply.entry) []) }
+{
+    match reply {
+        Some(bytes) => bytes.len(),
+        None => 0,
+    }
+}
+
+/// Appends bytes where there is room.
+fn append(bytes: &mut Vec<u8>, more: &[u8])
+    requires { vec_len bytes.old + length more.now ≤ vec_capacity bytes.old }
+    ensures items { bytes.new.items ≡ bytes.old.items ++ more.now }
+    ensures room { vec_capacity bytes.old ≤ vec_capacity bytes.new }
+{
+    let _ = bytes.extend_from_slice(more);
+}
+
+/// Adds a head where there is room.
+pub(crate) fn add_head(heads: &mut Vec<Head>, head: Head)
+    requires { vec_len heads.old + 1 ≤ vec_capacity heads.old }
+    ensures { heads.new.items ≡ heads.old.items ++ head ∷ [] }
+{
+    let _ = heads.push(head);
+}
+
+/// Appends the bytes of an entry, and gives its head.
+pub(crate) fn head_of(bytes: &mut Vec<u8>, who: Who, step: &Step, reply: Option<&[u8]>) -> Head
+    requires room { vec_len bytes.old + (step_len step.now + length (unwrap_or (option_copied reply) [])) ≤ vec_capacity bytes.old }
+    requires reply { IsReply (option_copied reply) }
+    requires fits { length (unwrap_or (option_copied reply) []) ≤ 65535 }
+    requires no_reply { HasNoReply step.now (option_copied reply) }
+    ensures items { bytes.new.items ≡ bytes.old.items ++ entry_bytes step.now (option_copied reply.entry) }
+    ensures fits { HeadFits result (length bytes.new.items) }
+    ensures same { entry_of bytes.new.items result ≡ entry who step.now (option_copied reply.entry) }
+    ensures entry { IsEntry (entry who step.now (option_copied reply.entry)) }
+{
+    let _place = who.place();
+    match step {
+        Step::Ticks(count) => {
+            let _count = count.get();
+            Head::Ticks { who, count: *count }
+        }
+        Step::Request {
+            functional,
+            message,
+        } => {
+            let start = bytes.len();
+            let request = message_bytes(message);
+            append(bytes, request);
+            let reply_len = match reply {
+                Some(reply) => {
+                    append(bytes, reply);
+                    Some(reply.len() as u16)
+                }
+                None => None,
+            };
+            Head::Request {
+                who,
+                functional: *functional,
+                start,
+                request_len: request.len() as u16,
+                reply_len,
+            }
+        }
+    }
+}
+
+/// Appends the messages of a line, and gives the head of its entry; after an error the bytes are as before.
+pub(crate) fn head_of_line(bytes: &mut Vec<u8>, line: &Line<'_>) -> Result<Head, AllocError>
+    requires hex { HasHex line.now.step }
+    requires entry { IsEntry (line_entry line.now) }
+    ensures items { IfOk result (λ _. bytes.new.items ≡ bytes.old.items ++ entry_bytes (line_entry line.now).step (line_entry line.now).reply) }
+    ensures fits { IfOk result (λ head. HeadFits head (length bytes.new.items)) }
+    ensures entry { IfOk result (λ head. entry_of bytes.new.items head ≡ line_entry line.now) }
+    ensures err { OnErr result (bytes.new.items ≡ bytes.old.items) }
+{
+    match line.step {
+        LineStep::Ticks(count) => Ok(Head::Ticks {
+            who: line.who,
+            count,
+        }),
+        LineStep::Request {
+            functional,
+            message,
+            reply,
+        } => {
+            let start = bytes.len();
+            bytes.reserve(decoded_len(message) + reply_len(reply))?;
+            append_hex(bytes, message);
+            let reply_len = match reply {
+                Some(text) => {
+                    append_hex(bytes, text);
+                    Some(decoded_len(text) as u16)
+                }
+                None => None,
+            };
+            Ok(Head::Request {
+                who: line.who,
+                functional,
+                start,
+                request_len: decoded_len(message) as u16,
+                reply_len,
+            })
+        }
+    }
+}
+
+/// The number of bytes that hex text says.
+fn decoded_len(text: &[u8]) -> usize
+    requires { IsHex text.now }
+    ensures same { result ≡ length (decoded text.now) }
+    ensures half { result ≡ length text.now / 2 }
+    ensures bound { (1 ≤ result) × (result ≤ 65535) }
+{
+    text.len() / 2
+}
+
+/// The number of bytes that a reply's hex text says.
+fn reply_len(text: Option<&[u8]>) -> usize
+    requires { IsHexReply (option_copied text) }
+    ensures same { result ≡ length (unwrap_or (option_map decoded (option_copied text.entry)) []) }
+    ensures bound { result ≤ 65535 }
+{
+    match text {
+        Some(text) => decoded_len(text),
+        None => 0,
+    }
+}
+
+/// Appends the bytes of hex text where there is room.
+fn append_hex(bytes: &mut Vec<u8>, text: &[u8])
+    requires hex { IsHex text.now }
+    requires room { vec_len bytes.old + length (decoded text.now) ≤ vec_capacity bytes.old }
+    ensures items { bytes.new.items ≡ bytes.old.items ++ decoded text.now }
+    ensures room { vec_capacity bytes.old ≤ vec_capacity bytes.new }
+{
+    let start = bytes.len();
+    let end = start + decoded_len(text);
+    let _ = bytes.resize(end, 0);
+    decode_into(text, &mut bytes[start..]);
+}
+
+/// Decodes hex text into a slice of its length.
+fn decode_into(text: &[u8], out: &mut [u8])
+    requires hex { IsHex text.now }
+    requires len { length text.now / 2 ≡ length out.old }
+    ensures { out.new ≡ decoded text.now }
+{
+    let _ = hex::decode_to_slice(text, out);
+}
+
+/// The entry of a head.
+pub(crate) fn entry_at<'a>(head: Head, bytes: &'a [u8]) -> EntryRef<'a>
+    requires { HeadFits head (length bytes.now) }
+    ensures same { entry_seen result ≡ entry_of bytes.now head }
+{
+    match head {
+        Head::Request {
+            who,
+            functional,
+            start,
+            request_len,
+            reply_len,
+        } => {
+            let end = start + usize::from(request_len);
+            EntryRef {
+                who,
+                step: StepRef::Request {
+                    functional,
+                    bytes: &bytes[start..end],
+                },
+                reply: match reply_len {
+                    Some(len) => Some(&bytes[end..end + usize::from(len)]),
+                    None => None,
+                },
+            }
+        }
+        Head::Ticks { who, count } => EntryRef {
+            who,
+            step: StepRef::Ticks(count),
+            reply: None,
+        },
+    }
+}

@@ -1,0 +1,161 @@
+//! The journal: the steps of all testers in their order, with the replies.
+ghost use Rattle.std.specs.Prelude.{◌≡◌, ◌≢◌, ◌↔◌, ◌≤◌, ◌++◌, ◌∷◌, [], length, IsTrue, OnOk, OnErr, IfSome, Err, option_map, option_copied, slice_get};
+ghost use Rattle.diag_desk.specs.Entries.{entry};
+ghost use Rattle.diag_desk.specs.Entry.{entry_seen, HasNoReply, HasRoom, IsEntry, IsJournal};
+ghost use Rattle.diag_desk.specs.Line.{HasHex, line_entry};
+
+use crate::entry::{EntryRef, MOST_ENTRIES};
+use crate::flat::{Head, add_head, bytes_of, entry_at, head_of, head_of_line, len_of, step_len};
+use crate::line::Line;
+use diag_store::Who;
+use diag_tp::{Message, Step};
+use std::alloc::{AllocError, Global};
+use std::marker::Model;
+use thiserror::Error;
+
+/// Why an entry was not added.
+#[derive(Clone, Copy, PartialEq, Eq, Debug, Drop, Error)]
+pub enum JournalPush {
+    /// There are 1,000,000 entries.
+    #[error("the journal is full")]
+    Full,
+    /// Memory was refused.
+    #[error("no memory")]
+    Memory,
+}
+
+/// The steps of all testers in their order, with the replies: at most 1,000,000 entries.
+///
+/// The bytes of the messages stand in one list, so an entry takes no more than them and its head of 24 bytes.
+#[derive(Drop)]
+pub struct Journal {
+    heads: Vec<Head>,
+    bytes: Vec<u8>,
+}
+
+impl Model for Journal {
+    ghost use Rattle.diag_desk.specs.Entry.{Kept};
+
+    ghost Value = { Kept };
+
+    ghost use Rattle.diag_desk.specs.Flat.{kept_in, FlatFits};
+
+    ghost view = { kept_in };
+
+    ghost invariant = { FlatFits };
+}
+
+impl Journal {
+    /// A journal without entries. It takes no memory.
+    pub fn new(alloc: Global) -> Journal
+        ensures { result.entries ≡ [] }
+    {
+        Journal {
+            heads: Vec::new(alloc),
+            bytes: Vec::new(alloc),
+        }
+    }
+
+    /// The number of entries.
+    pub fn len(&self) -> usize
+        ensures same { result ≡ length self.now.entries }
+        ensures bound { result ≤ 1000000 }
+        ensures journal { IsJournal self.now.entries }
+    {
+        self.heads.len()
+    }
+
+    /// Whether there are no entries.
+    pub fn is_empty(&self) -> bool
+        ensures { IsTrue result ↔ (length self.now.entries ≡ 0) }
+    {
+        self.heads.is_empty()
+    }
+
+    /// Whether there are 1,000,000 entries, so that no more are taken.
+    pub fn is_full(&self) -> bool
+        ensures { IsTrue result ↔ (length self.now.entries ≡ 1000000) }
+    {
+        self.len() == MOST_ENTRIES
+    }
+
+    /// The entry at an index from 0, in constant time.
+    pub fn get(&self, index: usize) -> Option<EntryRef<'_>>
+        ensures same { option_map entry_seen result ≡ slice_get self.now.entries index }
+        ensures entry { IfSome result (λ e. IsEntry (entry_seen e)) }
+    {
+        if index >= self.heads.len() {
+            return None;
+        }
+        Some(entry_at(self.heads[index], &self.bytes))
+    }
+
+    /// Adds an entry at the end. After an error the entries are as before; that it is full is looked at first.
+    pub fn push(
+        &mut self,
+        who: Who,
+        step: &Step,
+        reply: Option<&Message>,
+    ) -> Result<(), JournalPush>
+        requires { HasNoReply step.now (option_copied reply) }
+        ensures ok { OnOk result (self.new.entries ≡ self.old.entries ++ entry who step.now (option_copied reply.entry) ∷ []) }
+        ensures journal { IsJournal self.new.entries }
+        ensures err { OnErr result (self.new.entries ≡ self.old.entries) }
+        ensures full { (result ≡ Err JournalPush.Full) ↔ (length self.old.entries ≡ 1000000) }
+        ensures room { HasRoom self.old step.now → result ≢ Err JournalPush.Memory }
+    {
+        if self.is_full() {
+            return Err(JournalPush::Full);
+        }
+        let reply = bytes_of(reply);
+        if self.heads.reserve(1).is_err()
+            || self.bytes.reserve(step_len(step) + len_of(reply)).is_err()
+        {
+            return Err(JournalPush::Memory);
+        }
+        let head = head_of(&mut self.bytes, who, step, reply);
+        add_head(&mut self.heads, head);
+        Ok(())
+    }
+
+    /// Adds the entry of a line at the end; its messages are read into the journal's own bytes.
+    pub(crate) fn push_line(&mut self, line: &Line<'_>) -> Result<(), JournalPush>
+        requires hex { HasHex line.now.step }
+        requires entry { IsEntry (line_entry line.now) }
+        ensures ok { OnOk result (self.new.entries ≡ self.old.entries ++ line_entry line.now ∷ []) }
+        ensures err { OnErr result (self.new.entries ≡ self.old.entries) }
+        ensures full { (result ≡ Err JournalPush.Full) ↔ (length self.old.entries ≡ 1000000) }
+    {
+        if self.is_full() {
+            return Err(JournalPush::Full);
+        }
+        if self.heads.reserve(1).is_err() {
+            return Err(JournalPush::Memory);
+        }
+        let Ok(head) = head_of_line(&mut self.bytes, line) else {
+            return Err(JournalPush::Memory);
+        };
+        add_head(&mut self.heads, head);
+        Ok(())
+    }
+
+    /// Makes room for an entry of this step with any reply, so that the next `push`, of that step, takes no memory.
+    /// Refused, the entries are as before.
+    pub fn make_room(&mut self, step: &Step) -> Result<(), AllocError>
+        ensures same { self.new.entries ≡ self.old.entries }
+        ensures ok { OnOk result (HasRoom self.new step.now) }
+    {
+        self.heads.reserve(1)?;
+        self.bytes.reserve(step_len(step) + Message::MAX)
+    }
+
+    /// No fewer bytes than a text of the journal has.
+    pub(crate) fn text_room(&self, stamped: bool) -> usize {
+        let line = if stamped { 22 } else { 10 };
+        self.bytes
+            .len()
+            .saturating_mul(2)
+            .saturating_add(self.heads.len().saturating_mul(line))
+            .saturating_add(16)
+    }
+}

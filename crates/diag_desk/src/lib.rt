@@ -1,0 +1,22 @@
+//! The desk: the ECU with its journal, the journal's text, and replay.
+#![tactic(auto)]
+
+mod clocks;
+mod desk;
+mod entry;
+mod flat;
+mod journal;
+mod laws;
+mod line;
+mod read;
+mod replaying;
+mod text;
+
+pub use desk::{Desk, StepFault};
+pub use diag_tp::Step;
+pub use entry::{Entry, EntryRef, MOST_ENTRIES, StepRef};
+pub use journal::{Journal, JournalPush};
+pub use laws::{prefixes_are_legal, texts_have_one_journal, writes_follow_unlocking};
+pub use read::{JournalFault, read_journal};
+pub use replaying::{ReplayFault, replay};
+pub use text::{journal_text, journal_text_at};

@@ -1,0 +1,224 @@
+//! Reading one line of a journal's text.
+ghost use Rattle.std.specs.Prelude.{◌≡◌, ◌≢◌, ℕ, ◌≤◌, ◌<◌, ◌^◌, ◌+◌, ◌∷◌, [], length, IfSome, IfNone, IsTrue, IsNone, Some, None, MatchOption, slice_index, ◌↔◌, decimal, option_copied};
+ghost use Rattle.std.specs.Bool.{OnTrue, OnFalse};
+ghost use Rattle.std.specs.List.{list_all};
+ghost use Rattle.diag_desk.specs.Text.{IsNoMessage, IsNoReply, IsNoCount, IsNoNumber, IsNoEntry, is_upper_digit, reply_text};
+ghost use Rattle.diag_desk.specs.Cut.{cut};
+ghost use Rattle.diag_desk.specs.Line.{IsHex, IsHexReply, IsRead, IsReadStep, IsNoStep, IsReadReply, request_kind, kind_code, decoded};
+ghost use Rattle.diag_desk.specs.declared.line.Kind.{Kind as IsKind};
+
+use diag_can::TickCount;
+use diag_store::Who;
+use diag_tp::Message;
+
+/// What kind of line it is.
+#[derive(Clone, Copy, Drop)]
+pub(crate) enum Kind {
+    Physical,
+    Functional,
+    Ticks,
+}
+
+/// What a line says of the step and its reply; messages are in hex.
+#[derive(Clone, Copy)]
+pub(crate) enum LineStep<'a> {
+    Request {
+        functional: bool,
+        message: &'a [u8],
+        reply: Option<&'a [u8]>,
+    },
+    Ticks(TickCount),
+}
+
+/// What a line says.
+#[derive(Clone, Copy)]
+pub(crate) struct Line<'a> {
+    pub who: Who,
+    pub step: LineStep<'a>,
+}
+
+/// What stands before and after the first of some byte.
+pub(crate) fn cut(text: &[u8], byte: u8) -> Option<(&[u8], &[u8])>
+    ensures { MatchOption result (cut byte text.now ≡ None) (λ parts. cut byte text.now ≡ Some (parts.0.now, parts.1.now)) }
+{
+    for (i, c) in text.iter().enumerate() {
+        if *c == byte {
+            return Some((&text[..i], &text[i + 1..]));
+        }
+    }
+    None
+}
+
+/// The entry of a line, without a stamp and its end.
+pub(crate) fn entry_in(line: &[u8]) -> Option<Line<'_>>
+    ensures some { IfSome result (IsRead line.now) }
+    ensures none { IfNone result (IsNoEntry line.now) }
+{
+    let Some((place, rest)) = cut(line, b' ') else {
+        return None;
+    };
+    let Some(who) = place_in(place) else {
+        return None;
+    };
+    let Some((kind, body)) = cut(rest, b' ') else {
+        return None;
+    };
+    let Some(kind) = kind_in(kind) else {
+        return None;
+    };
+    let Some(step) = step_in(kind, body) else {
+        return None;
+    };
+    Some(Line { who, step })
+}
+
+/// The tester whose place is a text.
+fn place_in(text: &[u8]) -> Option<Who>
+    ensures some { IfSome result (λ who. ((48 + who) ∷ [] ≡ text.now) × (1 ≤ who) × (who ≤ 8)) }
+    ensures none { IfNone result ((who : ℕ) → 1 ≤ who → who ≤ 8 → (48 + who) ∷ [] ≢ text.now) }
+{
+    if text.len() != 1 || text[0] < b'1' || text[0] > b'8' {
+        return None;
+    }
+    Who::new(text[0] - b'0')
+}
+
+/// The kind whose letter is a text.
+fn kind_in(text: &[u8]) -> Option<Kind>
+    ensures some { IfSome result (λ kind. kind_code kind ∷ [] ≡ text.now) }
+    ensures none { IfNone result ((kind : IsKind) → kind_code kind ∷ [] ≢ text.now) }
+{
+    if text.len() != 1 {
+        return None;
+    }
+    if text[0] == b'P' {
+        Some(Kind::Physical)
+    } else if text[0] == b'F' {
+        Some(Kind::Functional)
+    } else if text[0] == b'T' {
+        Some(Kind::Ticks)
+    } else {
+        None
+    }
+}
+
+/// The step of a kind, of what follows the kind in its line.
+fn step_in(kind: Kind, body: &[u8]) -> Option<LineStep<'_>>
+    ensures some { IfSome result (IsReadStep kind body.now) }
+    ensures none { IfNone result (IsNoStep kind body.now) }
+{
+    match kind {
+        Kind::Physical => request_in(false, body),
+        Kind::Functional => request_in(true, body),
+        Kind::Ticks => match count_in(body) {
+            Some(count) => Some(LineStep::Ticks(count)),
+            None => None,
+        },
+    }
+}
+
+/// The request of a line, of what follows its kind.
+fn request_in(functional: bool, body: &[u8]) -> Option<LineStep<'_>>
+    ensures some { IfSome result (IsReadStep (request_kind functional) body.now) }
+    ensures none { IfNone result (IsNoStep (request_kind functional) body.now) }
+{
+    let Some((message, reply)) = cut(body, b' ') else {
+        return None;
+    };
+    if !is_hex(message) {
+        return None;
+    }
+    let Some(reply) = reply_in(reply) else {
+        return None;
+    };
+    Some(LineStep::Request {
+        functional,
+        message,
+        reply,
+    })
+}
+
+/// The reply of a text: hex, or a dash for none.
+fn reply_in(text: &[u8]) -> Option<Option<&[u8]>>
+    ensures some { IfSome result (λ reply. IsReadReply text.now (option_copied reply)) }
+    ensures none { IfNone result (IsNoReply text.now) }
+{
+    if text == b"-".as_slice() {
+        Some(None)
+    } else if is_hex(text) {
+        Some(Some(text))
+    } else {
+        None
+    }
+}
+
+/// Whether a text is the upper-case hex of a message.
+fn is_hex(text: &[u8]) -> bool
+    ensures yes { OnTrue result (IsHex text.now) }
+    ensures no { OnFalse result (IsNoMessage text.now) }
+{
+    let len = text.len();
+    if len < 2 || 2 * Message::MAX < len || len % 2 == 1 || !has_upper_digits(text) {
+        return false;
+    }
+    true
+}
+
+fn has_upper_digits(text: &[u8]) -> bool
+    ensures { result ≡ list_all is_upper_digit text.now }
+{
+    text.iter().all(|c| matches!(*c, b'0'..=b'9' | b'A'..=b'F'))
+}
+
+/// The count of ticks of a text in decimal.
+fn count_in(text: &[u8]) -> Option<TickCount>
+    ensures some { IfSome result (λ count. (decimal count ≡ text.now) × (1 ≤ count) × (count ≤ 60000)) }
+    ensures none { IfNone result (IsNoCount text.now) }
+{
+    let Some(number) = number_in(text) else {
+        return None;
+    };
+    if number < 1 || 60000 < number {
+        return None;
+    }
+    TickCount::new(number as u16)
+}
+
+/// Whether a text is a number in decimal.
+pub(crate) fn is_decimal(text: &[u8], number: u64) -> bool
+    ensures { IsTrue result ↔ (decimal number ≡ text.now) }
+{
+    match number_in(text) {
+        Some(read) => read == number,
+        None => false,
+    }
+}
+
+/// The number of a text in decimal, in its one spelling.
+fn number_in(text: &[u8]) -> Option<u64>
+    ensures some { IfSome result (λ number. (decimal number ≡ text.now) × (number < 2 ^ 64)) }
+    ensures none { IfNone result (IsNoNumber text.now) }
+{
+    if text == b"0".as_slice() {
+        return Some(0);
+    }
+    if !begins_with_1_to_9(text) {
+        return None;
+    }
+    let Ok(text) = std::str::from_utf8(text) else {
+        return None;
+    };
+    match text.parse::<u64>() {
+        Ok(number) => Some(number),
+        Err(_) => None,
+    }
+}
+
+fn begins_with_1_to_9(text: &[u8]) -> bool
+    ensures { IsTrue result ↔ ((49 ≤ slice_index text.now 0) × (slice_index text.now 0 ≤ 57)) }
+{
+    match text {
+        [first, ..] => b'1' <= *first && *first <= b'9',
+        [] => false,
+    }
+}

@@ -1,0 +1,175 @@
+//! Reading a journal's text.
+ghost use Rattle.std.specs.Prelude.{◌≡◌, ◌≢◌, ◌+◌, ◌≤◌, ◌<◌, [], ℕ, Bool, length, IfOk, IfErr, IfSome, IfNone, OnOk, OnErr, Ok, Err, List, MatchResult};
+ghost use Rattle.diag_desk.specs.declared.entry.Entry.{Entry};
+ghost use Rattle.diag_desk.specs.Fault.{FaultAt, IsTextOf};
+ghost use Rattle.diag_desk.specs.Entry.{IsJournal, IsEntry};
+ghost use Rattle.diag_desk.specs.Line.{line_entry};
+ghost use Rattle.diag_desk.specs.PartRead.{HasNoNext, IsNext, IsNoNext, Took};
+ghost use Rattle.diag_desk.specs.Text.{header, ticks_in, ticks_of};
+
+use crate::clocks::Clocks;
+use crate::journal::{Journal, JournalPush};
+use crate::line::{Line, LineStep, cut, entry_in, is_decimal};
+use std::alloc::Global;
+use std::marker::Model;
+use thiserror::Error;
+
+/// Why a text gives no journal.
+#[derive(Clone, Copy, PartialEq, Eq, Debug, Drop, Error)]
+pub enum JournalFault {
+    /// The first line at fault, counted from 1.
+    #[error("journal line {0}")]
+    Line(usize),
+    /// Memory was refused.
+    #[error("no memory")]
+    Memory,
+}
+
+/// Why a line was not taken.
+#[derive(Clone, Copy, Drop)]
+enum LineFault {
+    Wrong,
+    Memory,
+}
+
+/// What was read so far.
+#[derive(Drop)]
+struct Reader {
+    stamped: bool,
+    journal: Journal,
+    clocks: Clocks,
+}
+
+impl Model for Reader {
+    ghost use Rattle.diag_desk.specs.PartRead.{PartRead};
+
+    ghost Value = { PartRead };
+
+    ghost use Rattle.diag_desk.specs.Clocks.{Tells};
+    ghost use Rattle.diag_desk.specs.Entry.{IsJournal};
+
+    ghost view = { λ r. record { stamped = r.stamped; entries = r.journal.entries } };
+
+    ghost invariant = { λ r. IsJournal r.journal.entries × Tells r.clocks.ticks r.journal.entries };
+}
+
+impl Reader {
+    fn new(alloc: Global, stamped: bool) -> Reader
+        ensures { result ≡ record { stamped = stamped; entries = [] } }
+    {
+        Reader {
+            stamped,
+            journal: Journal::new(alloc),
+            clocks: Clocks::new(),
+        }
+    }
+
+    /// The ticks of a line's tester up to and with it.
+    fn clock_of(&self, line: &Line<'_>) -> u64
+        requires { IsEntry (line_entry line.now) }
+        ensures { result ≡ ticks_of line.now.who self.now.entries + ticks_in (line_entry line.now).step }
+    {
+        let before = self.clocks.at(line.who);
+        match line.step {
+            LineStep::Request { .. } => before,
+            LineStep::Ticks(count) => before + u64::from(count.get()),
+        }
+    }
+
+    /// The entry of the line that comes next.
+    fn next<'a>(&self, line: &'a [u8]) -> Option<Line<'a>>
+        ensures some { IfSome result (IsNext self.now line.now) }
+        ensures none { IfNone result (IsNoNext self.now line.now) }
+    {
+        if !self.stamped {
+            return entry_in(line);
+        }
+        let Some((at, line)) = cut(line, b' ') else {
+            return None;
+        };
+        let Some(entry) = entry_in(line) else {
+            return None;
+        };
+        if !is_decimal(at, self.clock_of(&entry)) {
+            return None;
+        }
+        Some(entry)
+    }
+
+    /// Takes the line that comes next.
+    fn take(&mut self, line: &[u8]) -> Result<(), LineFault>
+        ensures ok { OnOk result (Took self.old self.new line.now) }
+        ensures wrong { IfErr result (λ fault. fault ≡ LineFault.Wrong → HasNoNext self.old line.now) }
+        ensures journal { IsJournal self.new.entries }
+    {
+        let Some(entry) = self.next(line) else {
+            return Err(LineFault::Wrong);
+        };
+        let clock = self.clock_of(&entry);
+        match self.journal.push_line(&entry) {
+            Ok(()) => {
+                self.clocks.set(entry.who, clock);
+                Ok(())
+            }
+            Err(JournalPush::Full) => Err(LineFault::Wrong),
+            Err(JournalPush::Memory) => Err(LineFault::Memory),
+        }
+    }
+}
+
+/// Whether a header is that of a stamped text; None where it is none.
+fn is_stamped(line: &[u8]) -> Option<bool>
+    ensures some { IfSome result (λ stamped. line.now ≡ header stamped) }
+    ensures none { IfNone result ((stamped : Bool) → line.now ≢ header stamped) }
+{
+    if line == b"diag-journal 1".as_slice() {
+        Some(false)
+    } else if line == b"diag-journal 2".as_slice() {
+        Some(true)
+    } else {
+        None
+    }
+}
+
+/// The journal of a text of either version, in one pass.
+///
+/// Each journal has one text of a version: digits of hex in upper case, numbers in decimal without leading zeros, parts
+/// parted by one space, lines ended by LF. Any other line is a fault, named by its number (the header is line 1): also a
+/// last line without LF, a stamp that isn't the ticks of its tester so far, and an entry past the 1,000,000th. So what a
+/// journal was written as is read back as that journal, where memory is not refused.
+pub fn read_journal(alloc: Global, text: &[u8]) -> Result<Journal, JournalFault>
+    ensures ok { IfOk result (λ journal. IsJournal journal.entries × IsTextOf text.now journal.entries) }
+    ensures line { IfErr result (λ fault. (n : ℕ) → fault ≡ JournalFault.Line n → FaultAt text.now n) }
+    ensures back { (entries : List Entry) → IsJournal entries → IsTextOf text.now entries
+        → MatchResult result (λ journal. journal.entries ≡ entries) (λ fault. fault ≡ JournalFault.Memory) }
+{
+    read_lines(alloc, text)
+}
+
+/// Reads the header, and then line by line.
+fn read_lines(alloc: Global, text: &[u8]) -> Result<Journal, JournalFault>
+    ensures ok { IfOk result (λ journal. IsJournal journal.entries × IsTextOf text.now journal.entries) }
+    ensures line { IfErr result (λ fault. (n : ℕ) → fault ≡ JournalFault.Line n → FaultAt text.now n) }
+{
+    let Some((first, mut rest)) = cut(text, b'\n') else {
+        return Err(JournalFault::Line(1));
+    };
+    let Some(stamped) = is_stamped(first) else {
+        return Err(JournalFault::Line(1));
+    };
+    let mut reader = Reader::new(alloc, stamped);
+    let mut number = 2;
+    while !rest.is_empty() {
+        let Some((line, after)) = cut(rest, b'\n') else {
+            return Err(JournalFault::Line(number));
+        };
+        match reader.take(line) {
+            Ok(()) => {}
+            Err(LineFault::Wrong) => return Err(JournalFault::Line(number)),
+            Err(LineFault::Memory) => return Err(JournalFault::Memory),
+        }
+        rest = after;
+        number += 1;
+    }
+    Ok(reader.journal)
+}

@@ -1,0 +1,165 @@
+//! Writing the text of a journal, in one buffer.
+ghost use Rattle.std.specs.Prelude.{◌≡◌, ◌≤◌, ◌<◌, ◌++◌, OnOk, IfOk, codes, decimal, option_copied, slice_index};
+ghost use Rattle.hex.specs.Hex.{encode_upper, upper_digits};
+ghost use Rattle.diag_desk.specs.Entry.{entry_seen, step_seen};
+ghost use Rattle.diag_desk.specs.Text.{ended, entry_line, header, journal_text, journal_text_at, kind_text, reply_text, stamped_line, step_text, text_of, ticks_in};
+
+use crate::clocks::Clocks;
+use crate::entry::{EntryRef, StepRef};
+use crate::journal::Journal;
+use std::alloc::{AllocError, Global};
+
+const UPPER_DIGITS: [u8; 16] = *b"0123456789ABCDEF";
+
+/// The text of version 1: the line `diag-journal 1`, then a line for each entry, each ended by LF.
+///
+/// A physical request is `N P REQ REPLY`, a functional one `N F REQ REPLY`, ticks are `N T COUNT`. N is the tester's
+/// place; a message is in upper-case hex, no reply is `-`.
+pub fn journal_text(alloc: Global, journal: &Journal) -> Result<Vec<u8>, AllocError>
+    ensures { IfOk result (λ text. text.items ≡ journal_text journal.now.entries) }
+{
+    write_all(alloc, journal, false)
+}
+
+/// The text of version 2: the line `diag-journal 2`, then the lines of version 1, each with the ticks of its tester up
+/// to and with it, and a space, before it.
+pub fn journal_text_at(alloc: Global, journal: &Journal) -> Result<Vec<u8>, AllocError>
+    ensures { IfOk result (λ text. text.items ≡ journal_text_at journal.now.entries) }
+{
+    write_all(alloc, journal, true)
+}
+
+fn write_all(alloc: Global, journal: &Journal, stamped: bool) -> Result<Vec<u8>, AllocError>
+    ensures { IfOk result (λ text. text.items ≡ text_of stamped journal.now.entries) }
+{
+    let mut text = Vec::with_capacity(alloc, journal.text_room(stamped))?;
+    write_header(&mut text, stamped)?;
+    let mut clocks = Clocks::new();
+    for index in 0..journal.len() {
+        let Some(entry) = journal.get(index) else {
+            unreachable!();
+        };
+        let clock = clocks.at(entry.who) + ticks_in(&entry.step);
+        write_line(&mut text, stamped, clock, &entry)?;
+        clocks.set(entry.who, clock);
+    }
+    Ok(text)
+}
+
+/// Appends the header, with its end.
+fn write_header(text: &mut Vec<u8>, stamped: bool) -> Result<(), AllocError>
+    ensures { OnOk result (text.new.items ≡ text.old.items ++ ended (header stamped)) }
+{
+    if stamped {
+        text.extend_from_slice(b"diag-journal 2\n")
+    } else {
+        text.extend_from_slice(b"diag-journal 1\n")
+    }
+}
+
+/// The ticks of a step.
+fn ticks_in(step: &StepRef<'_>) -> u64
+    ensures same { result ≡ ticks_in (step_seen step.now) }
+    ensures bound { result ≤ 60000 }
+{
+    match *step {
+        StepRef::Request { .. } => 0,
+        StepRef::Ticks(count) => u64::from(count.get()),
+    }
+}
+
+/// Appends the line of an entry, where it is stamped with its stamp first.
+fn write_line(
+    text: &mut Vec<u8>,
+    stamped: bool,
+    clock: u64,
+    entry: &EntryRef<'_>,
+) -> Result<(), AllocError>
+    ensures { OnOk result (text.new.items ≡ text.old.items ++ ended (stamped_line stamped clock (entry_line (entry_seen entry.now)))) }
+{
+    if stamped {
+        write_decimal(text, clock)?;
+        text.push(b' ')?;
+    }
+    write_entry(text, entry)
+}
+
+/// Appends a number in decimal.
+fn write_decimal(text: &mut Vec<u8>, number: u64) -> Result<(), AllocError>
+    ensures { OnOk result (text.new.items ≡ text.old.items ++ decimal number) }
+{
+    let mut buffer = itoa::Buffer::new();
+    text.extend_from_slice(buffer.format(number).as_bytes())
+}
+
+/// Appends a message in upper-case hex.
+fn write_hex(text: &mut Vec<u8>, bytes: &[u8]) -> Result<(), AllocError>
+    ensures { OnOk result (text.new.items ≡ text.old.items ++ encode_upper bytes.now) }
+{
+    for byte in bytes {
+        text.extend_from_slice(&[upper_digit(*byte / 16), upper_digit(*byte % 16)])?;
+    }
+    Ok(())
+}
+
+/// The digit of a value below 16.
+fn upper_digit(value: u8) -> u8
+    requires { value < 16 }
+    ensures { result ≡ slice_index upper_digits value }
+{
+    UPPER_DIGITS[usize::from(value)]
+}
+
+/// Appends the line of an entry.
+fn write_entry(text: &mut Vec<u8>, entry: &EntryRef<'_>) -> Result<(), AllocError>
+    ensures { OnOk result (text.new.items ≡ text.old.items ++ ended (entry_line (entry_seen entry.now))) }
+{
+    text.push(b'0' + entry.who.place())?;
+    write_step(text, &entry.step, entry.reply)?;
+    text.push(b'\n')?;
+    Ok(())
+}
+
+/// Appends what follows a tester's place.
+fn write_step(
+    text: &mut Vec<u8>,
+    step: &StepRef<'_>,
+    reply: Option<&[u8]>,
+) -> Result<(), AllocError>
+    ensures { OnOk result (text.new.items ≡ text.old.items ++ step_text (step_seen step.now) (option_copied reply.entry)) }
+{
+    match *step {
+        StepRef::Request { functional, bytes } => {
+            write_request(text, functional, bytes)?;
+            write_reply(text, reply)
+        }
+        StepRef::Ticks(count) => {
+            text.extend_from_slice(b" T ")?;
+            write_decimal(text, u64::from(count.get()))
+        }
+    }
+}
+
+fn write_request(text: &mut Vec<u8>, functional: bool, bytes: &[u8]) -> Result<(), AllocError>
+    ensures { OnOk result (text.new.items ≡ text.old.items ++ (kind_text functional ++ encode_upper bytes.now)) }
+{
+    if functional {
+        text.extend_from_slice(b" F ")?;
+    } else {
+        text.extend_from_slice(b" P ")?;
+    }
+    write_hex(text, bytes)
+}
+
+fn write_reply(text: &mut Vec<u8>, reply: Option<&[u8]>) -> Result<(), AllocError>
+    ensures { OnOk result (text.new.items ≡ text.old.items ++ (codes " " ++ reply_text (option_copied reply.entry))) }
+{
+    text.push(b' ')?;
+    match reply {
+        Some(bytes) => write_hex(text, bytes),
+        None => {
+            text.push(b'-')?;
+            Ok(())
+        }
+    }
+}
