@@ -7,7 +7,7 @@ work=$top/bench/out/read_log
 mkdir -p "$work/crates/read_log/src"
 mkdir -p "$work/crates/diag_can"
 cp -rpu "$top/crates/diag_can/src" "$top/crates/diag_can/specs" "$top/crates/diag_can/proofs" "$work/crates/diag_can/"
-cp "$top/bench/read_log/main.rt" "$work/crates/read_log/src/main.rt"
+cp "$top/bench/read_log/main.rt.in" "$work/crates/read_log/src/main.rt"
 printf '%s\n' "$(grep '^diag_can:' "$top/crates.txt")" 'read_log: diag_can' > "$work/crates.txt"
 printf '%s\n' 'Handles allowed: none.' > "$work/HANDLES"
 (cd "$work/crates/read_log" && rt run > "$work/build.log" 2>&1) || { cat "$work/build.log" >&2; exit 1; }
