@@ -2,3 +2,4 @@ pub mod RowLemmas
 pub mod SearchLemmas
 pub mod SecurityLemmas
 pub mod TableLemmas
+pub mod DelayLemmas

@@ -38,6 +38,9 @@ all_idle_rises rows h = map_rises routines.id_of routines.id_of routines.make_id
 pub after_tick_rises : (rows : List Routine) → is_rising routines.id_of rows ≡ true → is_rising routines.id_of (routines.rows_after_tick rows) ≡ true
 after_tick_rises rows h = map_rises routines.id_of routines.id_of routines.tick_one (λ row. refl) rows h
 
+pub later_rises : (n : ℕ) (rows : List Routine) → is_rising routines.id_of rows ≡ true → is_rising routines.id_of (routines.rows_later n rows) ≡ true
+later_rises n rows h = map_rises routines.id_of routines.id_of (routines.row_later n) (λ row. refl) rows h
+
 pub opening_dids_rise : (setup : RawSetup) → is_rising did_id setup.dids ≡ true → is_rising dids.id_of (opening_dids setup) ≡ true
 opening_dids_rise setup h = map_rises dids.id_of did_id did_row (λ row. refl) setup.dids h
 

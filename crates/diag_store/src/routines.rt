@@ -1,7 +1,7 @@
 //! The routines.
 
 ghost use Rattle.std.specs.Prelude.{◌≡◌, ◌≤◌, true, length, option_map, IsTrue, IfOk, IfSome, is_some, option_copied, position, if◌then◌else◌};
-ghost use Rattle.diag_store.specs.Routines.{id_of, has_id, routine_of, state_of, routine_level, result_of, started, stopped, all_idle, state_after_tick, ends_now, rows_after_tick, reported, codes_after_tick};
+ghost use Rattle.diag_store.specs.Routines.{id_of, has_id, routine_of, state_of, routine_level, result_of, started, stopped, all_idle, state_after_tick, ends_now, rows_after_tick, quiet_in, quiet_ticks, state_later, rows_later, reported, codes_after_tick};
 ghost use Rattle.diag_setup.specs.Fits.{RoutineFits, OnDoneFits};
 ghost use Rattle.diag_setup.specs.Rows.{is_rising};
 ghost use Rattle.diag_store.specs.Opening.{opening_routines, routine_row, on_done_row};
@@ -143,6 +143,21 @@ impl Routines {
         tick_all(&mut self.rows);
     }
 
+    /// How many ticks pass at least before one ends a routine: all but the last of the one that ends first.
+    pub fn quiet_ticks(&self) -> u32
+        ensures { result ≡ quiet_ticks self.now }
+    {
+        quiet_ticks(&self.rows)
+    }
+
+    /// So many ticks that end no routine, in one move.
+    pub fn pass(&mut self, count: u32)
+        requires { count ≤ quiet_ticks self.old }
+        ensures { self.new ≡ rows_later count self.old }
+    {
+        pass_all(&mut self.rows, count);
+    }
+
     /// Makes all routines idle.
     pub fn idle_all(&mut self)
         ensures { self.new ≡ all_idle self.old }
@@ -169,6 +184,28 @@ impl RoutineState {
         match self {
             RoutineState::Running(left) if left <= 1 => RoutineState::Done,
             RoutineState::Running(left) => RoutineState::Running(left - 1),
+            other => other,
+        }
+    }
+}
+
+impl RoutineState {
+    /// How many ticks don't end the routine.
+    fn quiet_ticks(self) -> u32
+        ensures { result ≡ quiet_in self }
+    {
+        match self {
+            RoutineState::Running(left) => left.saturating_sub(1),
+            RoutineState::Idle | RoutineState::Done => u32::MAX,
+        }
+    }
+
+    /// The state so many ticks later.
+    fn later(self, count: u32) -> RoutineState
+        ensures { result ≡ state_later count self }
+    {
+        match self {
+            RoutineState::Running(left) => RoutineState::Running(left.saturating_sub(count)),
             other => other,
         }
     }
@@ -216,6 +253,24 @@ fn tick_all(rows: &mut [Routine])
 {
     for row in rows.iter_mut() {
         row.state = row.state.after_tick();
+    }
+}
+
+fn quiet_ticks(rows: &[Routine]) -> u32
+    ensures { result ≡ quiet_ticks rows.now }
+{
+    let mut least = u32::MAX;
+    for row in rows {
+        least = least.min(row.state.quiet_ticks());
+    }
+    least
+}
+
+fn pass_all(rows: &mut [Routine], count: u32)
+    ensures { rows.new ≡ rows_later count rows.old }
+{
+    for row in rows.iter_mut() {
+        row.state = row.state.later(count);
     }
 }
 

@@ -1,7 +1,7 @@
 //! The security access of the testers: seeds, keys, and the delay after too many wrong keys.
 
 ghost use Rattle.std.specs.Prelude.{◌≡◌, ◌≤◌, ◌<◌, bytes_eq, is_some, replicate, length, IsTrue, IfOk};
-ghost use Rattle.diag_store.specs.Security.{IsSecurity, is_unlocked, level_of, key_len, locked, is_delayed, outstanding_row, seed_at, key_at, next_row, seed_answer, after_seed, key_answer, after_key, after_tick};
+ghost use Rattle.diag_store.specs.Security.{IsSecurity, is_unlocked, level_of, key_len, locked, is_delayed, outstanding_row, seed_at, key_at, next_row, seed_answer, after_seed, key_answer, after_key, after_tick, after_ticks};
 ghost use Rattle.diag_store.specs.Opening.{opening_security};
 
 use crate::levels::{Levels, bytes_of};
@@ -155,6 +155,13 @@ impl Security {
         self.state.tick(who);
     }
 
+    /// So many ticks of a tester's delay, in one move.
+    pub fn pass(&mut self, who: Who, count: u32)
+        ensures { self.new ≡ after_ticks self.old who count }
+    {
+        self.state.pass(who, count);
+    }
+
     /// Nothing is unlocked and no seed is outstanding.
     pub fn lock(&mut self)
         ensures { self.new ≡ locked self.old }
@@ -299,6 +306,25 @@ impl SecurityState {
         }
         self.delays[tester] = self.delay_ms;
         KeyAnswer::TooMany
+    }
+
+    #[tactic(auto, using(crate::proofs::DelayLemmas::no_delay, crate::proofs::DelayLemmas::shorter, crate::proofs::DelayLemmas::over))]
+    fn pass(&mut self, who: Who, count: u32)
+        requires { IsSecurity self.old }
+        ensures state { self.new ≡ after_ticks self.old who count }
+        ensures keeps { IsSecurity self.new }
+    {
+        let tester = who.index();
+        let left = self.delays[tester];
+        if left == 0 {
+            return;
+        }
+        if count < left {
+            self.delays[tester] = left - count;
+        } else {
+            self.delays[tester] = 0;
+            self.wrong_keys[tester] = 0;
+        }
     }
 
     fn tick(&mut self, who: Who)
