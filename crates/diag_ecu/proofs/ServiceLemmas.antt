@@ -13,12 +13,6 @@ use Rattle.diag_ecu.specs.Bytes.{bytes_24}
 use Rattle.diag_ecu.specs.Elapse.{elapse, ticked}
 use Rattle.diag_ecu.specs.Respond.{own_outcome, is_seed_request, key_level, routine_results, report}
 
--- one tick, and then the rest
-pub elapse_step : (s : State) (who n i : ℕ) → i < n → elapse s who (n - i) ≡ elapse (ticked s who) who (n - (i + 1))
-elapse_step s who n i below =
-    let e : n - i ≡ suc (n - (i + 1)) = omega arith in
-    rw e refl
-
 -- a key that is right, wrong or not looked at changes what the table of levels says
 pub key_state : (s : State) (who : ℕ) (p : List ℕ) → is_seed_request s p ≡ false
     → (own_outcome s who SecurityAccess p).state ≡ record s { security = security.after_key s.security who (key_level p) (drop 2 p) }

@@ -1,6 +1,7 @@
 //! Time on the timers of a tester.
-ghost use Rattle.std.specs.Prelude.{◌≡◌};
-ghost use Rattle.diag_ecu.specs.Elapse.{elapse, ticked, delay_ticked, routines_ticked, s3_ticked};
+ghost use Rattle.std.specs.Prelude.{◌≡◌, ◌-◌, ◌≤◌, is_some, min, IsTrue};
+ghost use Rattle.diag_store.specs.Routines.{quiet_ticks};
+ghost use Rattle.diag_ecu.specs.Elapse.{elapse, session_ticked, session_elapsed, s3_ticked};
 
 use crate::ecu::Ecu;
 use diag_can::TickCount;
@@ -8,22 +9,59 @@ use diag_store::Who;
 
 impl Ecu {
     /// Ticks of a tester: its delay, and where it is the holder the routines and S3.
+    ///
+    /// It costs by what ends on the way, and not by how many ticks there are.
     pub fn ticks(&mut self, who: Who, count: TickCount)
         ensures { self.new ≡ elapse self.old who count }
     {
-        for _ in 0..count.get() {
-            self.tick(who);
+        let count = u32::from(count.get());
+        self.security.pass(who, count);
+        if self.is_holder(who) {
+            self.pass_session(count);
         }
     }
 
-    fn tick(&mut self, who: Who)
-        ensures { self.new ≡ ticked self.old who }
+    /// So many ticks of the session: again and again those in which nothing ends, and the next one.
+    fn pass_session(&mut self, count: u32)
+        ensures { self.new ≡ session_elapsed self.old count }
     {
-        self.security.tick(who);
-        if self.is_holder(who) {
-            self.routines.tick(&mut self.codes, self.status_update);
-            self.tick_s3();
+        let mut left = count;
+        while left > 0 && self.holder.is_some() {
+            let quiet = self.quiet_ticks().min(left - 1);
+            self.pass_quiet(quiet);
+            self.tick_session();
+            left = left - quiet - 1;
         }
+    }
+
+    /// How many ticks end neither a routine nor the session.
+    fn quiet_ticks(&self) -> u32
+        ensures { result ≡ min (quiet_ticks self.now.routines) (self.now.s3_left - 1) }
+    {
+        self.routines
+            .quiet_ticks()
+            .min(self.s3_left.saturating_sub(1))
+    }
+
+    /// So many ticks of the session, in which nothing ends.
+    #[tactic(auto, using(crate::proofs::TickLemmas::quiet_session))]
+    fn pass_quiet(&mut self, count: u32)
+        requires held { IsTrue (is_some self.old.holder) }
+        requires quiet { count ≤ quiet_ticks self.old.routines }
+        requires lasts { count ≤ self.old.s3_left - 1 }
+        ensures state { self.new ≡ session_elapsed self.old count }
+        ensures holder { self.new.holder ≡ self.old.holder }
+    {
+        self.routines.pass(count);
+        self.s3_left -= count;
+    }
+
+    fn tick_session(&mut self)
+        requires { IsTrue (is_some self.old.holder) }
+        ensures { self.new ≡ session_ticked self.old }
+    {
+        self.routines.tick(&mut self.codes, self.status_update);
+        self.tick_s3();
     }
 
     fn tick_s3(&mut self)
