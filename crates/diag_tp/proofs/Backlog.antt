@@ -7,8 +7,8 @@ use Rattle.diag_can.specs.declared.frame.Event.{Event}
 use Rattle.diag_tp.specs.declared.setup.LinkSetup.{LinkSetup}
 use Rattle.diag_tp.specs.declared.pci.Pci.{Pci}
 use Rattle.diag_tp.specs.declared.pci.Pci.TheVariants.{Single, First, TooLong, Consecutive, Flow, Nothing}
-use Rattle.diag_tp.specs.declared.sender.Phase.TheVariants.{AwaitsFlow}
-use Rattle.diag_tp.specs.declared.sender.Sending.{Sending}
+use Rattle.diag_tp.specs.declared.current.Phase.TheVariants.{AwaitsFlow}
+use Rattle.diag_tp.specs.declared.current.Sending.{Sending}
 use Rattle.diag_tp.specs.declared.sent.Sent.{Sent}
 use Rattle.diag_tp.specs.Moments.{moments, counted_from, last_moment}
 use Rattle.diag_tp.specs.Reception.{head_size, consecutive_count}

@@ -9,8 +9,8 @@ use Rattle.diag_can.specs.declared.frame.Event.TheVariants.{Physical, Functional
 use Rattle.diag_tp.specs.declared.setup.LinkSetup.{LinkSetup}
 use Rattle.diag_tp.specs.declared.pci.Pci.{Pci}
 use Rattle.diag_tp.specs.declared.pci.Pci.TheVariants.{Single, First, TooLong, Consecutive, Flow, Nothing}
-use Rattle.diag_tp.specs.declared.sender.Phase.{Phase}
-use Rattle.diag_tp.specs.declared.sender.Phase.TheVariants.{AwaitsFlow, InBlock}
+use Rattle.diag_tp.specs.declared.current.Phase.{Phase}
+use Rattle.diag_tp.specs.declared.current.Phase.TheVariants.{AwaitsFlow, InBlock}
 use Rattle.diag_tp.specs.Kind.{kind}
 use Rattle.diag_tp.specs.Cut.{cut}
 use Rattle.diag_tp.specs.Sending.{Decision, Go, Wait, GiveUp, block_size, flow_decision}

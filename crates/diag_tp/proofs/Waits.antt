@@ -4,8 +4,8 @@ use Rattle.std.specs.Prelude.{Option, Some, None, sum_by, nat_le, ◌==◌, if�
 use Rattle.std.proofs.lemmas.List.Sums.{sum_by-cons}
 use Rattle.std.proofs.lemmas.Bool.Decides.{nat_tests}
 use Rattle.diag_tp.specs.declared.setup.LinkSetup.{LinkSetup}
-use Rattle.diag_tp.specs.declared.sender.Phase.TheVariants.{AwaitsFlow}
-use Rattle.diag_tp.specs.declared.sender.Sending.{Sending}
+use Rattle.diag_tp.specs.declared.current.Phase.TheVariants.{AwaitsFlow}
+use Rattle.diag_tp.specs.declared.current.Sending.{Sending}
 use Rattle.diag_tp.specs.Cut.{cut}
 use Rattle.diag_tp.specs.Sender.{frames_of, further_of, frame_count, waits, waiting_in, IsSound, started, before_these, settled_in}
 use Rattle.diag_tp.specs.Queue.{QueueState}

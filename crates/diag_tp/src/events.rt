@@ -1,4 +1,4 @@
-//! What a link does with an event, field by field.
+//! What a link does with an event, field by field: the histories that it stands for come in at its public calls.
 
 ghost use Rattle.std.specs.Prelude.{
   ◌≡◌,

@@ -1,0 +1,206 @@
+//! The message that is being sent, under flow control (ISO 15765-2:2016, 9.6.5 and 9.8).
+
+ghost use Rattle.std.specs.Prelude.{
+  ◌≡◌,
+  ◌<◌,
+  ◌-◌,
+  slice_get,
+  Some,
+  IfSome,
+  IsSome,
+};
+ghost use Rattle.diag_tp.specs.Cut.{cut};
+ghost use Rattle.diag_tp.specs.Quiet.{phase_quiet};
+ghost use Rattle.diag_tp.specs.Sending.{gap_ticks, flow_decision, block_size};
+ghost use Rattle.diag_tp.specs.Sender.{
+  frames_of,
+  IsSound,
+  within_block,
+  flow_fields,
+  tick_fields,
+  block_fields,
+  begun_sending,
+  one_gone,
+};
+
+use crate::frames::frame_of;
+use crate::message::Message;
+use crate::queue::frame_count;
+use crate::setup::LinkSetup;
+use diag_can::FrameBytes;
+
+/// What the current message waits for.
+#[derive(Clone, Copy)]
+pub(crate) enum Phase {
+    /// A FlowControl, for so many more ticks: then N_Bs is over.
+    AwaitsFlow { ticks: u16 },
+    /// The next Consecutive of a block of which `rest` are left, `gap` ticks apart, in so many ticks.
+    InBlock { rest: u16, gap: u16, ticks: u16 },
+}
+
+impl Phase {
+    /// The ticks that are left.
+    pub(crate) fn ticks(&self) -> u16
+        ensures { result ≡ phase_quiet self.now }
+    {
+        match self {
+            Phase::AwaitsFlow { ticks } | Phase::InBlock { ticks, .. } => *ticks,
+        }
+    }
+}
+
+/// The message that is being sent: its next frame, from 0, and how many are due now.
+#[derive(Drop)]
+pub(crate) struct Sending {
+    pub(crate) message: Message,
+    pub(crate) next: u16,
+    pub(crate) due: u16,
+    pub(crate) phase: Phase,
+}
+
+/// The ticks that a separation time (STmin) means: below a tick it is one, and a reserved value is the longest.
+fn gap_ticks(gap: u8) -> u16
+    ensures { result ≡ gap_ticks gap }
+{
+    match gap {
+        0..=127 => u16::from(gap),
+        241..=249 => 1,
+        _ => 127,
+    }
+}
+
+/// The wait for a FlowControl, which N_Bs ends.
+fn awaits_flow(setup: &LinkSetup) -> Phase
+    ensures { result ≡ Phase.AwaitsFlow setup.now.n_bs }
+{
+    Phase::AwaitsFlow {
+        ticks: setup.n_bs.get(),
+    }
+}
+
+/// The phase after a frame of a block of which so many are left.
+fn within_block(setup: &LinkSetup, rest: u16, gap: u16) -> Phase
+    ensures { result ≡ within_block setup.now rest gap }
+{
+    if rest == 0 {
+        awaits_flow(setup)
+    } else {
+        Phase::InBlock {
+            rest,
+            gap,
+            ticks: gap,
+        }
+    }
+}
+
+impl Sending {
+    /// The same message with so many frames due, and in this phase.
+    fn with(self, due: u16, phase: Phase) -> Sending
+        ensures { result ≡ record { message = self.message; next = self.next; due = due; phase = phase } }
+    {
+        Sending { due, phase, ..self }
+    }
+
+    /// So many ticks later; None where the waiting time is up.
+    pub(crate) fn ticked(self, setup: &LinkSetup, count: u16) -> Option<Sending>
+        requires drained { self.due ≡ 0 }
+        requires sound { IsSound self }
+        ensures fields { result ≡ tick_fields setup.now count self self.phase }
+        ensures sound { IfSome result (λ c. IsSound c) }
+    {
+        match self.phase {
+            Phase::AwaitsFlow { ticks } if ticks <= count => None,
+            Phase::AwaitsFlow { ticks } => {
+                let ticks = ticks - count;
+                Some(self.with(0, Phase::AwaitsFlow { ticks }))
+            }
+            Phase::InBlock { rest, gap, ticks } if ticks <= count => {
+                Some(self.with(1, within_block(setup, rest.saturating_sub(1), gap)))
+            }
+            Phase::InBlock { rest, gap, ticks } => {
+                let ticks = ticks - count;
+                Some(self.with(0, Phase::InBlock { rest, gap, ticks }))
+            }
+        }
+    }
+
+    /// After a flow control frame; None where the message is given up.
+    pub(crate) fn decided(
+        self,
+        setup: &LinkSetup,
+        status: u8,
+        block: u8,
+        gap: u8,
+    ) -> Option<Sending>
+        requires drained { self.due ≡ 0 }
+        requires sound { IsSound self }
+        ensures fields { result ≡ flow_fields setup.now self (flow_decision status block gap) self.phase }
+        ensures sound { IfSome result (λ c. IsSound c) }
+    {
+        if matches!(self.phase, Phase::InBlock { .. }) {
+            return Some(self);
+        }
+        match status {
+            0 => Some(self.block_begun(setup, block, gap_ticks(gap))),
+            1 => Some(self.with(0, awaits_flow(setup))),
+            _ => None,
+        }
+    }
+
+    /// A block begins.
+    fn block_begun(self, setup: &LinkSetup, block: u8, gap: u16) -> Sending
+        requires sound { IsSound self }
+        ensures fields { Some result ≡ block_fields setup.now self (block_size block (frames_of self.message - self.next)) gap }
+        ensures sound { IsSound result }
+    {
+        let left = frame_count(&self.message) - self.next;
+        let size = if block == 0 {
+            left
+        } else {
+            left.min(u16::from(block))
+        };
+        if gap == 0 {
+            self.with(size, awaits_flow(setup))
+        } else {
+            let phase = within_block(setup, size.saturating_sub(1), gap);
+            self.with(1, phase)
+        }
+    }
+
+    /// A message that begins.
+    pub(crate) fn begun(setup: &LinkSetup, message: Message) -> Sending
+        ensures fields { result ≡ begun_sending setup.now message }
+        ensures sound { IsSound result }
+    {
+        Sending {
+            message,
+            next: 0,
+            due: 1,
+            phase: awaits_flow(setup),
+        }
+    }
+
+    /// The next frame.
+    pub(crate) fn frame(&self, setup: &LinkSetup) -> Option<FrameBytes>
+        requires sound { IsSound self.now }
+        ensures some { IsSome result }
+        ensures frame { result ≡ slice_get (cut self.now.message setup.now.pad) self.now.next }
+    {
+        frame_of(&self.message, usize::from(self.next), setup.pad)
+    }
+
+    /// What is left when the next frame is gone.
+    pub(crate) fn one_gone(mut self) -> Option<Sending>
+        requires sound { IsSound self }
+        requires some { 0 < self.due }
+        ensures fields { result ≡ one_gone self }
+        ensures sound { IfSome result (λ c. IsSound c) }
+    {
+        if self.next + 1 == frame_count(&self.message) {
+            return None;
+        }
+        self.next += 1;
+        self.due -= 1;
+        Some(self)
+    }
+}
