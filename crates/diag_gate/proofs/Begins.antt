@@ -1,0 +1,71 @@
+-- Beginnings of a journal, the entries of one tester, and lists read by `get_elem?`.
+use Rattle.std.proofs.Common.{◌≡◌, ◌≢◌, ◌⊎◌, inl, inr, ℕ, zero, suc, ◌+◌, ◌≤◌, ◌<◌, eqb, leb, Bool, true, false, cond, List, [], ◌∷◌, ◌++◌, length, get_or, set, refl, sym, ap, ◌∙◌, arith, append_assoc, append-nil, eq-eqb, ne_eqb, Some, None}
+use mathlib.Core.Option.{some, some-ne-none}
+use lib.ListN.{get_elem?}
+use Rattle.diag_desk.specs.Entries.{BeginsWith}
+use Rattle.diag_desk.specs.declared.entry.Entry.{Entry}
+use Rattle.diag_gate.proofs.Owned.{owned}
+use Rattle.diag_gate.specs.Views.{owns_from, longer, shorter}
+
+module _ {A : Type 0} where
+  -- a value is written over at its own place
+  pub set_there : (l : List A) (i : ℕ) (a b : A) → get_elem? l i ≡ some b → get_elem? (set l i a) i ≡ some a
+  set_there [] i a b e = absurd (some-ne-none b (sym e))
+  set_there (x ∷ xs) zero a b e = refl
+  set_there (x ∷ xs) (suc i) a b e = set_there xs i a b e
+
+  -- what is read after a write was written there, or was there before
+  pub read_set : (l : List A) (i j : ℕ) (a d y : A) → get_or (set l i a) j d ≡ y → ((j ≡ i) × (a ≡ y)) ⊎ (get_or l j d ≡ y)
+  read_set [] i j a d y e = inr e
+  read_set (x ∷ xs) zero zero a d y e = inl (refl, e)
+  read_set (x ∷ xs) zero (suc j) a d y e = inr e
+  read_set (x ∷ xs) (suc i) zero a d y e = inr e
+  read_set (x ∷ xs) (suc i) (suc j) a d y e = elim (read_set xs i j a d y e) [ inl t ↦ inl (ap suc t.0, t.1) | inr t ↦ inr t ]
+
+pub begins_whole : (xs : List Entry) → BeginsWith xs xs
+begins_whole xs = ([], sym (append-nil xs))
+
+pub begins_more : (journal next seen more : List Entry) → next ≡ journal ++ more → BeginsWith journal seen → BeginsWith next seen
+begins_more journal next seen more is h = (h.0 ++ more, is ∙ ap (λ l. l ++ more) h.1 ∙ append_assoc seen h.0 more)
+
+-- of two beginnings of one list, the longer begins with the shorter
+pub begins_shorter : (journal xs ys : List Entry) → BeginsWith journal xs → BeginsWith journal ys → length xs ≤ length ys → BeginsWith ys xs
+begins_shorter journal [] ys a b le = (ys, refl)
+begins_shorter journal (x ∷ xs) [] a b le = absurd (omega arith)
+begins_shorter [] (x ∷ xs) (y ∷ ys) a b le = let e = a.1 in absurd (cc)
+begins_shorter (z ∷ zs) (x ∷ xs) (y ∷ ys) a b le =
+    let p : zs ≡ xs ++ a.0 = let e = a.1 in cc in
+    let q : zs ≡ ys ++ b.0 = let e = b.1 in cc in
+    let same : y ≡ x = let e = a.1 in let f = b.1 in cc in
+    let r = begins_shorter zs xs ys (a.0, p) (b.0, q) (omega arith) in
+    (r.0, (λ i. same i ∷ r.1 i))
+
+pub longer_begins : (journal xs ys : List Entry) → BeginsWith journal xs → BeginsWith journal ys → BeginsWith journal (longer xs ys)
+longer_begins journal xs ys a b = elim (leb (length xs) (length ys)) as (λ t. BeginsWith journal (cond t ys xs)) [ true ↦ b | false ↦ a ]
+
+pub shorter_begins : (journal xs ys : List Entry) → BeginsWith journal xs → BeginsWith journal ys → BeginsWith journal (shorter xs ys)
+shorter_begins journal xs ys a b = elim (leb (length xs) (length ys)) as (λ t. BeginsWith journal (cond t xs ys)) [ true ↦ a | false ↦ b ]
+
+put_first : (b : Bool) (e : Entry) (xs ys : List Entry) → cond b (e ∷ (xs ++ ys)) (xs ++ ys) ≡ cond b (e ∷ xs) xs ++ ys
+put_first true e xs ys = refl
+put_first false e xs ys = refl
+
+pub own-append : (t : ℕ) (xs ys : List Entry) → owned t (xs ++ ys) ≡ owned t xs ++ owned t ys
+own-append t [] ys = refl
+own-append t (x ∷ xs) ys = ap (λ l. cond (eqb x.who t) (x ∷ l) l) (own-append t xs ys) ∙ put_first (eqb x.who t) x (owned t xs) (owned t ys)
+
+pub own_other : (t : ℕ) (e : Entry) → e.who ≢ t → owned t (e ∷ []) ≡ []
+own_other t e n = ap (λ b. cond b (e ∷ []) []) (ne_eqb e.who t n)
+
+pub own_same : (t : ℕ) (e : Entry) → e.who ≡ t → owned t (e ∷ []) ≡ e ∷ []
+own_same t e is = ap (λ b. cond b (e ∷ []) []) (eq-eqb e.who t is)
+
+pub owns_read : (k n t : ℕ) (journal l : List Entry) → get_or (owns_from k n journal) t None ≡ Some l → owned (k + t) journal ≡ l
+owns_read k zero t journal l e = absurd (cc)
+owns_read k (suc n) zero journal l e = let same : k + 0 ≡ k = omega arith in ap (λ (u : ℕ). owned u journal) same ∙ (let f = e in cc)
+owns_read k (suc n) (suc t) journal l e = let same : k + suc t ≡ suc k + t = omega arith in ap (λ (u : ℕ). owned u journal) same ∙ owns_read (suc k) n t journal l e
+
+pub owns_there : (k n t : ℕ) (journal : List Entry) → t < n → get_or (owns_from k n journal) t None ≡ Some (owned (k + t) journal)
+owns_there k zero t journal h = absurd (omega arith)
+owns_there k (suc n) zero journal h = let same : k ≡ k + 0 = omega arith in ap (λ (u : ℕ). Some (owned u journal)) same
+owns_there k (suc n) (suc t) journal h = let same : suc k + t ≡ k + suc t = omega arith in owns_there (suc k) n t journal (omega arith) ∙ ap (λ (u : ℕ). Some (owned u journal)) same

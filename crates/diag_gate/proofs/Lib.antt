@@ -1,0 +1,6 @@
+pub mod Owned
+pub mod Begins
+pub mod Keeps
+pub mod Hosts
+pub mod Steps
+pub mod Quiet

@@ -1,0 +1,141 @@
+-- What contracts see of a seat and of the host, and what each call leaves.
+use Rattle.std.specs.Prelude.{◌≡◌, ℕ, ◌+◌, ◌<◌, Bool, true, false, List, [], ◌∷◌, ◌++◌, length, slice_index_or, slice_set, Option, Some, None, is_some, Result, Ok, Err}
+use Rattle.atomic_table.specs.Table.{Me}
+use Rattle.atomic_table.specs.Seated.{TableId}
+use Rattle.diag_ecu.specs.State.{State}
+use Rattle.diag_desk.specs.Entries.{own, BeginsWith, entry}
+use Rattle.diag_desk.specs.Legal.{Legal, Run}
+use Rattle.diag_tp.specs.declared.step.Step.{Step}
+use Rattle.diag_desk.specs.declared.desk.StepFault.{StepFault}
+use Rattle.diag_desk.specs.declared.desk.StepFault.TheVariants.{Memory, JournalFull}
+use Rattle.diag_desk.specs.declared.entry.Entry.{Entry}
+use Rattle.diag_gate.specs.declared.view.View.{View}
+use Rattle.diag_gate.specs.declared.fault.TryFault.{TryFault}
+use Rattle.diag_gate.specs.declared.fault.TryFault.TheVariants.{Memory as TryMemory, JournalFull as TryFull, Busy}
+use Rattle.diag_gate.specs.Views.{host_view, seat_view, holding, longer, shorter}
+use Rattle.diag_gate.specs.Rule.{run}
+
+-- a seat: its gate and tester, the opening, its own entries, and the journal that it has seen
+pub record SeatView : Type 0 where
+  pub gate : TableId
+  pub who : ℕ
+  pub opening : State
+  pub own : List Entry
+  pub seen : List Entry
+  pub missed : ℕ
+
+-- the host: its gate, the opening, the journal that it has seen, the own entries of each tester that is with it, and the testers that it has given out before
+pub record HostView : Type 0 where
+  pub gate : TableId
+  pub opening : State
+  pub seen : List Entry
+  pub owns : List (Option (List Entry))
+  pub given : List Bool
+
+abbrev pub of_host : HostView → ℕ → Option (List Entry)
+of_host h t = slice_index_or h.owns t None
+
+abbrev pub was_given : HostView → ℕ → Bool
+was_given h t = slice_index_or h.given t false
+
+-- each tester is with the host
+abbrev pub AllHome : HostView → Type 0
+AllHome h = (t : ℕ) → t < 9 → is_some (of_host h t) ≡ true
+
+-- the host without the tester, whom it has given out
+abbrev pub gave : HostView → ℕ → HostView
+gave h t = record h { owns = slice_set h.owns t None; given = slice_set h.given t true }
+
+abbrev pub fresh : HostView → ℕ → List Entry → SeatView
+fresh h t own = record { gate = h.gate; who = t; opening = h.opening; own = own; seen = h.seen; missed = 0 }
+
+-- a tester that was not given out before goes to a new seat, which begins with what the host has seen and the tester's entries
+pub record Gave (h n : HostView) (t : ℕ) (s : SeatView) : Type 0 where
+  pub mine : List Entry
+  pub before : was_given h t ≡ false
+  pub had : of_host h t ≡ Some mine
+  pub seat : s ≡ fresh h t mine
+  pub host : n ≡ gave h t
+
+-- the host has the seat's own list, and has seen the longer of what the two had seen, which begins with the shorter
+pub record Joined (h n : HostView) (s : SeatView) : Type 0 where
+  pub host : n ≡ record h { owns = slice_set h.owns s.who (Some s.own); seen = longer h.seen s.seen }
+  pub begins : BeginsWith n.seen (shorter h.seen s.seen)
+
+-- the desk at the end
+pub record Closed (h : HostView) (d : Run) : Type 0 where
+  pub opening : d.opening ≡ h.opening
+  pub legal : Legal h.opening d.journal
+  pub begins : BeginsWith d.journal h.seen
+  pub owns : (t : ℕ) (l : List Entry) → of_host h t ≡ Some l → own d.journal t ≡ l
+
+-- the journal that was found, which begins with all that the seat had seen, and has as the seat's entries its own list
+pub record Finds (s n : SeatView) : Type 0 where
+  pub seat : n ≡ record s { seen = n.seen }
+  pub legal : Legal s.opening n.seen
+  pub begins : BeginsWith n.seen s.seen
+  pub entries : own n.seen s.who ≡ s.own
+
+-- the seat's step was entered behind a journal that was found
+pub record Enters (s n : SeatView) (e : Entry) : Type 0 where
+  pub found : List Entry
+  pub begins : BeginsWith found s.seen
+  pub seat : n ≡ record s { own = s.own ++ e ∷ []; seen = found ++ e ∷ [] }
+  pub legal : Legal s.opening n.seen
+  pub entries : own n.seen s.who ≡ n.own
+
+abbrev pub misses : SeatView → SeatView
+misses s = record s { missed = s.missed + 1 }
+
+-- the seat after any number of takes that found the word taken
+abbrev pub waited : SeatView → ℕ → SeatView
+waited s n = record s { missed = n }
+
+-- the step was entered, with this reply
+abbrev pub Answered : SeatView → SeatView → Step → Option (List ℕ) → Type 0
+Answered s n step reply = Enters s n (entry s.who step reply)
+
+-- the journal is full exactly where that is the fault
+abbrev pub IsFull : SeatView → StepFault → Type 0
+IsFull s Memory = length s.seen < 1000000
+IsFull s JournalFull = length s.seen ≡ 1000000
+
+-- the step was refused: the seat has seen the journal that was found, and nothing was entered
+abbrev pub Refused : SeatView → SeatView → StepFault → Type 0
+Refused s n fault = Finds s n × IsFull n fault
+
+-- the word was found taken, and the step comes back; or the step was refused
+abbrev pub NotMade : SeatView → SeatView → Step → TryFault → Type 0
+NotMade s n step TryMemory = Refused s n Memory
+NotMade s n step TryFull = Refused s n JournalFull
+NotMade s n step (Busy back) = (back ≡ step) × (n ≡ misses s)
+
+-- the answer to a step that was tried
+abbrev pub as_tried : Result (Option (List ℕ)) StepFault → Result (Option (List ℕ)) TryFault
+as_tried (Ok reply) = Ok reply
+as_tried (Err Memory) = Err TryMemory
+as_tried (Err JournalFull) = Err TryFull
+
+-- What stands behind these in the table
+
+-- what a contract sees of a seat's place
+abbrev pub seat_as : TableId → ℕ → Me (Option Run) View → SeatView
+seat_as z who me = record { gate = z; who = who; opening = me.0.opening; own = me.0.own; seen = me.0.seen; missed = me.0.missed }
+
+-- a seat's place holds no slot
+pub record IsSeat (who : ℕ) (me : Me (Option Run) View) : Type 0 where
+  pub is : me ≡ (seat_view me.0.opening who me.0.own me.0.seen me.0.missed, [])
+  pub place : who < 9
+
+-- a seat's place that holds the slot, whose desk was taken out
+pub record IsHeld (who : ℕ) (me : Me (Option Run) View) (d : Run) : Type 0 where
+  pub is : me ≡ (holding (seat_view me.0.opening who me.0.own [] me.0.missed) me.0.seen, (0, None) ∷ [])
+  pub place : who < 9
+  pub desk : d ≡ run me.0.opening me.0.seen
+  pub entries : own me.0.seen who ≡ me.0.own
+
+pub record IsHost (me : Me (Option Run) View) (given home : List Bool) : Type 0 where
+  pub is : me ≡ (host_view me.0.opening me.0.seen me.0.owns me.0.told me.0.who, [])
+  pub wide : (length me.0.owns ≡ 9) × (length given ≡ 9) × (length home ≡ 9)
+  pub here : (t : ℕ) → t < 9 → slice_index_or home t false ≡ is_some (slice_index_or me.0.owns t None)
+  pub left : (t : ℕ) → t < 9 → slice_index_or given t false ≡ false → slice_index_or home t false ≡ true

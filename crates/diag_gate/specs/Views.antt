@@ -1,0 +1,73 @@
+-- Views, as plain data: the host's, a seat's, and how one becomes another.
+use Rattle.std.specs.Prelude.{ℕ, zero, suc, ◌+◌, ◌==◌, nat_le, Bool, true, false, if◌then◌else◌, List, [], ◌∷◌, length, slice_index_or, slice_set, Option, Some, None}
+use Rattle.diag_ecu.specs.State.{State, blank}
+use Rattle.diag_desk.specs.Entries.{own}
+use Rattle.diag_desk.specs.Legal.{Legal, Run}
+use Rattle.diag_desk.specs.declared.entry.Entry.{Entry}
+use Rattle.diag_gate.specs.declared.view.View.{View}
+
+-- the journal is a legal run from the opening
+abbrev pub IsLegal : Run → Type 0
+IsLegal r = Legal r.opening r.journal
+
+-- the own list of a tester, if the view has that tester: a seat has its own, the host those that are with it
+abbrev pub own_if : Bool → ℕ → List Entry → List (Option (List Entry)) → ℕ → Option (List Entry)
+own_if true who own owns t = if t == who then Some own else None
+own_if false who own owns t = slice_index_or owns t None
+
+abbrev pub own_of : View → ℕ → Option (List Entry)
+own_of v t = own_if v.is_seat v.who v.own v.owns t
+
+-- the own list of each of n testers from the place k on
+abbrev pub owns_from : ℕ → ℕ → List Entry → List (Option (List Entry))
+owns_from k zero journal = []
+owns_from k (suc n) journal = Some (own journal k) ∷ owns_from (suc k) n journal
+
+abbrev pub host_view : State → List Entry → List (Option (List Entry)) → List Entry → ℕ → View
+host_view opening seen owns told who =
+    record { live = true; opening = opening; seen = seen; told = told; is_seat = false; who = who; own = []; owns = owns; holds = false; missed = 0 }
+
+abbrev pub seat_view : State → ℕ → List Entry → List Entry → ℕ → View
+seat_view opening who own seen missed =
+    record { live = true; opening = opening; seen = seen; told = []; is_seat = true; who = who; own = own; owns = []; holds = false; missed = missed }
+
+abbrev pub starting : Run → View
+starting r = host_view r.opening r.journal (owns_from 0 9 r.journal) [] 0
+
+-- the seat that has the slot
+abbrev pub holding : View → List Entry → View
+holding v journal = record v { seen = journal; holds = true }
+
+abbrev pub missing : View → View
+missing v = record v { missed = v.missed + 1 }
+
+-- the seat that has put the slot back
+abbrev pub letting_go : View → Run → View
+letting_go v d = record v { seen = d.journal; own = own d.journal v.who; holds = false }
+
+abbrev pub naming : View → ℕ → View
+naming v t = record v { who = t }
+
+abbrev pub listed : Option (List Entry) → List Entry
+listed (Some l) = l
+listed None = []
+
+-- the host gives the tester that it named to a new seat
+abbrev pub host_without : View → View
+host_without v = record v { owns = slice_set v.owns v.who None }
+
+abbrev pub new_seat : View → View
+new_seat v = seat_view v.opening v.who (listed (own_of v v.who)) v.seen 0
+
+abbrev pub longer : List Entry → List Entry → List Entry
+longer xs ys = if nat_le (length xs) (length ys) then ys else xs
+
+abbrev pub shorter : List Entry → List Entry → List Entry
+shorter xs ys = if nat_le (length xs) (length ys) then xs else ys
+
+-- the host takes a seat in
+abbrev pub host_with : View → View → View
+host_with v w = record v { seen = longer v.seen w.seen; told = shorter v.seen w.seen; owns = slice_set v.owns w.who (Some w.own) }
+
+abbrev pub spent : View
+spent = record { live = false; opening = blank; seen = []; told = []; is_seat = false; who = 0; own = []; owns = []; holds = false; missed = 0 }

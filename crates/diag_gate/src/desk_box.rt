@@ -1,0 +1,61 @@
+//! The desk as the slot keeps it.
+ghost use Rattle.std.specs.Prelude.{◌≡◌, ◌≤◌, ◌↔◌, length, IfOk, OnErr, Err};
+ghost use Rattle.diag_desk.specs.Entry.{HasNoReply};
+ghost use Rattle.diag_desk.specs.Entries.{entry};
+ghost use Rattle.diag_desk.specs.Legal.{entered};
+ghost use Rattle.diag_gate.specs.Views.{IsLegal};
+
+use diag_desk::{Desk, Step, StepFault};
+use diag_store::Who;
+use diag_tp::Message;
+use std::alloc::{AllocError, Global};
+use std::marker::Model;
+
+/// A desk on the heap, so that it moves in and out of its slot by a word. Contracts see it as the desk.
+#[derive(Drop)]
+pub struct DeskBox {
+    desk: Box<Desk>,
+}
+
+impl Model for DeskBox {
+    ghost use Rattle.diag_desk.specs.Legal.{Run};
+
+    ghost Value = { Run };
+
+    ghost view = { λ k. k.desk.value };
+}
+
+impl DeskBox {
+    /// Where it is refused, the desk is dropped.
+    pub(crate) fn new(alloc: Global, desk: Desk) -> Result<DeskBox, AllocError>
+        ensures { IfOk result (λ kept. kept ≡ desk) }
+    {
+        match Box::new(alloc, desk) {
+            Ok(desk) => Ok(DeskBox { desk }),
+            Err(_) => Err(AllocError),
+        }
+    }
+
+    pub(crate) fn into_desk(self) -> Desk
+        ensures { result ≡ self }
+    {
+        Box::into_inner(self.desk)
+    }
+
+    /// What every desk is, for a caller's proof.
+    pub(crate) fn lawful(&self)
+        ensures legal { IsLegal self.now }
+        ensures limit { length self.now.journal ≤ 1000000 }
+    {
+        let _journal = self.desk.journal();
+    }
+
+    pub(crate) fn step(&mut self, who: Who, step: &Step) -> Result<Option<Message>, StepFault>
+        ensures ok { IfOk result (λ reply. self.new ≡ entered self.old (entry who step.now reply)) }
+        ensures err { OnErr result (self.new ≡ self.old) }
+        ensures full { (result ≡ Err StepFault.JournalFull) ↔ (length self.old.journal ≡ 1000000) }
+        ensures quiet { IfOk result (λ reply. HasNoReply step.now reply) }
+    {
+        self.desk.step(who, step)
+    }
+}

@@ -1,0 +1,164 @@
+//! The steps on the word, and a tester's step at the desk.
+ghost use Rattle.std.specs.Prelude.{◌≡◌, ◌≢◌, ℕ, [], ◌++◌, MatchOption, MatchResult, IfOk};
+ghost use Rattle.diag_desk.specs.Entry.{HasNoReply};
+ghost use Rattle.diag_desk.specs.Entries.{own};
+ghost use Rattle.diag_gate.specs.Views.{IsLegal, letting_go};
+ghost use Rattle.diag_gate.specs.Seats.{Finds, Answered, IsFull, Refused, NotMade, IsSeat, IsHeld, as_tried, seat_as, misses, waited};
+
+use super::{Gate, Held, Place, Seat};
+use crate::desk_box::DeskBox;
+use crate::fault::TryFault;
+use crate::view::{Release, Take};
+use diag_desk::{Step, StepFault};
+use diag_store::Who;
+use diag_tp::Message;
+use std::sync::Wait;
+use std::thread;
+
+impl Gate {
+    // The desk, where the word was found to be 0.
+    fn take(&self, place: &mut Place, who: Who) -> Option<DeskBox>
+        requires gate { place.old.table_id ≡ self.now }
+        requires seat { IsSeat who place.old.me }
+        ensures gate { place.new.table_id ≡ place.old.table_id }
+        ensures taken { MatchOption result (IsSeat who place.new.me × (seat_as place.new.table_id who place.new.me ≡ misses (seat_as place.old.table_id who place.old.me))) (λ d. IsHeld who place.new.me d × Finds (seat_as place.old.table_id who place.old.me) (seat_as place.new.table_id who place.new.me)) }
+    {
+        let shared = &self.table.shared;
+        if shared.compare_exchange::<Take>(place, 0, 0, 1) == 0 {
+            shared.exchange(place, 0, None)
+        } else {
+            None
+        }
+    }
+
+    // Puts the desk back, with what the seat's tester did to it.
+    fn put(&self, place: &mut Place, who: Who, desk: DeskBox)
+        requires gate { place.old.table_id ≡ self.now }
+        requires held { (before : _) × IsHeld who place.old.me before × (desk.opening ≡ before.opening) }
+        requires grown { (more : _) × (desk.journal ≡ place.old.me.0.seen ++ more) × ((t : ℕ) → t ≢ who → own more t ≡ []) }
+        ensures gate { place.new.table_id ≡ place.old.table_id }
+        ensures seat { IsSeat who place.new.me }
+        ensures put { place.new.me.0 ≡ letting_go place.old.me.0 desk }
+        ensures legal { IsLegal desk }
+    {
+        desk.lawful();
+        let shared = &self.table.shared;
+        drop(shared.exchange(place, 0, Some(desk)));
+        shared.store::<Release>(place, 0, 0);
+    }
+
+    // One step at the desk that the seat has.
+    fn work(
+        &self,
+        place: &mut Place,
+        who: Who,
+        mut desk: DeskBox,
+        step: &Step,
+    ) -> Result<Option<Message>, StepFault>
+        requires gate { place.old.table_id ≡ self.now }
+        requires held { IsHeld who place.old.me desk }
+        ensures gate { place.new.table_id ≡ place.old.table_id }
+        ensures seat { IsSeat who place.new.me }
+        ensures answer { MatchResult result (λ r. Answered (seat_as place.old.table_id who place.old.me) (seat_as place.new.table_id who place.new.me) step.now r) (λ e. (seat_as place.new.table_id who place.new.me ≡ seat_as place.old.table_id who place.old.me) × IsFull (seat_as place.old.table_id who place.old.me) e) }
+        ensures quiet { IfOk result (λ r. HasNoReply step.now r) }
+    {
+        desk.lawful();
+        let answer = desk.step(who, step);
+        self.put(place, who, desk);
+        answer
+    }
+
+    /// The whole desk, where the word was found to be 0; else the seat back.
+    pub fn try_take(&self, seat: Seat) -> Result<Held<'_>, Seat>
+        requires { seat.gate ≡ self.now }
+        ensures { MatchResult result (λ h. Finds seat h) (λ s. s ≡ misses seat) }
+    {
+        let Seat { mut place, who } = seat;
+        match self.take(&mut place, who) {
+            Some(desk) => Ok(Held {
+                gate: self,
+                place,
+                who,
+                desk,
+            }),
+            None => Err(Seat { place, who }),
+        }
+    }
+
+    /// One step, where the word was found to be 0.
+    pub fn try_step(&self, seat: &mut Seat, step: Step) -> Result<Option<Message>, TryFault>
+        requires { seat.old.gate ≡ self.now }
+        ensures made { MatchResult result (λ r. Answered seat.old seat.new step r) (λ e. NotMade seat.old seat.new step e) }
+        ensures quiet { IfOk result (λ r. HasNoReply step r) }
+    {
+        let who = seat.who;
+        let Some(desk) = self.take(&mut seat.place, who) else {
+            return Err(TryFault::Busy(step));
+        };
+        let answer = self.work(&mut seat.place, who, desk, &step);
+        tried(answer)
+    }
+
+    /// One step. It waits until the word is found to be 0.
+    pub fn step<R: Wait>(
+        &self,
+        rt: &R,
+        seat: &mut Seat,
+        step: &Step,
+    ) -> Result<Option<Message>, StepFault>
+        requires { seat.old.gate ≡ self.now }
+        ensures made { (missed : ℕ) × MatchResult result (λ r. Answered (waited seat.old missed) seat.new step.now r) (λ e. Refused (waited seat.old missed) seat.new e) }
+        ensures quiet { IfOk result (λ r. HasNoReply step.now r) }
+    {
+        let who = seat.who;
+        for _ in rt.forever() {
+            if let Some(desk) = self.take(&mut seat.place, who) {
+                return self.work(&mut seat.place, who, desk, step);
+            }
+            thread::yield_now();
+        }
+        unreachable!()
+    }
+}
+
+/// The answer to a step that was tried.
+fn tried(answer: Result<Option<Message>, StepFault>) -> Result<Option<Message>, TryFault>
+    ensures { result ≡ as_tried answer }
+{
+    match answer {
+        Ok(reply) => Ok(reply),
+        Err(StepFault::Memory) => Err(TryFault::Memory),
+        Err(StepFault::JournalFull) => Err(TryFault::JournalFull),
+    }
+}
+
+impl Held<'_> {
+    /// One step at the desk, which then goes back.
+    pub fn step(self, step: &Step) -> (Seat, Result<Option<Message>, StepFault>)
+        ensures made { MatchResult result.1 (λ r. Answered self.entry result.0 step.now r) (λ e. (result.0 ≡ self.entry) × IsFull self.entry e) }
+        ensures quiet { IfOk result.1 (λ r. HasNoReply step.now r) }
+    {
+        let Held {
+            gate,
+            mut place,
+            who,
+            desk,
+        } = self;
+        let answer = gate.work(&mut place, who, desk, step);
+        (Seat { place, who }, answer)
+    }
+
+    /// The desk goes back as it is.
+    pub fn put_back(self) -> Seat
+        ensures { result ≡ self.entry }
+    {
+        let Held {
+            gate,
+            mut place,
+            who,
+            desk,
+        } = self;
+        gate.put(&mut place, who, desk);
+        Seat { place, who }
+    }
+}

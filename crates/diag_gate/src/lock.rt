@@ -1,0 +1,63 @@
+//! The door over a lock.
+ghost use Rattle.std.specs.Prelude.{◌≡◌, [], None};
+
+use crate::door::Door;
+use diag_desk::{Desk, Journal, Step, StepFault};
+use diag_store::Who;
+use diag_tp::Message;
+use std::alloc::Global;
+use std::sync::{Mutex, Wait};
+
+/// A door to a desk under a lock. It keeps what it has answered.
+#[derive(Drop)]
+pub struct LockDoor<'a, R: Wait> {
+    rt: &'a R,
+    desk: &'a Mutex<Desk>,
+    who: Who,
+    given: Journal,
+}
+
+impl<'a, R: Wait> LockDoor<'a, R> {
+    /// A tester's door, which has answered nothing.
+    pub fn new(rt: &'a R, alloc: Global, desk: &'a Mutex<Desk>, who: Who) -> LockDoor<'a, R>
+        ensures given { ⟦<LockDoor<'a, R> as Door>⟧.given result ≡ [] }
+        ensures who { ⟦<LockDoor<'a, R> as Door>⟧.tester result ≡ who }
+        ensures home { ⟦<LockDoor<'a, R> as Door>⟧.home result ≡ None }
+    {
+        LockDoor {
+            rt,
+            desk,
+            who,
+            given: Journal::new(alloc),
+        }
+    }
+}
+
+impl<'a, R: Wait> Door for LockDoor<'a, R> {
+    ghost use Rattle.std.specs.Prelude.{None};
+
+    ghost tester = { λ d. d.who };
+
+    ghost given = { λ d. d.given.entries };
+
+    ghost home = { λ _. None };
+
+    fn who(&self) -> Who {
+        self.who
+    }
+
+    /// Its own journal has room before it locks, and a full one is looked at first.
+    fn step(&mut self, step: &Step) -> Result<Option<Message>, StepFault> {
+        if self.given.is_full() {
+            return Err(StepFault::JournalFull);
+        }
+        if self.given.make_room(step).is_err() {
+            return Err(StepFault::Memory);
+        }
+        let reply = self.desk.lock(self.rt).step(self.who, step)?;
+        if self.given.push(self.who, step, reply.as_ref()).is_err() {
+            unreachable!();
+        }
+        Ok(reply)
+    }
+}

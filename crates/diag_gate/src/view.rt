@@ -1,0 +1,91 @@
+//! What a seat at the table knows, the rule that the table keeps, and what each kind of step tells.
+use crate::desk_box::DeskBox;
+use atomic_table::{Join, Play, Split, TableRule};
+use diag_desk::Entry;
+use diag_ecu::Ecu;
+use std::collections::LinkedList;
+use std::snapshot::Snapshot;
+
+/// What a seat or the host knows. No value of it is made.
+pub struct View {
+    /// False once another has taken it in.
+    pub live: bool,
+    pub opening: Ecu,
+    pub seen: LinkedList<Entry>,
+    /// After a join, the shorter of what the two had seen.
+    pub told: LinkedList<Entry>,
+    pub is_seat: bool,
+    /// A seat's tester. The host's is the one that it gives next.
+    pub who: u64,
+    /// A seat's own entries.
+    pub own: LinkedList<Entry>,
+    /// The host's: the own entries of each tester that is with it, by place.
+    pub owns: LinkedList<Option<LinkedList<Entry>>>,
+    pub holds: bool,
+    pub missed: u64,
+}
+
+pub struct OneHistory;
+
+impl TableRule<Option<DeskBox>, View, Snapshot<DeskBox>> for OneHistory {
+    ghost use Rattle.diag_gate.specs.Rule.{Kept};
+    ghost use Rattle.diag_gate.specs.Views.{starting};
+
+    ghost holds = { λ _. Kept };
+
+    ghost first = { λ key. starting key.value };
+}
+
+pub(crate) struct Take;
+
+impl Play<Option<DeskBox>, View> for Take {
+    ghost use Rattle.diag_gate.specs.Plays.{took};
+
+    ghost then = { took };
+}
+
+pub(crate) struct Release;
+
+impl Play<Option<DeskBox>, View> for Release {
+    ghost use Rattle.diag_gate.specs.Plays.{released};
+
+    ghost then = { released };
+}
+
+/// The host names the tester that it gives next.
+pub(crate) struct Name;
+
+impl Play<Option<DeskBox>, View> for Name {
+    ghost use Rattle.diag_gate.specs.Plays.{named};
+
+    ghost then = { named };
+}
+
+/// The host learns that what it has seen begins with what it was told.
+pub(crate) struct Learn;
+
+impl Play<Option<DeskBox>, View> for Learn {
+    ghost use Rattle.diag_gate.specs.Plays.{learned};
+
+    ghost then = { learned };
+}
+
+pub(crate) struct Give;
+
+impl Split<View> for Give {
+    ghost use Rattle.diag_gate.specs.Views.{host_without, new_seat};
+
+    ghost left = { host_without };
+
+    ghost right = { new_seat };
+}
+
+pub(crate) struct TakeIn;
+
+impl Join<View> for TakeIn {
+    ghost use Rattle.diag_gate.specs.Views.{host_with, spent};
+
+    ghost both = { host_with };
+
+    ghost spent = { spent };
+}
