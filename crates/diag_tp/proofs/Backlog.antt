@@ -1,12 +1,10 @@
 -- The frames that are due are of messages, but for flow control.
 use Rattle.std.proofs.Common.{◌≡◌, ℕ, zero, suc, ◌+◌, ◌≤◌, ◌/◌, ◌%◌, Bool, true, false, cond, List, [], ◌∷◌, ◌++◌, length, take, drop, refl, sym, ◌∙◌, ap, arith}
-use Rattle.std.specs.Prelude.{Option, Some, None, map, sum_by, nat_le, ◌==◌, if◌then◌else◌, option_to_list, option_and_then, not}
+use Rattle.std.specs.Prelude.{Option, Some, None, map, sum_by, nat_le, ◌==◌, if◌then◌else◌, option_to_list, not}
 use Rattle.std.proofs.lemmas.List.Sums.{sum_by-cons}
 use Rattle.std.proofs.lemmas.Bool.Decides.{nat_tests}
 use Rattle.diag_can.specs.declared.frame.Event.{Event}
 use Rattle.diag_tp.specs.declared.setup.LinkSetup.{LinkSetup}
-use Rattle.diag_tp.specs.declared.pci.Pci.{Pci}
-use Rattle.diag_tp.specs.declared.pci.Pci.TheVariants.{Single, First, TooLong, Consecutive, Flow, Nothing}
 use Rattle.diag_tp.specs.declared.current.Phase.TheVariants.{AwaitsFlow}
 use Rattle.diag_tp.specs.declared.current.Sending.{Sending}
 use Rattle.diag_tp.specs.declared.sent.Sent.{Sent}
@@ -14,7 +12,6 @@ use Rattle.diag_tp.specs.Moments.{moments, counted_from, last_moment}
 use Rattle.diag_tp.specs.Reception.{head_size, consecutive_count}
 use Rattle.diag_tp.specs.Cut.{filled, single_bytes, first_bytes, consecutive_bytes, part_of, cut}
 use Rattle.diag_tp.specs.Wire.{Placed, stamped, wire}
-use Rattle.diag_tp.specs.Receiver.{Partial, go_on, block_answer, ends_block, granted_by, with_consecutive}
 use Rattle.diag_tp.specs.State.{LinkState, due}
 use Rattle.diag_tp.specs.Sender.{frame_count, frames_of, fields_left, started, before_these, settled_in}
 use Rattle.diag_tp.specs.Link.{StandsFor, is_flow, IsFlow, message_frames, frames_left}
@@ -86,25 +83,6 @@ settled-message s (Some c) W =
       | true ↦ Each-append IsOfMessage frames (started s W).due these (started-message s W)
       | false ↦ these
     ]
-
--- what a receiver answers is flow control
-flow-filled : (pad : Option ℕ) (control : ℕ) (rest : List ℕ) → (control / 16 == 3) ≡ true → is_flow (filled pad (control ∷ rest)) ≡ true
-flow-filled pad control rest h = rw (filled-cons pad control rest) h
-
-pub go_on-flow : (s : LinkSetup) → is_flow (go_on s) ≡ true
-go_on-flow s = flow-filled s.pad (48 + 0) (s.block_size ∷ s.st_min ∷ []) refl
-
-pub granted-flow : (s : LinkSetup) (o : Option Partial) (k : Pci) → IsFlow (granted_by s o k)
-granted-flow s o (Single payload) = tt
-granted-flow s o (First len head) = go_on-flow s
-granted-flow s o TooLong = flow-filled s.pad (48 + 2) (0 ∷ 0 ∷ []) refl
-granted-flow s o (Consecutive number part) = block (option_and_then (with_consecutive number part) o)
-  where
-    block : (q : Option Partial) → IsFlow (block_answer s q)
-    block None = tt
-    block (Some p) = elim (ends_block s p) as (λ b. IsFlow (if b then Some (go_on s) else None)) [ true ↦ go_on-flow s | false ↦ tt ]
-granted-flow s o (Flow status block gap) = tt
-granted-flow s o Nothing = tt
 
 -- how many of the frames that are due are of messages
 message-count : (s : LinkSetup) (M : List Event) (m : ℕ) (frames : List (List ℕ)) → Each IsOfMessage frames → message_frames (map (stamped s M m) frames) ≡ length frames
