@@ -1,0 +1,76 @@
+-- From a world to the headline.
+use Rattle.std.proofs.Common.{◌≡◌, ◌<◌, ◌≤◌, ℕ, ◌+◌, Bool, true, false, cond, Option, Some, None, List, [], ◌∷◌, ◌++◌, length, length-append, map, refl, ap, subst, sym, ◌∙◌, arith}
+use Rattle.std.proofs.lemmas.List.{length-map}
+use Rattle.std.specs.Prelude.{◌==◌, slice_get, IsSome, Result, Err}
+use Rattle.std.specs.Option.{option_to_list}
+use Rattle.diag_can.specs.declared.frame.Event.{Event}
+use Rattle.diag_tp.specs.declared.setup.LinkSetup.{LinkSetup}
+use Rattle.diag_tp.specs.declared.sent.Sent.{Sent}
+use Rattle.diag_tp.specs.declared.step.Step.{Step}
+use Rattle.diag_tp.specs.Gives.{gives, steps}
+use Rattle.diag_tp.specs.Placing.{drawn}
+use Rattle.diag_desk.specs.declared.entry.Entry.{Entry}
+use Rattle.diag_desk.specs.Entries.{own}
+use Rattle.diag_desk.specs.Entries.{asked, asked_by, replies}
+use Rattle.diag_desk.specs.Legal.{Legal}
+use Rattle.diag_setup.specs.Setup.{link_of}
+use Rattle.diag_setup.specs.declared.raw.RawSetup.{RawSetup}
+use Rattle.diag_world.specs.Headline.{IsPlay}
+use Rattle.diag_world.specs.Lane.{LaneState, lane_of}
+use Rattle.diag_world.specs.declared.lane.Lane.{Lane}
+use Rattle.diag_world.specs.Weaving.{items_of, all_by, steps_of, steps_of_after, IsInterleaving, InterleavingLaw}
+use Rattle.diag_world.specs.World.{WorldState, Stands}
+use Rattle.diag_world.proofs.Weaves.{steps_of_after-append}
+use Rattle.diag_world.proofs.Worlds.{map_cases}
+
+-- what a tester asked, of what was asked by each
+asked_own : (J : List Entry) (t : ℕ) → items_of (asked_by J) t ≡ asked (own J t)
+asked_own [] t = refl
+asked_own (k ∷ J) t = pick (k.who == t) (asked_own J t)
+  where
+    pick : (b : Bool) → items_of (asked_by J) t ≡ asked (own J t) → cond b (k.step ∷ items_of (asked_by J) t) (items_of (asked_by J) t) ≡ asked (cond b (k ∷ own J t) (own J t))
+    pick true h = ap (λ w. k.step ∷ w) h
+    pick false h = h
+
+pub headline : (setup : RawSetup) (w : WorldState) (M : List (ℕ × Event)) (logs : List (List Event)) (sent : List (List Sent))
+    → InterleavingLaw → IsInterleaving M logs → Stands setup w M → Legal w.desk.opening w.desk.journal → length logs ≡ length setup.testers
+    → sent ≡ map (λ (lane : LaneState). lane.sent) w.lanes → IsPlay setup M logs w.desk sent
+headline setup w M logs sent law inter h legal many is = record {
+  opening = h.opening;
+  legal = legal;
+  interleaving = inter;
+  run = h.run;
+  asks = λ t. sym (asked_own w.desk.journal t) ∙ (ap (λ x. items_of x t) h.run ∙ (law (link_of setup) M t ∙ ap (steps (link_of setup t)) (inter t)));
+  testers = ap length is ∙ (length-map w.lanes (λ (lane : LaneState). lane.sent) ∙ (h.testers ∙ sym many));
+  frames = λ i frames at.
+      let lane = map_cases (λ (lane : LaneState). lane.sent) w.lanes i frames (subst (λ s. slice_get s i ≡ Some frames) is at) in
+      lane.2 ∙ ((h.lanes i lane.0 lane.1).all_sent ∙ ap (λ E. drawn (link_of setup (i + 1)) E (replies (own w.desk.journal (i + 1)))) (inter (i + 1)));
+}
+
+-- the frames of each lane
+pub lanes_sent : (testers : List Lane) → map (λ (lane : LaneState). lane.sent) (map lane_of testers) ≡ map (λ (t : Lane). t.sent.items) testers
+lanes_sent [] = refl
+lanes_sent (t ∷ testers) = ap (λ w. t.sent.items ∷ w) (lanes_sent testers)
+
+-- further events take no step away
+pub steps_grow : (links : ℕ → LinkSetup) (M N : List (ℕ × Event)) → length (steps_of links M) ≤ length (steps_of links (M ++ N))
+steps_grow links M N = omega (arith, ap length (steps_of_after-append links [] M N), length-append (steps_of links M) (steps_of_after links M N))
+
+step_given : (links : ℕ → LinkSetup) (M : List (ℕ × Event)) (t : ℕ) (e : Event) (o : Option Step) → gives (links t) (items_of M t) e ≡ o → IsSome o
+    → length (steps_of links (M ++ (t, e) ∷ [])) ≡ length (steps_of links M) + 1
+step_given links M t e None is some = cc
+step_given links M t e (Some x) is some =
+    let one : steps_of_after links M ((t, e) ∷ []) ≡ (t, x) ∷ [] = ap (λ o. all_by t (option_to_list o) ++ []) is in
+    ap length (steps_of_after-append links [] M ((t, e) ∷ [])) ∙ omega (arith, length-append (steps_of links M) (steps_of_after links M ((t, e) ∷ [])), ap length one)
+
+-- a journal that is full has no place for one more step
+pub too_many : (setup : RawSetup) (w : WorldState) (M N all : List (ℕ × Event)) (t : ℕ) (e : Event) → Stands setup w M → length w.desk.journal ≡ 1000000
+    → IsSome (gives (link_of setup t) (items_of M t) e) → all ≡ (M ++ (t, e) ∷ []) ++ N → 1000000 < length (steps_of (link_of setup) all)
+too_many setup w M N all t e h full some is =
+    let links = link_of setup in
+    let by : Entry → ℕ × Step = λ k. (k.who, k.step) in
+    let count = length-map w.desk.journal by in
+    omega (arith, ap length h.run, count, full, step_given links M t e (gives (links t) (items_of M t) e) refl some, steps_grow links (M ++ (t, e) ∷ []) N, ap (λ x. length (steps_of links x)) is)
+
+pub same_fault : {X Y : Type 0} (a b : Y) (r : Result X Y) → r ≡ Err a → r ≡ Err b → a ≡ b
+same_fault a b r h k = cc

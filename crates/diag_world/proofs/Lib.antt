@@ -1,0 +1,10 @@
+pub mod Examples
+pub mod Headlines
+pub mod Interleavings
+pub mod Lanes
+pub mod Moments
+pub mod Placing
+pub mod Rounds
+pub mod Turns
+pub mod Weaves
+pub mod Worlds

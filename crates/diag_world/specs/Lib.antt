@@ -1,0 +1,4 @@
+pub mod Headline
+pub mod Lane
+pub mod Weaving
+pub mod World

@@ -1,0 +1,128 @@
+//! One tester's lane: what an event asks, and then what the reply makes of it.
+
+ghost use Rattle.std.specs.Prelude.{
+  ◌≡◌,
+  ◌+◌,
+  ◌≤◌,
+  ◌<◌,
+  ◌↔◌,
+  length,
+  List,
+  ℕ,
+  [],
+  ◌∷◌,
+  ◌++◌,
+  OnOk,
+  IfOk,
+  IfSome,
+  IsTrue,
+  IsSome,
+  None,
+};
+ghost use Rattle.diag_can.specs.declared.frame.Event.{Event as AnEvent};
+ghost use Rattle.diag_tp.specs.declared.setup.LinkSetup.{LinkSetup as ALinkSetup};
+ghost use Rattle.diag_tp.specs.Gives.{gives};
+ghost use Rattle.diag_tp.specs.Link.{is_frame};
+ghost use Rattle.diag_desk.specs.declared.entry.Entry.{Entry as AnEntry};
+ghost use Rattle.diag_world.specs.Lane.{entries_of};
+ghost use Rattle.diag_world.specs.Lane.{due, lane_of, waiting, HasRoom, IsReady, LaneStands, RepliesToFrame};
+
+use diag_can::Event;
+use diag_tp::{Link, LinkSetup, Message, Sent, Step};
+use std::alloc::{AllocError, Global};
+
+/// One tester's link, and the frames that the tester was sent.
+///
+/// An event goes through in two halves. `prepare` makes all growths and answers the step that the event gives; then
+/// that step is taken; `settle` takes the event with the reply, and can't fail. So a refusal leaves the lane as it was.
+#[derive(Drop)]
+pub struct Lane {
+    pub(crate) link: Link,
+    pub(crate) sent: Vec<Sent>,
+}
+
+impl Lane {
+    /// The lane of a tester to whom nothing has happened.
+    pub fn new(alloc: Global, setup: LinkSetup) -> Lane
+        ensures stands { LaneStands setup (lane_of result) [] [] }
+        ensures ready { IsReady (lane_of result) 0 }
+    {
+        let link = Link::new(alloc, setup);
+        let drained = link.is_drained();
+        prove!(drained);
+        Lane {
+            link,
+            sent: Vec::new(alloc),
+        }
+    }
+
+    /// Makes room for the event, and answers the step that it gives. Nothing else changes, whatever the answer.
+    pub fn prepare(&mut self, event: &Event) -> Result<Option<Step>, AllocError>
+        requires drained { due (lane_of self.old) ≡ 0 }
+        ensures same { lane_of self.new ≡ lane_of self.old }
+        ensures room { OnOk result (HasRoom self.new event.now) }
+        ensures step { IfOk result (λ step. (s : ALinkSetup) (E : List AnEvent) (K : List AnEntry) → LaneStands s (lane_of self.old) E K → step ≡ gives s E event.now) }
+        ensures replies { IfOk result (λ step. IfSome step (λ step. RepliesToFrame event.now step)) }
+    {
+        match event {
+            Event::Ticks(count) => {
+                self.sent.reserve(self.link.backlog() as usize)?;
+                Ok(Some(Step::Ticks(*count)))
+            }
+            Event::Physical(_) | Event::Functional(_) => {
+                self.link.make_room(event)?;
+                let most = self.link.backlog().saturating_add(2) as usize;
+                self.sent.reserve(most)?;
+                match self.link.peek(event)? {
+                    Some(request) => Ok(Some(Step::Request {
+                        functional: request.functional,
+                        message: request.message,
+                    })),
+                    None => Ok(None),
+                }
+            }
+        }
+    }
+
+    /// Takes an event for which room was made, with the reply to the step that it gives, and sends what is due.
+    pub fn settle(&mut self, event: &Event, reply: Option<Message>)
+        requires drained { due (lane_of self.old) ≡ 0 }
+        requires room { HasRoom self.old event.now }
+        requires few { IsSome reply → waiting (lane_of self.old) < 1000000 }
+        requires frame { IsSome reply → IsTrue (is_frame event.now) }
+        ensures took { (s : ALinkSetup) (who : ℕ) (E : List AnEvent) (K : List AnEntry) → LaneStands s (lane_of self.old) E K → length K ≤ 1000000 → (gives s E event.now ≡ None → reply ≡ None) → LaneStands s (lane_of self.new) (E ++ event.now ∷ []) (K ++ entries_of who (gives s E event.now) reply) }
+        ensures drained { due (lane_of self.new) ≡ 0 }
+        ensures waiting { waiting (lane_of self.new) ≤ waiting (lane_of self.old) + 1 }
+        ensures none_waits { reply ≡ None → waiting (lane_of self.new) ≤ waiting (lane_of self.old) }
+    {
+        match event {
+            Event::Ticks(count) => self.pass(*count),
+            Event::Physical(_) | Event::Functional(_) => self.receive(event, reply),
+        }
+    }
+
+    /// Whether the event gives a step.
+    pub(crate) fn gives_step(&self, event: &Event) -> bool
+        ensures { (s : ALinkSetup) (E : List AnEvent) (K : List AnEntry) → LaneStands s (lane_of self.now) E K → (IsTrue result ↔ IsSome (gives s E event.now)) }
+    {
+        match event {
+            Event::Ticks(_) => true,
+            Event::Physical(_) | Event::Functional(_) => self.link.completes(event),
+        }
+    }
+
+    /// The frames that were sent, in order.
+    pub fn sent(&self) -> &[Sent]
+        ensures { result.now ≡ (lane_of self.now).sent }
+    {
+        self.sent.as_slice()
+    }
+
+    /// The frames that were sent, in order.
+    pub fn into_sent(self) -> Vec<Sent>
+        ensures { result.items ≡ (lane_of self).sent }
+    {
+        let Lane { link: _, sent } = self;
+        sent
+    }
+}

@@ -1,0 +1,16 @@
+//! All testers' links and the desk on one thread; the laws.
+#![tactic(auto)]
+
+mod lane;
+mod laws;
+mod passing;
+mod taking;
+mod turn;
+mod world;
+
+pub use diag_desk::{Desk, StepFault, writes_follow_unlocking};
+pub use diag_tp::Sent;
+pub use lane::Lane;
+pub use laws::{interleaving_law, turns_law, weaving_law};
+pub use turn::{Played, serial};
+pub use world::World;
