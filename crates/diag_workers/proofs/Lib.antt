@@ -1,0 +1,7 @@
+mod Compared
+mod Places
+mod Recording
+mod Outs
+mod Logs
+mod Headlines
+mod Limits

@@ -1,0 +1,47 @@
+-- One seat more given out.
+use Rattle.std.proofs.Common.{◌≡◌, ◌≢◌, ◌⊎◌, inl, inr, ℕ, zero, suc, ◌+◌, ◌<◌, List, [], ◌∷◌, ◌++◌, length, get_or, set, refl, sym, ap, ◌∙◌, arith, None, true, false, get_or-set_other, length-append, length-set}
+use mathlib.Core.Logic.{dite}
+use native.Mathlib.Decide.{ℕ_discrete}
+use Rattle.diag_gate.specs.Seats.{SeatView, HostView, of_host, fresh, Gave}
+use Rattle.diag_workers.specs.Seating.{Out}
+
+front_reads : {A : Type 0} → (xs ys : List A) (k : ℕ) (d : A) → k < length xs → get_or (xs ++ ys) k d ≡ get_or xs k d
+front_reads [] ys k d h = absurd (omega arith)
+front_reads (x ∷ xs) ys zero d h = refl
+front_reads (x ∷ xs) ys (suc k) d h = front_reads xs ys k d (omega arith)
+
+last_reads : {A : Type 0} → (xs : List A) (y : A) (k : ℕ) (d : A) → length xs ≡ k → get_or (xs ++ y ∷ []) k d ≡ y
+last_reads [] y zero d e = refl
+last_reads [] y (suc k) d e = absurd (omega arith)
+last_reads (x ∷ xs) y zero d e = absurd (omega arith)
+last_reads (x ∷ xs) y (suc k) d e = last_reads xs y k d (omega arith)
+
+pub out_none : (h : HostView) → Out h h 0 []
+out_none h = record { same = (refl, refl, refl); wide = refl; many = refl; each = λ k d low. absurd (omega arith); rest = λ t e. (refl, refl) }
+
+later : (t k : ℕ) → (t ≡ 0) ⊎ (k + 1 < t) → (t ≡ 0) ⊎ (k < t)
+later t k (inl e) = inl e
+later t k (inr lt) = inr (omega arith)
+
+other : (t k : ℕ) → (t ≡ 0) ⊎ (k + 1 < t) → t ≢ k + 1
+other t k (inl e) = λ f. omega arith
+other t k (inr lt) = λ f. omega arith
+
+pub out_more : (h n m : HostView) (k : ℕ) (seats : List SeatView) (s : SeatView) → Out h n k seats → Gave n m (k + 1) s → Out h m (k + 1) (seats ++ s ∷ [])
+out_more h n m k seats s o g =
+    let many = o.many in
+    let owns : m.owns ≡ set n.owns (k + 1) None = ap (λ (x : HostView). x.owns) g.host in
+    let given : m.given ≡ set n.given (k + 1) true = ap (λ (x : HostView). x.given) g.host in
+    let at = o.rest (k + 1) (inr (let lt : k < k + 1 = omega arith in lt)) in
+    let s_is : s ≡ fresh h (k + 1) g.mine = g.seat ∙ (λ i. record { gate = o.same.0 i; who = k + 1; opening = o.same.1 i; own = g.mine; seen = o.same.2 i; missed = 0 }) in record {
+      same = (ap (λ (x : HostView). x.gate) g.host ∙ o.same.0, ap (λ (x : HostView). x.opening) g.host ∙ o.same.1, ap (λ (x : HostView). x.seen) g.host ∙ o.same.2);
+      wide = ap length owns ∙ length-set n.owns (k + 1) None ∙ o.wide;
+      many = length-append seats (s ∷ []) ∙ ap (λ (x : ℕ). x + 1) many;
+      each = λ j d low. dite (ℕ_discrete j k)
+          (λ e. (g.mine, ap (λ (x : ℕ). of_host h (x + 1)) e ∙ sym at.0 ∙ g.had, last_reads seats s j d (many ∙ sym e) ∙ s_is ∙ ap (λ (x : ℕ). fresh h (x + 1) g.mine) (sym e)))
+          (λ not. let f = o.each j d (omega arith) in (f.0, f.1, front_reads seats (s ∷ []) j d (omega arith) ∙ f.2));
+      rest = λ t e. let r = o.rest t (later t k e) in (
+        ap (λ l. get_or l t None) owns ∙ get_or-set_other n.owns (k + 1) t None None (other t k e) ∙ r.0,
+        ap (λ l. get_or l t false) given ∙ get_or-set_other n.given (k + 1) t true false (other t k e) ∙ r.1,
+      );
+    }

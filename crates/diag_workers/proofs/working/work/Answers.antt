@@ -1,0 +1,22 @@
+use Rattle.std.proofs.Common.{◌≡◌, ◌++◌, take, drop, ap, sym, ◌∙◌}
+use Rattle.std.proofs.lemmas.Result.{err_from_is_err_and}
+use Rattle.std.proofs.lemmas.List.{take-append-drop}
+use Rattle.diag_setup.specs.Setup.{link_of}
+use Rattle.diag_tp.specs.Gives.{steps, steps_after}
+use Rattle.diag_workers.proofs.Recording.{steps_split}
+use Rattle.diag_workers.proofs.working.work.Goals as goal
+
+pub returns-in_err-take-clause-refused : goal.returns-in_err-take-clause-refused
+returns-in_err-take-clause-refused g c =
+    let s = link_of c.args.setup.now c.args.who in
+    let done = take c.loop-event.event-index c.args.events.now in
+    let rest = drop c.loop-event.event-index c.args.events.now in
+    let kept : g.D.Door.given c.take.new.door ≡ g.D.Door.given c.loop-event.door = c.in_err-take.ensures.refused in
+    let p = err_from_is_err_and c.from_residual.result c.from_residual.ensures.1 in
+    rw p.1 (
+      c.loop-event.worker.entries.entries,
+      steps_after s done rest,
+      kept ∙ c.loop-event.invariant.given,
+      ap (steps s) (sym (take-append-drop c.loop-event.event-index c.args.events.now))
+          ∙ (steps_split s done rest ∙ ap (λ w. w ++ steps_after s done rest) (sym c.loop-event.invariant.stands.asks)),
+    )

@@ -1,0 +1,4 @@
+pub mod Work
+pub mod Crew
+pub mod Seating
+pub mod Play

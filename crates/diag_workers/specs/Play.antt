@@ -1,0 +1,23 @@
+-- The logs of all testers, as they are read: in order, and the first that is at fault decides.
+use Rattle.std.specs.Prelude.{ℕ, ◌+◌, List, [], ◌∷◌, Result, Ok, Err}
+use Rattle.diag_can.specs.declared.frame.Event.{Event}
+use Rattle.diag_can.specs.declared.log.Timing.{Timing}
+use Rattle.diag_can.specs.declared.fault.LogFault.{LogFault}
+use Rattle.diag_can.specs.Log.{events}
+use Rattle.diag_setup.specs.declared.raw.RawSetup.{RawSetup}
+use Rattle.diag_setup.specs.Setup.{ids_of}
+
+-- the log of tester n, before those of the testers after it
+abbrev pub before_rest : ℕ → Result (List Event) LogFault → Result (List (List Event)) (ℕ × LogFault) → Result (List (List Event)) (ℕ × LogFault)
+before_rest n (Err fault) rest = Err (n, fault)
+before_rest n (Ok log) (Ok logs) = Ok (log ∷ logs)
+before_rest n (Ok log) (Err first) = Err first
+
+-- the logs of tester n and those after it
+abbrev pub logs_from : ℕ → RawSetup → Timing → List (List ℕ) → Result (List (List Event)) (ℕ × LogFault)
+logs_from n setup timing [] = Ok []
+logs_from n setup timing (text ∷ texts) = before_rest n (events text (ids_of setup n) timing) (logs_from (n + 1) setup timing texts)
+
+-- the events of each tester's log, or the first tester whose log is at fault, and its fault
+abbrev pub logs_of : RawSetup → Timing → List (List ℕ) → Result (List (List Event)) (ℕ × LogFault)
+logs_of setup timing texts = logs_from 1 setup timing texts

@@ -1,0 +1,92 @@
+//! A thread for each tester's worker.
+ghost use Rattle.std.specs.Prelude.{◌≡◌, ◌<◌, ◌≤◌, ◌∷◌, length, map, IfOk, vec_len};
+ghost use Rattle.std.specs.List.{AllByRecursion};
+ghost use Rattle.std.specs.Thread.{IsSync, IsSend};
+ghost use Rattle.diag_setup.specs.Setup.{link_of};
+ghost use Rattle.diag_workers.specs.Crew.{Worked, AllWorked, places_from};
+
+use crate::working::{WorkerRecord, work};
+use diag_can::Event;
+use diag_desk::StepFault;
+use diag_gate::Door;
+use diag_store::Setup;
+use std::alloc::Global;
+use std::thread::{Threads, join};
+
+/// Plays each log through its door, each in a thread of its own.
+///
+/// A refusal is that of the first tester, in order, that was refused; the doors are then dropped.
+pub fn crew<D: Door + Send + Drop, R: Threads + Sync>(
+    rt: &R,
+    alloc: Global,
+    setup: &Setup,
+    logs: &[Vec<Event>],
+    doors: Vec<D>,
+) -> Result<Vec<(WorkerRecord, D)>, StepFault>
+    requires logs { length logs.now ≡ length setup.now.testers }
+    requires limits { AllByRecursion (λ log. vec_len log ≤ 1000000) logs.now }
+    requires doors { map D.tester doors.items ≡ places_from 1 (length setup.now.testers) }
+    ensures { IfOk result (λ done. AllWorked (link_of setup.now) D.tester D.given D.home (map (λ log. log.items) logs.now) doors.items done.items) }
+{
+    crew_of(rt, alloc, setup, logs, doors)
+}
+
+/// The first tester's worker beside those of the rest.
+fn crew_of<D: Door + Send + Drop, R: Threads + Sync>(
+    rt: &R,
+    alloc: Global,
+    setup: &Setup,
+    logs: &[Vec<Event>],
+    mut doors: Vec<D>,
+) -> Result<Vec<(WorkerRecord, D)>, StepFault>
+    requires as_many { length doors.items ≡ length logs.now }
+    requires limits { AllByRecursion (λ log. vec_len log ≤ 1000000) logs.now }
+    requires in_setup { AllByRecursion (λ door. D.tester door ≤ length setup.now.testers) doors.items }
+    ensures { IfOk result (λ done. AllWorked (link_of setup.now) D.tester D.given D.home (map (λ log. log.items) logs.now) doors.items done.items) }
+{
+    let Some((log, logs)) = logs.split_first() else {
+        return Ok(Vec::new(alloc));
+    };
+    let door = first_of(&mut doors);
+    let (one, others) = join(
+        rt,
+        move || -> Result<(WorkerRecord, D), StepFault>
+            requires { (vec_len log.now ≤ 1000000) × (D.tester door ≤ length setup.now.testers) }
+            ensures { IfOk result (λ r. Worked (link_of setup.entry.now) D.tester D.given D.home log.entry.now.items door r.0 r.1) }
+        { worked(alloc, setup, log, door) },
+        move || -> Result<Vec<(WorkerRecord, D)>, StepFault>
+            requires { IsSync R.row × IsSend D.row × (length doors.items ≡ length logs.now) × AllByRecursion (λ log. vec_len log ≤ 1000000) logs.now × AllByRecursion (λ door. D.tester door ≤ length setup.now.testers) doors.items }
+            ensures { IfOk result (λ done. AllWorked (link_of setup.entry.now) D.tester D.given D.home (map (λ log. log.items) logs.entry.now) doors.items done.items) }
+        { crew_of(rt, alloc, setup, logs, doors) },
+    );
+    let one = one?;
+    let mut done = others?;
+    if done.insert(0, one).is_err() {
+        return Err(StepFault::Memory);
+    }
+    Ok(done)
+}
+
+/// Takes the first item.
+pub(crate) fn first_of<T>(items: &mut Vec<T>) -> T
+    requires { 0 < length items.old.items }
+    ensures { items.old.items ≡ result ∷ items.new.items }
+{
+    items.remove(0)
+}
+
+/// Plays a log through a door, and hands the door back.
+fn worked<D: Door + Drop>(
+    alloc: Global,
+    setup: &Setup,
+    log: &[Event],
+    mut door: D,
+) -> Result<(WorkerRecord, D), StepFault>
+    requires limit { length log.now ≤ 1000000 }
+    requires in_setup { D.tester door ≤ length setup.now.testers }
+    ensures { IfOk result (λ r. Worked (link_of setup.now) D.tester D.given D.home log.now door r.0 r.1) }
+{
+    let who = door.who();
+    let record = work(alloc, setup, who, log, &mut door)?;
+    Ok((record, door))
+}

@@ -1,0 +1,17 @@
+//! One worker a tester, each in a thread of its own, and the plays of all testers' logs.
+#![tactic(auto)]
+
+mod agreeing;
+mod crewing;
+mod playing;
+mod seating;
+mod watch;
+mod working;
+
+pub use agreeing::agree;
+pub use crewing::crew;
+pub use diag_gate::{Door, Gate, GateDoor, Held, Host, LockDoor, Seat, TryFault};
+pub use diag_world::Played;
+pub use playing::{PlayFault, play};
+pub use watch::{NoWatch, Watch};
+pub use working::{WorkerRecord, work};

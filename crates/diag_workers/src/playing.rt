@@ -1,0 +1,136 @@
+//! All testers' logs at the same time, over one gate.
+ghost use Rattle.std.specs.Prelude.{◌≡◌, ◌≢◌, ◌≤◌, ℕ, List, length, map, IfOk, vec_len, Ok, Err};
+ghost use Rattle.std.specs.List.{AllByRecursion};
+ghost use Rattle.diag_can.specs.declared.frame.Event.{Event as AnEvent};
+ghost use Rattle.diag_can.specs.declared.fault.LogFault.{LogFault as ALogFault};
+ghost use Rattle.diag_setup.specs.Setup.{link_of};
+ghost use Rattle.diag_world.specs.Headline.{IsPlay};
+ghost use Rattle.diag_world.specs.Weaving.{weave};
+ghost use Rattle.diag_workers.specs.Play.{logs_of};
+
+use crate::crewing::crew;
+use crate::seating::{doors_of, give_out, take_apart, take_in};
+use crate::watch::Watch;
+use diag_can::{Event, LogFault, Timing, read_log};
+use diag_desk::{Desk, StepFault};
+use diag_gate::Gate;
+use diag_store::{Setup, Who};
+use diag_world::{Played, weaving_law};
+use std::alloc::Global;
+use std::sync::Wait;
+use std::thread::Threads;
+use thiserror::Error;
+
+/// Why a play was not made.
+#[derive(Clone, Copy, Debug, PartialEq, Eq, Error)]
+pub enum PlayFault {
+    /// Memory was refused.
+    #[error("memory")]
+    Memory,
+    /// The log of this tester is at fault, and all logs before it are well.
+    #[error("a log is at fault")]
+    Log(Who, LogFault),
+    /// The journal has 1,000,000 entries.
+    #[error("the journal is full")]
+    JournalFull,
+    /// Never answered: that the workers' records are the journal's entries is proved.
+    #[error("the records disagree")]
+    RecordsDisagree(Who),
+}
+
+/// Plays all logs at the same time, a thread for each tester, over one desk behind a gate.
+///
+/// The journal is a legal run of the sequential server from the setup's opening, and the run of a named interleaving of the logs;
+/// each tester's frames are what its flow control draws from the replies to it. The watch is told of each step before it is
+/// taken. The logs are read first, in order, and the first that refuses decides.
+pub fn play<W: Watch + Sync, R: Threads + Wait + Sync>(
+    rt: &R,
+    alloc: Global,
+    setup: &Setup,
+    texts: &[Vec<u8>],
+    watch: &W,
+    timing: Timing,
+) -> Result<Played, PlayFault>
+    requires { length texts.now ≡ length setup.now.testers }
+    ensures played { IfOk result (λ played. (logs : List (List AnEvent)) × (logs_of setup.now timing (map (λ text. text.items) texts.now) ≡ Ok logs) × IsPlay setup.now (weave (link_of setup.now) played.desk.journal logs) logs played.desk (map (λ s. s.items) played.sent.items)) }
+    ensures log { (who : ℕ) (fault : ALogFault) → result ≡ Err (PlayFault.Log who fault) → logs_of setup.now timing (map (λ text. text.items) texts.now) ≡ Err (who, fault) }
+    ensures full { result ≡ Err PlayFault.JournalFull → (logs : List (List AnEvent)) × (logs_of setup.now timing (map (λ text. text.items) texts.now) ≡ Ok logs) }
+    ensures agree { (who : ℕ) → result ≢ Err (PlayFault.RecordsDisagree who) }
+{
+    let logs = read_logs(alloc, setup, texts, timing)?;
+    match play_logs(rt, alloc, setup, logs.as_slice(), watch) {
+        Ok(played) => Ok(played),
+        Err(StepFault::Memory) => Err(PlayFault::Memory),
+        Err(StepFault::JournalFull) => Err(PlayFault::JournalFull),
+    }
+}
+
+/// Reads the logs in order. The first that refuses decides.
+fn read_logs(
+    alloc: Global,
+    setup: &Setup,
+    texts: &[Vec<u8>],
+    timing: Timing,
+) -> Result<Vec<Vec<Event>>, PlayFault>
+    requires { length texts.now ≡ length setup.now.testers }
+    ensures logs { IfOk result (λ logs. logs_of setup.now timing (map (λ text. text.items) texts.now) ≡ Ok (map (λ log. log.items) logs.items)) }
+    ensures count { IfOk result (λ logs. length logs.items ≡ length texts.now) }
+    ensures limits { IfOk result (λ logs. AllByRecursion (λ log. vec_len log ≤ 1000000) logs.items) }
+    ensures log { (who : ℕ) (fault : ALogFault) → result ≡ Err (PlayFault.Log who fault) → logs_of setup.now timing (map (λ text. text.items) texts.now) ≡ Err (who, fault) }
+    ensures full { result ≢ Err PlayFault.JournalFull }
+    ensures agree { (who : ℕ) → result ≢ Err (PlayFault.RecordsDisagree who) }
+{
+    let mut logs = Vec::new(alloc);
+    for (i, text) in texts.iter().enumerate() {
+        let Some(who) = setup.who(i) else {
+            unreachable!()
+        };
+        match read_log(alloc, text.as_slice(), &setup.ids(who), timing) {
+            Ok(log) => {
+                if logs.push(log).is_err() {
+                    return Err(PlayFault::Memory);
+                }
+            }
+            Err(fault) => return Err(refused(who, fault)),
+        }
+    }
+    Ok(logs)
+}
+
+/// Why a tester's log that was not read ends the play.
+fn refused(who: Who, fault: LogFault) -> PlayFault
+    ensures log { (t : ℕ) (f : ALogFault) → result ≡ PlayFault.Log t f → (who ≡ t) × (fault ≡ f) × (fault ≢ LogFault.Memory) }
+    ensures full { result ≢ PlayFault.JournalFull }
+    ensures agree { (t : ℕ) → result ≢ PlayFault.RecordsDisagree t }
+{
+    if fault == LogFault::Memory {
+        PlayFault::Memory
+    } else {
+        PlayFault::Log(who, fault)
+    }
+}
+
+/// Lets a crew play the logs, each tester through a seat of its own, and takes all seats back.
+fn play_logs<W: Watch + Sync, R: Threads + Wait + Sync>(
+    rt: &R,
+    alloc: Global,
+    setup: &Setup,
+    logs: &[Vec<Event>],
+    watch: &W,
+) -> Result<Played, StepFault>
+    requires logs { length logs.now ≡ length setup.now.testers }
+    requires limits { AllByRecursion (λ log. vec_len log ≤ 1000000) logs.now }
+    ensures { IfOk result (λ played. IsPlay setup.now (weave (link_of setup.now) played.desk.journal (map (λ log. log.items) logs.now)) (map (λ log. log.items) logs.now) played.desk (map (λ s. s.items) played.sent.items)) }
+{
+    weaving_law();
+    let desk = Desk::new(alloc, setup)?;
+    let (gate, mut host) = Gate::new(alloc, desk)?;
+    let seats = give_out(alloc, &gate, &mut host, setup.testers() as u8)?;
+    let doors = doors_of(rt, alloc, &gate, watch, seats)?;
+    let done = crew(rt, alloc, setup, logs, doors)?;
+    let (seats, sent) = take_apart(alloc, done)?;
+    take_in(&gate, &mut host, seats);
+    let desk = gate.close(host);
+    let _journal = desk.journal();
+    Ok(Played { desk, sent })
+}

@@ -1,0 +1,42 @@
+//! Who is told of each step.
+use diag_desk::{Step, StepFault};
+use diag_gate::Door;
+use diag_store::Who;
+use diag_tp::Message;
+
+/// Is told of each step before its door is asked, while nothing is held.
+pub trait Watch {
+    fn called(&self, who: Who);
+}
+
+/// Takes no notice.
+#[derive(Clone, Copy, Debug)]
+pub struct NoWatch;
+
+impl Watch for NoWatch {
+    fn called(&self, _who: Who) {}
+}
+
+/// A door that tells a watch of each step, before it asks the door within.
+#[derive(Drop)]
+pub(crate) struct WatchedDoor<'w, D: Door, W: Watch> {
+    pub(crate) door: D,
+    pub(crate) watch: &'w W,
+}
+
+impl<'w, D: Door, W: Watch> Door for WatchedDoor<'w, D, W> {
+    ghost tester = { λ d. D.tester d.door };
+
+    ghost given = { λ d. D.given d.door };
+
+    ghost home = { λ d. D.home d.door };
+
+    fn who(&self) -> Who {
+        self.door.who()
+    }
+
+    fn step(&mut self, step: &Step) -> Result<Option<Message>, StepFault> {
+        self.watch.called(self.door.who());
+        self.door.step(step)
+    }
+}

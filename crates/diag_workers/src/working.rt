@@ -1,0 +1,106 @@
+//! One tester's worker.
+ghost use Rattle.std.specs.Prelude.{◌≡◌, ◌+◌, ◌≤◌, ◌<◌, List, [], ◌∷◌, ◌++◌, length, IfOk, OnOk, OnErr};
+ghost use Rattle.diag_can.specs.declared.frame.Event.{Event as AnEvent};
+ghost use Rattle.diag_tp.specs.declared.setup.LinkSetup.{LinkSetup as ALinkSetup};
+ghost use Rattle.diag_tp.specs.Gives.{steps};
+ghost use Rattle.diag_tp.specs.Placing.{drawn};
+ghost use Rattle.diag_setup.specs.Setup.{link_of};
+ghost use Rattle.diag_desk.specs.Entries.{asked, replies};
+ghost use Rattle.diag_world.specs.Lane.{lane_of, IsReady, LaneStands};
+ghost use Rattle.diag_workers.specs.Work.{AskedSome, MoreOf};
+
+use diag_can::Event;
+use diag_desk::{Journal, StepFault};
+use diag_gate::Door;
+use diag_store::{Setup, Who};
+use diag_tp::{LinkSetup, Sent};
+use diag_world::Lane;
+use std::alloc::Global;
+
+/// What one worker did: what it asked, with the answers, and the frames that it sent.
+#[derive(Drop)]
+pub struct WorkerRecord {
+    pub entries: Journal,
+    pub sent: Vec<Sent>,
+}
+
+/// Takes one tester's events, and asks its door for each step that they give.
+///
+/// All growths for an event are made before the door is asked. A refusal leaves the door with the first of the steps.
+pub fn work<D: Door>(
+    alloc: Global,
+    setup: &Setup,
+    who: Who,
+    events: &[Event],
+    door: &mut D,
+) -> Result<WorkerRecord, StepFault>
+    requires limit { length events.now ≤ 1000000 }
+    requires in_setup { who ≤ length setup.now.testers }
+    requires own_door { D.tester door.old ≡ who }
+    ensures given { IfOk result (λ r. D.given door.new ≡ D.given door.old ++ r.entries.entries) }
+    ensures asked { IfOk result (λ r. asked r.entries.entries ≡ steps (link_of setup.now who) events.now) }
+    ensures sent { IfOk result (λ r. r.sent.items ≡ drawn (link_of setup.now who) events.now (replies r.entries.entries)) }
+    ensures refused { OnErr result (AskedSome (link_of setup.now who) events.now (D.given door.old) (D.given door.new)) }
+    ensures tester { D.tester door.new ≡ D.tester door.old }
+    ensures home { D.home door.new ≡ D.home door.old }
+{
+    let mut worker = Worker::new(alloc, setup.link(who));
+    for event in events {
+        worker.take(event, door)?;
+    }
+    let Worker { lane, entries } = worker;
+    Ok(WorkerRecord {
+        entries,
+        sent: lane.into_sent(),
+    })
+}
+
+/// A worker between two events.
+#[derive(Drop)]
+struct Worker {
+    lane: Lane,
+    entries: Journal,
+}
+
+impl Worker {
+    fn new(alloc: Global, link: LinkSetup) -> Worker
+        ensures stands { LaneStands link (lane_of result.lane) [] result.entries.entries }
+        ensures ready { IsReady (lane_of result.lane) (length result.entries.entries) }
+        ensures empty { result.entries.entries ≡ [] }
+    {
+        Worker {
+            lane: Lane::new(alloc, link),
+            entries: Journal::new(alloc),
+        }
+    }
+
+    /// Takes one event. All that can be refused but the door's step comes before it.
+    fn take<D: Door>(&mut self, event: &Event, door: &mut D) -> Result<(), StepFault>
+        requires ready { IsReady (lane_of self.old.lane) (length self.old.entries.entries) }
+        requires limit { length self.old.entries.entries < 1000000 }
+        ensures stands { OnOk result ((s : ALinkSetup) (E : List AnEvent) → LaneStands s (lane_of self.old.lane) E self.old.entries.entries → LaneStands s (lane_of self.new.lane) (E ++ event.now ∷ []) self.new.entries.entries) }
+        ensures ready { OnOk result (IsReady (lane_of self.new.lane) (length self.new.entries.entries)) }
+        ensures given { OnOk result (MoreOf (D.given door.old) (D.given door.new) self.old.entries.entries self.new.entries.entries) }
+        ensures longer { OnOk result (length self.new.entries.entries ≤ length self.old.entries.entries + 1) }
+        ensures refused { OnErr result (D.given door.new ≡ D.given door.old) }
+        ensures tester { D.tester door.new ≡ D.tester door.old }
+        ensures home { D.home door.new ≡ D.home door.old }
+    {
+        match self.lane.prepare(event)? {
+            Some(step) => {
+                self.entries.make_room(&step)?;
+                let who = door.who();
+                let reply = door.step(&step)?;
+                if self.entries.push(who, &step, reply.as_ref()).is_err() {
+                    unreachable!();
+                }
+                self.lane.settle(event, reply);
+                Ok(())
+            }
+            None => {
+                self.lane.settle(event, None);
+                Ok(())
+            }
+        }
+    }
+}
