@@ -1,0 +1,66 @@
+-- What a run has read, step by step.
+use Rattle.std.proofs.Common.{◌≡◌, ℕ, ◌==◌, Bool, true, false, length, List, Result, Ok, Err, inl, inr, refl, sym, ap, ◌∙◌, arith}
+use Rattle.std.proofs.lemmas.Bool.Decides.{nat_tests}
+use Rattle.diag_config.specs.declared.fault.ConfigFault.{ConfigFault}
+use Rattle.diag_config.specs.declared.fault.ConfigFault.TheVariants as config
+use Rattle.diag_setup.specs.declared.raw.RawSetup.{RawSetup}
+use Rattle.diag_run.specs.declared.fault.RunFault.{RunFault}
+use Rattle.diag_run.specs.declared.fault.RunFault.TheVariants.{Files, Config, ConfigLong, Log, JournalLine, FileLong, Memory, JournalFull, RecordsDisagree, Read, Write, Differs}
+use Rattle.diag_run.specs.declared.whole.Job.{Job}
+use Rattle.diag_run.specs.declared.whole.Job.TheVariants.{Serial, Replay}
+use Rattle.diag_run.specs.Files.{Refusal, wrong_count, ◌>>=◌, Fails, ConfigFails, config_of, files_from}
+use Rattle.diag_run.specs.Run.{Inputs, wanted, limit, read_of, GivesRun}
+
+-- a fault stays where what is read is only put into another shape
+module _ {A B : Type 0} (f : A → B) where
+  ConfigFails-map : (fault : ConfigFault) (said : Result A Refusal) → ConfigFails fault said → ConfigFails fault (said >>= λ x. Ok (f x))
+  ConfigFails-map config.Syntax said h = rw h refl
+  ConfigFails-map (config.Missing key) said h = rw h refl
+  ConfigFails-map (config.BadValue key) said h = rw h refl
+  ConfigFails-map (config.Setup fault) said h = rw h refl
+  ConfigFails-map config.Memory said h = absurd h
+
+  pub Fails-map : (fault : RunFault) (said : Result A Refusal) → Fails fault said → Fails fault (said >>= λ x. Ok (f x))
+  Fails-map Memory said h = tt
+  Fails-map (Read n) (Ok x) h = tt
+  Fails-map (Read n) (Err e) h = h
+  Fails-map (Files w g) said h = rw h refl
+  Fails-map (Config fault) said h = ConfigFails-map fault said h
+  Fails-map ConfigLong said h = rw h refl
+  Fails-map (Log who fault) said h = rw h refl
+  Fails-map (FileLong n) said h = rw h refl
+  Fails-map (JournalLine n) said h = absurd h
+  Fails-map JournalFull said h = absurd h
+  Fails-map (RecordsDisagree who) said h = absurd h
+  Fails-map Write said h = absurd h
+  Fails-map (Differs n) said h = absurd h
+
+-- what was read, of these parts
+abbrev pub inputs : RawSetup → List (List ℕ) → Inputs
+inputs setup texts = record { setup = setup; texts = texts }
+
+module _ (job : Job) (bytes : List ℕ) (known : List (List ℕ)) (setup : RawSetup) (config : config_of bytes ≡ Ok setup) where
+  pub miscounted : (wanted job setup ≡ length known → ⊥) → read_of job bytes known ≡ Err (wrong_count (wanted job setup) (length known))
+  unfolding read_of
+  miscounted differs =
+      let test : (wanted job setup == length known) ≡ false = grind (arith, nat_tests, differs) in
+      rw (config, test) refl
+
+  well_counted : wanted job setup ≡ length known → read_of job bytes known ≡ (files_from (limit job) 1 known >>= λ texts. Ok (inputs setup texts))
+  unfolding read_of
+  well_counted same =
+      let test : (wanted job setup == length known) ≡ true = grind (arith, nat_tests, same) in
+      rw (config, test) refl
+
+  pub read_whole : wanted job setup ≡ length known → (texts : List (List ℕ)) → files_from (limit job) 1 known ≡ Ok texts → read_of job bytes known ≡ Ok (inputs setup texts)
+  read_whole same texts h = well_counted same ∙ ap (λ said. said >>= λ texts. Ok (inputs setup texts)) h
+
+  pub read_fails : wanted job setup ≡ length known → (fault : RunFault) → Fails fault (files_from (limit job) 1 known) → Fails fault (read_of job bytes known)
+  read_fails same fault h = rw (well_counted same) (Fails-map (inputs setup) fault (files_from (limit job) 1 known) h)
+
+-- nothing is written before the text is whole
+pub no_write : (job : Job) (said : Result Inputs Refusal) → GivesRun job said (Err Write) → ⊥
+no_write job said (inl h) = h
+no_write (Serial only_journal timing) (Ok i) (inr h) = h
+no_write Replay (Ok i) (inr h) = h
+no_write job (Err e) (inr h) = h

@@ -1,0 +1,39 @@
+use Rattle.std.proofs.Common.{◌≡◌, ◌+◌, ◌≤◌, ◌<◌, List, ℕ, ◌∷◌, ◌++◌, [], length, drop, get_or, map, Some, ◌∙◌, sym, ap, refl, arith, rules}
+use Rattle.std.proofs.lemmas.List.{map_push, drop-set-lt, drop_all, length-append, length-set}
+use Rattle.std.proofs.lemmas.Grind.{drop_more_same}
+use Rattle.diag_run.specs.Files.{AreKnown, files_from}
+use Rattle.diag_run.proofs.Order.{AllLater-front, AllLater-files}
+use Rattle.diag_run.proofs.Reading.{with_front, AreKnown-length, known_at, goes_on, too_long, is_done}
+use Rattle.diag_run.proofs.files.read_files.Goals as goal
+
+pub loop-index-preserved : goal.loop-index-preserved
+loop-index-preserved g c = record {
+  count = ap length c.in_ok-push.ensures.items ∙ (length-append c.loop-index.texts.items (c.in-Ok.text ∷ []) ∙ ap (λ n. n + 1) c.loop-index.invariant.count);
+  same = length-set _ c.loop-index.index _ ∙ c.loop-index.invariant.same;
+  rest = drop-set-lt (c.loop-index.index + 1) c.loop-index.files c.loop-index.index _ (omega arith) ∙ drop_more_same _ _ c.loop-index.index c.loop-index.invariant.rest;
+  so_far = λ known h.
+      let at = known_at g.R.Read.remaining c.args.files.now c.loop-index.files known c.loop-index.index c.index-files-index.result h c.loop-index.invariant.rest (omega arith) in
+      let same : c.in-Ok.text.items ≡ at.0 = rw at.1 at c.in-Ok.ensures.whole in
+      let fits : length at.0 ≤ c.args.limit = rw same at c.in-Ok.ensures.within in
+      let kept : List (List ℕ) = map (λ bytes. bytes.items) c.loop-index.texts.items in
+      let front : map (λ bytes. bytes.items) c.push.new.self.items ≡ kept ++ at.0 ∷ [] =
+      ap (map (λ bytes. bytes.items)) c.in_ok-push.ensures.items ∙ (map_push _ c.loop-index.texts.items c.in-Ok.text ∙ ap (λ (bytes : List ℕ). kept ++ bytes ∷ []) same) in
+      rw front (goes_on c.args.limit _ (c.loop-index.index + 1) at.0 _ _ fits (rw at.2 at (c.loop-index.invariant.so_far known h)));
+}
+
+pub returns-in-Err-Long-clause-read : goal.returns-in-Err-Long-clause-read
+returns-in-Err-Long-clause-read g c known h =
+    let at = known_at g.R.Read.remaining c.args.files.now c.loop-index.files known c.loop-index.index c.index-files-index.result h c.loop-index.invariant.rest (omega arith) in
+    let long : c.args.limit < length at.0 = rw at.1 at (c.in-Err-Long.ensures.long (search rules)) in
+    too_long c.args.limit _ (c.loop-index.index + 1) at.0 _ _ long (rw at.2 at (c.loop-index.invariant.so_far known h))
+
+pub returns-clause-read : goal.returns-clause-read
+returns-clause-read g c known h =
+    let none : drop c.loop-index.index known ≡ [] = drop_all c.loop-index.index known (omega (arith, AreKnown-length g.R.Read.remaining c.args.files.now known h)) in
+    is_done c.args.limit _ (c.loop-index.index + 1) _ (rw none at (c.loop-index.invariant.so_far known h))
+
+pub returns-in-Err-Device-clause-read : goal.returns-in-Err-Device-clause-read
+returns-in-Err-Device-clause-read g c known h =
+    let so_far = c.loop-index.invariant.so_far known h in
+    rw (← so_far) (AllLater-front (c.loop-index.index + 1) _ (files_from c.args.limit (c.loop-index.index + 1) (drop c.loop-index.index known))
+    (AllLater-files c.args.limit (c.loop-index.index + 1) (drop c.loop-index.index known)))

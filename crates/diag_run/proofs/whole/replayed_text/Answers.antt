@@ -1,0 +1,10 @@
+use Rattle.std.proofs.Common.{◌≡◌}
+use Rattle.diag_run.proofs.whole.replayed_text.Goals as goal
+
+pub returns-in-Err-Differs : goal.returns-in-Err-Differs
+returns-in-Err-Differs c = record {
+  entries = c.in-Ok.journal.entries;
+  journal = c.in-Ok.ensures.ok.0;
+  read = c.in-Ok.ensures.ok.1;
+  at = rw c.in-Err-Differs.n-is (c.in-Err-Differs.ensures.differs c.in-Err-Differs.n c.in-Err-Differs.field-0-is);
+}

@@ -1,0 +1,62 @@
+-- What is printed for a fault, and the status that the program ends with.
+use Rattle.std.specs.Prelude.{ℕ, codes, List, ◌++◌}
+use Rattle.std.specs.Fmt.{decimal}
+use Rattle.diag_can.specs.Fault.{line_fault_text}
+use Rattle.diag_can.specs.declared.fault.LogFault.{LogFault}
+use Rattle.diag_can.specs.declared.fault.LogFault.TheVariants as log
+use Rattle.diag_config.specs.Text.{config_fault_text}
+use Rattle.diag_config.specs.declared.fault.ConfigFault.{ConfigFault}
+use Rattle.diag_config.specs.declared.fault.ConfigFault.TheVariants as config
+use Rattle.diag_run.specs.declared.fault.RunFault.{RunFault}
+use Rattle.diag_run.specs.declared.fault.RunFault.TheVariants.{Files, Config, ConfigLong, Log, JournalLine, FileLong, Memory, JournalFull, RecordsDisagree, Read, Write, Differs}
+
+abbrev pub config_text : ConfigFault → List ℕ
+config_text config.Memory = codes "memory"
+config_text fault = codes "config: " ++ config_fault_text fault
+
+-- a tester is told by its place from 1
+abbrev pub log_text : ℕ → LogFault → List ℕ
+log_text who (log.Line n fault) = codes "log " ++ decimal who ++ codes " line " ++ decimal n ++ codes ": " ++ line_fault_text fault
+log_text who log.TooManyLines = codes "log " ++ decimal who ++ codes ": too many lines"
+log_text who log.TooManyEvents = codes "log " ++ decimal who ++ codes ": too many events"
+log_text who log.Memory = codes "memory"
+
+abbrev pub run_fault_text : RunFault → List ℕ
+run_fault_text (Files wanted given) = decimal wanted ++ (codes " files wanted, " ++ (decimal given ++ codes " given"))
+run_fault_text (Config fault) = config_text fault
+run_fault_text ConfigLong = codes "config: too long"
+run_fault_text (Log who fault) = log_text who fault
+run_fault_text (JournalLine n) = codes "journal line " ++ decimal n
+run_fault_text (FileLong n) = codes "file " ++ decimal n ++ codes ": too long"
+run_fault_text Memory = codes "memory"
+run_fault_text JournalFull = codes "journal full"
+run_fault_text (RecordsDisagree who) = codes "records of " ++ decimal who ++ codes " disagree"
+run_fault_text (Read n) = codes "cannot read file " ++ decimal n
+run_fault_text Write = codes "cannot write"
+run_fault_text (Differs n) = codes "entry " ++ decimal n ++ codes " differs"
+
+-- the whole line on standard error
+abbrev pub fault_text : RunFault → List ℕ
+fault_text fault = codes "uds_play: " ++ run_fault_text fault ++ codes "\n"
+
+abbrev pub config_status : ConfigFault → ℕ
+config_status config.Memory = 4
+config_status fault = 2
+
+abbrev pub log_status : LogFault → ℕ
+log_status log.Memory = 4
+log_status fault = 3
+
+abbrev pub status : RunFault → ℕ
+status (Files wanted given) = 1
+status (Config fault) = config_status fault
+status ConfigLong = 2
+status (Log who fault) = log_status fault
+status (JournalLine n) = 3
+status (FileLong n) = 3
+status Memory = 4
+status JournalFull = 5
+status (RecordsDisagree who) = 6
+status (Read n) = 7
+status Write = 7
+status (Differs n) = 8

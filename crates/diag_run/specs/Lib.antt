@@ -1,0 +1,5 @@
+pub mod Bytes
+pub mod Faults
+pub mod Files
+pub mod Run
+pub mod Text

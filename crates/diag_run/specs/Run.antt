@@ -1,0 +1,127 @@
+-- What a run writes for its config and its files, or the fault that it answers.
+use Rattle.std.specs.Prelude.{◌≡◌, ◌<◌, ◌⊎◌, ℕ, Bool, if◌then◌else◌, List, [], ◌∷◌, ◌++◌, length, map, Option, Result, Ok, Err, IsOkAnd}
+use Rattle.std.specs.Io.KnownBytes.{Appends}
+use Rattle.diag_can.specs.declared.frame.Event.{Event}
+use Rattle.diag_can.specs.declared.log.Timing.{Timing}
+use Rattle.diag_setup.specs.declared.raw.RawSetup.{RawSetup}
+use Rattle.diag_setup.specs.Setup.{link_of}
+use Rattle.diag_tp.specs.declared.sent.Sent.{Sent}
+use Rattle.diag_ecu.specs.State.{opening}
+use Rattle.diag_desk.specs.declared.entry.Entry.{Entry}
+use Rattle.diag_desk.specs.Entry.{IsJournal}
+use Rattle.diag_desk.specs.Fault.{IsTextOf, FaultAt}
+use Rattle.diag_desk.specs.Legal.{Run, after}
+use Rattle.diag_desk.specs.Replay.{IsRun, DiffersAt}
+use Rattle.diag_world.specs.Headline.{IsPlay}
+use Rattle.diag_world.specs.Weaving.{steps_of, turns}
+use Rattle.diag_run.specs.Bytes.{AppendsFront}
+use Rattle.diag_run.specs.Files.{Refusal, ◌>>=◌, Fails, config_of, counted, files_from, logs_from}
+use Rattle.diag_run.specs.Text.{journal_part, whole_text, replay_text}
+use Rattle.diag_run.specs.declared.fault.RunFault.{RunFault}
+use Rattle.diag_run.specs.declared.fault.RunFault.TheVariants.{Files, Config, ConfigLong, Log, JournalLine, FileLong, Memory, JournalFull, RecordsDisagree, Read, Write, Differs}
+use Rattle.diag_run.specs.declared.whole.Given.{Given}
+use Rattle.diag_run.specs.declared.whole.Job.{Job}
+use Rattle.diag_run.specs.declared.whole.Job.TheVariants.{Serial, Replay}
+
+-- ---- what is read
+
+-- how many files are wanted
+abbrev pub wanted : Job → RawSetup → ℕ
+wanted (Serial only_journal timing) setup = length setup.testers
+wanted Replay setup = 1
+
+-- the most bytes of a file
+abbrev pub limit : Job → ℕ
+limit (Serial only_journal timing) = 67108864
+limit Replay = 268435456
+
+-- what a run has read
+pub record Inputs : Type 0 where
+  pub setup : RawSetup
+  pub texts : List (List ℕ)
+
+-- what the code keeps of it
+abbrev pub inputs_of : Given → Inputs
+inputs_of given = record { setup = given.setup; texts = map (λ text. text.items) given.texts.items }
+
+unfoldable pub read_of : Job → List ℕ → List (List ℕ) → Result Inputs Refusal
+read_of job config files = do
+  setup ← config_of config
+  _ ← counted (wanted job setup) (length files)
+  texts ← files_from (limit job) 1 files
+  Ok (record { setup = setup; texts = texts })
+
+-- ---- what is answered for it
+
+-- the bytes of a text that was made
+abbrev pub answered : {A : Type 0} → (A → List ℕ) → Result A RunFault → Result (List ℕ) RunFault
+answered bytes (Ok text) = Ok (bytes text)
+answered bytes (Err fault) = Err fault
+
+-- the text of a play: the journal alone where that is asked for
+abbrev pub played_text : Bool → Timing → RawSetup → Run → List (List Sent) → List ℕ
+played_text only_journal timing setup desk sent =
+    if only_journal then journal_part timing desk.journal else whole_text timing setup desk sent
+
+-- the text of some play of these logs, one event of each in turn
+pub record IsPlayedText (only_journal : Bool) (timing : Timing) (setup : RawSetup) (logs : List (List Event)) (text : List ℕ) : Type 0 where
+  pub desk : Run
+  pub sent : List (List Sent)
+  pub play : IsPlay setup (turns logs) logs desk sent
+  pub is : text ≡ played_text only_journal timing setup desk sent
+
+-- the journal is full only where the logs give more steps than it has room for
+abbrev pub GivesPlayed : Bool → Timing → RawSetup → Result (List (List Event)) Refusal → Result (List ℕ) RunFault → Type 0
+GivesPlayed only_journal timing setup said (Ok text) = IsOkAnd said (λ logs. IsPlayedText only_journal timing setup logs text)
+GivesPlayed only_journal timing setup said (Err JournalFull) = IsOkAnd said (λ logs. 1000000 < length (steps_of (link_of setup) (turns logs)))
+GivesPlayed only_journal timing setup said (Err fault) = Fails fault said
+
+-- the bytes are the text of these entries, which are a run of the setup
+pub record IsReplayedText (setup : RawSetup) (bytes : List ℕ) (text : List ℕ) : Type 0 where
+  pub entries : List Entry
+  pub journal : IsJournal entries
+  pub read : IsTextOf bytes entries
+  pub run : IsRun setup entries
+  pub is : text ≡ replay_text setup (length entries) (after (opening setup) entries)
+
+-- the bytes are the text of entries of which the n-th is the first that differs
+pub record Differ (setup : RawSetup) (bytes : List ℕ) (n : ℕ) : Type 0 where
+  pub entries : List Entry
+  pub journal : IsJournal entries
+  pub read : IsTextOf bytes entries
+  pub at : DiffersAt setup entries n
+
+abbrev pub GivesReplayed : RawSetup → List ℕ → Result (List ℕ) RunFault → Type 0
+GivesReplayed setup bytes (Ok text) = IsReplayedText setup bytes text
+GivesReplayed setup bytes (Err (JournalLine n)) = FaultAt bytes n
+GivesReplayed setup bytes (Err (Differs n)) = Differ setup bytes n
+GivesReplayed setup bytes (Err Memory) = Unit {0}
+GivesReplayed setup bytes (Err fault) = ⊥
+
+abbrev pub first_text : List (List ℕ) → List ℕ
+first_text [] = []
+first_text (text ∷ texts) = text
+
+-- what is answered for what was read
+abbrev pub GivesText : Job → Inputs → Result (List ℕ) RunFault → Type 0
+GivesText (Serial only_journal timing) i answer = GivesPlayed only_journal timing i.setup (logs_from timing i.setup 1 i.texts) answer
+GivesText Replay i answer = GivesReplayed i.setup (first_text i.texts) answer
+
+-- a text for what was read; a fault of the reading, or of what was read
+abbrev pub GivesRun : Job → Result Inputs Refusal → Result (List ℕ) RunFault → Type 0
+GivesRun job said (Ok text) = IsOkAnd said (λ i. GivesText job i (Ok text))
+GivesRun job said (Err fault) = Fails fault said ⊎ IsOkAnd said (λ i. GivesText job i (Err fault))
+
+-- ---- what is written
+
+-- the text of the run went out, and nothing else
+pub record Wrote (job : Job) (said : Result Inputs Refusal) (old new : Option (List ℕ)) : Type 0 where
+  pub text : List ℕ
+  pub gives : GivesRun job said (Ok text)
+  pub appends : Appends old new text
+
+-- a front of the text of the run went out, and nothing else
+pub record WroteFront (job : Job) (said : Result Inputs Refusal) (old new : Option (List ℕ)) : Type 0 where
+  pub text : List ℕ
+  pub gives : GivesRun job said (Ok text)
+  pub appends : AppendsFront old new text

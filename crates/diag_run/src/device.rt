@@ -1,0 +1,74 @@
+//! Reading a whole file and writing a whole text, by loops of their own.
+
+ghost use Rattle.std.specs.Prelude.{◌≡◌, ◌+◌, ◌<◌, ◌^◌, ◌≤◌, ℕ, List, length, take, IfOk, IfSome, OnOk, OnErr, Err, Some};
+ghost use Rattle.std.specs.Io.KnownBytes.{Appends, Keeps};
+ghost use Rattle.diag_run.specs.Bytes.{AppendsFront};
+
+use std::alloc::{AllocError, Global};
+use std::io::{Read, Write};
+
+/// Why a file was not read whole.
+#[derive(Clone, Copy, Debug, PartialEq, Eq)]
+pub enum ReadFault {
+    /// A read failed.
+    Device,
+    /// The file is longer than its limit.
+    Long,
+    Memory,
+}
+
+/// A write or a flush failed, or a write took no byte.
+#[derive(Clone, Copy, Debug, PartialEq, Eq)]
+pub struct WriteFault;
+
+/// All that a reader has left, in at most limit + 1 reads.
+pub fn read_whole<R: Read>(
+    alloc: Global,
+    reader: &mut R,
+    limit: usize,
+) -> Result<Vec<u8>, ReadFault>
+    requires { limit < 2 ^ 32 }
+    ensures whole { IfOk result (λ v. IfSome (R.remaining reader.old) (λ bytes. v.items ≡ bytes)) }
+    ensures within { IfOk result (λ v. length v.items ≤ limit) }
+    ensures long { result ≡ Err ReadFault.Long → IfSome (R.remaining reader.old) (λ bytes. limit < length bytes) }
+{
+    let mut bytes = Vec::new(alloc);
+    let mut buffer = [0u8; 4096];
+    for turn in 0..limit + 1 {
+        let Ok(count) = reader.read(&mut buffer) else {
+            return Err(ReadFault::Device);
+        };
+        if count == 0 {
+            return Ok(bytes);
+        }
+        if count > limit - bytes.len() {
+            return Err(ReadFault::Long);
+        }
+        if bytes.extend_from_slice(&buffer[..count]).is_err() {
+            return Err(ReadFault::Memory);
+        }
+    }
+    Err(ReadFault::Long)
+}
+
+/// Writes the whole text, and flushes. After a fault a front of the text went out.
+pub fn write_whole<W: Write>(out: &mut W, text: &[u8]) -> Result<(), WriteFault>
+    ensures whole { OnOk result (Appends (W.contents out.old) (W.contents out.new) text.now) }
+    ensures front { OnErr result (AppendsFront (W.contents out.old) (W.contents out.new) text.now) }
+{
+    let mut written = 0;
+    while written < text.len() {
+        let count = match out.write(&text[written..]) {
+            Ok(count) => count,
+            Err(_) => return Err(WriteFault),
+        };
+        if count == 0 {
+            return Err(WriteFault);
+        }
+        written += count;
+    }
+    match out.flush() {
+        Ok(()) => Ok(()),
+        Err(_) => Err(WriteFault),
+    }
+}

@@ -1,0 +1,233 @@
+//! A whole run: the config and the files in, one text out.
+
+ghost use Rattle.std.specs.Prelude.{◌≡◌, ◌≢◌, ◌<◌, ◌^◌, ℕ, List, length, map, IfOk, IfErr, OnOk, Some, Err};
+ghost use Rattle.std.specs.Io.KnownBytes.{Keeps};
+ghost use Rattle.diag_run.specs.Files.{AreKnown, Gives};
+ghost use Rattle.diag_run.specs.Run.{wanted, limit, read_of, GivesPlayed, GivesReplayed, GivesText, GivesRun, Wrote, WroteFront, played_text, inputs_of, answered};
+ghost use Rattle.diag_run.specs.Files.{logs_from};
+
+use crate::device::write_whole;
+use crate::fault::{RunFault, fault_text, status};
+use crate::files::{read_config, read_files};
+use crate::logs::read_logs;
+use crate::text::{journal_part, play_text, replay_text};
+use diag_can::Timing;
+use diag_desk::{JournalFault, ReplayFault, StepFault, read_journal, replay};
+use diag_setup::Setup;
+use diag_world::{Played, serial};
+use std::alloc::{AllocError, Global};
+use std::io::{Read, Write};
+
+/// What a run does with its files.
+#[derive(Clone, Copy, Debug, PartialEq, Eq)]
+pub enum Job {
+    /// Plays the logs on one thread, one event of each in turn.
+    Serial { only_journal: bool, timing: Timing },
+    /// Replays a journal.
+    Replay,
+}
+
+impl Job {
+    /// How many files it wants.
+    fn wanted(self, setup: &Setup) -> usize
+        ensures { result ≡ wanted self setup.now }
+    {
+        match self {
+            Job::Serial { .. } => setup.testers(),
+            Job::Replay => 1,
+        }
+    }
+
+    /// The most bytes of a file.
+    fn limit(self) -> usize
+        ensures is { result ≡ limit self }
+        ensures bound { result < 2 ^ 32 }
+    {
+        match self {
+            Job::Serial { .. } => 67_108_864,
+            Job::Replay => 268_435_456,
+        }
+    }
+}
+
+/// What a run has read.
+#[derive(Drop)]
+struct Given {
+    setup: Setup,
+    texts: Vec<Vec<u8>>,
+}
+
+/// Reads the config, counts the files, and reads them in order.
+#[tactic(auto, unfolding(crate::specs::Run::read_of))]
+fn read_all<R: Read>(
+    alloc: Global,
+    job: Job,
+    config: &mut R,
+    files: &mut [R],
+) -> Result<Given, RunFault>
+    ensures read { (bytes : List ℕ) (known : List (List ℕ)) → R.remaining config.old ≡ Some bytes → AreKnown R.remaining files.old known
+        → Gives inputs_of result (read_of job bytes known) }
+    ensures wanted { IfOk result (λ given. length given.texts.items ≡ wanted job given.setup) }
+{
+    let setup = match read_config(alloc, config) {
+        Ok(setup) => setup,
+        Err(fault) => return Err(fault),
+    };
+    let wanted = job.wanted(&setup);
+    let given = files.len();
+    if wanted != given {
+        return Err(RunFault::Files { wanted, given });
+    }
+    match read_files(alloc, files, job.limit()) {
+        Ok(texts) => Ok(Given { setup, texts }),
+        Err(fault) => Err(fault),
+    }
+}
+
+/// Plays the logs, and says what the play writes.
+fn played_text(
+    alloc: Global,
+    setup: &Setup,
+    texts: &[Vec<u8>],
+    only_journal: bool,
+    timing: Timing,
+) -> Result<Vec<u8>, RunFault>
+    requires { length texts.now ≡ length setup.now.testers }
+    ensures { GivesPlayed only_journal timing setup.now (logs_from timing setup.now 1 (map (λ text. text.items) texts.now)) (answered (λ text. text.items) result) }
+{
+    let logs = match read_logs(alloc, setup, timing, texts) {
+        Ok(logs) => logs,
+        Err(fault) => return Err(fault),
+    };
+    match serial(alloc, setup, logs.as_slice()) {
+        Ok(played) => Ok(text_of(alloc, setup, &played, only_journal, timing)?),
+        Err(StepFault::Memory) => Err(RunFault::Memory),
+        Err(StepFault::JournalFull) => Err(RunFault::JournalFull),
+    }
+}
+
+/// What is written of a play: the journal alone where that is asked for.
+fn text_of(
+    alloc: Global,
+    setup: &Setup,
+    played: &Played,
+    only_journal: bool,
+    timing: Timing,
+) -> Result<Vec<u8>, AllocError>
+    requires { length played.now.sent.items ≡ length setup.now.testers }
+    ensures { IfOk result (λ text. text.items ≡ played_text only_journal timing setup.now played.now.desk (map (λ sent. sent.items) played.now.sent.items)) }
+{
+    if only_journal {
+        journal_part(alloc, timing, played.desk.journal())
+    } else {
+        play_text(alloc, setup, played, timing)
+    }
+}
+
+/// Replays the journal that these bytes say, and says what the replay writes.
+fn replayed_text(alloc: Global, setup: &Setup, bytes: &[u8]) -> Result<Vec<u8>, RunFault>
+    ensures { GivesReplayed setup.now bytes.now (answered (λ text. text.items) result) }
+{
+    let journal = match read_journal(alloc, bytes) {
+        Ok(journal) => journal,
+        Err(JournalFault::Line(n)) => return Err(RunFault::JournalLine(n)),
+        Err(JournalFault::Memory) => return Err(RunFault::Memory),
+    };
+    match replay(alloc, setup, &journal) {
+        Ok(ecu) => Ok(replay_text(alloc, setup, &journal, &ecu)?),
+        Err(ReplayFault::Differs(n)) => Err(RunFault::Differs(n)),
+        Err(ReplayFault::Memory) => Err(RunFault::Memory),
+    }
+}
+
+/// The text that is written for what was read.
+fn text_for(alloc: Global, job: Job, given: &Given) -> Result<Vec<u8>, RunFault>
+    requires { length given.now.texts.items ≡ wanted job given.now.setup }
+    ensures { GivesText job (inputs_of given.now) (answered (λ text. text.items) result) }
+{
+    let texts = given.texts.as_slice();
+    match job {
+        Job::Serial {
+            only_journal,
+            timing,
+        } => played_text(alloc, &given.setup, texts, only_journal, timing),
+        Job::Replay => replayed_text(alloc, &given.setup, texts[0].as_slice()),
+    }
+}
+
+/// The whole text of a run.
+fn whole_text<R: Read>(
+    alloc: Global,
+    job: Job,
+    config: &mut R,
+    files: &mut [R],
+) -> Result<Vec<u8>, RunFault>
+    ensures answer { (bytes : List ℕ) (known : List (List ℕ)) → R.remaining config.old ≡ Some bytes → AreKnown R.remaining files.old known
+        → GivesRun job (read_of job bytes known) (answered (λ text. text.items) result) }
+{
+    match read_all(alloc, job, config, files) {
+        Ok(given) => text_for(alloc, job, &given),
+        Err(fault) => Err(fault),
+    }
+}
+
+/// Reads the config and the files, plays or replays, and writes the text of the run and nothing else. Nothing is
+/// written before the text is whole.
+///
+/// # Errors
+/// The first fault in this order: the config, the number of files, each file read in order, what they say in order, the
+/// play or the replay, the writing. After `Write` a front of the text went out, after any other fault nothing.
+#[tactic(auto, using(crate::proofs::Inputs::no_write))]
+pub fn run<R: Read + Drop, W: Write>(
+    alloc: Global,
+    job: Job,
+    mut config: R,
+    mut files: Vec<R>,
+    out: &mut W,
+) -> Result<(), RunFault>
+    ensures done { OnOk result ((bytes : List ℕ) (known : List (List ℕ)) → R.remaining config ≡ Some bytes → AreKnown R.remaining files.items known
+        → Wrote job (read_of job bytes known) (W.contents out.old) (W.contents out.new)) }
+    ensures fault { IfErr result (λ e. e ≢ RunFault.Write → (bytes : List ℕ) (known : List (List ℕ)) → R.remaining config ≡ Some bytes → AreKnown R.remaining files.items known
+        → GivesRun job (read_of job bytes known) (Err e)) }
+    ensures nothing { IfErr result (λ e. e ≢ RunFault.Write → Keeps (W.contents out.old) (W.contents out.new)) }
+    ensures front { result ≡ Err RunFault.Write → (bytes : List ℕ) (known : List (List ℕ)) → R.remaining config ≡ Some bytes → AreKnown R.remaining files.items known
+        → WroteFront job (read_of job bytes known) (W.contents out.old) (W.contents out.new) }
+{
+    let text = match whole_text(alloc, job, &mut config, files.as_mut_slice()) {
+        Ok(text) => text,
+        Err(fault) => return Err(fault),
+    };
+    match write_whole(out, text.as_slice()) {
+        Ok(()) => Ok(()),
+        Err(_) => Err(RunFault::Write),
+    }
+}
+
+/// How a run ended, and what is to be told of it.
+#[derive(Drop)]
+pub enum Outcome {
+    /// The whole text was written.
+    Done,
+    /// The fault's line, unless there was no memory for it, and its status.
+    Fault { told: Option<Vec<u8>>, status: u8 },
+}
+
+/// Runs, and says how it ended.
+pub fn run_and_tell<R: Read + Drop, W: Write>(
+    alloc: Global,
+    job: Job,
+    config: R,
+    files: Vec<R>,
+    out: &mut W,
+) -> Outcome
+    ensures done { result ≡ Outcome.Done → (bytes : List ℕ) (known : List (List ℕ)) → R.remaining config ≡ Some bytes → AreKnown R.remaining files.items known
+        → Wrote job (read_of job bytes known) (W.contents out.old) (W.contents out.new) }
+{
+    match run(alloc, job, config, files, out) {
+        Ok(()) => Outcome::Done,
+        Err(fault) => Outcome::Fault {
+            told: fault_text(alloc, &fault).ok(),
+            status: status(&fault),
+        },
+    }
+}

@@ -1,0 +1,127 @@
+//! The words of the command line.
+
+use clap::error::ErrorKind;
+use clap::{Arg, ArgAction, ArgMatches, Command, Error};
+use diag_can::Timing;
+use diag_run::Job;
+use std::alloc::{AllocError, Global};
+
+/// What the words ask for.
+#[derive(Debug, Drop)]
+pub struct Request<'a> {
+    pub job: Job,
+    pub config: &'a str,
+    pub files: Vec<&'a str>,
+}
+
+/// Why nothing is run.
+#[derive(Debug, Drop)]
+pub enum Refusal {
+    /// `--help` or `--version`, with clap's text.
+    Told(String),
+    Usage,
+    Memory,
+}
+
+impl From<AllocError> for Refusal {
+    fn from(_e: AllocError) -> Refusal {
+        Refusal::Memory
+    }
+}
+
+/// A command with a config and files; a play has flags beside.
+fn job_command<'a>(
+    alloc: Global,
+    name: &'a str,
+    about: &'a str,
+    is_play: bool,
+) -> Result<Command<'a>, AllocError> {
+    let config = Arg::new(alloc, "CONFIG")
+        .required(true)
+        .action(ArgAction::Set);
+    let files = Arg::new(alloc, "FILE")
+        .num_args(0..)
+        .action(ArgAction::Append);
+    let command = Command::new(alloc, name)
+        .about(about)
+        .arg(config)?
+        .arg(files)?;
+    if !is_play {
+        return Ok(command);
+    }
+    let journal = Arg::new(alloc, "journal")
+        .long("journal")
+        .help("Print the journal alone")
+        .action(ArgAction::SetTrue);
+    let stamps = Arg::new(alloc, "stamps")
+        .long("stamps")
+        .help("Take the time from the stamps of the log lines")
+        .action(ArgAction::SetTrue);
+    command.arg(journal)?.arg(stamps)
+}
+
+fn whole_command<'a>(alloc: Global) -> Result<Command<'a>, AllocError> {
+    Command::new(alloc, "uds_play")
+        .about("The diagnostic server of an ECU, played over the logs of its testers")
+        .disable_help_subcommand(true)
+        .subcommand_required(true)
+        .subcommand(job_command(
+            alloc,
+            "serial",
+            "Play one log a tester, one event of each in turn",
+            true,
+        )?)?
+        .subcommand(job_command(alloc, "replay", "Replay a journal", false)?)
+}
+
+fn refusal_of(alloc: Global, error: &Error) -> Refusal {
+    match error.kind() {
+        ErrorKind::OutOfMemory => Refusal::Memory,
+        ErrorKind::DisplayHelp | ErrorKind::DisplayVersion => match error.to_string(alloc) {
+            Ok(text) => Refusal::Told(text),
+            Err(_) => Refusal::Memory,
+        },
+        _ => Refusal::Usage,
+    }
+}
+
+/// What a command does with its files.
+fn job_of(name: &str, flags: &ArgMatches<'_>) -> Job {
+    match name {
+        "replay" => Job::Replay,
+        _ => Job::Serial {
+            only_journal: flags.get_flag("journal"),
+            timing: if flags.get_flag("stamps") {
+                Timing::Stamps
+            } else {
+                Timing::Lines
+            },
+        },
+    }
+}
+
+/// What the words ask for, or why they are refused.
+pub fn read_words<'a>(alloc: Global, words: &'a [String]) -> Result<Request<'a>, Refusal> {
+    let Ok(command) = whole_command(alloc) else {
+        return Err(Refusal::Memory);
+    };
+    let matches = match command.try_get_matches_from(words) {
+        Ok(matches) => matches,
+        Err(error) => return Err(refusal_of(alloc, &error)),
+    };
+    let Some((name, inner)) = matches.subcommand() else {
+        return Err(Refusal::Usage);
+    };
+    let job = job_of(name, inner);
+    let Some(config) = inner.get_str("CONFIG") else {
+        return Err(Refusal::Usage);
+    };
+    let mut files = Vec::new(alloc);
+    if files
+        .extend_from_slice(inner.get_strs("FILE").unwrap_or(&[]))
+        .is_err()
+    {
+        return Err(Refusal::Memory);
+    }
+    Ok(Request { job, config, files })
+}

@@ -1,0 +1,111 @@
+#!/usr/bin/env bash
+# Refuses each request for memory in turn, in the executables that `rt ci`, `rt test` or `rt run` left in out/: the
+# program, and the executables of the tests, a test at a time. Usage: tools/refuse.sh
+# The program must answer want of memory (status 4, nothing on standard output) or, where it had no more need of the
+# memory, what it answers without a refusal. A test must pass, since it takes want of memory for an answer, or end
+# with AllocError itself.
+# REFUSE_SECONDS (default 240) bounds the time; what was not reached is said. The last line is 'N passed, M failed'.
+set -uo pipefail
+cd "$(dirname "$0")/.." || exit 2
+room=$(mktemp -d)
+trap 'rm -rf "$room"' EXIT
+cc -O2 -shared -fPIC -o "$room/refuse.so" tools/refuse.c -ldl || { echo "refuse: no C compiler"; echo "0 passed, 1 failed"; exit 1; }
+end=$(($(date +%s) + ${REFUSE_SECONDS:-240}))
+passed=0
+failed=0
+
+# late: whether the time is over
+late() { [ "$(date +%s)" -ge "$end" ]; }
+
+# refused N PROGRAM WORD..: runs the program with request N refused; sets status and asked
+refused() {
+  local n=$1
+  shift
+  status=0
+  : > "$room/count"
+  REFUSE_AT=$n REFUSE_COUNT="$room/count" LD_PRELOAD="$room/refuse.so" timeout 60 "$@" > "$room/out" 2> "$room/err" || status=$?
+  asked=$(cat "$room/count")
+  asked=${asked:-0}
+}
+
+good() { passed=$((passed + 1)); echo "refused: $*"; }
+bad() { failed=$((failed + 1)); echo "REFUSED WRONG: $*"; [ -f "$room/err" ] && sed 's/^/    /' "$room/err" | head -n 5; }
+
+# sweep_run NAME STATUS OUT ERR PROGRAM WORD..: a run that, where nothing is refused, ends with STATUS, writes what the
+# file OUT has, and the line ERR on standard error
+sweep_run() {
+  local name=$1 wanted=$2 whole=$3 told=$4 n=1
+  shift 4
+  refused 0 "$@"
+  if [ "$status" != "$wanted" ]; then bad "$name: status $status without a refusal"; return; fi
+  if ! cmp -s "$room/out" "$whole"; then bad "$name: another text without a refusal"; return; fi
+  if [ "$(cat "$room/err")" != "$told" ]; then bad "$name: another line on standard error"; return; fi
+  while :; do
+    if late; then bad "$name: no time after $((n - 1)) requests"; return; fi
+    refused "$n" "$@"
+    [ "$n" -gt "$asked" ] && break
+    if [ "$status" = 4 ]; then
+      [ -s "$room/out" ] && { bad "$name: request $n: something was written"; return; }
+    elif [ "$status" != "$wanted" ] || ! cmp -s "$room/out" "$whole"; then
+      bad "$name: request $n: status $status"
+      return
+    fi
+    n=$((n + 1))
+  done
+  good "$name: $((n - 1)) requests"
+}
+
+# sweep_test PROGRAM NAME: one test; at most 200 requests and about 15 seconds, evenly chosen where it makes more
+sweep_test() {
+  local program=$1 name=$2 n=1 step=1 begun took most
+  begun=$(date +%s%N)
+  refused 0 "$program" "$name"
+  took=$((($(date +%s%N) - begun) / 1000000 + 1))
+  if [ "$status" != 0 ]; then bad "$name: status $status without a refusal"; return; fi
+  most=$((15000 / took + 1))
+  [ "$most" -gt 200 ] && most=200
+  [ "$asked" -gt "$most" ] && step=$((asked / most + 1))
+  while [ "$n" -le "$asked" ]; do
+    if late; then echo "refused: $name: no time after $((n - 1)) requests"; return; fi
+    refused "$n" "$program" "$name"
+    if [ "$status" != 0 ] && ! grep -q 'error: AllocError' "$room/err"; then bad "$name: request $n: status $status"; return; fi
+    n=$((n + step))
+  done
+  good "$name: $asked requests, one of each $step"
+}
+
+program=crates/uds_play/out/uds_play
+if [ -x "$program" ]; then
+  : > "$room/nothing"
+  printf '[[tester]]\nname = "A"\nrequest = 0x7E0\nresponse = 0x7E8\n' > "$room/config"
+  printf '(0000000010.000000) can0 7E0#021003\n(0000000012.500999) can0 7E0#023E00\n' > "$room/log"
+  {
+    echo '(0000000000.000000) A 7E8#065003003201F4CC'
+    echo '(0000000002.500000) A 7E8#027E00CCCCCCCCCC'
+    printf 'diag-journal 2\n0 1 P 1003 5003003201F4\n2500 1 T 2500\n2500 1 P 3E00 7E00\n'
+    printf 'session extended\nholder A\n'
+  } > "$room/played"
+  printf 'diag-journal 1\n1 P 1083 -\n' > "$room/journal"
+  printf 'entries 1\nsession extended\nholder A\n' > "$room/replayed"
+  printf 'diag-journal 1\n1 P 1003 5003003201F5\n' > "$room/other"
+  printf 'x' > "$room/bad"
+  usage='uds_play: usage: uds_play [serial|play|replay] [--journal] [--stamps] CONFIG FILE..'
+  sweep_run "the stored run" 0 crates/uds_play/stdout '' "$program"
+  sweep_run "serial" 0 "$room/played" '' "$program" serial --stamps "$room/config" "$room/log"
+  sweep_run "replay" 0 "$room/replayed" '' "$program" replay "$room/config" "$room/journal"
+  sweep_run "a usage fault" 1 "$room/nothing" "$usage" "$program" replay --journal "$room/config" "$room/journal"
+  sweep_run "a config at fault" 2 "$room/nothing" 'uds_play: config: syntax' "$program" serial "$room/bad" "$room/log"
+  sweep_run "a log at fault" 3 "$room/nothing" 'uds_play: log 1 line 1: bad line' "$program" serial "$room/config" "$room/bad"
+  sweep_run "a file that is not there" 7 "$room/nothing" 'uds_play: cannot read file 1' "$program" serial "$room/config" "$room/none"
+  sweep_run "a replay that differs" 8 "$room/nothing" 'uds_play: entry 1 differs' "$program" replay "$room/config" "$room/other"
+else
+  bad "$program isn't built"
+fi
+for tests in crates/*/out/*_tests; do
+  [ -x "$tests" ] && [ -f "$tests" ] || continue
+  while read -r name; do
+    [ -n "$name" ] && sweep_test "$tests" "$name"
+  done < <("$tests" --list 2> /dev/null | sed -n 's/: test$//p')
+done
+echo "$passed passed, $failed failed"
+[ "$failed" = 0 ]
