@@ -127,6 +127,3 @@ fn run_job<R: Print + Eprint + AllocGlobal, F: Read + Drop>(
         }
     }
 }
-
-#[cfg(test)]
-mod tests;
