@@ -1,6 +1,6 @@
 #!/usr/bin/env bash
 # Refuses each request for memory in turn, in the executables that `rt ci`, `rt test` or `rt run` left in out/: the
-# program, and the executables of the tests, a test at a time. Usage: tools/refuse.sh
+# program and, with the word `tests`, the executables of the tests, a test at a time. Usage: tools/refuse.sh [tests]
 # The program must answer want of memory (status 4, nothing on standard output) or, where it had no more need of the
 # memory, what it answers without a refusal. A test must pass, since it takes want of memory for an answer, or end
 # with AllocError itself.
@@ -23,7 +23,7 @@ refused() {
   shift
   status=0
   : > "$room/count"
-  REFUSE_AT=$n REFUSE_COUNT="$room/count" LD_PRELOAD="$room/refuse.so" timeout 60 "$@" > "$room/out" 2> "$room/err" || status=$?
+  timeout 60 env REFUSE_AT="$n" REFUSE_COUNT="$room/count" LD_PRELOAD="$room/refuse.so" "$@" > "$room/out" 2> "$room/err" || status=$?
   asked=$(cat "$room/count")
   asked=${asked:-0}
 }
@@ -101,7 +101,7 @@ if [ -x "$program" ]; then
 else
   bad "$program isn't built"
 fi
-for tests in crates/*/out/*_tests; do
+[ "${1:-}" = tests ] && for tests in crates/*/out/*_tests; do
   [ -x "$tests" ] && [ -f "$tests" ] || continue
   while read -r name; do
     [ -n "$name" ] && sweep_test "$tests" "$name"
