@@ -1,0 +1,4 @@
+mod devices;
+mod examples;
+mod faults;
+mod given;
