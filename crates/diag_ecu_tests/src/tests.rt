@@ -1,3 +1,0 @@
-mod codes;
-mod examples;
-mod script;

@@ -1,4 +1,0 @@
-mod devices;
-mod examples;
-mod faults;
-mod given;
