@@ -49,6 +49,7 @@ pub fn read_log(
 ) -> Result<Vec<Event>, LogFault>
     ensures ok { IfOk result (λ log. events text.now ids.now timing ≡ Ok log.items) }
     ensures err { IfErr result (λ fault. fault ≢ LogFault.Memory → events text.now ids.now timing ≡ Err fault) }
+    ensures few { IfOk result (λ log. length log.items ≤ 1000000) }
 {
     let mut reading = Reading {
         events: Vec::new(alloc),
