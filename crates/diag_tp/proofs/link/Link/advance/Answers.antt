@@ -37,4 +37,5 @@ returns c =
       unsent = let fewer = numbers.frames in omega arith;
       due = numbers.now;
       waiting = numbers.replies;
+      setup = done.setup;
     }
