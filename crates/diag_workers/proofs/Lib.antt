@@ -4,4 +4,3 @@ mod Recording
 mod Outs
 mod Logs
 mod Headlines
-mod Limits

@@ -1,19 +1,15 @@
 -- How a lane goes on with one event more.
-use Rattle.std.proofs.Common.{◌≡◌, ◌≤◌, ℕ, ◌+◌, Bool, true, false, cond, Option, Some, None, List, [], ◌∷◌, ◌++◌, refl, ap, subst, sym, ◌∙◌, arith, length-append}
+use Rattle.std.proofs.Common.{◌≡◌, ◌≤◌, ℕ, ◌+◌, Option, Some, None, List, [], ◌∷◌, ◌++◌, refl, ap, subst, sym, ◌∙◌, arith, length-append}
 use Rattle.std.proofs.lemmas.List.{map-append, append-nil}
-use Rattle.std.specs.Prelude.{replicate, IsSome, IsTrue}
+use Rattle.std.specs.Prelude.{replicate, IsTrue}
 use Rattle.std.specs.Option.{option_to_list}
 use Rattle.diag_can.specs.declared.frame.Event.{Event}
 use Rattle.diag_can.specs.declared.frame.Event.TheVariants.{Physical, Functional, Ticks}
 use Rattle.diag_tp.specs.declared.setup.LinkSetup.{LinkSetup}
 use Rattle.diag_tp.specs.declared.step.Step.{Step}
 use Rattle.diag_tp.specs.declared.step.Step.TheVariants as step
-use Rattle.diag_tp.specs.Gives.{completed, functional_step, gives, is_request, physical_step, steps}
-use Rattle.diag_tp.specs.declared.pci.Pci.{Pci}
-use Rattle.diag_tp.specs.declared.pci.Pci.TheVariants.{Single, First, TooLong, Consecutive, Flow, Nothing}
-use Rattle.diag_tp.specs.Kind.{kind}
-use Rattle.diag_tp.specs.Reception.{Reception, Open, is_whole, message_of}
-use Rattle.diag_world.proofs.Moments.{last_time-frame, moments-append}
+use Rattle.diag_tp.specs.Gives.{gives, steps}
+use Rattle.diag_tp.specs.Laws.{TimeLaw, GivesLaw}
 use Rattle.diag_tp.specs.Moments.{moments, last_moment, last_time}
 use Rattle.diag_tp.specs.Placing.{placed, placed_at}
 use Rattle.diag_tp.specs.Link.{StandsFor, is_frame}
@@ -25,68 +21,29 @@ use Rattle.diag_world.specs.Lane.{entries_of, LaneState, LaneStands, SentAll}
 use Rattle.diag_world.specs.Weaving.{all_by}
 use Rattle.diag_world.proofs.Placing.{steps_push, placed_quiet, placed_push}
 
--- a tick count gives that step
-pub gives_ticks : (s : LinkSetup) (E : List Event) (n : ℕ) → gives s E (Ticks n) ≡ Some (step.Ticks n)
-unfolding gives
-gives_ticks s E n = refl
-
 -- no ticks are no moments
-pub no_ticks : (E : List Event) (n : ℕ) → n ≡ 0 → moments E ≡ moments (E ++ Ticks n ∷ [])
-no_ticks E n h =
-    sym (append-nil (moments E)) ∙ (ap (λ k. moments E ++ (replicate k (Ticks 1) ++ [])) (sym h) ∙ sym (moments-append E (Ticks n ∷ [])))
-
--- what a frame gives is a request
-pub frame_gives : (s : LinkSetup) (E : List Event) (e : Event) → IsTrue (is_frame e) → IsSome (gives s E e) → IsTrue (is_request (gives s E e))
-unfolding gives
-frame_gives s E (Ticks n) h some = absurd (no_frame h)
-  where
-    no_frame : IsTrue (is_frame (Ticks n)) → ⊥
-    no_frame h = cc
-frame_gives s E (Functional bytes) h some = of_functional (kind bytes s.max_request) some
-  where
-    of_functional : (k : Pci) → IsSome (functional_step k) → IsTrue (is_request (functional_step k))
-    of_functional (Single payload) some = refl
-    of_functional (First len head) some = cc
-    of_functional TooLong some = cc
-    of_functional (Consecutive number part) some = cc
-    of_functional (Flow status block gap) some = cc
-    of_functional Nothing some = cc
-frame_gives s E (Physical bytes) h some = of_physical (moments E ++ Physical bytes ∷ []) (kind bytes s.max_request) some
-  where
-    of_whole : (b : Bool) (message : List ℕ) → IsSome (cond b (Some (step.Request false message)) None) → IsTrue (is_request (cond b (Some (step.Request false message)) None))
-    of_whole true message some = refl
-    of_whole false message some = cc
-
-    of_completed : (r : Option Reception) → IsSome (completed r) → IsTrue (is_request (completed r))
-    of_completed None some = cc
-    of_completed (Some r) some = of_whole (is_whole r) (message_of r) some
-
-    of_physical : (M : List Event) (k : Pci) → IsSome (physical_step s M k) → IsTrue (is_request (physical_step s M k))
-    of_physical M (Single payload) some = refl
-    of_physical M (First len head) some = cc
-    of_physical M TooLong some = cc
-    of_physical M (Consecutive number part) some = of_completed (Open s M) some
-    of_physical M (Flow status block gap) some = cc
-    of_physical M Nothing some = cc
+pub no_ticks : TimeLaw → (E : List Event) (n : ℕ) → n ≡ 0 → moments E ≡ moments (E ++ Ticks n ∷ [])
+no_ticks law E n h =
+    sym (append-nil (moments E)) ∙ (ap (λ k. moments E ++ (replicate k (Ticks 1) ++ [])) (sym h) ∙ sym (law.append E (Ticks n ∷ [])))
 
 -- an event that gives nothing is a frame, and takes no time
-quiet_frame : (s : LinkSetup) (E : List Event) (e : Event) → gives s E e ≡ None → IsTrue (is_frame e)
-quiet_frame s E (Physical bytes) none = refl
-quiet_frame s E (Functional bytes) none = refl
-quiet_frame s E (Ticks n) none = absurd (clash (sym (gives_ticks s E n) ∙ none))
+quiet_frame : (s : LinkSetup) (E : List Event) (e : Event) → GivesLaw s E → gives s E e ≡ None → IsTrue (is_frame e)
+quiet_frame s E (Physical bytes) law none = refl
+quiet_frame s E (Functional bytes) law none = refl
+quiet_frame s E (Ticks n) law none = absurd (clash (sym (law.ticks n) ∙ none))
   where
     clash : Some (step.Ticks n) ≡ None → ⊥
     clash h = cc
 
 -- where an event gives nothing, the lane goes on with the same entries
 goes_on_quiet : (s : LinkSetup) (E : List Event) (K : List Entry) (e : Event) (reply : Option (List ℕ)) (lane lane' : LaneState)
-    → LaneStands s lane E K → gives s E e ≡ None → reply ≡ None
+    → TimeLaw → GivesLaw s E → LaneStands s lane E K → gives s E e ≡ None → reply ≡ None
     → SentAll s lane' (E ++ e ∷ []) (placed s E (replies K) ++ placed_at (last_moment (E ++ e ∷ [])) reply) → LaneStands s lane' (E ++ e ∷ []) (K ++ [])
-goes_on_quiet s E K e reply lane lane' h none quiet sent =
+goes_on_quiet s E K e reply lane lane' law gives_law h none quiet sent =
     let A = placed s E (replies K) in
     let same : A ++ placed_at (last_moment (E ++ e ∷ [])) reply ≡ placed s (E ++ e ∷ []) (replies K) =
     ap (λ r. A ++ placed_at (last_moment (E ++ e ∷ [])) r) quiet ∙ (append-nil A ∙ sym (placed_quiet s E e (replies K) none)) in
-    let still = last_time-frame E e (quiet_frame s E e none) in
+    let still = law.frame E e (quiet_frame s E e gives_law none) in
     subst (λ K'. LaneStands s lane' (E ++ e ∷ []) K') (sym (append-nil K)) (record {
       stands = subst (λ A'. StandsFor s lane'.link (E ++ e ∷ []) A' lane'.sent) same sent.stands;
       all_sent = sent.all_sent ∙ ap (wire s (E ++ e ∷ [])) same;
@@ -110,11 +67,11 @@ goes_on_step s E K e k lane lane' h some sent time =
 
 -- the lane goes on with the entry that the event makes
 pub goes_on : (s : LinkSetup) (who : ℕ) (E : List Event) (K : List Entry) (e : Event) (reply : Option (List ℕ)) (lane lane' : LaneState) (o : Option Step)
-    → LaneStands s lane E K → gives s E e ≡ o → (o ≡ None → reply ≡ None)
+    → TimeLaw → GivesLaw s E → LaneStands s lane E K → gives s E e ≡ o → (o ≡ None → reply ≡ None)
     → SentAll s lane' (E ++ e ∷ []) (placed s E (replies K) ++ placed_at (last_moment (E ++ e ∷ [])) reply) → last_time (E ++ e ∷ []) ≤ last_time E + 60000
     → LaneStands s lane' (E ++ e ∷ []) (K ++ entries_of who o reply)
-goes_on s who E K e reply lane lane' None h is quiet sent time = goes_on_quiet s E K e reply lane lane' h is (quiet refl) sent
-goes_on s who E K e reply lane lane' (Some step) h is quiet sent time = goes_on_step s E K e (entry who step reply) lane lane' h is sent time
+goes_on s who E K e reply lane lane' None law gives_law h is quiet sent time = goes_on_quiet s E K e reply lane lane' law gives_law h is (quiet refl) sent
+goes_on s who E K e reply lane lane' (Some step) law gives_law h is quiet sent time = goes_on_step s E K e (entry who step reply) lane lane' h is sent time
 
 pub none_of : {X : Type 0} (o : Option X) → ((x : X) → o ≡ Some x → ⊥) → o ≡ None
 none_of None h = refl

@@ -28,7 +28,7 @@ ghost use Rattle.diag_world.specs.Lane.{entries_of};
 ghost use Rattle.diag_world.specs.Lane.{due, lane_of, waiting, HasRoom, IsReady, LaneStands, RepliesToFrame};
 
 use diag_can::Event;
-use diag_tp::{Link, LinkSetup, Message, Sent, Step};
+use diag_tp::{Link, LinkSetup, Message, Sent, Step, gives_law, time_law};
 use std::alloc::{AllocError, Global};
 
 /// One tester's link, and the frames that the tester was sent.
@@ -64,6 +64,7 @@ impl Lane {
         ensures step { IfOk result (λ step. (s : ALinkSetup) (E : List AnEvent) (K : List AnEntry) → LaneStands s (lane_of self.old) E K → step ≡ gives s E event.now) }
         ensures replies { IfOk result (λ step. IfSome step (λ step. RepliesToFrame event.now step)) }
     {
+        gives_law();
         match event {
             Event::Ticks(count) => {
                 self.sent.reserve(self.link.backlog() as usize)?;
@@ -95,6 +96,8 @@ impl Lane {
         ensures waiting { waiting (lane_of self.new) ≤ waiting (lane_of self.old) + 1 }
         ensures none_waits { reply ≡ None → waiting (lane_of self.new) ≤ waiting (lane_of self.old) }
     {
+        gives_law();
+        time_law();
         match event {
             Event::Ticks(count) => self.pass(*count),
             Event::Physical(_) | Event::Functional(_) => self.receive(event, reply),
@@ -105,6 +108,7 @@ impl Lane {
     pub(crate) fn gives_step(&self, event: &Event) -> bool
         ensures { (s : ALinkSetup) (E : List AnEvent) (K : List AnEntry) → LaneStands s (lane_of self.now) E K → (IsTrue result ↔ IsSome (gives s E event.now)) }
     {
+        gives_law();
         match event {
             Event::Ticks(_) => true,
             Event::Physical(_) | Event::Functional(_) => self.link.completes(event),

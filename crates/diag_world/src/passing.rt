@@ -11,7 +11,7 @@ ghost use Rattle.diag_world.specs.Lane.{lane_of, SentAll};
 
 use crate::lane::Lane;
 use diag_can::{Event, TickCount};
-use diag_tp::{Link, Message, Sent, moments_law};
+use diag_tp::{Link, Message, Sent, moments_law, time_law};
 
 impl Lane {
     /// Lets so many ticks pass, in moves before whose last tick nothing falls due.
@@ -24,6 +24,7 @@ impl Lane {
         ensures most { count ≤ 60000 }
     {
         moments_law();
+        time_law();
         let mut left = count.get();
         while left > 0 {
             let most = self.link.quiet().min(u64::from(left)) as u16;

@@ -3,7 +3,6 @@ use Rattle.std.proofs.lemmas.Grind.{common_steps}
 use Rattle.std.proofs.lemmas.List.{map-append, length-append}
 use Rattle.std.specs.List.{AllByRecursion}
 use Rattle.diag_can.specs.Log.{events}
-use Rattle.diag_workers.proofs.Limits.{few_events}
 use Rattle.diag_workers.proofs.Logs.{reads_more, reads_fault, all_push, err_same}
 use Rattle.diag_workers.proofs.playing.read_logs.Goals as goal
 
@@ -26,7 +25,7 @@ loop-i-preserved c =
     let low : c.loop-i.i < length texts = omega (arith, c.loop-i-test.true) in
     let pushed : c.push.new.self.items ≡ c.loop-i.logs.items ++ log ∷ [] = search (rules, common_steps) in
     let well = (λ i. events (sym c.as_slice.ensures.value i) (sym c.ids.ensures i) c.args.timing) ∙ c.in-Ok.ensures.ok in
-    let most = few_events text.items _ c.args.timing log.items well in
+    let most = c.in-Ok.ensures.few in
     let few : vec_len log ≤ 1000000 = omega (arith, most, log.ok.0) in record {
       logs = reads_more (λ v. v.items) c.args.setup.now c.args.timing texts c.loop-i.i text text low (sym c.index-texts-i.is) (map (λ v. v.items) c.loop-i.logs.items) c.in-Some.who c.loop-i.invariant.logs c.in-Some.ensures
           log.items well

@@ -1,4 +1,4 @@
-use Rattle.std.proofs.Common.{◌≡◌, List, [], refl, subst, sym, ◌∙◌, arith}
+use Rattle.std.proofs.Common.{List, [], refl, subst, sym, ◌∙◌, arith}
 use Rattle.diag_tp.specs.declared.sent.Sent.{Sent}
 use Rattle.diag_tp.specs.Link.{StandsFor}
 use Rattle.diag_world.proofs.lane.Lane.new.Goals as goal

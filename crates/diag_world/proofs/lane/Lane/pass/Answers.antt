@@ -2,7 +2,6 @@ use Rattle.std.proofs.Common.{◌≡◌, ◌+◌, ◌-◌, ◌≤◌, [], ◌∷
 use Rattle.diag_can.specs.declared.frame.Event.TheVariants.{Ticks}
 use Rattle.diag_tp.specs.Link.{StandsFor, last_tick}
 use Rattle.diag_tp.specs.Moments.{last_time}
-use Rattle.diag_world.proofs.Moments.{moments-sum, last_time-ticks}
 use Rattle.diag_world.proofs.Lanes.{no_ticks}
 use Rattle.diag_world.proofs.lane.Lane.pass.Goals as goal
 
@@ -17,7 +16,7 @@ loop-left-init c =
       room = c.requires.room;
       waiting = omega arith;
       stands = λ s E A st time. (
-        c.moments_law.ensures s _ E (E ++ Ticks done ∷ []) A _ (no_ticks E done zero) st,
+        c.moments_law.ensures s _ E (E ++ Ticks done ∷ []) A _ (no_ticks c.time_law.ensures E done zero) st,
         λ less. absurd (omega (arith, less, left)),
       );
     }
@@ -39,9 +38,9 @@ loop-left-preserved c =
           let Q = c.loop-left.self.sent.items in
           let old = inv.stands s E A st time in
           let moved = c.advance.ensures.stands s (E ++ Ticks before ∷ []) A Q old.0 in
-          let summed = c.moments_law.ensures s _ _ (E ++ Ticks (before + part) ∷ []) A Q (moments-sum E before part) moved in
+          let summed = c.moments_law.ensures s _ _ (E ++ Ticks (before + part) ∷ []) A Q (c.time_law.ensures.sum E before part) moved in
           let here = subst (λ n. StandsFor s c.advance.new.self.state (E ++ Ticks n ∷ []) A Q) grown summed in
-          let in_time : last_time (E ++ Ticks after ∷ []) ≤ last_tick = omega (arith, last_time-ticks E after, time) in
+          let in_time : last_time (E ++ Ticks after ∷ []) ≤ last_tick = omega (arith, c.time_law.ensures.ticks E after, time) in
           let out = c.send_due.ensures.stands s (E ++ Ticks after ∷ []) A here in_time in
           (out.0, λ less. out.1);
     }
