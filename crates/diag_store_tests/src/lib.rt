@@ -1,0 +1,7 @@
+//! Tests of the setup and of the tables, over their public calls.
+#![tactic(auto)]
+
+#[cfg(test)]
+mod setups;
+#[cfg(test)]
+mod tables;

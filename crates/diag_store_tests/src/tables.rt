@@ -1,0 +1,251 @@
+//! The tables, by the calls that the services make of them.
+
+ghost use Rattle.std.specs.Prelude.{◌≡◌, is_some};
+
+use diag_fixtures::{bytes, raw_two_testers, rows, two_testers};
+use diag_store::{
+    DidFault, DidRule, Dids, DtcMemory, KeyAnswer, RawCode, RawRoutine, RoutineState, Routines,
+    Security, SeedAnswer, Setup, Who,
+};
+use std::alloc::{AllocError, Global};
+use std::process::Abort;
+use std::test::Fail;
+
+const FIRST_SEED: &[u8] = &[0x11, 0x22, 0x33, 0x44];
+
+const SECOND_SEED: &[u8] = &[0x55, 0x66, 0x77, 0x88];
+
+const SECOND_KEY: &[u8] = &[0x01, 0x02, 0x03, 0x04];
+
+const WRONG_KEY: &[u8] = &[0, 0, 0, 0];
+
+/// Whether a request for a seed of level 1 is answered with these bytes; None for a delay.
+#[tactic(auto, using(crate::proofs::Known::known_level))]
+fn gives_seed(rt: &impl Abort, security: &mut Security, who: Who, want: Option<&[u8]>) -> bool {
+    let known = security.key_len(1).is_some();
+    assert!(rt; known);
+    match security.seed(who, 1) {
+        SeedAnswer::Delayed => want.is_none(),
+        SeedAnswer::Seed(seed) => want == Some(seed.as_slice()),
+    }
+}
+
+#[tactic(auto, using(crate::proofs::Known::known_level))]
+fn key(rt: &impl Abort, security: &mut Security, who: Who, key: &[u8]) -> KeyAnswer {
+    let known = security.key_len(1).is_some();
+    assert!(rt; known);
+    security.key(who, 1, key)
+}
+
+/// The security of a tester who was delayed for three wrong keys, and then unlocked level 1.
+fn after_security_access(rt: &impl Abort, security: &mut Security, who: Who) {
+    assert!(rt; gives_seed(rt, security, who, Some(FIRST_SEED)));
+    assert_eq!(rt; key(rt, security, who, WRONG_KEY), KeyAnswer::Wrong);
+    assert!(rt; gives_seed(rt, security, who, Some(SECOND_SEED)));
+    assert_eq!(rt; key(rt, security, who, WRONG_KEY), KeyAnswer::Wrong);
+    assert!(rt; gives_seed(rt, security, who, Some(FIRST_SEED)));
+    assert_eq!(rt; key(rt, security, who, WRONG_KEY), KeyAnswer::TooMany);
+    assert!(rt; gives_seed(rt, security, who, None));
+    for _ in 0..1999 {
+        security.tick(who);
+    }
+    assert!(rt; gives_seed(rt, security, who, None));
+    security.tick(who);
+    assert!(rt; gives_seed(rt, security, who, Some(SECOND_SEED)));
+    assert!(rt; gives_seed(rt, security, who, Some(SECOND_SEED)));
+    assert_eq!(rt; key(rt, security, who, SECOND_KEY), KeyAnswer::Right);
+    assert!(rt; gives_seed(rt, security, who, Some(WRONG_KEY)));
+    assert_eq!(rt; key(rt, security, who, SECOND_KEY), KeyAnswer::NoSeed);
+}
+
+#[test]
+fn security_access(rt: HostRuntime) -> Result<(), Fail> {
+    let setup = two_testers(rt.alloc())?;
+    let who = Who::new(1).ok_or("a first place")?;
+    let mut security = Security::new(rt.alloc(), &setup)?;
+    after_security_access(&rt, &mut security, who);
+    let mut copy = security.try_copy()?;
+    assert!(rt; is_unlocked(&security) && is_unlocked(&copy));
+    assert!(rt; gives_seed(&rt, &mut copy, who, Some(WRONG_KEY)));
+    copy.lock();
+    assert!(rt; is_unlocked(&security) && !is_unlocked(&copy));
+    Ok(())
+}
+
+fn is_unlocked(security: &Security) -> bool {
+    security.unlocked() == Some(1)
+}
+
+#[test]
+fn written_copy(rt: HostRuntime) -> Result<(), Fail> {
+    let setup = two_testers(rt.alloc())?;
+    let dids = Dids::new(rt.alloc(), &setup)?;
+    let mut copy = dids.try_copy()?;
+    assert!(rt; is_written(&mut copy));
+    assert!(rt; has_value(&copy, b"ABCDEFGHIJKLMNOPQ"));
+    assert!(rt; has_value(&dids, b"TESTVIN0123456789"));
+    assert!(rt; has_rule(&copy));
+    Ok(())
+}
+
+/// Whether a value of the right length is written, and no other.
+fn is_written(dids: &mut Dids) -> bool {
+    dids.write(0xF190, b"ABCDEFGHIJKLMNOPQ").is_ok()
+        && dids.write(0xF190, b"A") == Err(DidFault::Length)
+        && dids.write(0xFFFF, b"A") == Err(DidFault::Unknown)
+}
+
+fn has_value(dids: &Dids, value: &[u8]) -> bool {
+    dids.get(0xF190) == Some(value)
+}
+
+fn has_rule(dids: &Dids) -> bool {
+    let rule = DidRule {
+        read_level: 0,
+        write: true,
+        write_level: 1,
+    };
+    dids.rule(0xF190) == Some(rule) && dids.rule(0xF191).is_none()
+}
+
+#[test]
+fn trouble_codes(rt: HostRuntime) -> Result<(), Fail> {
+    let setup = two_testers(rt.alloc())?;
+    let mut codes = DtcMemory::new(rt.alloc(), &setup)?;
+    assert!(rt; is_cleared(&mut codes));
+    let mut copy = codes.try_copy()?;
+    assert!(rt; is_set(&mut copy));
+    assert!(rt; has_status(&codes, 0x50));
+    assert!(rt; has_status(&copy, 0x2F));
+    Ok(())
+}
+
+/// Whether an unknown group is refused, and all codes are cleared.
+fn is_cleared(codes: &mut DtcMemory) -> bool {
+    !codes.clear(0x00FFFF) && has_status(codes, 0x2F) && codes.clear(0xFF_FFFF) && has_one(codes)
+}
+
+/// Whether there is one code, with the status after clearing.
+fn has_one(codes: &DtcMemory) -> bool {
+    codes.len() == 1
+        && codes.at(0) == Some((0x01_2345, 0x50))
+        && codes.count(0xFF) == 1
+        && codes.count(0x01) == 0
+}
+
+fn has_status(codes: &DtcMemory, status: u8) -> bool {
+    codes.status(0x01_2345) == Some(status)
+}
+
+/// Whether the code gets its status, and no other code is known.
+fn is_set(codes: &mut DtcMemory) -> bool {
+    codes.set(0x01_2345, 0x2F) && !codes.set(1, 0)
+}
+
+#[tactic(auto, using(crate::proofs::Known::known_routine))]
+fn start(rt: &impl Abort, routines: &mut Routines, id: u16) {
+    let known = routines.state(id).is_some();
+    assert!(rt; known);
+    routines.start(id);
+}
+
+#[tactic(auto, using(crate::proofs::Known::known_routine))]
+fn stop(rt: &impl Abort, routines: &mut Routines, id: u16) {
+    let known = routines.state(id).is_some();
+    assert!(rt; known);
+    routines.stop(id);
+}
+
+/// A setup with a further routine like the first, of another status.
+fn with_second_routine(alloc: Global) -> Result<Setup, AllocError> {
+    let mut raw = raw_two_testers(alloc)?;
+    raw.routines.push(RawRoutine {
+        id: 0x0204,
+        time_ms: 100,
+        result: bytes(alloc, &[0x01])?,
+        level: 0,
+        on_done: Some(RawCode {
+            code: 0x01_2345,
+            status: 0x01,
+        }),
+    })?;
+    raw.check().map_err(|_| AllocError)
+}
+
+/// Starts these routines in this order, after the codes are cleared.
+fn start_all(rt: &impl Abort, codes: &mut DtcMemory, routines: &mut Routines, order: &[u16]) {
+    assert!(rt; codes.clear(0xFF_FFFF));
+    for id in order {
+        start(rt, routines, *id);
+    }
+}
+
+/// Whether 0203 runs for so many ticks, after which it has one left, and the code has the status after clearing.
+fn runs_until_the_last_tick(codes: &mut DtcMemory, routines: &mut Routines, setting: bool) -> bool {
+    for _ in 0..99 {
+        routines.tick(codes, setting);
+    }
+    has_status(codes, 0x50) && is_in(routines, RoutineState::Running(1))
+}
+
+/// Whether 0203 is done by one tick, with its result, and the code has this status.
+fn is_done_with(codes: &mut DtcMemory, routines: &mut Routines, setting: bool, status: u8) -> bool {
+    routines.tick(codes, setting);
+    has_status(codes, status) && is_in(routines, RoutineState::Done) && has_result(routines)
+}
+
+fn is_in(routines: &Routines, state: RoutineState) -> bool {
+    routines.state(0x0203) == Some(state)
+}
+
+fn has_result(routines: &Routines) -> bool {
+    routines.result(0x0203) == Some([0x01].as_slice())
+}
+
+/// Which routines are started, in order, whether the setting is on, and the status of the code after 100 ticks.
+const RUNS: [(&[u16], bool, u8); 4] = [
+    (&[0x0203], true, 0x2F),
+    (&[0x0203, 0x0204], true, 0x01),
+    (&[0x0204, 0x0203], true, 0x01),
+    (&[0x0203], false, 0x50),
+];
+
+#[test]
+fn routine_and_setting(rt: HostRuntime) -> Result<(), Fail> {
+    let setup = with_second_routine(rt.alloc())?;
+    for (order, setting, status) in RUNS {
+        runs(&rt, rt.alloc(), &setup, order, setting, status)?;
+    }
+    Ok(())
+}
+
+fn runs(
+    rt: &impl Abort,
+    alloc: Global,
+    setup: &Setup,
+    order: &[u16],
+    setting: bool,
+    status: u8,
+) -> Result<(), AllocError> {
+    let mut codes = DtcMemory::new(alloc, setup)?;
+    let mut routines = Routines::new(alloc, setup)?;
+    start_all(rt, &mut codes, &mut routines, order);
+    assert!(rt; runs_until_the_last_tick(&mut codes, &mut routines, setting));
+    assert!(rt; is_done_with(&mut codes, &mut routines, setting, status));
+    stop(rt, &mut routines, 0x0203);
+    assert!(rt; is_in(&routines, RoutineState::Idle));
+    Ok(())
+}
+
+#[test]
+fn copied_routines(rt: HostRuntime) -> Result<(), Fail> {
+    let setup = with_second_routine(rt.alloc())?;
+    let mut routines = Routines::new(rt.alloc(), &setup)?;
+    start(&rt, &mut routines, 0x0203);
+    let mut copy = routines.try_copy()?;
+    assert!(rt; is_in(&copy, RoutineState::Running(100)));
+    copy.idle_all();
+    assert!(rt; is_in(&copy, RoutineState::Idle));
+    assert!(rt; is_in(&routines, RoutineState::Running(100)));
+    Ok(())
+}
