@@ -1,0 +1,66 @@
+//! Events as moments: each frame is one, and each unit tick.
+
+use crate::kinds::kind;
+use diag_can::Event;
+use diag_tp::Pci;
+use std::alloc::{AllocError, Global};
+
+/// A moment: a frame, or a unit tick. Moment 0 is the opening, where nothing happens.
+#[derive(Drop)]
+pub(crate) struct Moment {
+    /// The unit ticks up to and with this moment.
+    pub(crate) time: u64,
+    /// What the physical frame of this moment is; all else is Nothing.
+    pub(crate) kind: Pci,
+}
+
+impl Moment {
+    fn silent(time: u64) -> Moment {
+        Moment {
+            time,
+            kind: Pci::Nothing,
+        }
+    }
+}
+
+/// The moments of these events.
+pub(crate) fn moments(
+    alloc: Global,
+    events: &[Event],
+    max: u16,
+) -> Result<Vec<Moment>, AllocError> {
+    let mut all = Vec::new(alloc);
+    all.push(Moment::silent(0))?;
+    let mut time = 0;
+    for event in events {
+        match event {
+            Event::Physical(bytes) => all.push(Moment {
+                time,
+                kind: kind(bytes.as_slice(), max),
+            })?,
+            Event::Functional(_) => all.push(Moment::silent(time))?,
+            Event::Ticks(count) => time = wait(&mut all, time, count.get())?,
+        }
+    }
+    Ok(all)
+}
+
+/// So many unit ticks after this time; the time is then this.
+fn wait(all: &mut Vec<Moment>, mut time: u64, count: u16) -> Result<u64, AllocError> {
+    for _ in 0..count {
+        time = time.saturating_add(1);
+        all.push(Moment::silent(time))?;
+    }
+    Ok(time)
+}
+
+/// The time of a moment.
+pub(crate) fn time(moments: &[Moment], moment: usize) -> u64 {
+    moments.get(moment).map_or(0, |moment| moment.time)
+}
+
+/// The first moment, from this one on, that is at least so many ticks after it.
+pub(crate) fn moment_after(moments: &[Moment], from: usize, ticks: u64) -> Option<usize> {
+    let wanted = time(moments, from).saturating_add(ticks);
+    (from..moments.len()).find(|moment| time(moments, *moment) >= wanted)
+}

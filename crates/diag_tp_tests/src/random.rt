@@ -1,0 +1,265 @@
+//! Links and their twins over traffic by chance.
+
+use crate::chance::Chance;
+use crate::kinds::{bytes_of, kind};
+use crate::pair::{Pace, Pair};
+use crate::script::settings;
+use crate::trouble::{Trouble, holds};
+use diag_can::{Event, TickCount};
+use diag_tp::{LinkSetup, Message, Pci};
+use std::alloc::Global;
+use std::test::Fail;
+
+/// A tester that sends by chance.
+#[derive(Drop)]
+struct Tester {
+    chance: Chance,
+    setup: LinkSetup,
+    /// The number of the next Consecutive of the message that is being sent.
+    number: u8,
+}
+
+/// That many ticks, of 1 to 255.
+fn ticks(count: u8) -> Option<TickCount> {
+    TickCount::new(u16::from(count))
+}
+
+/// Settings by chance, with short times.
+fn short_settings(chance: &mut Chance) -> Option<LinkSetup> {
+    Some(LinkSetup {
+        block_size: chance.below(4),
+        st_min: chance.byte(),
+        max_request: if chance.is_one_in(3) { 20 } else { 65535 },
+        pad: if chance.is_one_in(3) {
+            None
+        } else {
+            Some(chance.byte())
+        },
+        n_bs: ticks(chance.below(6).saturating_add(1))?,
+        n_cr: ticks(chance.below(6).saturating_add(1))?,
+        ..settings()?
+    })
+}
+
+impl Tester {
+    /// Eight bytes, of which those from 1 on are any.
+    fn bytes(&mut self, control: u8) -> [u8; 8] {
+        let mut bytes = [control; 8];
+        for byte in bytes.iter_mut().skip(1) {
+            *byte = self.chance.byte();
+        }
+        bytes
+    }
+
+    /// Frames of this control byte: of eight bytes, or some less.
+    fn physical(&mut self, control: u8, least: u8) -> Event {
+        let bytes = self.bytes(control);
+        let size = if self.chance.is_one_in(2) {
+            8
+        } else {
+            usize::from(least.saturating_add(self.chance.below(8)))
+        };
+        Event::Physical(bytes_of(&bytes[..size.min(8)]))
+    }
+
+    fn single(&mut self) -> Event {
+        let size = self.chance.below(9);
+        self.physical(size, size)
+    }
+
+    fn functional(&mut self) -> Event {
+        let control = if self.chance.is_one_in(4) {
+            self.chance.byte()
+        } else {
+            self.chance.below(8)
+        };
+        Event::Functional(bytes_of(&self.bytes(control)))
+    }
+
+    /// A First of a length about the limits of its form, mostly of a few frames.
+    fn first(&mut self) -> Event {
+        self.number = 1;
+        let mut bytes = self.bytes(0x10);
+        bytes[1] = self.chance.below(40);
+        if bytes[1] == 0 {
+            let high = self.chance.one_of(&[0x0F, 0x10, 0xFF]);
+            bytes = [
+                0x10,
+                0,
+                0,
+                self.chance.below(2),
+                high,
+                self.chance.byte(),
+                1,
+                2,
+            ];
+        }
+        let size = if self.chance.is_one_in(16) { 7 } else { 8 };
+        Event::Physical(bytes_of(&bytes[..size]))
+    }
+
+    /// A Consecutive, mostly the next one.
+    fn consecutive(&mut self) -> Event {
+        let number = if self.chance.is_one_in(12) {
+            self.chance.below(16)
+        } else {
+            self.number % 16
+        };
+        self.number = (number % 16) + 1;
+        let least = if self.chance.is_one_in(6) { 1 } else { 8 };
+        self.physical(0x20 | number, least)
+    }
+
+    fn flow(&mut self) -> Event {
+        let status = self.chance.one_of(&[0, 0, 0, 0, 0, 1, 1, 2, 3, 15]);
+        let gap = self
+            .chance
+            .one_of(&[0, 0, 1, 1, 2, 3, 0xF1, 0xF9, 0x7F, 0x80, 0xFA]);
+        let bytes = [0x30 | status, self.chance.below(4), gap];
+        let size = if self.chance.is_one_in(16) { 2 } else { 3 };
+        Event::Physical(bytes_of(&bytes[..size]))
+    }
+
+    fn any(&mut self) -> Event {
+        let control = self.chance.byte();
+        self.physical(control, 0)
+    }
+
+    /// Ticks about N_Bs and N_Cr, or a few.
+    fn wait(&mut self) -> Option<Event> {
+        let n_bs = self.setup.n_bs.get();
+        let n_cr = self.setup.n_cr.get();
+        let count = match self.chance.below(8) {
+            0 => n_bs,
+            1 => n_bs.saturating_sub(1),
+            2 => n_cr,
+            3 => n_cr.saturating_sub(1),
+            4 => n_bs.saturating_add(n_cr),
+            _ => 1,
+        };
+        Some(Event::Ticks(TickCount::new(count.max(1))?))
+    }
+
+    /// The next event.
+    fn event(&mut self) -> Option<Event> {
+        match self.chance.below(20) {
+            0 | 1 => Some(self.single()),
+            2 => Some(self.functional()),
+            3 | 4 => Some(self.first()),
+            5..=9 => Some(self.consecutive()),
+            10..=13 => Some(self.flow()),
+            14 => Some(self.any()),
+            _ => self.wait(),
+        }
+    }
+
+    /// A reply of any length up to 40, or none.
+    fn reply(&mut self, alloc: Global, completes: bool) -> Result<Option<Message>, Trouble> {
+        if completes == self.chance.is_one_in(6) {
+            return Ok(None);
+        }
+        let mut bytes = Vec::new(alloc);
+        for _ in 0..self.chance.below(40).saturating_add(1) {
+            bytes.push(self.chance.byte())?;
+        }
+        Ok(Some(Message::new(alloc, bytes.as_slice())?))
+    }
+}
+
+/// An event goes to a link and its twin.
+fn takes(alloc: Global, tester: &mut Tester, pair: &mut Pair) -> Result<(), Trouble> {
+    let event = tester.event().ok_or(Trouble::Script)?;
+    match event {
+        Event::Ticks(count) => pair.wait(count),
+        Event::Physical(_) | Event::Functional(_) => {
+            let reply = tester.reply(alloc, pair.completes(&event))?;
+            pair.frame(&event, reply)?;
+            Ok(())
+        }
+    }
+}
+
+/// A link and its twin agree over the traffic of this seed.
+fn agree(alloc: Global, seed: u64) -> Result<(), Trouble> {
+    let mut chance = Chance::new(seed);
+    let setup = short_settings(&mut chance).ok_or(Trouble::Script)?;
+    let pace = if chance.is_one_in(2) {
+        Pace::Ticks
+    } else {
+        Pace::Moves
+    };
+    let mut tester = Tester {
+        chance,
+        setup,
+        number: 1,
+    };
+    let mut pair = Pair::new(alloc, &tester.setup, pace);
+    for _ in 0..40 {
+        takes(alloc, &mut tester, &mut pair)?;
+    }
+    Ok(())
+}
+
+#[test]
+fn slow_twin(rt: HostRuntime) {
+    for seed in 1..=300 {
+        let outcome = agree(rt.alloc(), seed);
+        assert!(rt; holds(outcome), "{seed}: {outcome:?}");
+    }
+}
+
+/// Whether two kinds are the same.
+fn are_same(one: &Pci, other: &Pci) -> bool {
+    match (one, other) {
+        (Pci::Single(one), Pci::Single(other)) => one.as_slice() == other.as_slice(),
+        (
+            Pci::First { len, head },
+            Pci::First {
+                len: other_len,
+                head: other_head,
+            },
+        ) => len == other_len && head.as_slice() == other_head.as_slice(),
+        (Pci::TooLong, Pci::TooLong) | (Pci::Nothing, Pci::Nothing) => true,
+        (
+            Pci::Consecutive { number, part },
+            Pci::Consecutive {
+                number: other_number,
+                part: other_part,
+            },
+        ) => number == other_number && part.as_slice() == other_part.as_slice(),
+        (
+            Pci::Flow { status, block, gap },
+            Pci::Flow {
+                status: other_status,
+                block: other_block,
+                gap: other_gap,
+            },
+        ) => status == other_status && block == other_block && gap == other_gap,
+        _ => false,
+    }
+}
+
+/// Whether a frame is the same to the link as by the table.
+fn is_read(event: &Event, max: u16) -> bool {
+    match event {
+        Event::Physical(bytes) | Event::Functional(bytes) => {
+            let bytes = bytes.as_slice();
+            are_same(&Pci::read(bytes, max), &kind(bytes, max))
+        }
+        Event::Ticks(_) => true,
+    }
+}
+
+#[test]
+fn kinds(rt: HostRuntime) -> Result<(), Fail> {
+    let mut tester = Tester {
+        chance: Chance::new(1),
+        setup: settings().ok_or("settings")?,
+        number: 1,
+    };
+    for _ in 0..20_000 {
+        let event = tester.event().ok_or("an event")?;
+        assert!(rt; is_read(&event, 30) && is_read(&event, 65535), "{event:?}");
+    }
+    Ok(())
+}

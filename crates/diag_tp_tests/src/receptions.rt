@@ -1,0 +1,130 @@
+//! The reception that is open after some moments, from the last of them that starts one.
+
+use crate::moments::Moment;
+use diag_tp::Pci;
+use std::alloc::{AllocError, Global};
+
+/// A reception: the message so far, and how many of its Consecutives came.
+#[derive(Drop)]
+pub(crate) struct Reception {
+    pub(crate) message: Vec<u8>,
+    pub(crate) parts: usize,
+    /// How many Consecutives the message has.
+    pub(crate) needed: usize,
+}
+
+impl Reception {
+    /// Whether all parts are there.
+    pub(crate) fn is_whole(&self) -> bool {
+        self.parts == self.needed
+    }
+}
+
+/// Whether a physical frame of this kind ends a reception that is open.
+fn is_start(kind: &Pci) -> bool {
+    matches!(kind, Pci::Single(_) | Pci::First { .. } | Pci::TooLong)
+}
+
+/// The last moment that starts or ends a reception.
+fn last_start(moments: &[Moment]) -> Option<usize> {
+    let mut last = None;
+    for (place, moment) in moments.iter().enumerate() {
+        if is_start(&moment.kind) {
+            last = Some(place);
+        }
+    }
+    last
+}
+
+/// How many bytes a First carries of a message of this length.
+pub(crate) fn head_size(len: usize) -> usize {
+    if len <= 4095 { 6 } else { 2 }
+}
+
+/// Whether this is the Consecutive of that number, from 1, of a message of so many bytes.
+fn is_nth(len: usize, i: usize, moment: &Moment) -> bool {
+    let Pci::Consecutive { number, part } = &moment.kind else {
+        return false;
+    };
+    let before = head_size(len).saturating_add(i.saturating_sub(1).saturating_mul(7));
+    let left = len.saturating_sub(before);
+    usize::from(*number) == i % 16 && part.len() >= left.min(7)
+}
+
+/// The Consecutives among these moments.
+fn consecutives(alloc: Global, later: &[Moment]) -> Result<Vec<&Moment>, AllocError> {
+    let mut all = Vec::new(alloc);
+    for moment in later {
+        if matches!(moment.kind, Pci::Consecutive { .. }) {
+            all.push(moment)?;
+        }
+    }
+    Ok(all)
+}
+
+/// The times of the frames of a reception, and last the time now.
+fn times(alloc: Global, first: u64, parts: &[&Moment], now: u64) -> Result<Vec<u64>, AllocError> {
+    let mut all = Vec::new(alloc);
+    all.push(first)?;
+    for part in parts {
+        all.push(part.time)?;
+    }
+    all.push(now)?;
+    Ok(all)
+}
+
+/// Whether less than so many ticks lie between neighbours.
+fn are_close(times: &[u64], n_cr: u64) -> bool {
+    times
+        .iter()
+        .zip(times.iter().skip(1))
+        .all(|(one, next)| next.saturating_sub(*one) < n_cr)
+}
+
+/// The bytes of a message: those of the First and of the parts, as many as it has.
+fn message(
+    alloc: Global,
+    len: usize,
+    head: &[u8],
+    parts: &[&Moment],
+) -> Result<Vec<u8>, AllocError> {
+    let mut bytes = Vec::from_slice(alloc, head)?;
+    for moment in parts {
+        if let Pci::Consecutive { part, .. } = &moment.kind {
+            bytes.extend_from_slice(part.as_slice())?;
+        }
+    }
+    bytes.truncate(len);
+    Ok(bytes)
+}
+
+/// The reception that is open after the last of these moments.
+pub(crate) fn reception_after(
+    alloc: Global,
+    moments: &[Moment],
+    n_cr: u64,
+) -> Result<Option<Reception>, AllocError> {
+    let Some(start) = last_start(moments) else {
+        return Ok(None);
+    };
+    let (Some(first), Some(last)) = (moments.get(start), moments.last()) else {
+        return Ok(None);
+    };
+    let Pci::First { len, head } = &first.kind else {
+        return Ok(None);
+    };
+    let len = usize::from(*len);
+    let later = moments.get(start..).unwrap_or(&[]);
+    let parts = consecutives(alloc, later)?;
+    let times = times(alloc, first.time, parts.as_slice(), last.time)?;
+    let needed = len.saturating_sub(head_size(len)).div_ceil(7);
+    let in_order = parts.iter().zip(1..).all(|(part, i)| is_nth(len, i, part));
+    if !in_order || parts.len() > needed || !are_close(times.as_slice(), n_cr) {
+        return Ok(None);
+    }
+    Ok(Some(Reception {
+        message: message(alloc, len, head.as_slice(), parts.as_slice())?,
+        parts: parts.len(),
+        needed,
+    }))
+}

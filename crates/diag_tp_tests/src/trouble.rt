@@ -1,0 +1,51 @@
+//! Why a play does not come to its end.
+
+use diag_tp::MessageFault;
+use std::alloc::{AllocError, AllocFailed};
+
+/// Why a play did not come to its end.
+#[derive(Clone, Copy, PartialEq, Eq, Debug)]
+pub(crate) enum Trouble {
+    /// Memory was refused.
+    Memory,
+    /// What the test says is no event, no request or no frame.
+    Script,
+    /// The link is in no state for the call.
+    State,
+    /// Another request than the one wanted.
+    Request,
+    /// Other frames than those wanted.
+    Frames,
+    /// The link and its twin differ in the request that an event gives.
+    TwinRequest,
+    /// They differ in a frame that is due.
+    TwinFrame,
+    /// They differ in their figures.
+    TwinFigures,
+}
+
+impl From<AllocError> for Trouble {
+    fn from(_refused: AllocError) -> Trouble {
+        Trouble::Memory
+    }
+}
+
+impl<T: Drop> From<AllocFailed<T>> for Trouble {
+    fn from(_refused: AllocFailed<T>) -> Trouble {
+        Trouble::Memory
+    }
+}
+
+impl From<MessageFault> for Trouble {
+    fn from(fault: MessageFault) -> Trouble {
+        match fault {
+            MessageFault::Memory => Trouble::Memory,
+            MessageFault::Length => Trouble::Script,
+        }
+    }
+}
+
+/// Whether a play came to its end, as far as there was memory.
+pub(crate) fn holds(outcome: Result<(), Trouble>) -> bool {
+    matches!(outcome, Ok(()) | Err(Trouble::Memory))
+}
