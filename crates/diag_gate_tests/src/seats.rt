@@ -1,0 +1,259 @@
+//! Seats that step one after another.
+
+ghost use Rattle.std.specs.Prelude.{◌≡◌, IfOk};
+
+use crate::seating::{bring_home, closed, is_out, opened, seat_of};
+use crate::trouble::{Trouble, desk_of_two, holds, request, says};
+use diag_can::TickCount;
+use diag_desk::{Journal, Step, StepFault, StepRef};
+use diag_gate::{Gate, Host, Seat, TryFault};
+use diag_tp::Message;
+use std::alloc::Global;
+use std::sync::Wait;
+
+/// Whether a step is refused, since another seat has the desk, and comes back as it was.
+fn is_busy(gate: &Gate, seat: &mut Seat, step: Step, bytes: &[u8]) -> Result<bool, Trouble>
+    requires { seat.old.gate ≡ gate.now }
+    ensures { seat.new.gate ≡ seat.old.gate }
+{
+    match gate.try_step(seat, step) {
+        Err(TryFault::Busy(Step::Request { message, .. })) => Ok(message.bytes() == bytes),
+        _ => Err(Trouble::Wrong),
+    }
+}
+
+/// Has a seat try a tick, which no other seat keeps it from.
+fn tick(gate: &Gate, seat: &mut Seat) -> Result<(), Trouble>
+    requires { seat.old.gate ≡ gate.now }
+    ensures { seat.new.gate ≡ seat.old.gate }
+{
+    let count = TickCount::new(1).ok_or(Trouble::Wrong)?;
+    match gate.try_step(seat, Step::Ticks(count)) {
+        Ok(None) => Ok(()),
+        Ok(Some(_)) => Err(Trouble::Wrong),
+        Err(fault) => Err(fault.into()),
+    }
+}
+
+/// Has a seat take the desk and then step, while another seat is kept from its own step.
+fn step_held(
+    gate: &Gate,
+    seat: Seat,
+    other: &mut Seat,
+    step: &Step,
+    asked: Step,
+) -> Result<(Seat, Result<Option<Message>, StepFault>), Trouble>
+    requires seat { seat.gate ≡ gate.now }
+    requires other { other.old.gate ≡ gate.now }
+    ensures seat { IfOk result (λ r. r.0.gate ≡ gate.now) }
+    ensures other { other.new.gate ≡ other.old.gate }
+{
+    let Ok(held) = gate.try_take(seat) else {
+        return Err(Trouble::Wrong);
+    };
+    let busy = is_busy(gate, other, asked, &[0x10, 0x03]);
+    let (seat, answer) = held.step(step);
+    if busy? {
+        Ok((seat, answer))
+    } else {
+        Err(Trouble::Wrong)
+    }
+}
+
+/// The same, once more where memory was refused: the desk was then not kept from a third seat.
+fn step_held_again(
+    alloc: Global,
+    gate: &Gate,
+    seat: Seat,
+    other: &mut Seat,
+    third: &mut Seat,
+) -> Result<(Seat, Option<Message>), Trouble>
+    requires seat { seat.gate ≡ gate.now }
+    requires other { other.old.gate ≡ gate.now }
+    requires third { third.old.gate ≡ gate.now }
+    ensures seat { IfOk result (λ r. r.0.gate ≡ gate.now) }
+    ensures other { other.new.gate ≡ other.old.gate }
+    ensures third { third.new.gate ≡ third.old.gate }
+{
+    let quiet = request(alloc, &[0x10, 0x83])?;
+    let asked = request(alloc, &[0x10, 0x03])?;
+    let (seat, answer) = step_held(gate, seat, other, &quiet, asked)?;
+    match answer {
+        Err(StepFault::Memory) => {
+            tick(gate, third)?;
+            let asked = request(alloc, &[0x10, 0x03])?;
+            let (seat, answer) = step_held(gate, seat, other, &quiet, asked)?;
+            Ok((seat, answer?))
+        }
+        answer => Ok((seat, answer?)),
+    }
+}
+
+/// Has a seat try a step, once more where memory was refused: the desk was then not kept from a third seat.
+fn try_again(
+    alloc: Global,
+    gate: &Gate,
+    seat: &mut Seat,
+    third: &mut Seat,
+    bytes: &[u8],
+) -> Result<Option<Message>, Trouble>
+    requires seat { seat.old.gate ≡ gate.now }
+    requires third { third.old.gate ≡ gate.now }
+    ensures seat { seat.new.gate ≡ seat.old.gate }
+    ensures third { third.new.gate ≡ third.old.gate }
+{
+    match gate.try_step(seat, request(alloc, bytes)?) {
+        Err(TryFault::Memory) => {
+            tick(gate, third)?;
+            Ok(gate.try_step(seat, request(alloc, bytes)?)?)
+        }
+        answer => Ok(answer?),
+    }
+}
+
+/// A step that waits, once more where memory was refused: the desk was then not kept from a third seat.
+fn wait_again<R: Wait>(
+    rt: &R,
+    alloc: Global,
+    gate: &Gate,
+    seat: &mut Seat,
+    third: &mut Seat,
+    bytes: &[u8],
+) -> Result<Option<Message>, Trouble>
+    requires seat { seat.old.gate ≡ gate.now }
+    requires third { third.old.gate ≡ gate.now }
+    ensures seat { seat.new.gate ≡ seat.old.gate }
+    ensures third { third.new.gate ≡ third.old.gate }
+{
+    let asked = request(alloc, bytes)?;
+    match gate.step(rt, seat, &asked) {
+        Err(StepFault::Memory) => {
+            tick(gate, third)?;
+            Ok(gate.step(rt, seat, &asked)?)
+        }
+        answer => Ok(answer?),
+    }
+}
+
+/// An entry of a physical request: its tester's place, its bytes and the bytes of its reply.
+struct Wanted {
+    place: u8,
+    request: &'static [u8],
+    reply: Option<&'static [u8]>,
+}
+
+/// The session is another tester's.
+const BUSY: [u8; 3] = [0x7F, 0x10, 0x21];
+
+/// The reply with the value of F190.
+const VALUE: &[u8] = b"\x62\xF1\x90TESTVIN0123456789";
+
+const WANTED: [Wanted; 3] = [
+    Wanted {
+        place: 1,
+        request: &[0x10, 0x83],
+        reply: None,
+    },
+    Wanted {
+        place: 2,
+        request: &[0x10, 0x03],
+        reply: Some(&BUSY),
+    },
+    Wanted {
+        place: 1,
+        request: &[0x22, 0xF1, 0x90],
+        reply: Some(VALUE),
+    },
+];
+
+/// Whether the journal's entries that are no ticks are these, in this order.
+fn has_requests(journal: &Journal, wanted: &[Wanted]) -> bool {
+    let mut next = 0;
+    for index in 0..journal.len() {
+        let Some(entry) = journal.get(index) else {
+            return false;
+        };
+        if let StepRef::Request { functional, bytes } = entry.step {
+            let Some(want) = wanted.get(next) else {
+                return false;
+            };
+            if functional
+                || entry.who.place() != want.place
+                || bytes != want.request
+                || entry.reply != want.reply
+            {
+                return false;
+            }
+            next += 1;
+        }
+    }
+    next == wanted.len()
+}
+
+/// Three seats step one after another, and come home: whether each was answered as it must be.
+fn all_step<R: Wait>(rt: &R, alloc: Global, gate: &Gate, host: &mut Host) -> Result<bool, Trouble>
+    requires { host.old.gate ≡ gate.now }
+    ensures { host.new.gate ≡ host.old.gate }
+{
+    let a = seat_of(gate, host, 1)?;
+    let mut b = seat_of(gate, host, 2)?;
+    let mut third = seat_of(gate, host, 8)?;
+    let (mut a, silent) = step_held_again(alloc, gate, a, &mut b, &mut third)?;
+    let taken = try_again(alloc, gate, &mut b, &mut third, &[0x10, 0x03])?;
+    let value = wait_again(rt, alloc, gate, &mut a, &mut third, &[0x22, 0xF1, 0x90])?;
+    bring_home(gate, host, a);
+    bring_home(gate, host, b);
+    bring_home(gate, host, third);
+    Ok(silent.is_none() && says(&taken, &BUSY) && says(&value, VALUE))
+}
+
+fn gate_calls_hold<R: Wait>(rt: &R, alloc: Global) -> Result<bool, Trouble> {
+    let (gate, mut host) = opened(alloc, desk_of_two(alloc)?)?;
+    let answered = all_step(rt, alloc, &gate, &mut host)?;
+    let once = is_out(&gate, &mut host, 1);
+    let desk = closed(gate, host)?;
+    Ok(once && answered && has_requests(desk.journal(), &WANTED))
+}
+
+#[test]
+fn gate_calls(rt: HostRuntime) {
+    assert!(rt; holds(gate_calls_hold(&rt, rt.alloc())));
+}
+
+/// Whether a seat is given the desk; it puts the desk back.
+fn takes(gate: &Gate, seat: Seat) -> (Seat, bool)
+    requires { seat.gate ≡ gate.now }
+    ensures { result.0.gate ≡ gate.now }
+{
+    match gate.try_take(seat) {
+        Ok(held) => (held.put_back(), true),
+        Err(seat) => (seat, false),
+    }
+}
+
+/// Whether a seat that takes the desk keeps another seat from it, until the desk is put back.
+fn keeps_from(gate: &Gate, seat: Seat, other: Seat) -> bool
+    requires seat { seat.gate ≡ gate.now }
+    requires other { other.gate ≡ gate.now }
+{
+    let Ok(held) = gate.try_take(seat) else {
+        return false;
+    };
+    let (other, early) = takes(gate, other);
+    let seat = held.put_back();
+    let (other, late) = takes(gate, other);
+    !early && late && seat.who().place() == 1 && other.who().place() == 2
+}
+
+fn one_takes(alloc: Global) -> Result<bool, Trouble> {
+    let (gate, mut host) = opened(alloc, desk_of_two(alloc)?)?;
+    let a = seat_of(&gate, &mut host, 1)?;
+    let b = seat_of(&gate, &mut host, 2)?;
+    Ok(keeps_from(&gate, a, b))
+}
+
+/// One seat at a time has the desk, and the others get their seat back.
+#[test]
+fn one_takes_at_a_time(rt: HostRuntime) {
+    assert!(rt; holds(one_takes(rt.alloc())));
+}
