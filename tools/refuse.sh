@@ -4,6 +4,7 @@
 # The program must answer want of memory (status 4, nothing on standard output) or, where it had no more need of the
 # memory, what it answers without a refusal. A test must pass, since it takes want of memory for an answer, or end
 # with AllocError itself.
+# A request may fall in any thread; how many there are may then be another from run to run.
 # REFUSE_SECONDS (default 240) bounds the time; what was not reached is said. The last line is 'N passed, M failed'.
 set -uo pipefail
 cd "$(dirname "$0")/.." || exit 2
@@ -24,12 +25,17 @@ refused() {
   status=0
   : > "$room/count"
   timeout 60 env REFUSE_AT="$n" REFUSE_COUNT="$room/count" LD_PRELOAD="$room/refuse.so" "$@" > "$room/out" 2> "$room/err" || status=$?
-  asked=$(cat "$room/count")
+  asked=$(od -An -t d8 "$room/count" | tr -d ' ')
   asked=${asked:-0}
 }
 
 good() { passed=$((passed + 1)); echo "refused: $*"; }
 bad() { failed=$((failed + 1)); echo "REFUSED WRONG: $*"; [ -f "$room/err" ] && sed 's/^/    /' "$room/err" | head -n 5; }
+
+# is_whole FILE: whether the program wrote what the file has; with any_order=1 in any order of the lines
+is_whole() {
+  if [ "${any_order:-0}" = 1 ]; then sort "$1" | cmp -s - <(sort "$room/out"); else cmp -s "$room/out" "$1"; fi
+}
 
 # sweep_run NAME STATUS OUT ERR PROGRAM WORD..: a run that, where nothing is refused, ends with STATUS, writes what the
 # file OUT has, and the line ERR on standard error
@@ -38,7 +44,8 @@ sweep_run() {
   shift 4
   refused 0 "$@"
   if [ "$status" != "$wanted" ]; then bad "$name: status $status without a refusal"; return; fi
-  if ! cmp -s "$room/out" "$whole"; then bad "$name: another text without a refusal"; return; fi
+  if [ "$asked" = 0 ]; then bad "$name: no request was seen"; return; fi
+  if ! is_whole "$whole"; then bad "$name: another text without a refusal"; return; fi
   if [ "$(cat "$room/err")" != "$told" ]; then bad "$name: another line on standard error"; return; fi
   while :; do
     if late; then bad "$name: no time after $((n - 1)) requests"; return; fi
@@ -46,7 +53,7 @@ sweep_run() {
     [ "$n" -gt "$asked" ] && break
     if [ "$status" = 4 ]; then
       [ -s "$room/out" ] && { bad "$name: request $n: something was written"; return; }
-    elif [ "$status" != "$wanted" ] || ! cmp -s "$room/out" "$whole"; then
+    elif [ "$status" != "$wanted" ] || ! is_whole "$whole"; then
       bad "$name: request $n: status $status"
       return
     fi
@@ -92,10 +99,14 @@ if [ -x "$program" ]; then
   usage='uds_play: usage: uds_play [serial|play|replay] [--journal] [--stamps] CONFIG FILE..'
   sweep_run "the stored run" 0 crates/uds_play/stdout '' "$program"
   sweep_run "serial" 0 "$room/played" '' "$program" serial --stamps "$room/config" "$room/log"
+  sweep_run "play" 0 "$room/played" '' "$program" play --stamps "$room/config" "$room/log"
+  any_order=1 sweep_run "play of two testers" 0 runs/threaded_play/lines '' \
+    "$program" play runs/setup.toml runs/threaded_play/a.log runs/threaded_play/b.log
   sweep_run "replay" 0 "$room/replayed" '' "$program" replay "$room/config" "$room/journal"
   sweep_run "a usage fault" 1 "$room/nothing" "$usage" "$program" replay --journal "$room/config" "$room/journal"
   sweep_run "a config at fault" 2 "$room/nothing" 'uds_play: config: syntax' "$program" serial "$room/bad" "$room/log"
   sweep_run "a log at fault" 3 "$room/nothing" 'uds_play: log 1 line 1: bad line' "$program" serial "$room/config" "$room/bad"
+  sweep_run "a log at fault, by play" 3 "$room/nothing" 'uds_play: log 1 line 1: bad line' "$program" play "$room/config" "$room/bad"
   sweep_run "a file that is not there" 7 "$room/nothing" 'uds_play: cannot read file 1' "$program" serial "$room/config" "$room/none"
   sweep_run "a replay that differs" 8 "$room/nothing" 'uds_play: entry 1 differs' "$program" replay "$room/config" "$room/other"
 else

@@ -7,7 +7,7 @@ use Rattle.diag_setup.specs.declared.raw.RawSetup.{RawSetup}
 use Rattle.diag_run.specs.declared.fault.RunFault.{RunFault}
 use Rattle.diag_run.specs.declared.fault.RunFault.TheVariants.{Files, Config, ConfigLong, Log, JournalLine, FileLong, Memory, JournalFull, RecordsDisagree, Read, Write, Differs}
 use Rattle.diag_run.specs.declared.whole.Job.{Job}
-use Rattle.diag_run.specs.declared.whole.Job.TheVariants.{Serial, Replay}
+use Rattle.diag_run.specs.declared.whole.Job.TheVariants.{Serial, Play, Replay}
 use Rattle.diag_run.specs.Files.{Refusal, wrong_count, ◌>>=◌, Fails, ConfigFails, config_of, files_from}
 use Rattle.diag_run.specs.Run.{Inputs, wanted, limit, read_of, GivesRun}
 
@@ -62,5 +62,6 @@ module _ (job : Job) (bytes : List ℕ) (known : List (List ℕ)) (setup : RawSe
 pub no_write : (job : Job) (said : Result Inputs Refusal) → GivesRun job said (Err Write) → ⊥
 no_write job said (inl h) = h
 no_write (Serial only_journal timing) (Ok i) (inr h) = h
+no_write (Play only_journal timing) (Ok i) (inr h) = h
 no_write Replay (Ok i) (inr h) = h
 no_write job (Err e) (inr h) = h

@@ -5,4 +5,5 @@ pub mod LogReading
 pub mod Order
 pub mod Reading
 pub mod Testers
+pub mod Threads
 pub mod Writing

@@ -7,8 +7,17 @@ use Rattle.diag_can.specs.declared.fault.LogFault.TheVariants as log
 use Rattle.diag_config.specs.Text.{config_fault_text}
 use Rattle.diag_config.specs.declared.fault.ConfigFault.{ConfigFault}
 use Rattle.diag_config.specs.declared.fault.ConfigFault.TheVariants as config
+use Rattle.diag_workers.specs.declared.playing.PlayFault.{PlayFault}
+use Rattle.diag_workers.specs.declared.playing.PlayFault.TheVariants as play
 use Rattle.diag_run.specs.declared.fault.RunFault.{RunFault}
 use Rattle.diag_run.specs.declared.fault.RunFault.TheVariants.{Files, Config, ConfigLong, Log, JournalLine, FileLong, Memory, JournalFull, RecordsDisagree, Read, Write, Differs}
+
+-- the fault of a threaded play as one of a run
+abbrev pub run_fault : PlayFault → RunFault
+run_fault play.Memory = Memory
+run_fault (play.Log who fault) = Log who fault
+run_fault play.JournalFull = JournalFull
+run_fault (play.RecordsDisagree who) = RecordsDisagree who
 
 abbrev pub config_text : ConfigFault → List ℕ
 config_text config.Memory = codes "memory"

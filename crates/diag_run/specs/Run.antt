@@ -1,6 +1,6 @@
 -- What a run writes for its config and its files, or the fault that it answers.
-use Rattle.std.specs.Prelude.{◌≡◌, ◌<◌, ◌⊎◌, ℕ, Bool, if◌then◌else◌, List, [], ◌∷◌, ◌++◌, length, map, Option, Result, Ok, Err, IsOkAnd}
-use Rattle.std.specs.Io.KnownBytes.{Appends}
+use Rattle.std.specs.Prelude.{◌≡◌, ◌≢◌, ◌<◌, ◌⊎◌, ℕ, Bool, if◌then◌else◌, List, [], ◌∷◌, ◌++◌, length, map, Option, Some, Result, Ok, Err, IsOk, IsOkAnd, IfSome}
+use Rattle.std.specs.Io.KnownBytes.{Appends, Keeps}
 use Rattle.diag_can.specs.declared.frame.Event.{Event}
 use Rattle.diag_can.specs.declared.log.Timing.{Timing}
 use Rattle.diag_setup.specs.declared.raw.RawSetup.{RawSetup}
@@ -13,26 +13,31 @@ use Rattle.diag_desk.specs.Fault.{IsTextOf, FaultAt}
 use Rattle.diag_desk.specs.Legal.{Run, after}
 use Rattle.diag_desk.specs.Replay.{IsRun, DiffersAt}
 use Rattle.diag_world.specs.Headline.{IsPlay}
-use Rattle.diag_world.specs.Weaving.{steps_of, turns}
+use Rattle.diag_world.specs.Weaving.{steps_of, turns, weave}
 use Rattle.diag_run.specs.Bytes.{AppendsFront}
-use Rattle.diag_run.specs.Files.{Refusal, ◌>>=◌, Fails, config_of, counted, files_from, logs_from}
+use Rattle.diag_run.specs.Faults.{fault_text, status}
+use Rattle.diag_run.specs.Files.{Refusal, ◌>>=◌, Fails, AreKnown, config_of, counted, files_from, logs_from}
 use Rattle.diag_run.specs.Text.{journal_part, whole_text, replay_text}
 use Rattle.diag_run.specs.declared.fault.RunFault.{RunFault}
 use Rattle.diag_run.specs.declared.fault.RunFault.TheVariants.{Files, Config, ConfigLong, Log, JournalLine, FileLong, Memory, JournalFull, RecordsDisagree, Read, Write, Differs}
 use Rattle.diag_run.specs.declared.whole.Given.{Given}
+use Rattle.diag_run.specs.declared.whole.Outcome.{Outcome}
+use Rattle.diag_run.specs.declared.whole.Outcome.TheVariants as outcome
 use Rattle.diag_run.specs.declared.whole.Job.{Job}
-use Rattle.diag_run.specs.declared.whole.Job.TheVariants.{Serial, Replay}
+use Rattle.diag_run.specs.declared.whole.Job.TheVariants.{Serial, Play, Replay}
 
 -- ---- what is read
 
 -- how many files are wanted
 abbrev pub wanted : Job → RawSetup → ℕ
 wanted (Serial only_journal timing) setup = length setup.testers
+wanted (Play only_journal timing) setup = length setup.testers
 wanted Replay setup = 1
 
 -- the most bytes of a file
 abbrev pub limit : Job → ℕ
 limit (Serial only_journal timing) = 67108864
+limit (Play only_journal timing) = 67108864
 limit Replay = 268435456
 
 -- what a run has read
@@ -63,18 +68,32 @@ abbrev pub played_text : Bool → Timing → RawSetup → Run → List (List Sen
 played_text only_journal timing setup desk sent =
     if only_journal then journal_part timing desk.journal else whole_text timing setup desk sent
 
--- the text of some play of these logs, one event of each in turn
-pub record IsPlayedText (only_journal : Bool) (timing : Timing) (setup : RawSetup) (logs : List (List Event)) (text : List ℕ) : Type 0 where
+-- one event of each log in turn, whatever the journal is
+abbrev pub in_turn : List Entry → List (List Event) → List (ℕ × Event)
+in_turn journal logs = turns logs
+
+-- the interleaving of the logs whose run the journal is
+abbrev pub woven : RawSetup → List Entry → List (List Event) → List (ℕ × Event)
+woven setup journal logs = weave (link_of setup) journal logs
+
+-- the text of some play of these logs, which took their events in the order that belongs to its journal
+pub record IsPlayedText (order : List Entry → List (List Event) → List (ℕ × Event)) (only_journal : Bool) (timing : Timing) (setup : RawSetup) (logs : List (List Event)) (text : List ℕ) : Type 0 where
   pub desk : Run
   pub sent : List (List Sent)
-  pub play : IsPlay setup (turns logs) logs desk sent
+  pub play : IsPlay setup (order desk.journal logs) logs desk sent
   pub is : text ≡ played_text only_journal timing setup desk sent
 
 -- the journal is full only where the logs give more steps than it has room for
 abbrev pub GivesPlayed : Bool → Timing → RawSetup → Result (List (List Event)) Refusal → Result (List ℕ) RunFault → Type 0
-GivesPlayed only_journal timing setup said (Ok text) = IsOkAnd said (λ logs. IsPlayedText only_journal timing setup logs text)
+GivesPlayed only_journal timing setup said (Ok text) = IsOkAnd said (λ logs. IsPlayedText in_turn only_journal timing setup logs text)
 GivesPlayed only_journal timing setup said (Err JournalFull) = IsOkAnd said (λ logs. 1000000 < length (steps_of (link_of setup) (turns logs)))
 GivesPlayed only_journal timing setup said (Err fault) = Fails fault said
+
+-- the same of a play in which each tester has a thread. The journal is full only where the logs are well
+abbrev pub GivesWoven : Bool → Timing → RawSetup → Result (List (List Event)) Refusal → Result (List ℕ) RunFault → Type 0
+GivesWoven only_journal timing setup said (Ok text) = IsOkAnd said (λ logs. IsPlayedText (woven setup) only_journal timing setup logs text)
+GivesWoven only_journal timing setup said (Err JournalFull) = IsOk said
+GivesWoven only_journal timing setup said (Err fault) = Fails fault said
 
 -- the bytes are the text of these entries, which are a run of the setup
 pub record IsReplayedText (setup : RawSetup) (bytes : List ℕ) (text : List ℕ) : Type 0 where
@@ -105,6 +124,7 @@ first_text (text ∷ texts) = text
 -- what is answered for what was read
 abbrev pub GivesText : Job → Inputs → Result (List ℕ) RunFault → Type 0
 GivesText (Serial only_journal timing) i answer = GivesPlayed only_journal timing i.setup (logs_from timing i.setup 1 i.texts) answer
+GivesText (Play only_journal timing) i answer = GivesWoven only_journal timing i.setup (logs_from timing i.setup 1 i.texts) answer
 GivesText Replay i answer = GivesReplayed i.setup (first_text i.texts) answer
 
 -- a text for what was read; a fault of the reading, or of what was read
@@ -125,3 +145,21 @@ pub record WroteFront (job : Job) (said : Result Inputs Refusal) (old new : Opti
   pub text : List ℕ
   pub gives : GivesRun job said (Ok text)
   pub appends : AppendsFront old new text
+
+-- ---- how it is told
+
+-- the fault of a writing comes after a front of the text, any other is that of what was read
+abbrev pub AnswersFault : Job → Result Inputs Refusal → Option (List ℕ) → Option (List ℕ) → RunFault → Type 0
+AnswersFault job said old new Write = WroteFront job said old new
+AnswersFault job said old new fault = GivesRun job said (Err fault)
+
+-- the fault is answered by a run of these readers, and before another than that of the writing nothing is written
+pub record IsFaultOf {R : Type 0} (remaining : R → Option (List ℕ)) (job : Job) (config : R) (files : List R) (old new : Option (List ℕ)) (fault : RunFault) : Type 0 where
+  pub nothing : fault ≢ Write → Keeps old new
+  pub answer : (bytes : List ℕ) (known : List (List ℕ)) → remaining config ≡ Some bytes → AreKnown remaining files known
+      → AnswersFault job (read_of job bytes known) old new fault
+
+-- where it ends with a fault, the line and the status are those of a fault of which P holds
+abbrev pub TellsOf : (RunFault → Type 0) → Outcome → Type 0
+TellsOf P outcome.Done = Unit {0}
+TellsOf P (outcome.Fault told number) = (fault : RunFault) × P fault × IfSome told (λ line. line.items ≡ fault_text fault) × (number ≡ status fault)

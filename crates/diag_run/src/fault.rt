@@ -1,12 +1,13 @@
 //! Why a run could not be done, how it is told, and the status that the program ends with.
 
 ghost use Rattle.std.specs.Prelude.{◌≡◌, ◌++◌, codes, IfOk, Some};
-ghost use Rattle.diag_run.specs.Faults.{run_fault_text, fault_text, status};
+ghost use Rattle.diag_run.specs.Faults.{run_fault, run_fault_text, fault_text, status};
 ghost use Rattle.diag_run.specs.declared.fault.RunFault.TheVariants.{Memory};
 
 use diag_can::LogFault;
 use diag_config::ConfigFault;
 use diag_setup::Who;
+use diag_workers::PlayFault;
 use std::alloc::{AllocError, AllocFailed, Global};
 use std::error::Error;
 use std::fmt;
@@ -54,6 +55,19 @@ impl<T: Drop> From<AllocFailed<T>> for RunFault {
 
     fn from(_e: AllocFailed<T>) -> RunFault {
         RunFault::Memory
+    }
+}
+
+impl From<PlayFault> for RunFault {
+    ghost from_gives = { λ fault e. e ≡ run_fault fault };
+
+    fn from(fault: PlayFault) -> RunFault {
+        match fault {
+            PlayFault::Memory => RunFault::Memory,
+            PlayFault::Log(who, fault) => RunFault::Log(who, fault),
+            PlayFault::JournalFull => RunFault::JournalFull,
+            PlayFault::RecordsDisagree(who) => RunFault::RecordsDisagree(who),
+        }
     }
 }
 

@@ -1,6 +1,7 @@
 //! A run of the program: files in, text out.
 #![tactic(auto)]
 
+mod answer;
 mod device;
 mod fault;
 mod files;

@@ -3,26 +3,26 @@
 ghost use Rattle.std.specs.Prelude.{◌≡◌, ◌≢◌, ◌<◌, ◌^◌, ℕ, List, length, map, IfOk, IfErr, OnOk, Some, Err};
 ghost use Rattle.std.specs.Io.KnownBytes.{Keeps};
 ghost use Rattle.diag_run.specs.Files.{AreKnown, Gives};
-ghost use Rattle.diag_run.specs.Run.{wanted, limit, read_of, GivesPlayed, GivesReplayed, GivesText, GivesRun, Wrote, WroteFront, played_text, inputs_of, answered};
-ghost use Rattle.diag_run.specs.Files.{logs_from};
+ghost use Rattle.diag_run.specs.Run.{wanted, limit, read_of, GivesText, GivesRun, Wrote, WroteFront, IsFaultOf, TellsOf, inputs_of, answered};
 
+use crate::answer::{played_text, replayed_text, woven_text};
 use crate::device::write_whole;
 use crate::fault::{RunFault, fault_text, status};
 use crate::files::{read_config, read_files};
-use crate::logs::read_logs;
-use crate::text::{journal_part, play_text, replay_text};
 use diag_can::Timing;
-use diag_desk::{JournalFault, ReplayFault, StepFault, read_journal, replay};
 use diag_setup::Setup;
-use diag_world::{Played, serial};
-use std::alloc::{AllocError, Global};
+use std::alloc::Global;
 use std::io::{Read, Write};
+use std::sync::Wait;
+use std::thread::Threads;
 
 /// What a run does with its files.
 #[derive(Clone, Copy, Debug, PartialEq, Eq)]
 pub enum Job {
     /// Plays the logs on one thread, one event of each in turn.
     Serial { only_journal: bool, timing: Timing },
+    /// Plays the logs, a thread for each tester.
+    Play { only_journal: bool, timing: Timing },
     /// Replays a journal.
     Replay,
 }
@@ -33,7 +33,7 @@ impl Job {
         ensures { result ≡ wanted self setup.now }
     {
         match self {
-            Job::Serial { .. } => setup.testers(),
+            Job::Serial { .. } | Job::Play { .. } => setup.testers(),
             Job::Replay => 1,
         }
     }
@@ -44,7 +44,7 @@ impl Job {
         ensures bound { result < 2 ^ 32 }
     {
         match self {
-            Job::Serial { .. } => 67_108_864,
+            Job::Serial { .. } | Job::Play { .. } => 67_108_864,
             Job::Replay => 268_435_456,
         }
     }
@@ -84,64 +84,13 @@ fn read_all<R: Read>(
     }
 }
 
-/// Plays the logs, and says what the play writes.
-fn played_text(
-    alloc: Global,
-    setup: &Setup,
-    texts: &[Vec<u8>],
-    only_journal: bool,
-    timing: Timing,
-) -> Result<Vec<u8>, RunFault>
-    requires { length texts.now ≡ length setup.now.testers }
-    ensures { GivesPlayed only_journal timing setup.now (logs_from timing setup.now 1 (map (λ text. text.items) texts.now)) (answered (λ text. text.items) result) }
-{
-    let logs = match read_logs(alloc, setup, timing, texts) {
-        Ok(logs) => logs,
-        Err(fault) => return Err(fault),
-    };
-    match serial(alloc, setup, logs.as_slice()) {
-        Ok(played) => Ok(text_of(alloc, setup, &played, only_journal, timing)?),
-        Err(StepFault::Memory) => Err(RunFault::Memory),
-        Err(StepFault::JournalFull) => Err(RunFault::JournalFull),
-    }
-}
-
-/// What is written of a play: the journal alone where that is asked for.
-fn text_of(
-    alloc: Global,
-    setup: &Setup,
-    played: &Played,
-    only_journal: bool,
-    timing: Timing,
-) -> Result<Vec<u8>, AllocError>
-    requires { length played.now.sent.items ≡ length setup.now.testers }
-    ensures { IfOk result (λ text. text.items ≡ played_text only_journal timing setup.now played.now.desk (map (λ sent. sent.items) played.now.sent.items)) }
-{
-    if only_journal {
-        journal_part(alloc, timing, played.desk.journal())
-    } else {
-        play_text(alloc, setup, played, timing)
-    }
-}
-
-/// Replays the journal that these bytes say, and says what the replay writes.
-fn replayed_text(alloc: Global, setup: &Setup, bytes: &[u8]) -> Result<Vec<u8>, RunFault>
-    ensures { GivesReplayed setup.now bytes.now (answered (λ text. text.items) result) }
-{
-    let journal = match read_journal(alloc, bytes) {
-        Ok(journal) => journal,
-        Err(JournalFault::Line(n)) => return Err(RunFault::JournalLine(n)),
-        Err(JournalFault::Memory) => return Err(RunFault::Memory),
-    };
-    match replay(alloc, setup, &journal) {
-        Ok(ecu) => Ok(replay_text(alloc, setup, &journal, &ecu)?),
-        Err(ReplayFault::Differs(n)) => Err(RunFault::Differs(n)),
-        Err(ReplayFault::Memory) => Err(RunFault::Memory),
-    }
-}
-
 /// The text that is written for what was read.
-fn text_for(alloc: Global, job: Job, given: &Given) -> Result<Vec<u8>, RunFault>
+fn text_for<R: Threads + Wait + Sync>(
+    rt: &R,
+    alloc: Global,
+    job: Job,
+    given: &Given,
+) -> Result<Vec<u8>, RunFault>
     requires { length given.now.texts.items ≡ wanted job given.now.setup }
     ensures { GivesText job (inputs_of given.now) (answered (λ text. text.items) result) }
 {
@@ -151,12 +100,17 @@ fn text_for(alloc: Global, job: Job, given: &Given) -> Result<Vec<u8>, RunFault>
             only_journal,
             timing,
         } => played_text(alloc, &given.setup, texts, only_journal, timing),
+        Job::Play {
+            only_journal,
+            timing,
+        } => woven_text(rt, alloc, &given.setup, texts, only_journal, timing),
         Job::Replay => replayed_text(alloc, &given.setup, texts[0].as_slice()),
     }
 }
 
 /// The whole text of a run.
-fn whole_text<R: Read>(
+fn whole_text<T: Threads + Wait + Sync, R: Read>(
+    rt: &T,
     alloc: Global,
     job: Job,
     config: &mut R,
@@ -166,7 +120,7 @@ fn whole_text<R: Read>(
         → GivesRun job (read_of job bytes known) (answered (λ text. text.items) result) }
 {
     match read_all(alloc, job, config, files) {
-        Ok(given) => text_for(alloc, job, &given),
+        Ok(given) => text_for(rt, alloc, job, &given),
         Err(fault) => Err(fault),
     }
 }
@@ -178,7 +132,8 @@ fn whole_text<R: Read>(
 /// The first fault in this order: the config, the number of files, each file read in order, what they say in order, the
 /// play or the replay, the writing. After `Write` a front of the text went out, after any other fault nothing.
 #[tactic(auto, using(crate::proofs::Inputs::no_write))]
-pub fn run<R: Read + Drop, W: Write>(
+pub fn run<T: Threads + Wait + Sync, R: Read + Drop, W: Write>(
+    rt: &T,
     alloc: Global,
     job: Job,
     mut config: R,
@@ -193,7 +148,7 @@ pub fn run<R: Read + Drop, W: Write>(
     ensures front { result ≡ Err RunFault.Write → (bytes : List ℕ) (known : List (List ℕ)) → R.remaining config ≡ Some bytes → AreKnown R.remaining files.items known
         → WroteFront job (read_of job bytes known) (W.contents out.old) (W.contents out.new) }
 {
-    let text = match whole_text(alloc, job, &mut config, files.as_mut_slice()) {
+    let text = match whole_text(rt, alloc, job, &mut config, files.as_mut_slice()) {
         Ok(text) => text,
         Err(fault) => return Err(fault),
     };
@@ -212,8 +167,9 @@ pub enum Outcome {
     Fault { told: Option<Vec<u8>>, status: u8 },
 }
 
-/// Runs, and says how it ended.
-pub fn run_and_tell<R: Read + Drop, W: Write>(
+/// Runs, and says how it ended: with the whole text written, or with the line and the status of the run's fault.
+pub fn run_and_tell<T: Threads + Wait + Sync, R: Read + Drop, W: Write>(
+    rt: &T,
     alloc: Global,
     job: Job,
     config: R,
@@ -222,8 +178,9 @@ pub fn run_and_tell<R: Read + Drop, W: Write>(
 ) -> Outcome
     ensures done { result ≡ Outcome.Done → (bytes : List ℕ) (known : List (List ℕ)) → R.remaining config ≡ Some bytes → AreKnown R.remaining files.items known
         → Wrote job (read_of job bytes known) (W.contents out.old) (W.contents out.new) }
+    ensures fault { TellsOf (IsFaultOf R.remaining job config files.items (W.contents out.old) (W.contents out.new)) result }
 {
-    match run(alloc, job, config, files, out) {
+    match run(rt, alloc, job, config, files, out) {
         Ok(()) => Outcome::Done,
         Err(fault) => Outcome::Fault {
             told: fault_text(alloc, &fault).ok(),

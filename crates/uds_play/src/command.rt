@@ -71,6 +71,12 @@ fn whole_command<'a>(alloc: Global) -> Result<Command<'a>, AllocError> {
             "Play one log a tester, one event of each in turn",
             true,
         )?)?
+        .subcommand(job_command(
+            alloc,
+            "play",
+            "Play one log a tester, each in a thread of its own",
+            true,
+        )?)?
         .subcommand(job_command(alloc, "replay", "Replay a journal", false)?)
 }
 
@@ -85,17 +91,26 @@ fn refusal_of(alloc: Global, error: &Error) -> Refusal {
     }
 }
 
+/// What carries the time of a play.
+fn timing_of(flags: &ArgMatches<'_>) -> Timing {
+    if flags.get_flag("stamps") {
+        Timing::Stamps
+    } else {
+        Timing::Lines
+    }
+}
+
 /// What a command does with its files.
 fn job_of(name: &str, flags: &ArgMatches<'_>) -> Job {
     match name {
         "replay" => Job::Replay,
+        "play" => Job::Play {
+            only_journal: flags.get_flag("journal"),
+            timing: timing_of(flags),
+        },
         _ => Job::Serial {
             only_journal: flags.get_flag("journal"),
-            timing: if flags.get_flag("stamps") {
-                Timing::Stamps
-            } else {
-                Timing::Lines
-            },
+            timing: timing_of(flags),
         },
     }
 }

@@ -13,6 +13,8 @@ use std::alloc::{AllocError, Global};
 use std::io::{ErrorKind, Read};
 use std::process::ExitCode;
 use std::rt::Files;
+use std::sync::Wait;
+use std::thread::Threads;
 use std::{env, fs, io};
 
 const USAGE: &str =
@@ -47,7 +49,10 @@ fn refuse(rt: &(impl Print + Eprint), refusal: &Refusal) -> ExitCode {
     }
 }
 
-fn run_words<R: Print + Eprint + Files + AllocGlobal>(rt: &R, words: &[String]) -> ExitCode {
+fn run_words<R: Print + Eprint + Files + AllocGlobal + Threads + Wait + Sync>(
+    rt: &R,
+    words: &[String],
+) -> ExitCode {
     let alloc = rt.alloc();
     if words.len() < 2 {
         return run_stored(rt);
@@ -62,7 +67,7 @@ fn run_words<R: Print + Eprint + Files + AllocGlobal>(rt: &R, words: &[String]) 
 }
 
 /// The run of the program's own config and logs.
-fn run_stored<R: Print + Eprint + Files + AllocGlobal>(rt: &R) -> ExitCode {
+fn run_stored<R: Print + Eprint + Files + AllocGlobal + Threads + Wait + Sync>(rt: &R) -> ExitCode {
     let job = Job::Serial {
         only_journal: false,
         timing: Timing::Lines,
@@ -108,14 +113,14 @@ fn open_all<R: Files + AllocGlobal>(
 }
 
 /// Runs, and says the status.
-fn run_job<R: Print + Eprint + AllocGlobal, F: Read + Drop>(
+fn run_job<R: Print + Eprint + AllocGlobal + Threads + Wait + Sync, F: Read + Drop>(
     rt: &R,
     job: Job,
     config: Source<F>,
     files: Vec<Source<F>>,
 ) -> ExitCode {
     let mut out = io::writer(rt);
-    match run_and_tell(rt.alloc(), job, config, files, &mut out) {
+    match run_and_tell(rt, rt.alloc(), job, config, files, &mut out) {
         Outcome::Done => ExitCode::SUCCESS,
         Outcome::Fault { told, status } => {
             if let Some(told) = &told {

@@ -1,5 +1,5 @@
 use Rattle.std.proofs.Common.{◌≡◌}
-use Rattle.diag_run.proofs.whole.replayed_text.Goals as goal
+use Rattle.diag_run.proofs.answer.replayed_text.Goals as goal
 
 pub returns-in-Err-Differs : goal.returns-in-Err-Differs
 returns-in-Err-Differs c = record {

@@ -1,0 +1,90 @@
+//! What a run writes for what it has read: the text of a play, or of a replay.
+
+ghost use Rattle.std.specs.Prelude.{◌≡◌, length, map, IfOk};
+ghost use Rattle.diag_run.specs.Files.{logs_from};
+ghost use Rattle.diag_run.specs.Run.{GivesPlayed, GivesWoven, GivesReplayed, played_text, answered};
+
+use crate::fault::RunFault;
+use crate::logs::read_logs;
+use crate::text::{journal_part, play_text, replay_text};
+use diag_can::Timing;
+use diag_desk::{JournalFault, ReplayFault, StepFault, read_journal, replay};
+use diag_setup::Setup;
+use diag_workers::{NoWatch, play};
+use diag_world::{Played, serial};
+use std::alloc::{AllocError, Global};
+use std::sync::Wait;
+use std::thread::Threads;
+
+/// Plays the logs on one thread, and says what the play writes.
+pub(crate) fn played_text(
+    alloc: Global,
+    setup: &Setup,
+    texts: &[Vec<u8>],
+    only_journal: bool,
+    timing: Timing,
+) -> Result<Vec<u8>, RunFault>
+    requires { length texts.now ≡ length setup.now.testers }
+    ensures { GivesPlayed only_journal timing setup.now (logs_from timing setup.now 1 (map (λ text. text.items) texts.now)) (answered (λ text. text.items) result) }
+{
+    let logs = match read_logs(alloc, setup, timing, texts) {
+        Ok(logs) => logs,
+        Err(fault) => return Err(fault),
+    };
+    match serial(alloc, setup, logs.as_slice()) {
+        Ok(played) => Ok(text_of(alloc, setup, &played, only_journal, timing)?),
+        Err(StepFault::Memory) => Err(RunFault::Memory),
+        Err(StepFault::JournalFull) => Err(RunFault::JournalFull),
+    }
+}
+
+/// Plays the logs, a thread for each tester, and says what the play writes.
+#[tactic(auto, using(crate::proofs::Threads::logs_well, crate::proofs::Threads::log_ill))]
+pub(crate) fn woven_text<R: Threads + Wait + Sync>(
+    rt: &R,
+    alloc: Global,
+    setup: &Setup,
+    texts: &[Vec<u8>],
+    only_journal: bool,
+    timing: Timing,
+) -> Result<Vec<u8>, RunFault>
+    requires { length texts.now ≡ length setup.now.testers }
+    ensures { GivesWoven only_journal timing setup.now (logs_from timing setup.now 1 (map (λ text. text.items) texts.now)) (answered (λ text. text.items) result) }
+{
+    let played = play(rt, alloc, setup, texts, &NoWatch, timing)?;
+    Ok(text_of(alloc, setup, &played, only_journal, timing)?)
+}
+
+/// What is written of a play: the journal alone where that is asked for.
+fn text_of(
+    alloc: Global,
+    setup: &Setup,
+    played: &Played,
+    only_journal: bool,
+    timing: Timing,
+) -> Result<Vec<u8>, AllocError>
+    requires { length played.now.sent.items ≡ length setup.now.testers }
+    ensures { IfOk result (λ text. text.items ≡ played_text only_journal timing setup.now played.now.desk (map (λ sent. sent.items) played.now.sent.items)) }
+{
+    if only_journal {
+        journal_part(alloc, timing, played.desk.journal())
+    } else {
+        play_text(alloc, setup, played, timing)
+    }
+}
+
+/// Replays the journal that these bytes say, and says what the replay writes.
+pub(crate) fn replayed_text(alloc: Global, setup: &Setup, bytes: &[u8]) -> Result<Vec<u8>, RunFault>
+    ensures { GivesReplayed setup.now bytes.now (answered (λ text. text.items) result) }
+{
+    let journal = match read_journal(alloc, bytes) {
+        Ok(journal) => journal,
+        Err(JournalFault::Line(n)) => return Err(RunFault::JournalLine(n)),
+        Err(JournalFault::Memory) => return Err(RunFault::Memory),
+    };
+    match replay(alloc, setup, &journal) {
+        Ok(ecu) => Ok(replay_text(alloc, setup, &journal, &ecu)?),
+        Err(ReplayFault::Differs(n)) => Err(RunFault::Differs(n)),
+        Err(ReplayFault::Memory) => Err(RunFault::Memory),
+    }
+}

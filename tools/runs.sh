@@ -1,0 +1,107 @@
+#!/usr/bin/env bash
+# Runs the built program over the folders of runs/ and compares all that it writes, and its status. A folder has the
+# file `commands`, a command of the program on each line, which is run in that folder; `stdout`, or `lines` where the
+# order of the lines isn't fixed (with neither nothing is written); `stderr` and `status`, where they aren't empty and 0.
+# Then come runs over files that are made here. The last line is 'N passed, M failed'.
+set -uo pipefail
+cd "$(dirname "$0")/.." || exit 2
+program=$PWD/crates/uds_play/out/uds_play
+room=$(mktemp -d)
+trap 'rm -rf "$room"' EXIT
+: > "$room/nothing"
+passed=0
+failed=0
+[ -x "$program" ] || { echo "runs: $program isn't built"; echo "0 passed, 1 failed"; exit 1; }
+
+good() { passed=$((passed + 1)); echo "run: $*"; }
+bad() { failed=$((failed + 1)); echo "RUN WRONG: $*"; head -n 5 "$room/out" "$room/err"; }
+
+# ran FOLDER WORD..: runs the program in the folder; what it writes is in out and err, its status in status
+ran() {
+  local folder=$1
+  shift
+  status=0
+  (cd "$folder" && exec timeout 120 "$program" "$@") > "$room/out" 2> "$room/err" < /dev/null || status=$?
+}
+
+# same FILE OTHER: whether the file, or nothing where there is none, is the other
+same() { cmp -s "$([ -f "$1" ] && echo "$1" || echo "$room/nothing")" "$2"; }
+
+# is_right FOLDER: whether what was written is what the folder says
+is_right() {
+  [ "$status" = "$(cat "$1/status" 2> /dev/null || echo 0)" ] || return 1
+  same "$1/stderr" "$room/err" || return 1
+  if [ -f "$1/lines" ]; then
+    sort "$1/lines" | cmp -s - <(sort "$room/out")
+  else
+    same "$1/stdout" "$room/out"
+  fi
+}
+
+for folder in "$PWD"/runs/*/; do
+  while read -r -a words; do
+    ran "$folder" "${words[@]}"
+    if is_right "$folder"; then good "$(basename "$folder"): ${words[*]}"; else bad "$(basename "$folder"): ${words[*]}: status $status"; fi
+  done < "${folder}commands"
+done
+
+# ends NAME STATUS TOLD: the last run ended so, wrote nothing, and told this line of a fault
+ends() {
+  if [ "$status" = "$2" ] && [ ! -s "$room/out" ] && [ "$(cat "$room/err")" = "uds_play: $3" ]; then
+    good "$1"
+  else
+    bad "$1: status $status"
+  fi
+}
+
+setup=$PWD/runs/setup.toml
+empty=$PWD/runs/empty.log
+usage='usage: uds_play [serial|play|replay] [--journal] [--stamps] CONFIG FILE..'
+yes tick | head -n 1000000 > "$room/most.log"
+yes tick | head -n 1000001 > "$room/past.log"
+echo tick > "$room/one.log"
+{
+  echo 'diag-journal 1'
+  yes '1 T 1' | head -n 1000000
+} > "$room/most.txt"
+
+for command in serial play; do
+  ran "$room" "$command" --journal "$setup" most.log "$empty"
+  if [ "$status" = 0 ] && cmp -s "$room/out" "$room/most.txt"; then good "a million ticks: $command"; else bad "a million ticks: $command: status $status"; fi
+  ran "$room" "$command" "$setup" most.log one.log
+  ends "a journal that is full: $command" 5 'journal full'
+  ran "$room" "$command" "$setup" past.log "$empty"
+  ends "a line past a million: $command" 3 'log 1: too many lines'
+  head -c 67108865 /dev/zero > "$room/long.log"
+  ran "$room" "$command" "$setup" long.log "$empty"
+  ends "a log past its limit: $command" 3 'file 1: too long'
+  rm "$room/long.log"
+done
+
+ran "$room" replay "$setup" most.txt
+if [ "$status" = 0 ] && [ "$(head -n 1 "$room/out")" = 'entries 1000000' ]; then good "a million entries: replay"; else bad "a million entries: replay: status $status"; fi
+
+# A journal of threads, whatever order they took, replays.
+ran runs/threaded_play play --journal "$setup" a.log b.log
+cp "$room/out" "$room/journal"
+ran "$room" replay "$setup" journal
+printf 'entries 5\nsession extended\nholder A\ncode 012345 2F\n' > "$room/want"
+if [ "$status" = 0 ] && cmp -s "$room/out" "$room/want"; then good "the journal of threads: replay"; else bad "the journal of threads: replay: status $status"; fi
+
+ran . serial --stamps demo/setup.toml demo/workshop.log demo/end_of_line.log
+if [ "$status" = 0 ] && cmp -s "$room/out" demo/output.txt; then good "the demo"; else bad "the demo: status $status"; fi
+
+ran "$room" --help
+if [ "$status" = 0 ] && [ -s "$room/out" ] && [ ! -s "$room/err" ]; then good "--help"; else bad "--help: status $status"; fi
+
+ran "$room" serial "$(printf '\377')" "$empty"
+ends "a word that isn't UTF-8" 1 "$usage"
+
+for command in serial play; do
+  status=0
+  "$program" "$command" "$setup" "$empty" "$empty" > /dev/full 2> "$room/err" || status=$?
+  : > "$room/out"
+  ends "a text that can't be written: $command" 7 'cannot write'
+done
+echo "$passed passed, $failed failed"
+[ "$failed" = 0 ]
