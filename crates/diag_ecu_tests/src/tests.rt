@@ -1,0 +1,6 @@
+mod identifiers;
+mod refusals;
+mod routines;
+mod script;
+mod sessions;
+mod unlocking;

@@ -1,0 +1,245 @@
+//! Scripts of requests and ticks, with the replies that they have to get.
+
+use diag_can::TickCount;
+use diag_ecu::{Ecu, Session};
+use diag_fixtures::{bytes, raw_two_testers};
+use diag_store::{RawDid, RawSetup, Who};
+use diag_tp::{Message, MessageFault};
+use hex::FromHexError;
+use std::alloc::{AllocError, Global};
+
+/// What a tester does, which is named by its place, and what the ECU tells of itself then. Requests and replies are
+/// hex text; the reply `-` is none.
+#[derive(Clone, Copy)]
+pub enum Move {
+    Asks(u8, &'static str, &'static str),
+    /// The same by a functional request.
+    Calls(u8, &'static str, &'static str),
+    Waits(u8, u16),
+    /// This tester is the holder, alone in the extended session; 0 for none.
+    Held(u8),
+    /// The code 012345 has this status.
+    Status(u8),
+}
+
+/// Why a test did not come to its end: memory was refused, or a call answered what it must not.
+#[derive(Clone, Copy, PartialEq, Eq, Debug, Drop)]
+pub enum Trouble {
+    Memory,
+    Wrong,
+}
+
+impl From<AllocError> for Trouble {
+    fn from(_refused: AllocError) -> Trouble {
+        Trouble::Memory
+    }
+}
+
+impl From<MessageFault> for Trouble {
+    fn from(fault: MessageFault) -> Trouble {
+        match fault {
+            MessageFault::Memory => Trouble::Memory,
+            MessageFault::Length => Trouble::Wrong,
+        }
+    }
+}
+
+impl From<FromHexError> for Trouble {
+    fn from(fault: FromHexError) -> Trouble {
+        match fault {
+            FromHexError::OutOfMemory => Trouble::Memory,
+            _ => Trouble::Wrong,
+        }
+    }
+}
+
+/// The reply to 1003.
+pub const EXTENDED: &str = "5003003201F4";
+
+/// The value of the identifier 0100.
+pub const LONG_VALUE: [u8; 255] = [0x5A; 255];
+
+/// Whether all went as it should; an error where memory was refused on the way.
+pub fn holds(outcome: Result<bool, Trouble>) -> Result<bool, AllocError> {
+    match outcome {
+        Ok(right) => Ok(right),
+        Err(Trouble::Memory) => Err(AllocError),
+        Err(Trouble::Wrong) => Ok(false),
+    }
+}
+
+/// The setup with two testers, not checked yet.
+pub fn raw_setup(alloc: Global) -> Result<RawSetup, AllocError> {
+    raw_two_testers(alloc)
+}
+
+/// The ECU of a setup that isn't checked yet.
+pub fn opened(alloc: Global, raw: RawSetup) -> Result<Ecu, Trouble> {
+    match raw.check() {
+        Ok(setup) => Ok(Ecu::new(alloc, &setup)?),
+        Err(_) => Err(Trouble::Wrong),
+    }
+}
+
+/// Gives a setup a further identifier 0100 of 255 bytes.
+pub fn add_long_value(alloc: Global, raw: &mut RawSetup) -> Result<(), AllocError> {
+    raw.dids.push(RawDid {
+        id: 0x0100,
+        value: bytes(alloc, &LONG_VALUE)?,
+        read_level: 0,
+        write: false,
+        write_level: 0,
+    })
+}
+
+/// Whether the moves get their replies from the ECU of the setup with two testers, as it opens.
+pub fn plays(alloc: Global, parts: &[&[Move]]) -> Result<bool, AllocError> {
+    plays_on(alloc, raw_setup(alloc)?, parts)
+}
+
+/// The same of another setup.
+pub fn plays_on(alloc: Global, raw: RawSetup, parts: &[&[Move]]) -> Result<bool, AllocError> {
+    holds(opens_and_goes(alloc, raw, parts))
+}
+
+fn opens_and_goes(alloc: Global, raw: RawSetup, parts: &[&[Move]]) -> Result<bool, Trouble> {
+    let mut ecu = opened(alloc, raw)?;
+    goes_through(alloc, &mut ecu, parts)
+}
+
+/// Whether the moves of all parts get their replies from this ECU.
+pub fn goes_through(alloc: Global, ecu: &mut Ecu, parts: &[&[Move]]) -> Result<bool, Trouble> {
+    for part in parts {
+        if !goes_on(alloc, ecu, part)? {
+            return Ok(false);
+        }
+    }
+    Ok(true)
+}
+
+/// Whether the moves get their replies from this ECU.
+pub fn goes_on(alloc: Global, ecu: &mut Ecu, moves: &[Move]) -> Result<bool, Trouble> {
+    for step in moves {
+        if !goes(alloc, ecu, *step)? {
+            return Ok(false);
+        }
+    }
+    Ok(true)
+}
+
+fn goes(alloc: Global, ecu: &mut Ecu, step: Move) -> Result<bool, Trouble> {
+    match step {
+        Move::Asks(place, request, reply) => {
+            is_answered(
+                alloc,
+                ecu,
+                place,
+                false,
+                &message_of(alloc, request)?,
+                reply,
+            )
+        }
+        Move::Calls(place, request, reply) => {
+            is_answered(alloc, ecu, place, true, &message_of(alloc, request)?, reply)
+        }
+        Move::Waits(place, count) => Ok(waits(ecu, place, count)),
+        Move::Held(place) => Ok(is_held_by(ecu, place)),
+        Move::Status(status) => Ok(ecu.codes().status(0x01_2345) == Some(status)),
+    }
+}
+
+/// Whether a request gets this reply.
+pub fn is_answered(
+    alloc: Global,
+    ecu: &mut Ecu,
+    place: u8,
+    functional: bool,
+    request: &Message,
+    reply: &str,
+) -> Result<bool, Trouble> {
+    let Some(who) = Who::new(place) else {
+        return Ok(false);
+    };
+    let told = asked(ecu, who, functional, request)?;
+    is_reply(alloc, &told, reply)
+}
+
+/// A request that is refused for want of memory leaves all as it was, so it is asked again.
+pub fn asked(
+    ecu: &mut Ecu,
+    who: Who,
+    functional: bool,
+    message: &Message,
+) -> Result<Option<Message>, AllocError> {
+    match ecu.request(who, functional, message) {
+        Ok(reply) => Ok(reply),
+        Err(_) => ecu.request(who, functional, message),
+    }
+}
+
+/// Whether a reply is this one.
+pub fn is_reply(alloc: Global, told: &Option<Message>, reply: &str) -> Result<bool, Trouble> {
+    match told {
+        Some(told) => is_message(alloc, told, reply),
+        None => Ok(reply == "-"),
+    }
+}
+
+fn is_message(alloc: Global, told: &Message, reply: &str) -> Result<bool, Trouble> {
+    if reply == "-" {
+        return Ok(false);
+    }
+    let wanted = message_of(alloc, reply)?;
+    Ok(told.bytes() == wanted.bytes())
+}
+
+fn waits(ecu: &mut Ecu, place: u8, count: u16) -> bool {
+    match (Who::new(place), TickCount::new(count)) {
+        (Some(who), Some(count)) => {
+            ecu.ticks(who, count);
+            true
+        }
+        _ => false,
+    }
+}
+
+/// Whether this tester is the holder, alone in the extended session; 0 for none.
+pub fn is_held_by(ecu: &Ecu, place: u8) -> bool {
+    ecu.holder() == Who::new(place)
+        && is_extended(ecu, 1) == (place == 1)
+        && is_extended(ecu, 2) == (place == 2)
+}
+
+fn is_extended(ecu: &Ecu, place: u8) -> bool {
+    match Who::new(place) {
+        Some(who) => ecu.session_of(who) == Session::Extended,
+        None => false,
+    }
+}
+
+/// The message that a hex text is.
+pub fn message_of(alloc: Global, text: &str) -> Result<Message, Trouble> {
+    let bytes = hex::decode(alloc, text.as_bytes())?;
+    Ok(Message::new(alloc, bytes.as_slice())?)
+}
+
+/// A read of so many times the identifier 0100.
+pub fn read_of(alloc: Global, times: usize) -> Result<Message, Trouble> {
+    let request = repeated(alloc, 0x22, &[0x01, 0x00], times)?;
+    Ok(Message::new(alloc, request.as_slice())?)
+}
+
+/// A byte, and then so many times these bytes.
+pub fn repeated(
+    alloc: Global,
+    first: u8,
+    rest: &[u8],
+    times: usize,
+) -> Result<Vec<u8>, AllocError> {
+    let mut made = Vec::new(alloc);
+    made.push(first)?;
+    for _ in 0..times {
+        made.extend_from_slice(rest)?;
+    }
+    Ok(made)
+}
