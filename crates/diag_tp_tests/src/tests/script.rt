@@ -1,8 +1,8 @@
 //! Scripts: lines of a log, and what has to come of each.
 
-use crate::pair::{Pace, Pair};
-use crate::trouble::Trouble;
-use crate::twin::Figures;
+use super::pair::{Pace, Pair};
+use super::trouble::Trouble;
+use super::twin::Figures;
 use diag_can::{CanId, Event, FrameBytes, Ids, TickCount, read_line};
 use diag_tp::{LinkSetup, Message, Request, Sent};
 use hex::FromHexError;

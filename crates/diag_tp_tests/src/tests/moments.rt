@@ -1,6 +1,6 @@
 //! Events as moments: each frame is one, and each unit tick.
 
-use crate::kinds::kind;
+use super::kinds::kind;
 use diag_can::Event;
 use diag_tp::Pci;
 use std::alloc::{AllocError, Global};

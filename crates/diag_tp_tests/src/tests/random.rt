@@ -1,10 +1,10 @@
 //! Links and their twins over traffic by chance.
 
-use crate::chance::Chance;
-use crate::kinds::{bytes_of, kind};
-use crate::pair::{Pace, Pair};
-use crate::script::settings;
-use crate::trouble::{Trouble, holds};
+use super::chance::Chance;
+use super::kinds::{bytes_of, kind};
+use super::pair::{Pace, Pair};
+use super::script::settings;
+use super::trouble::{Trouble, holds};
 use diag_can::{Event, TickCount};
 use diag_tp::{LinkSetup, Message, Pci};
 use std::alloc::Global;
@@ -35,8 +35,8 @@ fn short_settings(chance: &mut Chance) -> Option<LinkSetup> {
         } else {
             Some(chance.byte())
         },
-        n_bs: ticks(chance.below(6).saturating_add(1))?,
-        n_cr: ticks(chance.below(6).saturating_add(1))?,
+        n_bs: ticks(chance.below(8).saturating_add(1))?,
+        n_cr: ticks(chance.below(8).saturating_add(1))?,
         ..settings()?
     })
 }
@@ -100,13 +100,13 @@ impl Tester {
 
     /// A Consecutive, mostly the next one.
     fn consecutive(&mut self) -> Event {
-        let number = if self.chance.is_one_in(12) {
+        let number = if self.chance.is_one_in(20) {
             self.chance.below(16)
         } else {
             self.number % 16
         };
         self.number = (number % 16) + 1;
-        let least = if self.chance.is_one_in(6) { 1 } else { 8 };
+        let least = if self.chance.is_one_in(12) { 1 } else { 8 };
         self.physical(0x20 | number, least)
     }
 
@@ -134,7 +134,6 @@ impl Tester {
             1 => n_bs.saturating_sub(1),
             2 => n_cr,
             3 => n_cr.saturating_sub(1),
-            4 => n_bs.saturating_add(n_cr),
             _ => 1,
         };
         Some(Event::Ticks(TickCount::new(count.max(1))?))
@@ -142,13 +141,13 @@ impl Tester {
 
     /// The next event.
     fn event(&mut self) -> Option<Event> {
-        match self.chance.below(20) {
-            0 | 1 => Some(self.single()),
-            2 => Some(self.functional()),
-            3 | 4 => Some(self.first()),
-            5..=9 => Some(self.consecutive()),
-            10..=13 => Some(self.flow()),
-            14 => Some(self.any()),
+        match self.chance.below(24) {
+            0 => Some(self.single()),
+            1 => Some(self.functional()),
+            2 | 3 => Some(self.first()),
+            4..=12 => Some(self.consecutive()),
+            13..=18 => Some(self.flow()),
+            19 => Some(self.any()),
             _ => self.wait(),
         }
     }
@@ -194,7 +193,7 @@ fn agree(alloc: Global, seed: u64) -> Result<(), Trouble> {
         number: 1,
     };
     let mut pair = Pair::new(alloc, &tester.setup, pace);
-    for _ in 0..40 {
+    for _ in 0..50 {
         takes(alloc, &mut tester, &mut pair)?;
     }
     Ok(())
@@ -202,7 +201,7 @@ fn agree(alloc: Global, seed: u64) -> Result<(), Trouble> {
 
 #[test]
 fn slow_twin(rt: HostRuntime) {
-    for seed in 1..=300 {
+    for seed in 1..=500 {
         let outcome = agree(rt.alloc(), seed);
         assert!(rt; holds(outcome), "{seed}: {outcome:?}");
     }

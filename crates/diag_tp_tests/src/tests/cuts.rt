@@ -1,7 +1,7 @@
 //! The frames of a message, by taking it apart.
 
-use crate::kinds::bytes_of;
-use crate::receptions::head_size;
+use super::kinds::bytes_of;
+use super::receptions::head_size;
 use diag_can::FrameBytes;
 use std::alloc::{AllocError, Global};
 

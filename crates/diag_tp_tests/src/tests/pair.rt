@@ -3,8 +3,8 @@
 ghost use Rattle.std.specs.Prelude.{IsTrue};
 ghost use Rattle.diag_tp.specs.Link.{is_frame};
 
-use crate::trouble::Trouble;
-use crate::twin::{Figures, Twin};
+use super::trouble::Trouble;
+use super::twin::{Figures, Twin};
 use diag_can::{Event, TickCount};
 use diag_tp::{Link, LinkSetup, Message, Request, Sent};
 use std::alloc::Global;

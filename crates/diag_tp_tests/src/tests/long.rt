@@ -1,9 +1,9 @@
 //! The worked examples with long messages, and with many frames.
 
-use crate::pair::Pace;
-use crate::script::{Script, Step, line, plays, settings};
-use crate::trouble::{Trouble, holds};
-use crate::twin::Figures;
+use super::pair::Pace;
+use super::script::{Script, Step, line, plays, settings};
+use super::trouble::{Trouble, holds};
+use super::twin::Figures;
 use diag_tp::{LinkSetup, Message};
 use std::alloc::Global;
 use std::test::Fail;

@@ -1,10 +1,10 @@
 //! The slow twin of a link: it keeps all events and answers in lists, and computes all else from them each time.
 
-use crate::courses::{Course, draw};
-use crate::cuts::{cut, frame};
-use crate::kinds::{bytes_of, kind};
-use crate::moments::{Moment, moments};
-use crate::receptions::{Reception, reception_after};
+use super::courses::{Course, draw};
+use super::cuts::{cut, frame};
+use super::kinds::{bytes_of, kind};
+use super::moments::{Moment, moments};
+use super::receptions::{Reception, reception_after};
 use diag_can::{Event, Frame, FrameBytes};
 use diag_tp::{LinkSetup, Message, Pci, Sent};
 use std::alloc::{AllocError, Global};

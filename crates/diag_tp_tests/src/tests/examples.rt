@@ -1,7 +1,7 @@
 //! The worked examples of a link.
 
-use crate::script::{line, plays, settings};
-use crate::trouble::holds;
+use super::script::{line, plays, settings};
+use super::trouble::holds;
 use diag_tp::LinkSetup;
 use std::test::Fail;
 

@@ -1,6 +1,6 @@
 //! When the frames of a message go: of all later moments, which decides.
 
-use crate::moments::{Moment, moment_after, time};
+use super::moments::{Moment, moment_after, time};
 use diag_tp::Pci;
 use std::alloc::{AllocError, Global};
 

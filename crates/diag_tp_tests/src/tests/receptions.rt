@@ -1,6 +1,6 @@
 //! The reception that is open after some moments, from the last of them that starts one.
 
-use crate::moments::Moment;
+use super::moments::Moment;
 use diag_tp::Pci;
 use std::alloc::{AllocError, Global};
 
