@@ -1,0 +1,235 @@
+#!/usr/bin/env python3
+"""Runs the worked examples by the built program, and compares whole outputs and statuses: those of runs/examples.txt,
+and those whose logs or journals are built here. The last line is 'N passed, M failed'."""
+import os
+import subprocess
+import sys
+import tempfile
+
+TOP = os.path.dirname(os.path.dirname(os.path.abspath(__file__)))
+PROGRAM = f"{TOP}/crates/uds_play/out/uds_play"
+with open(f"{TOP}/runs/setup.toml") as it:
+    SETUP = it.read()
+DEFAULT = "session default\nholder none\ncode 012345 2F\n"
+HELD = "session extended\nholder A\ncode 012345 2F\n"
+GRANT = "(0000000000.000000) A 7E8#300000CCCCCCCCCC\n"
+READ = "1 P 22F190 62F1905445535456494E30313233343536373839\n"
+STAMP = "(0000000000.000000) can0 "
+counts = {True: 0, False: 0}
+
+
+def told(good, name, more=""):
+    counts[good] += 1
+    print(f"example: {name}" if good else f"EXAMPLE WRONG: {name}{more}", flush=True)
+
+
+def log(lines):
+    """Lines by their frames as lines of a log."""
+    return "".join(f"{it if it.startswith('tick') else STAMP + it}\n" for it in lines)
+
+
+def check(name, words, files, prints="", tells="", status=0):
+    """Runs the program with the words, then the files, and compares all that it writes."""
+    with tempfile.TemporaryDirectory() as room:
+        for index, text in enumerate(files):
+            with open(f"{room}/{index}", "wb") as it:
+                it.write(text if isinstance(text, bytes) else text.encode())
+        line = [PROGRAM, *words, *(str(it) for it in range(len(files)))]
+        ran = subprocess.run(line, cwd=room, capture_output=True, timeout=120)
+    want = (status, prints.encode(), f"uds_play: {tells}\n".encode() if tells else b"")
+    found = (ran.returncode, ran.stdout, ran.stderr)
+    told(found == want, f"{name}: {' '.join(words)}", f": {found}"[:600])
+
+
+def plays(name, a, prints="", keys="", tables="", **fault):
+    """Tester A's log alone, on one thread and on one for each tester."""
+    for job in ("serial", "play"):
+        check(name, [job], [keys + SETUP + tables, a, ""], prints, **fault)
+
+
+def of_file():
+    """The examples of runs/examples.txt, each by its parts."""
+    found, part = [], None
+    with open(f"{TOP}/runs/examples.txt") as it:
+        for line in it.read().split("\n"):
+            if line.startswith("== "):
+                found.append({"name": line[3:]})
+            elif line.startswith("-- "):
+                part = line[3:]
+                found[-1][part] = []
+            elif line and found:
+                found[-1][part].append(line)
+    return found
+
+
+def text(parts, name):
+    return "".join(f"{it}\n" for it in parts.get(name, []))
+
+
+def run_file():
+    for parts in of_file():
+        a = text(parts, "log") or log(parts.get("a", []))
+        files = [text(parts, "keys") + SETUP, a, log(parts.get("b", []))]
+        for job in ("serial",) if "b" in parts else ("serial", "play"):
+            words = [job, *parts.get("flags", [])]
+            check(parts["name"], words, files, text(parts, "prints"))
+
+
+def consecutives(count):
+    """So many consecutive frames of seven FF, the first with the number 1."""
+    return [f"7E0#2{(it + 1) % 16:X}{'FF' * 7}" for it in range(count)]
+
+
+def requests(name, first, count, last, length, grants=GRANT, keys=""):
+    """A request of unknown identifiers in a first frame, so many consecutive frames and a last one; then without the last."""
+    lines = [first, *consecutives(count)]
+    refused = "(0000000000.000000) A 7E8#037F2231CCCCCCCC\n"
+    entry = f"1 P 22{'FF' * length} 7F2231\n"
+    plays(name, log([*lines, last]), f"{grants}{refused}diag-journal 1\n{entry}{DEFAULT}", keys=keys)
+    plays(f"{name}, without its end", log(lines), f"{grants}diag-journal 1\n{DEFAULT}", keys=keys)
+
+
+def long_requests():
+    first = "7E0#108122FFFFFFFFFF"
+    last = "7E0#22FFFFFFFF"
+    requests("long-request", first, 17, last, 128)
+    blocks = GRANT.replace("300000", "300800") * 3
+    requests("long-request in blocks", first, 17, last, 128, blocks, "block_size = 8\n")
+    numbered = [first, *consecutives(15), f"7E0#21{'FF' * 7}", f"7E0#21{'FF' * 7}", last]
+    plays("long-request past zero", log(numbered), f"{GRANT}diag-journal 1\n{DEFAULT}")
+    requests("largest-base-request", "7E0#1FFF22FFFFFFFFFF", 584, "7E0#29FF", 4094)
+    keys = "max_request = 65535\n"
+    requests("long-message-request", "7E0#10000000138922FF", 714, "7E0#2BFF", 5000, keys=keys)
+    firsts = ["7E0#1000000010000102", "7E0#1000000100000102", "7E0#100000000FFF0102"]
+    overlong = GRANT.replace("300000", "320000")
+    plays("long-message-request", log(firsts), f"{GRANT}{overlong}diag-journal 1\n{DEFAULT}", keys=keys)
+    plays("repeated-first", log(["7E0#1FFF22FFFFFFFFFF"] * 1000), f"{GRANT * 1000}diag-journal 1\n{DEFAULT}")
+    firsts = ["7E0#1000FFFFFFFF0102", "7E0#1000000000000102"]
+    plays("repeated-first", log(firsts), f"{overlong}diag-journal 1\n{DEFAULT}")
+
+
+def long_replies():
+    waits = ["7E0#0322F190", *["tick 999", "7E0#310000"] * 1000, "7E0#300000"]
+    first = "(0000000000.000000) A 7E8#101462F190544553\n"
+    rest = "(0000000999.000000) A 7E8#215456494E303132\n(0000000999.000000) A 7E8#2233343536373839\n"
+    ticks = "1 T 999\n" * 1000
+    plays("long-waiting", log(waits), f"{first}{rest}diag-journal 1\n{READ}{ticks}{DEFAULT}")
+    firsts = "".join(first.replace("0.000000", f"{it}.000000") for it in range(4))
+    asked = ["7E0#0322F190"] * 1000 + ["tick 1000"] * 3
+    ticks = "1 T 1000\n" * 3
+    plays("thousand-replies", log(asked), f"{firsts}diag-journal 1\n{READ * 1000}{ticks}{DEFAULT}")
+    value = "00" * 255
+    reply = "62" + f"0100{value}" * 16
+    parts = [reply[4:][at : at + 14].ljust(14, "C") for at in range(0, len(reply) - 4, 14)]
+    sent = "".join(f"(0000000000.000000) A 7E8#2{(at + 1) % 16:X}{it}\n" for at, it in enumerate(parts))
+    told(len(parts) == 588 and sent.endswith("7E8#2C0000CCCCCCCCCC\n"), "long-message-reply: 588 consecutive frames")
+    lines = ["7E0#1021220100010001", "7E0#2100010001000100", "7E0#2201000100010001"]
+    lines += ["7E0#2300010001000100", "7E0#24010001000100", "7E0#300000"]
+    first = "(0000000000.000000) A 7E8#1000000010116201\n"
+    journal = f"diag-journal 1\n1 P 22{'0100' * 16} {reply}\n"
+    table = f'\n[[did]]\nid = 0x0100\nvalue = "{value}"\n'
+    plays("long-message-reply", log(lines), f"{GRANT}{first}{sent}{journal}{DEFAULT}", tables=table)
+
+
+def two_routines():
+    """Two routines that end at one tick set their code's status by rising identifier."""
+    table = '\n[[routine]]\nid = 0x0204\ntime_ms = 100\nresult = "01"\ncode = 0x012345\nstatus = 0x01\n'
+    for one, other in (("0203", "0204"), ("0204", "0203")):
+        lines = ["7E0#021003", "7E0#0414FFFFFF", f"7E0#043101{one}", f"7E0#043101{other}", "tick 100"]
+        replies = ["065003003201F4CC", "0154CCCCCCCCCCCC", f"047101{one}CCCCCC", f"047101{other}CCCCCC"]
+        sent = "".join(f"(0000000000.000000) A 7E8#{it}\n" for it in replies)
+        journal = f"1 P 1003 5003003201F4\n1 P 14FFFFFF 54\n1 P 3101{one} 7101{one}\n1 P 3101{other} 7101{other}\n1 T 100\n"
+        end = "session extended\nholder A\ncode 012345 01\n"
+        plays("routine-and-setting, two", log(lines), f"{sent}diag-journal 1\n{journal}{end}", tables=table)
+
+
+def log_faults():
+    for line, fault in [
+        ("7E0#023", "bad line"),
+        ("7E0#021003000000000000", "too many bytes"),
+        ("tick 0", "bad tick"),
+        ("tick 60001", "bad tick"),
+        ("tick 01", "bad tick"),
+        ("800#00", "bad line"),
+        ("7E0#023E0", "bad line"),
+        ("7E0#02G", "bad line"),
+        ("07E0#00", "bad line"),
+        ("7E0#021003_9", "bad line"),
+        ("7E0#023E00AAAAAAAAAA_", "bad line"),
+        ("tick  5", "bad tick"),
+        ("tickle", "bad tick"),
+        ("tick 5 ", "bad tick"),
+    ]:
+        plays(f"a log's line {line}", log(["tick", line]), tells=f"log 1 line 2: {fault}", status=3)
+    for line in ["(0.00000) can0 7E0#00", "(0000000000000.000000) can0 7E0#00", "(0.000000) 7E0#00", b"\xff"]:
+        plays("a log's whole line", line, tells="log 1 line 1: bad line", status=3)
+    plays("no line feed", f"{STAMP}7E0#023E00", f"(0000000000.000000) A 7E8#027E00CCCCCCCCCC\ndiag-journal 1\n1 P 3E00 7E00\n{DEFAULT}")
+    plays("a carriage return", "tick\r\n", f"diag-journal 1\n1 T 1\n{DEFAULT}")
+
+
+def replays():
+    end = "session extended\nholder A\ncode 012345 2F\n"
+    plain = "diag-journal 1\n1 P 1003 5003003201F4\n" + "1 P 3E00 7E00\n" * 3
+    check("replay without stamps", ["replay"], [SETUP, plain], f"entries 4\n{end}")
+    for journal in ["diag-journal 1\n3 T 1\n", "diag-journal 1\n8 T 1\n"]:
+        check("replay of another tester", ["replay"], [SETUP, journal], tells="entry 1 differs", status=8)
+    late = "diag-journal 2\n0 1 P 1003 5003003201F4\n2501 1 T 2500\n"
+    check("stamps, another sum", ["replay"], [SETUP, late], tells="journal line 3", status=3)
+    for head in ["", "diag-journal 1", "diag-journal 01\n"]:
+        check(f"journal-line-forms {head!r}", ["replay"], [SETUP, head], tells="journal line 1", status=3)
+    lines = ["1 T 0", "1 T 01", "1 T 60001", "0 T 1", "9 T 1", "1 P 108 -", "1 P - -", "1 F 1083", "1 P 1083 -\r"]
+    for line in [*(f"{it}\n" for it in lines), "1 T 1"]:
+        check(f"journal-line-forms {line!r}", ["replay"], [SETUP, f"diag-journal 1\n{line}"], tells="journal line 2", status=3)
+    entries = "diag-journal 1\n" + "1 T 1\n" * 1_000_001
+    check("journal-line-forms, an entry too many", ["replay"], [SETUP, entries], tells="journal line 1000002", status=3)
+
+
+def config_faults():
+    tester = '[[tester]]\nname = "A"\nrequest = 0x7E0\nresponse = 0x7E8\n'
+    row = '[[level.row]]\nseed = "01"\nkey = "01"\n'
+    for config, fault in [
+        ("s3_ms =", "syntax"),
+        (b"\xff", "syntax"),
+        ("", "empty"),
+        ('s3_ms = "x"', "bad value s3_ms"),
+        ("s3_ms = 0", "range"),
+        ("max_request = 65536", "range"),
+        ('[[tester]]\nname = "A"\nrequest = 0x7E0\n', "missing tester.response"),
+        (tester + tester.replace('"A"', '"B"').replace("7E8", "7E9"), "duplicate"),
+        (tester + "[[code]]\ncode = 0x012345\nstatus = 0\n[[routine]]\nid = 1\ntime_ms = 1\ncode = 1\nstatus = 1\n", "unknown code"),
+        (tester + f'[[did]]\nid = 1\nvalue = "00"\nwrite_level = 3\n[[level]]\nsub = 1\n{row}', "unknown level"),
+        (tester + "[[level]]\nsub = 1\n", "empty"),
+        ("\n" * 1_048_577, "too long"),
+    ]:
+        for job in ("serial", "play", "replay"):
+            check(f"a setup: {fault}", [job], [config, ""], tells=f"config: {fault}", status=2)
+
+
+def read_while_written():
+    """B reads while A writes: it is sent the first frame of the old value or of the new one, and the journal replays."""
+    a = ["7E0#021003", "7E0#022701", "7E0#062702AABBCCDD"]
+    a += ["7E0#10142EF190414243", "7E0#214445464748494A", "7E0#224B4C4D4E4F5051"]
+    with tempfile.TemporaryDirectory() as room:
+        for name, lines in (("setup", SETUP), ("a", log(a)), ("b", log(["7E1#0322F190"]))):
+            with open(f"{room}/{name}", "w") as it:
+                it.write(lines)
+        ran = subprocess.run([PROGRAM, "play", "setup", "a", "b"], cwd=room, capture_output=True, text=True, timeout=120)
+    sent = [it for it in ran.stdout.split("\n") if it.startswith("(") and " B " in it]
+    either = [[f"(0000000000.000000) B 7E9#101462F190{it}"] for it in ("544553", "414243")]
+    told(ran.returncode == 0 and sent in either, "a value is read while it is written", f": {sent}")
+    journal = "diag-journal" + ran.stdout.partition("diag-journal")[2].partition("session")[0]
+    check("a value is read while it is written", ["replay"], [SETUP, journal], f"entries 5\n{HELD}")
+
+
+def main():
+    if not os.access(PROGRAM, os.X_OK):
+        print(f"examples: {PROGRAM} isn't built\n0 passed, 1 failed")
+        return 1
+    for group in (run_file, long_requests, long_replies, two_routines, log_faults, replays, config_faults, read_while_written):
+        group()
+    print(f"{counts[True]} passed, {counts[False]} failed")
+    return 1 if counts[False] else 0
+
+
+if __name__ == "__main__":
+    sys.exit(main())
