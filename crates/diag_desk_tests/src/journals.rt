@@ -1,0 +1,276 @@
+//! Worked examples as journals, made by steps and read back.
+
+use crate::script::{
+    Move, Trouble, holds, is_told, leaves, opened, raw_setup, request, stepped, takes, tester,
+};
+use diag_desk::{Desk, Journal, Step, journal_text_at, read_journal};
+use diag_fixtures::bytes;
+use diag_setup::{RawDid, RawSetup};
+use diag_tp::Message;
+use std::alloc::{AllocError, Global};
+use std::test::Fail;
+
+/// A write of F190 whose value is 41 to 51.
+const WRITE: &[u8] = b"\x2E\xF1\x90ABCDEFGHIJKLMNOPQ";
+
+/// A read of F190.
+const READ: &[u8] = b"\x22\xF1\x90";
+
+#[test]
+fn first_reply(rt: HostRuntime) -> Result<(), Fail> {
+    let moves = [Move::Asks(1, b"\x10\x03")];
+    let text = b"diag-journal 1\n1 P 1003 5003003201F4\n";
+    assert!(rt; leaves(rt.alloc(), &moves, text)?);
+    Ok(())
+}
+
+#[test]
+fn suppressed_reply(rt: HostRuntime) -> Result<(), Fail> {
+    let moves = [Move::Asks(1, b"\x10\x83")];
+    let text = b"diag-journal 1\n1 P 1083 -\n";
+    assert!(rt; leaves(rt.alloc(), &moves, text)?);
+    assert!(rt; holds(is_held(rt.alloc(), &moves))?);
+    Ok(())
+}
+
+/// Whether the first tester holds the session after the moves.
+fn is_held(alloc: Global, moves: &[Move]) -> Result<bool, Trouble> {
+    let mut desk = opened(alloc, raw_setup(alloc)?)?;
+    is_held_on(alloc, &mut desk, moves)
+}
+
+fn is_held_on(alloc: Global, desk: &mut Desk, moves: &[Move]) -> Result<bool, Trouble> {
+    Ok(takes(alloc, desk, moves)? && holds_session(desk))
+}
+
+fn holds_session(desk: &Desk) -> bool {
+    match desk.ecu().holder() {
+        Some(who) => who.place() == 1,
+        None => false,
+    }
+}
+
+/// Entries that are pushed by hand, with and without a reply.
+#[test]
+fn pushed_entries(rt: HostRuntime) -> Result<(), Fail> {
+    assert!(rt; holds(is_pushed(rt.alloc()))?);
+    Ok(())
+}
+
+fn is_pushed(alloc: Global) -> Result<bool, Trouble> {
+    let mut journal = Journal::new(alloc);
+    if !pushes_silent(alloc, &mut journal)? || !pushes_reply(alloc, &mut journal)? {
+        return Ok(false);
+    }
+    is_told(
+        alloc,
+        &journal,
+        b"diag-journal 1\n1 P 1083 -\n2 F 3E00 7E00\n",
+    )
+}
+
+fn pushes_silent(alloc: Global, journal: &mut Journal) -> Result<bool, Trouble> {
+    let step = request(alloc, false, b"\x10\x83")?;
+    journal.make_room(&step)?;
+    Ok(journal.push(tester(1)?, &step, None).is_ok())
+}
+
+fn pushes_reply(alloc: Global, journal: &mut Journal) -> Result<bool, Trouble> {
+    let step = Step::Request {
+        functional: true,
+        message: Message::new(alloc, b"\x3E\x00")?,
+    };
+    journal.make_room(&step)?;
+    let reply = Message::new(alloc, b"\x7E\x00")?;
+    Ok(journal.push(tester(2)?, &step, Some(&reply)).is_ok())
+}
+
+/// No request was completed, so there is no entry.
+#[test]
+fn wrong_order(rt: HostRuntime) -> Result<(), Fail> {
+    assert!(rt; leaves(rt.alloc(), &[], b"diag-journal 1\n")?);
+    Ok(())
+}
+
+#[test]
+fn reception_timeout(rt: HostRuntime) -> Result<(), Fail> {
+    let in_time = [Move::Waits(1, 999), Move::Asks(1, WRITE)];
+    let text = b"diag-journal 1\n1 T 999\n1 P 2EF1904142434445464748494A4B4C4D4E4F5051 7F2E7F\n";
+    assert!(rt; leaves(rt.alloc(), &in_time, text)?);
+    let late = [Move::Waits(1, 1000)];
+    assert!(rt; leaves(rt.alloc(), &late, b"diag-journal 1\n1 T 1000\n")?);
+    Ok(())
+}
+
+#[test]
+fn functional_in_reception(rt: HostRuntime) -> Result<(), Fail> {
+    let moves = [Move::Calls(1, b"\x3E\x80"), Move::Asks(1, WRITE)];
+    let text = b"diag-journal 1\n1 F 3E80 -\n1 P 2EF1904142434445464748494A4B4C4D4E4F5051 7F2E7F\n";
+    assert!(rt; leaves(rt.alloc(), &moves, text)?);
+    Ok(())
+}
+
+const TWO_TESTERS: [Move; 9] = [
+    Move::Asks(1, b"\x10\x03"),
+    Move::Waits(2, 1),
+    Move::Asks(1, b"\x27\x01"),
+    Move::Waits(2, 1),
+    Move::Asks(1, b"\x27\x02\xAA\xBB\xCC\xDD"),
+    Move::Waits(2, 1),
+    Move::Asks(2, READ),
+    Move::Asks(1, WRITE),
+    Move::Asks(2, READ),
+];
+
+const TWO_TESTERS_TEXT: &[u8] = b"diag-journal 1
+1 P 1003 5003003201F4
+2 T 1
+1 P 2701 670111223344
+2 T 1
+1 P 2702AABBCCDD 6702
+2 T 1
+2 P 22F190 62F1905445535456494E30313233343536373839
+1 P 2EF1904142434445464748494A4B4C4D4E4F5051 6EF190
+2 P 22F190 62F1904142434445464748494A4B4C4D4E4F5051
+";
+
+#[test]
+fn two_testers(rt: HostRuntime) -> Result<(), Fail> {
+    assert!(rt; leaves(rt.alloc(), &TWO_TESTERS, TWO_TESTERS_TEXT)?);
+    Ok(())
+}
+
+const STAMPS: [Move; 6] = [
+    Move::Asks(1, b"\x10\x03"),
+    Move::Waits(1, 2500),
+    Move::Asks(1, b"\x3E\x00"),
+    Move::Asks(1, b"\x3E\x00"),
+    Move::Waits(1, 1),
+    Move::Asks(1, b"\x3E\x00"),
+];
+
+const STAMPS_TEXT: &[u8] = b"diag-journal 2
+0 1 P 1003 5003003201F4
+2500 1 T 2500
+2500 1 P 3E00 7E00
+2500 1 P 3E00 7E00
+2501 1 T 1
+2501 1 P 3E00 7E00
+";
+
+#[test]
+fn stamps(rt: HostRuntime) -> Result<(), Fail> {
+    assert!(rt; holds(leaves_stamps(rt.alloc()))?);
+    assert!(rt; holds(reads_stamps(rt.alloc()))?);
+    Ok(())
+}
+
+fn leaves_stamps(alloc: Global) -> Result<bool, Trouble> {
+    let mut desk = opened(alloc, raw_setup(alloc)?)?;
+    leaves_stamps_on(alloc, &mut desk)
+}
+
+fn leaves_stamps_on(alloc: Global, desk: &mut Desk) -> Result<bool, Trouble> {
+    Ok(takes(alloc, desk, &STAMPS)? && is_stamped(alloc, desk.journal())?)
+}
+
+fn reads_stamps(alloc: Global) -> Result<bool, Trouble> {
+    let read = read_journal(alloc, STAMPS_TEXT)?;
+    Ok(is_stamped(alloc, &read)?)
+}
+
+fn is_stamped(alloc: Global, journal: &Journal) -> Result<bool, AllocError> {
+    let written = journal_text_at(alloc, journal)?;
+    Ok(written.as_slice() == STAMPS_TEXT)
+}
+
+/// The value of the identifier 0100.
+const LONG_VALUE: [u8; 255] = [0x5A; 255];
+
+/// A setup of two testers with the identifier 0100 besides.
+fn long_setup(alloc: Global) -> Result<RawSetup, AllocError> {
+    let mut raw = raw_setup(alloc)?;
+    add_long_value(alloc, &mut raw)?;
+    Ok(raw)
+}
+
+fn add_long_value(alloc: Global, raw: &mut RawSetup) -> Result<(), AllocError> {
+    raw.dids.push(RawDid {
+        id: 0x0100,
+        value: bytes(alloc, &LONG_VALUE)?,
+        read_level: 0,
+        write: false,
+        write_level: 0,
+    })
+}
+
+/// A byte, and then so many times these bytes.
+fn repeated(alloc: Global, first: u8, rest: &[u8], times: usize) -> Result<Vec<u8>, AllocError> {
+    let mut made = Vec::new(alloc);
+    made.push(first)?;
+    for _ in 0..times {
+        made.extend_from_slice(rest)?;
+    }
+    Ok(made)
+}
+
+/// The bytes of a reply with so many times the identifier 0100 and its value.
+fn data_reply(alloc: Global, times: usize) -> Result<Vec<u8>, AllocError> {
+    let row = data_row(alloc)?;
+    repeated(alloc, 0x62, row.as_slice(), times)
+}
+
+fn data_row(alloc: Global) -> Result<Vec<u8>, AllocError> {
+    let mut row = Vec::new(alloc);
+    row.extend_from_slice(&[0x01, 0x00])?;
+    row.extend_from_slice(&LONG_VALUE)?;
+    Ok(row)
+}
+
+/// Whether a read of so many times the identifier 0100 is answered with as many values, in so many bytes.
+fn reads_many(alloc: Global, times: usize, length: usize) -> Result<bool, Trouble> {
+    let wanted = data_reply(alloc, times)?;
+    let read = repeated(alloc, 0x22, &[0x01, 0x00], times)?;
+    Ok(wanted.len() == length && enters(alloc, read.as_slice(), wanted.as_slice())?)
+}
+
+fn reads_too_many(alloc: Global) -> Result<bool, Trouble> {
+    let read = repeated(alloc, 0x22, &[0x01, 0x00], 255)?;
+    enters(alloc, read.as_slice(), &[0x7F, 0x22, 0x14])
+}
+
+/// An identifier that isn't known is passed over where another is.
+fn passes_over_unknown(alloc: Global) -> Result<bool, Trouble> {
+    let wanted = data_reply(alloc, 1)?;
+    enters(alloc, b"\x22\x01\x00\xFF\xFF", wanted.as_slice())
+}
+
+/// Whether a request is entered with this reply by a desk with the identifier 0100.
+fn enters(alloc: Global, read: &[u8], reply: &[u8]) -> Result<bool, Trouble> {
+    let mut desk = opened(alloc, long_setup(alloc)?)?;
+    enters_on(&mut desk, &request(alloc, false, read)?, reply)
+}
+
+fn enters_on(desk: &mut Desk, step: &Step, reply: &[u8]) -> Result<bool, Trouble> {
+    Ok(stepped(desk, 1, step)? && has_first_reply(desk, reply))
+}
+
+fn has_first_reply(desk: &Desk, reply: &[u8]) -> bool {
+    match desk.journal().get(0) {
+        Some(entry) => entry.reply == Some(reply),
+        None => false,
+    }
+}
+
+/// How many identifiers are read, and how long the reply is.
+const READS: [(usize, usize); 4] = [(1, 258), (15, 3856), (16, 4113), (254, 65279)];
+
+#[test]
+fn many_identifiers(rt: HostRuntime) -> Result<(), Fail> {
+    for (times, length) in READS {
+        assert!(rt; holds(reads_many(rt.alloc(), times, length))?);
+    }
+    assert!(rt; holds(reads_too_many(rt.alloc()))?);
+    assert!(rt; holds(passes_over_unknown(rt.alloc()))?);
+    Ok(())
+}
