@@ -7,6 +7,7 @@ mod cuts;
 mod examples;
 mod kinds;
 mod long;
+mod messages;
 mod moments;
 mod pair;
 mod random;

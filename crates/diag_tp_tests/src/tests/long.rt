@@ -43,39 +43,47 @@ fn takes_parts(
     Ok(())
 }
 
-/// A request 22 and FF, FF, ..: its First, answered by this flow control, the Consecutives before that of place `end`,
-/// and this last one, with which it is a request of so many bytes FF.
-fn is_taken(
-    mut script: Script,
-    lines: (&str, &str),
-    parts: (u32, u32),
-    last: &[u8],
-    step: Step,
-) -> Result<(), Trouble> {
-    let (first, grant) = lines;
-    let (end, block) = parts;
-    script.takes(first, "", grant)?;
-    takes_parts(&mut script, 1, end, block, grant)?;
-    script.frame(last, Some(step))?;
+/// A request 22 and FF, FF, ..: its First, answered by this flow control, then the Consecutives before that of place `end`,
+/// and that one, with which it is complete.
+#[derive(Clone, Copy)]
+struct Long<'a> {
+    first: &'a str,
+    grant: &'a str,
+    end: u32,
+    block: u32,
+    last: &'a [u8],
+}
+
+/// A long request comes, which gives this step.
+fn takes(script: &mut Script, long: &Long<'_>, step: Step) -> Result<(), Trouble> {
+    script.takes(long.first, "", long.grant)?;
+    takes_parts(script, 1, long.end, long.block, long.grant)?;
+    script.frame(long.last, Some(step))?;
     script.sends("7E8#037F2231CCCCCCCC")
 }
 
-fn long_request_is_taken(alloc: Global, setup: &LinkSetup, grant: &str) -> Result<(), Trouble> {
-    is_taken(
-        Script::new(alloc, setup, Pace::Moves),
-        ("7E0#108122FFFFFFFFFF", grant),
-        (18, u32::from(setup.block_size)),
-        &[0x22, 0xFF, 0xFF, 0xFF, 0xFF],
-        refused(alloc, 128)?,
-    )
+/// Such a request is taken, with so many bytes FF.
+fn is_taken(alloc: Global, setup: &LinkSetup, long: &Long<'_>, size: usize) -> Result<(), Trouble> {
+    let step = refused(alloc, size)?;
+    takes(&mut Script::new(alloc, setup, Pace::Moves), long, step)
 }
 
-fn long_request_is_misnumbered(alloc: Global, setup: &LinkSetup) -> Result<(), Trouble> {
-    let mut script = Script::new(alloc, setup, Pace::Moves);
+fn long_request_is_taken(alloc: Global, setup: &LinkSetup, grant: &str) -> Result<(), Trouble> {
+    let long = Long {
+        first: "7E0#108122FFFFFFFFFF",
+        grant,
+        end: 18,
+        block: u32::from(setup.block_size),
+        last: &[0x22, 0xFF, 0xFF, 0xFF, 0xFF],
+    };
+    is_taken(alloc, setup, &long, 128)
+}
+
+fn misnumbers(script: &mut Script) -> Result<(), Trouble> {
     script.takes("7E0#108122FFFFFFFFFF", "", GO_ON)?;
-    takes_parts(&mut script, 1, 16, 0, "")?;
-    takes_parts(&mut script, 17, 18, 0, "")?;
-    takes_parts(&mut script, 17, 18, 0, "")?;
+    takes_parts(script, 1, 16, 0, "")?;
+    takes_parts(script, 17, 18, 0, "")?;
+    takes_parts(script, 17, 18, 0, "")?;
     script.takes("7E0#22FFFFFFFF", "", "")
 }
 
@@ -92,21 +100,20 @@ fn long_request(rt: HostRuntime) -> Result<(), Fail> {
         holds(long_request_is_taken(alloc, &blocks, "7E8#300800CCCCCCCCCC")),
         "8"
     );
-    assert!(rt;
-        holds(long_request_is_misnumbered(alloc, &setup)),
-        "misnumbered"
-    );
+    let mut script = Script::new(alloc, &setup, Pace::Moves);
+    assert!(rt; holds(misnumbers(&mut script)), "misnumbered");
     Ok(())
 }
 
 fn largest_is_taken(alloc: Global, setup: &LinkSetup) -> Result<(), Trouble> {
-    is_taken(
-        Script::new(alloc, setup, Pace::Moves),
-        ("7E0#1FFF22FFFFFFFFFF", GO_ON),
-        (585, 0),
-        &[0x29, 0xFF],
-        refused(alloc, 4094)?,
-    )
+    let long = Long {
+        first: "7E0#1FFF22FFFFFFFFFF",
+        grant: GO_ON,
+        end: 585,
+        block: 0,
+        last: &[0x29, 0xFF],
+    };
+    is_taken(alloc, setup, &long, 4094)
 }
 
 #[test]
@@ -117,13 +124,14 @@ fn largest_base_request(rt: HostRuntime) -> Result<(), Fail> {
 }
 
 fn long_message_is_taken(alloc: Global, setup: &LinkSetup) -> Result<(), Trouble> {
-    is_taken(
-        Script::new(alloc, setup, Pace::Moves),
-        ("7E0#10000000138922FF", GO_ON),
-        (715, 0),
-        &[0x2B, 0xFF],
-        refused(alloc, 5000)?,
-    )
+    let long = Long {
+        first: "7E0#10000000138922FF",
+        grant: GO_ON,
+        end: 715,
+        block: 0,
+        last: &[0x2B, 0xFF],
+    };
+    is_taken(alloc, setup, &long, 5000)
 }
 
 #[test]
@@ -171,32 +179,48 @@ fn are_parts(script: &Script, message: &Message) -> bool {
     count == 588 && script.unseen().len() == 588
 }
 
-fn long_message_is_sent(alloc: Global, setup: &LinkSetup) -> Result<(), Trouble> {
-    let mut script = Script::new(alloc, setup, Pace::Moves);
+/// The request for these values, and the reply.
+fn long_step(alloc: Global, reply: Message) -> Result<Step, Trouble> {
+    let mut request = Vec::from_slice(alloc, &[0x22])?;
+    for _ in 0..16 {
+        request.extend_from_slice(&[0x01, 0x00])?;
+    }
+    Ok(Step {
+        functional: false,
+        request,
+        reply: Some(reply),
+    })
+}
+
+/// The request comes, and flow control for all of the reply.
+fn asks_long(script: &mut Script, step: Step) -> Result<(), Trouble> {
     script.plays(&[
         line("7E0#1021220100010001", "", GO_ON),
         line("7E0#2100010001000100", "", ""),
         line("7E0#2201000100010001", "", ""),
         line("7E0#2300010001000100", "", ""),
     ])?;
-    let mut request = Vec::from_slice(alloc, &[0x22])?;
-    for _ in 0..16 {
-        request.extend_from_slice(&[0x01, 0x00])?;
-    }
-    let message = long_values(alloc)?;
-    let step = Step {
-        functional: false,
-        request,
-        reply: Some(message.try_copy()?),
-    };
     script.frame(&[0x24, 0x01, 0x00, 0x01, 0x00, 0x01, 0x00], Some(step))?;
     script.sends("7E8#1000000010116201")?;
-    script.frame(&[0x30, 0x00, 0x00], None)?;
-    let is_last = match script.unseen().last() {
-        Some(sent) => sent.frame.bytes.as_slice() == b"\x2C\x00\x00\xCC\xCC\xCC\xCC\xCC".as_slice(),
+    script.frame(&[0x30, 0x00, 0x00], None)
+}
+
+/// Whether the last frame is the one of the example.
+fn ends_so(script: &Script) -> bool {
+    match script.unseen().last() {
+        Some(sent) => {
+            sent.frame.bytes.as_slice() == b"\x2C\x00\x00\xCC\xCC\xCC\xCC\xCC".as_slice()
+        }
         None => false,
-    };
-    if is_last && are_parts(&script, &message) {
+    }
+}
+
+fn long_message_is_sent(alloc: Global, setup: &LinkSetup) -> Result<(), Trouble> {
+    let message = long_values(alloc)?;
+    let step = long_step(alloc, message.try_copy()?)?;
+    let mut script = Script::new(alloc, setup, Pace::Moves);
+    asks_long(&mut script, step)?;
+    if ends_so(&script) && are_parts(&script, &message) {
         Ok(())
     } else {
         Err(Trouble::Frames)
@@ -210,24 +234,26 @@ fn long_message_reply(rt: HostRuntime) -> Result<(), Fail> {
     Ok(())
 }
 
-fn first_is_repeated(alloc: Global, setup: &LinkSetup) -> Result<(), Trouble> {
-    let mut script = Script::new(alloc, setup, Pace::Moves);
+fn first_is_repeated(script: &mut Script) -> Result<(), Trouble> {
     for _ in 0..1000 {
         script.takes("7E0#1FFF22FFFFFFFFFF", "", GO_ON)?;
     }
-    script.takes("7E0#1000FFFFFFFF0102", "", "7E8#320000CCCCCCCCCC")?;
-    script.takes("7E0#1000000000000102", "", "")
+    script.plays(&[
+        line("7E0#1000FFFFFFFF0102", "", "7E8#320000CCCCCCCCCC"),
+        line("7E0#1000000000000102", "", ""),
+    ])
 }
 
 #[test]
 fn repeated_first(rt: HostRuntime) -> Result<(), Fail> {
     let setup = settings().ok_or("settings")?;
-    assert!(rt; holds(first_is_repeated(rt.alloc(), &setup)));
+    let mut script = Script::new(rt.alloc(), &setup, Pace::Moves);
+    assert!(rt; holds(first_is_repeated(&mut script)));
     Ok(())
 }
 
 /// So many times the tester makes the link wait for 999 ticks more.
-fn waits_long(mut script: Script, times: u32, sends: &str) -> Result<(), Trouble> {
+fn waits_long(script: &mut Script, times: u32, sends: &str) -> Result<(), Trouble> {
     script.takes("7E0#0322F190", VIN_STEP, "7E8#101462F190544553")?;
     for _ in 0..times {
         script.takes("tick 999", "", "")?;
@@ -241,13 +267,11 @@ fn long_waiting(rt: HostRuntime) -> Result<(), Fail> {
     let setup = settings().ok_or("settings")?;
     let alloc = rt.alloc();
     let sends = "7E8#215456494E303132@999000 7E8#2233343536373839@999000";
-    assert!(rt;
-        holds(waits_long(Script::alone(alloc, &setup), 1000, sends)),
-        "1000"
-    );
+    let mut alone = Script::alone(alloc, &setup);
+    assert!(rt; holds(waits_long(&mut alone, 1000, sends)), "1000");
     let sends = "7E8#215456494E303132@2997 7E8#2233343536373839@2997";
-    let script = Script::new(alloc, &setup, Pace::Moves);
-    assert!(rt; holds(waits_long(script, 3, sends)), "3");
+    let mut script = Script::new(alloc, &setup, Pace::Moves);
+    assert!(rt; holds(waits_long(&mut script, 3, sends)), "3");
     let turns = [
         line("7E0#0322F190", VIN_STEP, "7E8#101462F190544553"),
         line("7E0#300005", "", "7E8#215456494E303132"),
@@ -258,15 +282,16 @@ fn long_waiting(rt: HostRuntime) -> Result<(), Fail> {
     Ok(())
 }
 
-fn thousand_wait(alloc: Global, setup: &LinkSetup) -> Result<Figures, Trouble> {
-    let mut script = Script::new(alloc, setup, Pace::Moves);
+fn thousand_wait(script: &mut Script) -> Result<Figures, Trouble> {
     script.takes("7E0#0322F190", VIN_STEP, "7E8#101462F190544553")?;
     for _ in 1..1000 {
         script.takes("7E0#0322F190", VIN_STEP, "")?;
     }
-    script.takes("tick 1000", "", "7E8#101462F190544553@1000")?;
-    script.takes("tick 1000", "", "7E8#101462F190544553@2000")?;
-    script.takes("tick 1000", "", "7E8#101462F190544553@3000")?;
+    script.plays(&[
+        line("tick 1000", "", "7E8#101462F190544553@1000"),
+        line("tick 1000", "", "7E8#101462F190544553@2000"),
+        line("tick 1000", "", "7E8#101462F190544553@3000"),
+    ])?;
     Ok(script.figures())
 }
 
@@ -279,7 +304,8 @@ fn thousand_replies(rt: HostRuntime) -> Result<(), Fail> {
         backlog: 2990,
         now: 3000,
     };
-    let told = thousand_wait(rt.alloc(), &setup);
+    let mut script = Script::new(rt.alloc(), &setup, Pace::Moves);
+    let told = thousand_wait(&mut script);
     assert!(rt; told == Ok(wanted) || told == Err(Trouble::Memory));
     Ok(())
 }
