@@ -1,0 +1,4 @@
+mod devices;
+mod faults;
+mod given;
+mod threads;

@@ -1,0 +1,164 @@
+//! What the tests run on: a setup of two testers, readers and writers that fail, and how a run ended.
+
+use diag_can::Timing;
+use diag_run::{Job, Outcome, run_and_tell};
+use std::alloc::{AllocError, Global};
+use std::io;
+use std::io::{Error, ErrorKind, Read, Write};
+use std::sync::Wait;
+use std::thread::Threads;
+
+pub const CONFIG: &[u8] = b"[[tester]]
+name = \"A\"
+request = 0x7E0
+response = 0x7E8
+[[tester]]
+name = \"B\"
+request = 0x7E1
+response = 0x7E9
+";
+
+/// A play on one thread, and one on a thread for each tester; time goes by the tick lines alone.
+pub const SERIAL: Job = Job::Serial {
+    only_journal: false,
+    timing: Timing::Lines,
+};
+
+pub const PLAY: Job = Job::Play {
+    only_journal: false,
+    timing: Timing::Lines,
+};
+
+/// A reader of these bytes, and then of so many line feeds, that brings at most so many bytes at a time. Its call at
+/// `fails_at`, from 1, fails.
+#[derive(Drop)]
+pub struct Source<'a> {
+    pub bytes: &'a [u8],
+    pub feeds: usize,
+    pub at_once: usize,
+    pub calls: usize,
+    pub fails_at: usize,
+}
+
+impl<'a> Source<'a> {
+    /// A reader that never fails.
+    pub fn whole(bytes: &'a [u8]) -> Source<'a> {
+        Source {
+            bytes,
+            feeds: 0,
+            at_once: 4096,
+            calls: 0,
+            fails_at: 0,
+        }
+    }
+
+    /// A reader of so many line feeds that never fails.
+    pub fn line_feeds(count: usize) -> Source<'a> {
+        Source {
+            bytes: &[],
+            feeds: count,
+            at_once: 4096,
+            calls: 0,
+            fails_at: 0,
+        }
+    }
+
+    /// A reader that brings one byte at a time, and fails at this call.
+    pub fn failing(bytes: &'a [u8], fails_at: usize) -> Source<'a> {
+        Source {
+            bytes,
+            feeds: 0,
+            at_once: 1,
+            calls: 0,
+            fails_at,
+        }
+    }
+}
+
+impl Read for Source<'_> {
+    fn read(&mut self, buf: &mut [u8]) -> io::Result<usize> {
+        self.calls = self.calls.saturating_add(1);
+        if self.calls == self.fails_at {
+            return Err(Error::from(ErrorKind::Other));
+        }
+        if self.bytes.is_empty() {
+            let count = buf.len().min(self.at_once).min(self.feeds);
+            buf[..count].fill(b'\n');
+            self.feeds -= count;
+            return Ok(count);
+        }
+        let count = buf.len().min(self.at_once).min(self.bytes.len());
+        let (now, later) = self.bytes.split_at(count);
+        buf[..count].copy_from_slice(now);
+        self.bytes = later;
+        Ok(count)
+    }
+}
+
+/// A writer that takes one byte at a time. Its call at `fails_at`, from 1, fails, or takes no byte.
+#[derive(Drop)]
+pub struct Dribble {
+    pub taken: Vec<u8>,
+    pub calls: usize,
+    pub fails_at: usize,
+    pub takes_none: bool,
+}
+
+impl Dribble {
+    fn fails_now(&mut self) -> bool {
+        self.calls = self.calls.saturating_add(1);
+        self.calls == self.fails_at
+    }
+}
+
+impl Write for Dribble {
+    fn write(&mut self, buf: &[u8]) -> io::Result<usize> {
+        if self.fails_now() {
+            return if self.takes_none {
+                Ok(0)
+            } else {
+                Err(Error::from(ErrorKind::Other))
+            };
+        }
+        let Some(first) = buf.first() else {
+            return Ok(0);
+        };
+        self.taken.push(*first)?;
+        Ok(1)
+    }
+
+    fn flush(&mut self) -> io::Result<()> {
+        if self.fails_now() {
+            return Err(Error::from(ErrorKind::Other));
+        }
+        Ok(())
+    }
+}
+
+/// How a run ended: the line that it tells of a fault, and its status. Want of memory ends the test.
+pub fn ended<T: Threads + Wait + Sync + AllocGlobal, W: Write>(
+    rt: &T,
+    job: Job,
+    config: Source<'_>,
+    files: Vec<Source<'_>>,
+    out: &mut W,
+) -> Result<(Vec<u8>, u8), AllocError> {
+    match run_and_tell(rt, rt.alloc(), job, config, files, out) {
+        Outcome::Done => Ok((Vec::new(rt.alloc()), 0)),
+        Outcome::Fault { told, status } => {
+            let told = told.ok_or(AllocError)?;
+            if status == 4 {
+                return Err(AllocError);
+            }
+            Ok((told, status))
+        }
+    }
+}
+
+/// Two files that never fail.
+pub fn two<'a>(alloc: Global, a: &'a [u8], b: &'a [u8]) -> Result<Vec<Source<'a>>, AllocError> {
+    let mut files = Vec::new(alloc);
+    files.push(Source::whole(a))?;
+    files.push(Source::whole(b))?;
+    Ok(files)
+}
