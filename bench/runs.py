@@ -44,7 +44,7 @@ def log(tester, lines):
 
 def run(words):
     """Returns the seconds and the peak memory in KiB of the quickest of three runs."""
-    best = None
+    runs = []
     for _ in range(3):
         begun = time.monotonic()
         child = subprocess.Popen([PROGRAM, *words], stdout=subprocess.DEVNULL)
@@ -52,8 +52,8 @@ def run(words):
         took = time.monotonic() - begun
         if status:
             sys.exit(f"runs: {' '.join(words)} ended with status {os.waitstatus_to_exitcode(status)}")
-        best = min(best or (took, 0), (took, used.ru_maxrss))
-    return best
+        runs.append((took, used.ru_maxrss))
+    return min(runs)
 
 
 def measure(room, command, testers, lines):
