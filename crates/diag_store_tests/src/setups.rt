@@ -3,37 +3,44 @@
 use diag_fixtures::{bytes, key_row, raw_two_testers, rows, tester, two_testers};
 use diag_store::{
     Dids, DtcMemory, Items, RawCode, RawDid, RawLevel, RawRoutine, RawSetup, RawTester, Routines,
-    Security, Setup, SetupFault,
+    Security, Setup, SetupFault, Values,
 };
 use std::alloc::{AllocError, Global};
 use std::test::Fail;
 
 type Raw = Result<RawSetup, AllocError>;
 
+/// The setup with two testers, not checked yet.
+fn raw_setup(alloc: Global) -> Raw {
+    raw_two_testers(alloc)
+}
+
+/// The setup with two testers.
+fn setup_of(alloc: Global) -> Result<Setup, AllocError> {
+    two_testers(alloc)
+}
+
 fn without_tester(alloc: Global) -> Raw {
-    let mut raw = raw_two_testers(alloc)?;
+    let mut raw = raw_setup(alloc)?;
     raw.testers = Items::new(alloc);
     Ok(raw)
 }
 
 fn without_time(alloc: Global) -> Raw {
-    let mut raw = raw_two_testers(alloc)?;
+    let mut raw = raw_setup(alloc)?;
     raw.s3_ms = 0;
     Ok(raw)
 }
 
 fn with_one_name(alloc: Global) -> Raw {
-    let mut raw = raw_two_testers(alloc)?;
-    let testers = [
-        tester(alloc, b"A", 0x7E0, 0x7E8)?,
-        tester(alloc, b"A", 0x7E1, 0x7E9)?,
-    ];
-    raw.testers = rows(alloc, testers)?;
-    Ok(raw)
+    with_testers(
+        alloc,
+        two(alloc, [b"A", b"A"], [0x7E0, 0x7E8, 0x7E1, 0x7E9])?,
+    )
 }
 
 fn with_one_code(alloc: Global) -> Raw {
-    let mut raw = raw_two_testers(alloc)?;
+    let mut raw = raw_setup(alloc)?;
     raw.codes.push(RawCode {
         code: 0x01_2345,
         status: 0,
@@ -42,23 +49,31 @@ fn with_one_code(alloc: Global) -> Raw {
 }
 
 fn with_one_request(alloc: Global) -> Raw {
-    let mut raw = raw_two_testers(alloc)?;
-    let testers = [
-        tester(alloc, b"A", 0x7E0, 0x7E8)?,
-        tester(alloc, b"B", 0x7E0, 0x7E9)?,
-    ];
-    raw.testers = rows(alloc, testers)?;
-    Ok(raw)
+    with_testers(
+        alloc,
+        two(alloc, [b"A", b"B"], [0x7E0, 0x7E8, 0x7E0, 0x7E9])?,
+    )
 }
 
 fn with_response_as_request(alloc: Global) -> Raw {
-    let mut raw = raw_two_testers(alloc)?;
-    raw.testers = rows(alloc, [tester(alloc, b"A", 0x7E0, 0x7E0)?])?;
+    with_testers(alloc, rows(alloc, [tester(alloc, b"A", 0x7E0, 0x7E0)?])?)
+}
+
+fn with_testers(alloc: Global, testers: Items<RawTester>) -> Raw {
+    let mut raw = raw_setup(alloc)?;
+    raw.testers = testers;
     Ok(raw)
 }
 
+/// Two testers, with the request and the response of the first and then of the second.
+fn two(alloc: Global, names: [&[u8]; 2], ids: [u32; 4]) -> Result<Items<RawTester>, AllocError> {
+    let first = tester(alloc, names[0], ids[0], ids[1])?;
+    let second = tester(alloc, names[1], ids[2], ids[3])?;
+    rows(alloc, [first, second])
+}
+
 fn with_unknown_code(alloc: Global) -> Raw {
-    let mut raw = raw_two_testers(alloc)?;
+    let mut raw = raw_setup(alloc)?;
     let routine = RawRoutine {
         id: 0x0203,
         time_ms: 100,
@@ -71,7 +86,7 @@ fn with_unknown_code(alloc: Global) -> Raw {
 }
 
 fn with_unknown_level(alloc: Global) -> Raw {
-    let mut raw = raw_two_testers(alloc)?;
+    let mut raw = raw_setup(alloc)?;
     let did = RawDid {
         id: 0xF190,
         value: bytes(alloc, b"x")?,
@@ -84,13 +99,13 @@ fn with_unknown_level(alloc: Global) -> Raw {
 }
 
 fn with_long_request(alloc: Global) -> Raw {
-    let mut raw = raw_two_testers(alloc)?;
+    let mut raw = raw_setup(alloc)?;
     raw.max_request = 65536;
     Ok(raw)
 }
 
 fn without_key_rows(alloc: Global) -> Raw {
-    let mut raw = raw_two_testers(alloc)?;
+    let mut raw = raw_setup(alloc)?;
     let level = RawLevel {
         sub: 1,
         rows: Items::new(alloc),
@@ -148,12 +163,12 @@ fn fault_of(raw: RawSetup) -> Option<SetupFault> {
 
 #[test]
 fn setup_tells(rt: HostRuntime) -> Result<(), Fail> {
-    let setup = two_testers(rt.alloc())?;
+    let setup = setup_of(rt.alloc())?;
     assert_eq!(rt; setup.testers(), 2);
     assert_eq!(rt; identifiers(&setup, 1), Some((2, 0x7E1, 0x7E9, 0x7DF)));
     assert_eq!(rt; identifiers(&setup, 2), None);
     assert!(rt; has_name(&setup, 1, b"B"));
-    assert_eq!(rt; times(&setup), (50, 500, 5000, 0xFF));
+    assert!(rt; has_times(&setup));
     Ok(())
 }
 
@@ -172,19 +187,19 @@ fn has_name(setup: &Setup, index: usize, name: &[u8]) -> bool {
     }
 }
 
-fn times(setup: &Setup) -> (u16, u16, u32, u8) {
-    let values = setup.values();
-    (
-        values.p2_ms,
-        values.p2_star_10ms,
-        values.s3_ms,
-        values.availability,
-    )
+fn has_times(setup: &Setup) -> bool {
+    setup.values()
+        == Values {
+            p2_ms: 50,
+            p2_star_10ms: 500,
+            s3_ms: 5000,
+            availability: 0xFF,
+        }
 }
 
 #[test]
 fn setup_of_a_link(rt: HostRuntime) -> Result<(), Fail> {
-    let setup = two_testers(rt.alloc())?;
+    let setup = setup_of(rt.alloc())?;
     assert_eq!(rt; frames(&setup), Some((0, 0, 4095, Some(0xCC))));
     assert_eq!(rt; waits(&setup), Some((1000, 1000)));
     Ok(())
@@ -272,7 +287,7 @@ fn full_level(alloc: Global, sub: u32) -> Result<RawLevel, AllocError> {
 }
 
 fn largest(alloc: Global) -> Raw {
-    let mut raw = raw_two_testers(alloc)?;
+    let mut raw = raw_setup(alloc)?;
     raw.testers = most_testers(alloc)?;
     raw.dids = most_dids(alloc)?;
     raw.codes = most_codes(alloc)?;
@@ -281,25 +296,23 @@ fn largest(alloc: Global) -> Raw {
     Ok(raw)
 }
 
-/// The largest setup, where it is accepted.
-fn largest_checked(alloc: Global) -> Result<Option<Setup>, AllocError> {
-    Ok(largest(alloc)?.check().ok())
+/// Whether the largest setup is accepted, and the tables hold all of it.
+fn is_held(alloc: Global) -> Result<bool, AllocError> {
+    match largest(alloc)?.check() {
+        Ok(setup) => holds_all(alloc, &setup),
+        Err(_) => Ok(false),
+    }
 }
 
-#[test]
-fn largest_setup(rt: HostRuntime) -> Result<(), Fail> {
-    let setup = largest_checked(rt.alloc())?.ok_or("a setup")?;
-    assert_eq!(rt; setup.testers(), 8);
-    assert_eq!(rt; identifiers(&setup, 7), Some((8, 0x70E, 0x70F, 0x7DF)));
-    Ok(())
-}
-
-#[test]
-fn largest_identifiers(rt: HostRuntime) -> Result<(), Fail> {
-    let setup = largest_checked(rt.alloc())?.ok_or("a setup")?;
-    let dids = Dids::new(rt.alloc(), &setup)?;
-    assert!(rt; holds_identifiers(&dids));
-    Ok(())
+fn holds_all(alloc: Global, setup: &Setup) -> Result<bool, AllocError> {
+    Ok(
+        setup.testers() == 8
+            && identifiers(setup, 7) == Some((8, 0x70E, 0x70F, 0x7DF))
+            && holds_identifiers(&Dids::new(alloc, setup)?)
+            && holds_codes(&DtcMemory::new(alloc, setup)?)
+            && holds_routines(&Routines::new(alloc, setup)?)
+            && holds_levels(&Security::new(alloc, setup)?),
+    )
 }
 
 fn holds_identifiers(dids: &Dids) -> bool {
@@ -309,27 +322,11 @@ fn holds_identifiers(dids: &Dids) -> bool {
         && dids.get(0xFFBF).is_none()
 }
 
-#[test]
-fn largest_codes(rt: HostRuntime) -> Result<(), Fail> {
-    let setup = largest_checked(rt.alloc())?.ok_or("a setup")?;
-    let codes = DtcMemory::new(rt.alloc(), &setup)?;
-    assert!(rt; holds_codes(&codes));
-    Ok(())
-}
-
 fn holds_codes(codes: &DtcMemory) -> bool {
     codes.len() == 256
         && codes.at(0) == Some((0xFF_FEFF, 255))
         && codes.at(255) == Some((0xFF_FFFE, 0))
         && codes.count(0x80) == 128
-}
-
-#[test]
-fn largest_routines(rt: HostRuntime) -> Result<(), Fail> {
-    let setup = largest_checked(rt.alloc())?.ok_or("a setup")?;
-    let routines = Routines::new(rt.alloc(), &setup)?;
-    assert!(rt; holds_routines(&routines));
-    Ok(())
 }
 
 fn holds_routines(routines: &Routines) -> bool {
@@ -338,11 +335,12 @@ fn holds_routines(routines: &Routines) -> bool {
         && routines.level(0xFFEF).is_none()
 }
 
+fn holds_levels(security: &Security) -> bool {
+    security.key_len(59) == Some(16) && security.key_len(57).is_none()
+}
+
 #[test]
-fn largest_levels(rt: HostRuntime) -> Result<(), Fail> {
-    let setup = largest_checked(rt.alloc())?.ok_or("a setup")?;
-    let security = Security::new(rt.alloc(), &setup)?;
-    assert_eq!(rt; security.key_len(59), Some(16));
-    assert_eq!(rt; security.key_len(57), None);
+fn largest_setup(rt: HostRuntime) -> Result<(), Fail> {
+    assert!(rt; is_held(rt.alloc())?);
     Ok(())
 }

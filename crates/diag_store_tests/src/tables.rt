@@ -1,11 +1,9 @@
 //! The tables, by the calls that the services make of them.
 
-ghost use Rattle.std.specs.Prelude.{◌≡◌, is_some};
-
-use diag_fixtures::{bytes, raw_two_testers, rows, two_testers};
+use diag_fixtures::{bytes, raw_two_testers, two_testers};
 use diag_store::{
-    DidFault, DidRule, Dids, DtcMemory, KeyAnswer, RawCode, RawRoutine, RoutineState, Routines,
-    Security, SeedAnswer, Setup, Who,
+    DidFault, DidRule, Dids, DtcMemory, KeyAnswer, RawCode, RawRoutine, RawSetup, RoutineState,
+    Routines, Security, SeedAnswer, Setup, Who,
 };
 use std::alloc::{AllocError, Global};
 use std::process::Abort;
@@ -58,18 +56,28 @@ fn after_security_access(rt: &impl Abort, security: &mut Security, who: Who) {
     assert_eq!(rt; key(rt, security, who, SECOND_KEY), KeyAnswer::NoSeed);
 }
 
+/// The setup with two testers.
+fn setup_of(alloc: Global) -> Result<Setup, AllocError> {
+    two_testers(alloc)
+}
+
 #[test]
 fn security_access(rt: HostRuntime) -> Result<(), Fail> {
-    let setup = two_testers(rt.alloc())?;
-    let who = Who::new(1).ok_or("a first place")?;
+    let setup = setup_of(rt.alloc())?;
     let mut security = Security::new(rt.alloc(), &setup)?;
+    let who = Who::new(1).ok_or("a first place")?;
     after_security_access(&rt, &mut security, who);
-    let mut copy = security.try_copy()?;
-    assert!(rt; is_unlocked(&security) && is_unlocked(&copy));
-    assert!(rt; gives_seed(&rt, &mut copy, who, Some(WRONG_KEY)));
-    copy.lock();
-    assert!(rt; is_unlocked(&security) && !is_unlocked(&copy));
+    assert!(rt; copies_security(&rt, &security, who)?);
+    assert!(rt; is_unlocked(&security));
     Ok(())
+}
+
+/// Whether a copy goes on where the first stands, and is locked alone.
+fn copies_security(rt: &impl Abort, security: &Security, who: Who) -> Result<bool, AllocError> {
+    let mut copy = security.try_copy()?;
+    let unlocked = is_unlocked(&copy) && gives_seed(rt, &mut copy, who, Some(WRONG_KEY));
+    copy.lock();
+    Ok(unlocked && !is_unlocked(&copy))
 }
 
 fn is_unlocked(security: &Security) -> bool {
@@ -78,14 +86,16 @@ fn is_unlocked(security: &Security) -> bool {
 
 #[test]
 fn written_copy(rt: HostRuntime) -> Result<(), Fail> {
-    let setup = two_testers(rt.alloc())?;
+    let setup = setup_of(rt.alloc())?;
     let dids = Dids::new(rt.alloc(), &setup)?;
-    let mut copy = dids.try_copy()?;
-    assert!(rt; is_written(&mut copy));
-    assert!(rt; has_value(&copy, b"ABCDEFGHIJKLMNOPQ"));
+    assert!(rt; copies_values(&dids)?);
     assert!(rt; has_value(&dids, b"TESTVIN0123456789"));
-    assert!(rt; has_rule(&copy));
     Ok(())
+}
+
+fn copies_values(dids: &Dids) -> Result<bool, AllocError> {
+    let mut copy = dids.try_copy()?;
+    Ok(is_written(&mut copy) && has_value(&copy, b"ABCDEFGHIJKLMNOPQ") && has_rule(&copy))
 }
 
 /// Whether a value of the right length is written, and no other.
@@ -110,14 +120,17 @@ fn has_rule(dids: &Dids) -> bool {
 
 #[test]
 fn trouble_codes(rt: HostRuntime) -> Result<(), Fail> {
-    let setup = two_testers(rt.alloc())?;
+    let setup = setup_of(rt.alloc())?;
     let mut codes = DtcMemory::new(rt.alloc(), &setup)?;
     assert!(rt; is_cleared(&mut codes));
-    let mut copy = codes.try_copy()?;
-    assert!(rt; is_set(&mut copy));
+    assert!(rt; copies_codes(&codes)?);
     assert!(rt; has_status(&codes, 0x50));
-    assert!(rt; has_status(&copy, 0x2F));
     Ok(())
+}
+
+fn copies_codes(codes: &DtcMemory) -> Result<bool, AllocError> {
+    let mut copy = codes.try_copy()?;
+    Ok(has_status(&copy, 0x50) && is_set(&mut copy) && has_status(&copy, 0x2F))
 }
 
 /// Whether an unknown group is refused, and all codes are cleared.
@@ -157,8 +170,13 @@ fn stop(rt: &impl Abort, routines: &mut Routines, id: u16) {
 }
 
 /// A setup with a further routine like the first, of another status.
-fn with_second_routine(alloc: Global) -> Result<Setup, AllocError> {
+fn with_second_routine(alloc: Global) -> Result<RawSetup, AllocError> {
     let mut raw = raw_two_testers(alloc)?;
+    add_second_routine(alloc, &mut raw)?;
+    Ok(raw)
+}
+
+fn add_second_routine(alloc: Global, raw: &mut RawSetup) -> Result<(), AllocError> {
     raw.routines.push(RawRoutine {
         id: 0x0204,
         time_ms: 100,
@@ -168,13 +186,11 @@ fn with_second_routine(alloc: Global) -> Result<Setup, AllocError> {
             code: 0x01_2345,
             status: 0x01,
         }),
-    })?;
-    raw.check().map_err(|_| AllocError)
+    })
 }
 
-/// Starts these routines in this order, after the codes are cleared.
-fn start_all(rt: &impl Abort, codes: &mut DtcMemory, routines: &mut Routines, order: &[u16]) {
-    assert!(rt; codes.clear(0xFF_FFFF));
+/// Starts these routines in this order.
+fn start_all(rt: &impl Abort, routines: &mut Routines, order: &[u16]) {
     for id in order {
         start(rt, routines, *id);
     }
@@ -212,40 +228,61 @@ const RUNS: [(&[u16], bool, u8); 4] = [
 
 #[test]
 fn routine_and_setting(rt: HostRuntime) -> Result<(), Fail> {
-    let setup = with_second_routine(rt.alloc())?;
-    for (order, setting, status) in RUNS {
-        runs(&rt, rt.alloc(), &setup, order, setting, status)?;
-    }
+    assert!(rt; runs_routines(&rt, rt.alloc())?);
     Ok(())
+}
+
+fn runs_routines(rt: &impl Abort, alloc: Global) -> Result<bool, AllocError> {
+    match with_second_routine(alloc)?.check() {
+        Ok(setup) => runs_all(rt, alloc, &setup),
+        Err(_) => Ok(false),
+    }
+}
+
+fn runs_all(rt: &impl Abort, alloc: Global, setup: &Setup) -> Result<bool, AllocError> {
+    for (order, setting, status) in RUNS {
+        let mut codes = DtcMemory::new(alloc, setup)?;
+        let mut routines = Routines::new(alloc, setup)?;
+        if !codes.clear(0xFF_FFFF) {
+            return Ok(false);
+        }
+        start_all(rt, &mut routines, order);
+        if !runs(rt, &mut codes, &mut routines, setting, status) {
+            return Ok(false);
+        }
+    }
+    Ok(true)
 }
 
 fn runs(
     rt: &impl Abort,
-    alloc: Global,
-    setup: &Setup,
-    order: &[u16],
+    codes: &mut DtcMemory,
+    routines: &mut Routines,
     setting: bool,
     status: u8,
-) -> Result<(), AllocError> {
-    let mut codes = DtcMemory::new(alloc, setup)?;
-    let mut routines = Routines::new(alloc, setup)?;
-    start_all(rt, &mut codes, &mut routines, order);
-    assert!(rt; runs_until_the_last_tick(&mut codes, &mut routines, setting));
-    assert!(rt; is_done_with(&mut codes, &mut routines, setting, status));
-    stop(rt, &mut routines, 0x0203);
-    assert!(rt; is_in(&routines, RoutineState::Idle));
-    Ok(())
+) -> bool {
+    if !runs_until_the_last_tick(codes, routines, setting)
+        || !is_done_with(codes, routines, setting, status)
+    {
+        return false;
+    }
+    stop(rt, routines, 0x0203);
+    is_in(routines, RoutineState::Idle)
 }
 
 #[test]
 fn copied_routines(rt: HostRuntime) -> Result<(), Fail> {
-    let setup = with_second_routine(rt.alloc())?;
+    let setup = setup_of(rt.alloc())?;
     let mut routines = Routines::new(rt.alloc(), &setup)?;
     start(&rt, &mut routines, 0x0203);
-    let mut copy = routines.try_copy()?;
-    assert!(rt; is_in(&copy, RoutineState::Running(100)));
-    copy.idle_all();
-    assert!(rt; is_in(&copy, RoutineState::Idle));
+    assert!(rt; copies_routines(&routines)?);
     assert!(rt; is_in(&routines, RoutineState::Running(100)));
     Ok(())
+}
+
+fn copies_routines(routines: &Routines) -> Result<bool, AllocError> {
+    let mut copy = routines.try_copy()?;
+    let runs = is_in(&copy, RoutineState::Running(100));
+    copy.idle_all();
+    Ok(runs && is_in(&copy, RoutineState::Idle))
 }
