@@ -2,8 +2,8 @@
 # Refuses each request for memory in turn, in the executables that `rt ci`, `rt test` or `rt run` left in out/: the
 # program and, with the word `tests`, the executables of the tests, a test at a time. Usage: tools/refuse.sh [tests]
 # The program must answer want of memory (status 4, nothing on standard output) or, where it had no more need of the
-# memory, what it answers without a refusal. A test must pass, since it takes want of memory for an answer, or end
-# with AllocError itself.
+# memory, what it answers without a refusal. A test must end with the error of a refused allocation, or pass where it
+# had no more need of the memory.
 # A request may fall in any thread; how many there are may then be another from run to run.
 # REFUSE_SECONDS (default 240) bounds the time; what was not reached is said. The last line is 'N passed, M failed'.
 set -uo pipefail
@@ -64,21 +64,22 @@ sweep_run() {
 
 # sweep_test PROGRAM NAME: one test; at most 200 requests and about 15 seconds, evenly chosen where it makes more
 sweep_test() {
-  local program=$1 name=$2 n=1 step=1 begun took most
+  local program=$1 name=$2 n=1 step=1 begun took most total
   begun=$(date +%s%N)
   refused 0 "$program" "$name"
   took=$((($(date +%s%N) - begun) / 1000000 + 1))
+  total=$asked
   if [ "$status" != 0 ]; then bad "$name: status $status without a refusal"; return; fi
   most=$((15000 / took + 1))
   [ "$most" -gt 200 ] && most=200
-  [ "$asked" -gt "$most" ] && step=$((asked / most + 1))
-  while [ "$n" -le "$asked" ]; do
+  [ "$total" -gt "$most" ] && step=$((total / most + 1))
+  while [ "$n" -le "$total" ]; do
     if late; then echo "refused: $name: no time after $((n - 1)) requests"; return; fi
     refused "$n" "$program" "$name"
-    if [ "$status" != 0 ] && ! grep -q 'error: AllocError' "$room/err"; then bad "$name: request $n: status $status"; return; fi
+    if [ "$status" != 0 ] && ! grep -Eq 'error: Alloc(Error|Failed)' "$room/err"; then bad "$name: request $n: status $status"; return; fi
     n=$((n + step))
   done
-  good "$name: $asked requests, one of each $step"
+  good "$name: $total requests, one of each $step"
 }
 
 program=crates/uds_play/out/uds_play
