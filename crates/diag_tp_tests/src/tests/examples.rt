@@ -20,7 +20,7 @@ fn long_reply(rt: HostRuntime) -> Result<(), Fail> {
             "7E8#215456494E303132 7E8#2233343536373839",
         ),
     ];
-    assert!(rt; holds(plays(rt.alloc(), &setup, &turns)));
+    assert!(rt; holds(plays(rt.alloc(), &setup, &turns))?);
     Ok(())
 }
 
@@ -33,26 +33,26 @@ fn flow_limits(rt: HostRuntime) -> Result<(), Fail> {
         line("7E0#300105", "", "7E8#215456494E303132"),
         line("7E0#300005", "", "7E8#2233343536373839"),
     ];
-    assert!(rt; holds(plays(rt.alloc(), &setup, &block)), "a");
+    assert!(rt; holds(plays(rt.alloc(), &setup, &block))?, "a");
     let gap = [
         asks,
         line("7E0#300005", "", "7E8#215456494E303132"),
         line("tick 4", "", ""),
         line("tick", "", "7E8#2233343536373839@5"),
     ];
-    assert!(rt; holds(plays(rt.alloc(), &setup, &gap)), "b");
+    assert!(rt; holds(plays(rt.alloc(), &setup, &gap))?, "b");
     let longest = [
         asks,
         line("7E0#3000FA", "", "7E8#215456494E303132"),
         line("tick 127", "", "7E8#2233343536373839@127"),
     ];
-    assert!(rt; holds(plays(rt.alloc(), &setup, &longest)), "c: FA");
+    assert!(rt; holds(plays(rt.alloc(), &setup, &longest))?, "c: FA");
     let shortest = [
         asks,
         line("7E0#3000F1", "", "7E8#215456494E303132"),
         line("tick", "", "7E8#2233343536373839@1"),
     ];
-    assert!(rt; holds(plays(rt.alloc(), &setup, &shortest)), "c: F1");
+    assert!(rt; holds(plays(rt.alloc(), &setup, &shortest))?, "c: F1");
     Ok(())
 }
 
@@ -65,7 +65,7 @@ fn wrong_order(rt: HostRuntime) -> Result<(), Fail> {
         line("7E0#234B4C4D4E4F5051", "", ""),
         line("7E0#224B4C4D4E4F5051", "", ""),
     ];
-    assert!(rt; holds(plays(rt.alloc(), &setup, &turns)));
+    assert!(rt; holds(plays(rt.alloc(), &setup, &turns))?);
     Ok(())
 }
 
@@ -79,14 +79,14 @@ fn reception_timeout(rt: HostRuntime) -> Result<(), Fail> {
         line("7E0#214445464748494A", "", ""),
         line("7E0#224B4C4D4E4F5051", WRITES, "7E8#037F2E7FCCCCCCCC@999"),
     ];
-    assert!(rt; holds(plays(rt.alloc(), &setup, &in_time)), "999");
+    assert!(rt; holds(plays(rt.alloc(), &setup, &in_time))?, "999");
     let late = [
         begins,
         line("tick 1000", "", ""),
         line("7E0#214445464748494A", "", ""),
         line("7E0#224B4C4D4E4F5051", "", ""),
     ];
-    assert!(rt; holds(plays(rt.alloc(), &setup, &late)), "1000");
+    assert!(rt; holds(plays(rt.alloc(), &setup, &late))?, "1000");
     Ok(())
 }
 
@@ -99,7 +99,7 @@ fn single_ends_reception(rt: HostRuntime) -> Result<(), Fail> {
         line("7E0#214445464748494A", "", ""),
         line("7E0#224B4C4D4E4F5051", "", ""),
     ];
-    assert!(rt; holds(plays(rt.alloc(), &setup, &turns)));
+    assert!(rt; holds(plays(rt.alloc(), &setup, &turns))?);
     Ok(())
 }
 
@@ -112,7 +112,7 @@ fn functional_in_reception(rt: HostRuntime) -> Result<(), Fail> {
         line("7E0#214445464748494A", "", ""),
         line("7E0#224B4C4D4E4F5051", WRITES, "7E8#037F2E7FCCCCCCCC"),
     ];
-    assert!(rt; holds(plays(rt.alloc(), &setup, &turns)));
+    assert!(rt; holds(plays(rt.alloc(), &setup, &turns))?);
     Ok(())
 }
 
@@ -135,7 +135,7 @@ fn overlong_and_malformed(rt: HostRuntime) -> Result<(), Fail> {
         line("7E0#", "", ""),
         line("7E0#40", "", ""),
     ];
-    assert!(rt; holds(plays(rt.alloc(), &setup, &turns)));
+    assert!(rt; holds(plays(rt.alloc(), &setup, &turns))?);
     Ok(())
 }
 
@@ -151,7 +151,7 @@ fn queued_reply(rt: HostRuntime) -> Result<(), Fail> {
             "7E8#215456494E303132 7E8#2233343536373839 7E8#101462F190544553",
         ),
     ];
-    assert!(rt; holds(plays(rt.alloc(), &setup, &turns)));
+    assert!(rt; holds(plays(rt.alloc(), &setup, &turns))?);
     Ok(())
 }
 
@@ -165,9 +165,9 @@ fn flow_waiting(rt: HostRuntime) -> Result<(), Fail> {
         present,
         line("tick 1000", "", "7E8#027E00CCCCCCCCCC@1000"),
     ];
-    assert!(rt; holds(plays(rt.alloc(), &setup, &given_up)), "1000");
+    assert!(rt; holds(plays(rt.alloc(), &setup, &given_up))?, "1000");
     let waits = [asks, present, line("tick 999", "", "")];
-    assert!(rt; holds(plays(rt.alloc(), &setup, &waits)), "999");
+    assert!(rt; holds(plays(rt.alloc(), &setup, &waits))?, "999");
     let begins_again = [
         asks,
         line("tick 999", "", ""),
@@ -179,11 +179,11 @@ fn flow_waiting(rt: HostRuntime) -> Result<(), Fail> {
             "7E8#215456494E303132@1998 7E8#2233343536373839@1998",
         ),
     ];
-    assert!(rt; holds(plays(rt.alloc(), &setup, &begins_again)), "wait");
+    assert!(rt; holds(plays(rt.alloc(), &setup, &begins_again))?, "wait");
     let goes_on = line("7E0#300000", "", "");
     let overflow = [asks, line("7E0#320000", "", ""), goes_on];
-    assert!(rt; holds(plays(rt.alloc(), &setup, &overflow)), "overflow");
+    assert!(rt; holds(plays(rt.alloc(), &setup, &overflow))?, "overflow");
     let reserved = [asks, line("7E0#350000", "", ""), goes_on];
-    assert!(rt; holds(plays(rt.alloc(), &setup, &reserved)), "reserved");
+    assert!(rt; holds(plays(rt.alloc(), &setup, &reserved))?, "reserved");
     Ok(())
 }

@@ -91,17 +91,17 @@ fn misnumbers(script: &mut Script) -> Result<(), Trouble> {
 fn long_request(rt: HostRuntime) -> Result<(), Fail> {
     let setup = settings().ok_or("settings")?;
     let alloc = rt.alloc();
-    assert!(rt; holds(long_request_is_taken(alloc, &setup, GO_ON)), "0");
+    assert!(rt; holds(long_request_is_taken(alloc, &setup, GO_ON))?, "0");
     let blocks = LinkSetup {
         block_size: 8,
         ..settings().ok_or("settings")?
     };
     assert!(rt;
-        holds(long_request_is_taken(alloc, &blocks, "7E8#300800CCCCCCCCCC")),
+        holds(long_request_is_taken(alloc, &blocks, "7E8#300800CCCCCCCCCC"))?,
         "8"
     );
     let mut script = Script::new(alloc, &setup, Pace::Moves);
-    assert!(rt; holds(misnumbers(&mut script)), "misnumbered");
+    assert!(rt; holds(misnumbers(&mut script))?, "misnumbered");
     Ok(())
 }
 
@@ -119,7 +119,7 @@ fn largest_is_taken(alloc: Global, setup: &LinkSetup) -> Result<(), Trouble> {
 #[test]
 fn largest_base_request(rt: HostRuntime) -> Result<(), Fail> {
     let setup = settings().ok_or("settings")?;
-    assert!(rt; holds(largest_is_taken(rt.alloc(), &setup)));
+    assert!(rt; holds(largest_is_taken(rt.alloc(), &setup))?);
     Ok(())
 }
 
@@ -140,13 +140,13 @@ fn long_message_request(rt: HostRuntime) -> Result<(), Fail> {
         max_request: 65535,
         ..settings().ok_or("settings")?
     };
-    assert!(rt; holds(long_message_is_taken(rt.alloc(), &setup)));
+    assert!(rt; holds(long_message_is_taken(rt.alloc(), &setup))?);
     let turns = [
         line("7E0#1000000010000102", "", GO_ON),
         line("7E0#1000000100000102", "", "7E8#320000CCCCCCCCCC"),
         line("7E0#100000000FFF0102", "", ""),
     ];
-    assert!(rt; holds(plays(rt.alloc(), &setup, &turns)), "limits");
+    assert!(rt; holds(plays(rt.alloc(), &setup, &turns))?, "limits");
     Ok(())
 }
 
@@ -230,7 +230,7 @@ fn long_message_is_sent(alloc: Global, setup: &LinkSetup) -> Result<(), Trouble>
 #[test]
 fn long_message_reply(rt: HostRuntime) -> Result<(), Fail> {
     let setup = settings().ok_or("settings")?;
-    assert!(rt; holds(long_message_is_sent(rt.alloc(), &setup)));
+    assert!(rt; holds(long_message_is_sent(rt.alloc(), &setup))?);
     Ok(())
 }
 
@@ -248,7 +248,7 @@ fn first_is_repeated(script: &mut Script) -> Result<(), Trouble> {
 fn repeated_first(rt: HostRuntime) -> Result<(), Fail> {
     let setup = settings().ok_or("settings")?;
     let mut script = Script::new(rt.alloc(), &setup, Pace::Moves);
-    assert!(rt; holds(first_is_repeated(&mut script)));
+    assert!(rt; holds(first_is_repeated(&mut script))?);
     Ok(())
 }
 
@@ -268,21 +268,21 @@ fn long_waiting(rt: HostRuntime) -> Result<(), Fail> {
     let alloc = rt.alloc();
     let sends = "7E8#215456494E303132@999000 7E8#2233343536373839@999000";
     let mut alone = Script::alone(alloc, &setup);
-    assert!(rt; holds(waits_long(&mut alone, 1000, sends)), "1000");
+    assert!(rt; holds(waits_long(&mut alone, 1000, sends))?, "1000");
     let sends = "7E8#215456494E303132@2997 7E8#2233343536373839@2997";
     let mut script = Script::new(alloc, &setup, Pace::Moves);
-    assert!(rt; holds(waits_long(&mut script, 3, sends)), "3");
+    assert!(rt; holds(waits_long(&mut script, 3, sends))?, "3");
     let turns = [
         line("7E0#0322F190", VIN_STEP, "7E8#101462F190544553"),
         line("7E0#300005", "", "7E8#215456494E303132"),
         line("7E0#300100", "", ""),
         line("tick 5", "", "7E8#2233343536373839@5"),
     ];
-    assert!(rt; holds(plays(alloc, &setup, &turns)), "within a block");
+    assert!(rt; holds(plays(alloc, &setup, &turns))?, "within a block");
     Ok(())
 }
 
-fn thousand_wait(script: &mut Script) -> Result<Figures, Trouble> {
+fn thousand_wait(script: &mut Script, wanted: Figures) -> Result<(), Trouble> {
     script.takes("7E0#0322F190", VIN_STEP, "7E8#101462F190544553")?;
     for _ in 1..1000 {
         script.takes("7E0#0322F190", VIN_STEP, "")?;
@@ -292,7 +292,11 @@ fn thousand_wait(script: &mut Script) -> Result<Figures, Trouble> {
         line("tick 1000", "", "7E8#101462F190544553@2000"),
         line("tick 1000", "", "7E8#101462F190544553@3000"),
     ])?;
-    Ok(script.figures())
+    if script.figures() == wanted {
+        Ok(())
+    } else {
+        Err(Trouble::Figures)
+    }
 }
 
 #[test]
@@ -305,7 +309,6 @@ fn thousand_replies(rt: HostRuntime) -> Result<(), Fail> {
         now: 3000,
     };
     let mut script = Script::new(rt.alloc(), &setup, Pace::Moves);
-    let told = thousand_wait(&mut script);
-    assert!(rt; told == Ok(wanted) || told == Err(Trouble::Memory));
+    assert!(rt; holds(thousand_wait(&mut script, wanted))?);
     Ok(())
 }

@@ -5,7 +5,8 @@ use super::trouble::{Trouble, holds};
 use diag_tp::{
     Message, MessageFault, consecutive_frame, first_frame, flow_frame, frame_of, single_frame,
 };
-use std::alloc::Global;
+use std::alloc::{AllocError, Global};
+use std::test::Fail;
 
 /// A message of so many bytes.
 fn message(alloc: Global, size: usize) -> Result<Message, Trouble> {
@@ -33,29 +34,26 @@ fn has_frames(alloc: Global, size: usize, pad: Option<u8>) -> Result<(), Trouble
 }
 
 #[test]
-fn frames_of_messages(rt: HostRuntime) {
+fn frames_of_messages(rt: HostRuntime) -> Result<(), Fail> {
     for size in [1, 7, 8, 13, 14, 20, 118, 119, 4095, 4096, 5001, 65535] {
-        assert!(rt; holds(has_frames(rt.alloc(), size, Some(0xCC))), "{size}");
+        assert!(rt; holds(has_frames(rt.alloc(), size, Some(0xCC)))?, "{size}");
         assert!(rt;
-            holds(has_frames(rt.alloc(), size, None)),
+            holds(has_frames(rt.alloc(), size, None))?,
             "{size}, not filled"
         );
     }
-}
-
-/// Whether a message of so many bytes is refused for its length.
-fn is_refused(alloc: Global, size: usize) -> bool {
-    match message(alloc, size) {
-        Ok(_) => false,
-        Err(trouble) => trouble == Trouble::Script || trouble == Trouble::Memory,
-    }
+    Ok(())
 }
 
 #[test]
-fn lengths_of_messages(rt: HostRuntime) {
+fn lengths_of_messages(rt: HostRuntime) -> Result<(), Fail> {
     let empty = Message::new(rt.alloc(), &[]);
     assert!(rt; matches!(empty, Err(MessageFault::Length)));
-    assert!(rt; is_refused(rt.alloc(), 65536));
+    match message(rt.alloc(), 65536) {
+        Err(Trouble::Memory) => Err(AllocError)?,
+        too_long => assert!(rt; matches!(too_long, Err(Trouble::Script))),
+    }
+    Ok(())
 }
 
 #[test]

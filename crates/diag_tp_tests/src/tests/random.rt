@@ -200,11 +200,12 @@ fn agree(alloc: Global, seed: u64) -> Result<(), Trouble> {
 }
 
 #[test]
-fn slow_twin(rt: HostRuntime) {
+fn slow_twin(rt: HostRuntime) -> Result<(), Fail> {
     for seed in 1..=500 {
         let outcome = agree(rt.alloc(), seed);
-        assert!(rt; holds(outcome), "{seed}: {outcome:?}");
+        assert!(rt; holds(outcome)?, "{seed}: {outcome:?}");
     }
+    Ok(())
 }
 
 /// Whether two kinds are the same.

@@ -16,6 +16,8 @@ pub(crate) enum Trouble {
     Request,
     /// Other frames than those wanted.
     Frames,
+    /// Other figures than those wanted.
+    Figures,
     /// The link and its twin differ in the request that an event gives.
     TwinRequest,
     /// They differ in a frame that is due.
@@ -45,7 +47,11 @@ impl From<MessageFault> for Trouble {
     }
 }
 
-/// Whether a play came to its end, as far as there was memory.
-pub(crate) fn holds(outcome: Result<(), Trouble>) -> bool {
-    matches!(outcome, Ok(()) | Err(Trouble::Memory))
+/// Whether a play came to its end; an error where memory was refused on the way.
+pub(crate) fn holds(outcome: Result<(), Trouble>) -> Result<bool, AllocError> {
+    match outcome {
+        Ok(()) => Ok(true),
+        Err(Trouble::Memory) => Err(AllocError),
+        Err(_) => Ok(false),
+    }
 }
