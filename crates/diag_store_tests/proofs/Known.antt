@@ -1,5 +1,5 @@
 -- What a look-up that finds something says of the row.
-use Rattle.std.proofs.Common.{◌≡◌, ℕ, Bool, true, List, refl, Option, Some, None, is_some, IsTrue}
+use Rattle.std.proofs.Common.{◌≡◌, ℕ, List, refl, Option, Some, None, is_some}
 use Rattle.std.specs.Prelude.{option_map}
 use Rattle.diag_store.specs.declared.routines.Routine.{Routine}
 use Rattle.diag_store.specs.declared.security.SecurityState.{SecurityState}

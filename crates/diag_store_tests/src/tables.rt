@@ -63,13 +63,22 @@ fn setup_of(alloc: Global) -> Result<Setup, AllocError> {
 
 #[test]
 fn security_access(rt: HostRuntime) -> Result<(), Fail> {
-    let setup = setup_of(rt.alloc())?;
-    let mut security = Security::new(rt.alloc(), &setup)?;
-    let who = Who::new(1).ok_or("a first place")?;
-    after_security_access(&rt, &mut security, who);
-    assert!(rt; copies_security(&rt, &security, who)?);
-    assert!(rt; is_unlocked(&security));
+    assert!(rt; opens_and_unlocks(&rt, rt.alloc())?);
     Ok(())
+}
+
+fn opens_and_unlocks(rt: &impl Abort, alloc: Global) -> Result<bool, AllocError> {
+    let setup = setup_of(alloc)?;
+    let mut security = Security::new(alloc, &setup)?;
+    unlocks(rt, &mut security)
+}
+
+fn unlocks(rt: &impl Abort, security: &mut Security) -> Result<bool, AllocError> {
+    let Some(who) = Who::new(1) else {
+        return Ok(false);
+    };
+    after_security_access(rt, security, who);
+    Ok(copies_security(rt, security, who)? && is_unlocked(security))
 }
 
 /// Whether a copy goes on where the first stands, and is locked alone.
@@ -86,11 +95,19 @@ fn is_unlocked(security: &Security) -> bool {
 
 #[test]
 fn written_copy(rt: HostRuntime) -> Result<(), Fail> {
-    let setup = setup_of(rt.alloc())?;
-    let dids = Dids::new(rt.alloc(), &setup)?;
-    assert!(rt; copies_values(&dids)?);
-    assert!(rt; has_value(&dids, b"TESTVIN0123456789"));
+    assert!(rt; opens_and_writes(rt.alloc())?);
     Ok(())
+}
+
+fn opens_and_writes(alloc: Global) -> Result<bool, AllocError> {
+    let setup = setup_of(alloc)?;
+    let dids = Dids::new(alloc, &setup)?;
+    keeps_values(&dids)
+}
+
+/// Whether a copy takes a value, and the first keeps its own.
+fn keeps_values(dids: &Dids) -> Result<bool, AllocError> {
+    Ok(copies_values(dids)? && has_value(dids, b"TESTVIN0123456789"))
 }
 
 fn copies_values(dids: &Dids) -> Result<bool, AllocError> {
@@ -120,12 +137,19 @@ fn has_rule(dids: &Dids) -> bool {
 
 #[test]
 fn trouble_codes(rt: HostRuntime) -> Result<(), Fail> {
-    let setup = setup_of(rt.alloc())?;
-    let mut codes = DtcMemory::new(rt.alloc(), &setup)?;
-    assert!(rt; is_cleared(&mut codes));
-    assert!(rt; copies_codes(&codes)?);
-    assert!(rt; has_status(&codes, 0x50));
+    assert!(rt; opens_and_clears(rt.alloc())?);
     Ok(())
+}
+
+fn opens_and_clears(alloc: Global) -> Result<bool, AllocError> {
+    let setup = setup_of(alloc)?;
+    let mut codes = DtcMemory::new(alloc, &setup)?;
+    clears(&mut codes)
+}
+
+/// Whether the codes are cleared, and stay so while a copy gets a status.
+fn clears(codes: &mut DtcMemory) -> Result<bool, AllocError> {
+    Ok(is_cleared(codes) && copies_codes(codes)? && has_status(codes, 0x50))
 }
 
 fn copies_codes(codes: &DtcMemory) -> Result<bool, AllocError> {
@@ -272,12 +296,20 @@ fn runs(
 
 #[test]
 fn copied_routines(rt: HostRuntime) -> Result<(), Fail> {
-    let setup = setup_of(rt.alloc())?;
-    let mut routines = Routines::new(rt.alloc(), &setup)?;
-    start(&rt, &mut routines, 0x0203);
-    assert!(rt; copies_routines(&routines)?);
-    assert!(rt; is_in(&routines, RoutineState::Running(100)));
+    assert!(rt; opens_and_starts(&rt, rt.alloc())?);
     Ok(())
+}
+
+fn opens_and_starts(rt: &impl Abort, alloc: Global) -> Result<bool, AllocError> {
+    let setup = setup_of(alloc)?;
+    let mut routines = Routines::new(alloc, &setup)?;
+    start(rt, &mut routines, 0x0203);
+    keeps_running(&routines)
+}
+
+/// Whether a routine runs on while those of a copy are made idle.
+fn keeps_running(routines: &Routines) -> Result<bool, AllocError> {
+    Ok(copies_routines(routines)? && is_in(routines, RoutineState::Running(100)))
 }
 
 fn copies_routines(routines: &Routines) -> Result<bool, AllocError> {
