@@ -31,31 +31,54 @@ fn is_wanted(event: &Event, wanted: &Wanted) -> bool {
     }
 }
 
-/// Whether the log gives these events, or memory is refused.
-fn gives(alloc: Global, text: &[u8], ids: &Ids, timing: Timing, wanted: &[Wanted]) -> bool {
+/// Whether the log gives these events.
+fn gives(
+    alloc: Global,
+    text: &[u8],
+    ids: &Ids,
+    timing: Timing,
+    wanted: &[Wanted],
+) -> Result<bool, AllocError> {
     match read_log(alloc, text, ids, timing) {
-        Ok(events) => {
+        Ok(events) => Ok(
             events.len() == wanted.len()
                 && events
                     .iter()
                     .zip(wanted)
-                    .all(|(event, wanted)| is_wanted(event, wanted))
-        }
-        Err(fault) => fault == LogFault::Memory,
+                    .all(|(event, wanted)| is_wanted(event, wanted)),
+        ),
+        Err(LogFault::Memory) => Err(AllocError),
+        Err(_) => Ok(false),
     }
 }
 
-/// Whether the log has this fault, or memory is refused.
-fn fails(alloc: Global, text: &[u8], ids: &Ids, timing: Timing, wanted: LogFault) -> bool {
+/// Whether the log has this fault.
+fn fails(
+    alloc: Global,
+    text: &[u8],
+    ids: &Ids,
+    timing: Timing,
+    wanted: LogFault,
+) -> Result<bool, AllocError> {
     match read_log(alloc, text, ids, timing) {
-        Ok(_) => false,
-        Err(fault) => fault == wanted || fault == LogFault::Memory,
+        Ok(_) => Ok(false),
+        Err(LogFault::Memory) => Err(AllocError),
+        Err(fault) => Ok(fault == wanted),
     }
 }
 
 /// How many events the log gives, or None where it has a fault.
-fn count(alloc: Global, text: &[u8], ids: &Ids, timing: Timing) -> Option<usize> {
-    Some(read_log(alloc, text, ids, timing).ok()?.len())
+fn count(
+    alloc: Global,
+    text: &[u8],
+    ids: &Ids,
+    timing: Timing,
+) -> Result<Option<usize>, AllocError> {
+    match read_log(alloc, text, ids, timing) {
+        Ok(events) => Ok(Some(events.len())),
+        Err(LogFault::Memory) => Err(AllocError),
+        Err(_) => Ok(None),
+    }
 }
 
 /// So many times this line.
@@ -95,9 +118,9 @@ fn candump_forms(rt: HostRuntime) -> Result<(), Fail> {
             &ids,
             Timing::Lines,
             &[session, present]
-        )
+        )?
     );
-    assert!(rt; gives(alloc, b"", &ids, Timing::Lines, &[]));
+    assert!(rt; gives(alloc, b"", &ids, Timing::Lines, &[])?);
     let bad_line = LogFault::Line(2, LineFault::BadLine);
     let bad_tick = LogFault::Line(2, LineFault::BadTick);
     let too_many = LogFault::Line(2, LineFault::TooManyBytes);
@@ -114,7 +137,7 @@ fn candump_forms(rt: HostRuntime) -> Result<(), Fail> {
     ];
     for (text, fault) in &faults {
         assert!(rt;
-            fails(alloc, text, &ids, Timing::Lines, *fault),
+            fails(alloc, text, &ids, Timing::Lines, *fault)?,
             "{fault:?}"
         );
     }
@@ -147,7 +170,10 @@ fn log_line_forms(rt: HostRuntime) -> Result<(), Fail> {
         ),
     ];
     for (text, wanted) in &rows {
-        assert!(rt; gives(alloc, text, &ids, Timing::Lines, wanted), "{text:?}");
+        assert!(rt;
+            gives(alloc, text, &ids, Timing::Lines, wanted)?,
+            "{text:?}"
+        );
     }
     let lines: [(&[u8], LineFault); 14] = [
         (b"(0000000000.000000) can0 7E0#023E0", LineFault::BadLine),
@@ -192,7 +218,7 @@ fn stamps(rt: HostRuntime) -> Result<(), Fail> {
         Wanted::Ticks(1),
         present,
     ];
-    assert!(rt; gives(alloc, STAMPS, &ids, Timing::Stamps, &timed));
+    assert!(rt; gives(alloc, STAMPS, &ids, Timing::Stamps, &timed)?);
     assert!(rt;
         gives(
             alloc,
@@ -200,7 +226,7 @@ fn stamps(rt: HostRuntime) -> Result<(), Fail> {
             &ids,
             Timing::Lines,
             &[session, present, present, present]
-        )
+        )?
     );
     Ok(())
 }
@@ -218,7 +244,7 @@ fn stamp_limits(rt: HostRuntime) -> Result<(), Fail> {
             &ids,
             Timing::Stamps,
             &[session, Wanted::Ticks(200), padded]
-        )
+        )?
     );
     let present = Wanted::Physical(&[0x02, 0x3E, 0x00]);
     let text = b"(0.000000) can0 7E0#023E00\n(130.000000) can0 7E0#023E00\n";
@@ -229,16 +255,11 @@ fn stamp_limits(rt: HostRuntime) -> Result<(), Fail> {
         Wanted::Ticks(10000),
         present,
     ];
-    assert!(rt; gives(alloc, text, &ids, Timing::Stamps, &wanted));
+    assert!(rt; gives(alloc, text, &ids, Timing::Stamps, &wanted)?);
     let text = b"(0.000000) can0 7E0#023E00\n(59999880.000000) can0 7E0#023E00\n";
-    assert!(rt;
-        matches!(
-            count(alloc, text, &ids, Timing::Stamps),
-            None | Some(1_000_000)
-        )
-    );
+    assert!(rt; count(alloc, text, &ids, Timing::Stamps)? == Some(1_000_000));
     let text = b"(0.000000) can0 7E0#023E00\n(59999880.001000) can0 7E0#023E00\n";
-    assert!(rt; fails(alloc, text, &ids, Timing::Stamps, LogFault::TooManyEvents));
+    assert!(rt; fails(alloc, text, &ids, Timing::Stamps, LogFault::TooManyEvents)?);
     Ok(())
 }
 
@@ -247,12 +268,7 @@ fn million_lines(rt: HostRuntime) -> Result<(), Fail> {
     let ids = ids().ok_or("identifiers")?;
     let alloc = rt.alloc();
     let mut text = repeated(alloc, b"tick\n", 1_000_000)?;
-    assert!(rt;
-        matches!(
-            count(alloc, text.as_slice(), &ids, Timing::Lines),
-            None | Some(1_000_000)
-        )
-    );
+    assert!(rt; count(alloc, text.as_slice(), &ids, Timing::Lines)? == Some(1_000_000));
     text.extend_from_slice(b"tick 0")?;
     assert!(rt;
         fails(
@@ -261,7 +277,7 @@ fn million_lines(rt: HostRuntime) -> Result<(), Fail> {
             &ids,
             Timing::Lines,
             LogFault::TooManyLines
-        )
+        )?
     );
     Ok(())
 }
@@ -274,9 +290,7 @@ fn first_reply(rt: HostRuntime) -> Result<(), Fail> {
     };
     let mut text = Vec::new(rt.alloc());
     let line = b"(0000000000.000000) A 7E8#065003003201F4CC\n";
-    match write_line(&mut text, b"A", 0, &frame) {
-        Ok(()) => assert_eq!(rt; text.as_slice(), line.as_slice()),
-        Err(_) => assert!(rt; text.is_empty()),
-    }
+    write_line(&mut text, b"A", 0, &frame)?;
+    assert_eq!(rt; text.as_slice(), line.as_slice());
     Ok(())
 }
