@@ -17,6 +17,8 @@ struct Tester {
     setup: LinkSetup,
     /// The number of the next Consecutive of the message that is being sent.
     number: u8,
+    /// How many frames of it are left, about.
+    left: u8,
 }
 
 /// That many ticks, of 1 to 255.
@@ -81,6 +83,7 @@ impl Tester {
         self.number = 1;
         let mut bytes = self.bytes(0x10);
         bytes[1] = self.chance.below(40);
+        self.left = bytes[1] / 7;
         if bytes[1] == 0 {
             let high = self.chance.one_of(&[0x0F, 0x10, 0xFF]);
             bytes = [
@@ -106,6 +109,7 @@ impl Tester {
             self.number % 16
         };
         self.number = (number % 16) + 1;
+        self.left = self.left.saturating_sub(1);
         let least = if self.chance.is_one_in(12) { 1 } else { 8 };
         self.physical(0x20 | number, least)
     }
@@ -139,8 +143,21 @@ impl Tester {
         Some(Event::Ticks(TickCount::new(count.max(1))?))
     }
 
-    /// The next event.
+    /// Up to N_Cr ticks.
+    fn pause(&mut self) -> Option<Event> {
+        let most = self.setup.n_cr.get().min(255) as u8;
+        Some(Event::Ticks(ticks(self.chance.below(most).saturating_add(1))?))
+    }
+
+    /// The next event: within a message mostly its next frame, or a silence before it.
     fn event(&mut self) -> Option<Event> {
+        if self.left > 0 && !self.chance.is_one_in(4) {
+            return if self.chance.is_one_in(2) {
+                self.pause()
+            } else {
+                Some(self.consecutive())
+            };
+        }
         match self.chance.below(24) {
             0 => Some(self.single()),
             1 => Some(self.functional()),
@@ -191,6 +208,7 @@ fn agree(alloc: Global, seed: u64) -> Result<(), Trouble> {
         chance,
         setup,
         number: 1,
+        left: 0,
     };
     let mut pair = Pair::new(alloc, &tester.setup, pace);
     for _ in 0..50 {
@@ -256,6 +274,7 @@ fn kinds(rt: HostRuntime) -> Result<(), Fail> {
         chance: Chance::new(1),
         setup: settings().ok_or("settings")?,
         number: 1,
+        left: 0,
     };
     for _ in 0..20_000 {
         let event = tester.event().ok_or("an event")?;
