@@ -1,0 +1,213 @@
+//! Plays in which two testers share the session.
+
+use crate::play::{Play, leaves};
+use crate::text::Times;
+use crate::unit::Unit;
+use diag_can::Timing;
+use std::test::Fail;
+
+/// A unlocks and writes the value that B reads before and after.
+pub(crate) const TWO_TESTERS: Play = Play {
+    unit: Unit::Plain,
+    timing: Timing::Lines,
+    logs: [&[Times(1, WRITER)], &[Times(1, READER)]],
+    leaves: &[Times(1, WRITTEN_AND_READ)],
+};
+
+const WRITER: &str = "\
+(0.000000) can0 7E0#021003
+(0.000000) can0 7E0#022701
+(0.000000) can0 7E0#062702AABBCCDD
+(0.000000) can0 7E0#10142EF190414243
+(0.000000) can0 7E0#214445464748494A
+(0.000000) can0 7E0#224B4C4D4E4F5051
+";
+
+const READER: &str = "\
+tick
+tick
+tick
+(0.000000) can0 7E1#0322F190
+(0.000000) can0 7E1#300000
+(0.000000) can0 7E1#0322F190
+(0.000000) can0 7E1#300000
+";
+
+pub(crate) const WRITTEN_AND_READ: &str = "\
+(0000000000.000000) A 7E8#065003003201F4CC
+(0000000000.000000) A 7E8#06670111223344CC
+(0000000000.000000) A 7E8#026702CCCCCCCCCC
+(0000000000.000000) A 7E8#300000CCCCCCCCCC
+(0000000000.000000) A 7E8#036EF190CCCCCCCC
+(0000000000.003000) B 7E9#101462F190544553
+(0000000000.003000) B 7E9#215456494E303132
+(0000000000.003000) B 7E9#2233343536373839
+(0000000000.003000) B 7E9#101462F190414243
+(0000000000.003000) B 7E9#214445464748494A
+(0000000000.003000) B 7E9#224B4C4D4E4F5051
+diag-journal 1
+1 P 1003 5003003201F4
+2 T 1
+1 P 2701 670111223344
+2 T 1
+1 P 2702AABBCCDD 6702
+2 T 1
+2 P 22F190 62F1905445535456494E30313233343536373839
+1 P 2EF1904142434445464748494A4B4C4D4E4F5051 6EF190
+2 P 22F190 62F1904142434445464748494A4B4C4D4E4F5051
+holder 1
+";
+
+#[test]
+fn two_testers(rt: HostRuntime) -> Result<(), Fail> {
+    assert!(rt; leaves(rt.alloc(), &TWO_TESTERS)?);
+    Ok(())
+}
+
+const HELD_5000_TICKS: Play = Play {
+    unit: Unit::Plain,
+    timing: Timing::Lines,
+    logs: [
+        &[Times(1, "(0.000000) can0 7E0#021003\ntick 5000\n")],
+        &[Times(2, "(0.000000) can0 7E1#021003\n")],
+    ],
+    leaves: &[Times(
+        1,
+        "\
+(0000000000.000000) A 7E8#065003003201F4CC
+(0000000000.000000) B 7E9#037F1021CCCCCCCC
+(0000000000.000000) B 7E9#065003003201F4CC
+diag-journal 1
+1 P 1003 5003003201F4
+2 P 1003 7F1021
+1 T 5000
+2 P 1003 5003003201F4
+holder 2
+",
+    )],
+};
+
+const HELD_4999_TICKS: Play = Play {
+    unit: Unit::Plain,
+    timing: Timing::Lines,
+    logs: [
+        &[Times(1, "(0.000000) can0 7E0#021003\ntick 4999\n")],
+        &[Times(2, "(0.000000) can0 7E1#021003\n")],
+    ],
+    leaves: &[Times(
+        1,
+        "\
+(0000000000.000000) A 7E8#065003003201F4CC
+(0000000000.000000) B 7E9#037F1021CCCCCCCC
+(0000000000.000000) B 7E9#037F1021CCCCCCCC
+diag-journal 1
+1 P 1003 5003003201F4
+2 P 1003 7F1021
+1 T 4999
+2 P 1003 7F1021
+holder 1
+",
+    )],
+};
+
+const TICKS_OF_ANOTHER: Play = Play {
+    unit: Unit::Plain,
+    timing: Timing::Lines,
+    logs: [
+        &[Times(1, "(0.000000) can0 7E0#021003\n")],
+        &[Times(1, "tick 5000\n(0.000000) can0 7E1#021003\n")],
+    ],
+    leaves: &[Times(
+        1,
+        "\
+(0000000000.000000) A 7E8#065003003201F4CC
+(0000000005.000000) B 7E9#037F1021CCCCCCCC
+diag-journal 1
+1 P 1003 5003003201F4
+2 T 5000
+2 P 1003 7F1021
+holder 1
+",
+    )],
+};
+
+const WRITE_OF_ANOTHER: Play = Play {
+    unit: Unit::Plain,
+    timing: Timing::Lines,
+    logs: [
+        &[Times(1, "(0.000000) can0 7E0#021003\ntick 4999\n")],
+        &[Times(
+            1,
+            "\
+(0.000000) can0 7E1#021003
+(0.000000) can0 7E1#042EF19041
+",
+        )],
+    ],
+    leaves: &[Times(
+        1,
+        "\
+(0000000000.000000) A 7E8#065003003201F4CC
+(0000000000.000000) B 7E9#037F1021CCCCCCCC
+(0000000000.000000) B 7E9#037F2E7FCCCCCCCC
+diag-journal 1
+1 P 1003 5003003201F4
+2 P 1003 7F1021
+1 T 4999
+2 P 2EF19041 7F2E7F
+holder 1
+",
+    )],
+};
+
+#[test]
+fn session_holder(rt: HostRuntime) -> Result<(), Fail> {
+    assert!(rt; leaves(rt.alloc(), &HELD_5000_TICKS)?);
+    assert!(rt; leaves(rt.alloc(), &HELD_4999_TICKS)?);
+    assert!(rt; leaves(rt.alloc(), &TICKS_OF_ANOTHER)?);
+    assert!(rt; leaves(rt.alloc(), &WRITE_OF_ANOTHER)?);
+    Ok(())
+}
+
+const LOCKED_AGAIN: Play = Play {
+    unit: Unit::Plain,
+    timing: Timing::Lines,
+    logs: [
+        &[Times(
+            1,
+            "\
+(0.000000) can0 7E0#021003
+(0.000000) can0 7E0#022701
+(0.000000) can0 7E0#062702AABBCCDD
+tick 5000
+(0.000000) can0 7E0#021003
+(0.000000) can0 7E0#042EF19041
+",
+        )],
+        &[],
+    ],
+    leaves: &[Times(
+        1,
+        "\
+(0000000000.000000) A 7E8#065003003201F4CC
+(0000000000.000000) A 7E8#06670111223344CC
+(0000000000.000000) A 7E8#026702CCCCCCCCCC
+(0000000005.000000) A 7E8#065003003201F4CC
+(0000000005.000000) A 7E8#037F2E33CCCCCCCC
+diag-journal 1
+1 P 1003 5003003201F4
+1 P 2701 670111223344
+1 P 2702AABBCCDD 6702
+1 T 5000
+1 P 1003 5003003201F4
+1 P 2EF19041 7F2E33
+holder 1
+",
+    )],
+};
+
+#[test]
+fn relock(rt: HostRuntime) -> Result<(), Fail> {
+    assert!(rt; leaves(rt.alloc(), &LOCKED_AGAIN)?);
+    Ok(())
+}
