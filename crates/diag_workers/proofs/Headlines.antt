@@ -1,5 +1,5 @@
 -- A crew at fresh seats of one gate plays the logs: what its records and the closed gate say together.
-use Rattle.std.proofs.Common.{◌≡◌, ◌≢◌, ◌⊎◌, inl, inr, ℕ, zero, suc, ◌+◌, ◌-◌, ◌<◌, ◌≤◌, eqb, Bool, true, false, cond, is_some, List, [], ◌∷◌, ◌++◌, length, map, get_or, refl, sym, ap, subst, ◌∙◌, arith, eq-eqb, ne_eqb, Option, Some, None}
+use Rattle.std.proofs.Common.{◌≡◌, ◌≢◌, ◌⊎◌, inl, inr, ℕ, zero, suc, ◌+◌, ◌<◌, ◌≤◌, eqb, true, cond, is_some, List, [], ◌∷◌, ◌++◌, length, map, get_or, refl, sym, ap, subst, ◌∙◌, arith, eq-eqb, ne_eqb, Some, None}
 use Rattle.std.specs.Prelude.{slice_get, if◌then◌else◌, ◌==◌}
 use Rattle.std.proofs.lemmas.Option.{slice_get_within}
 use Rattle.std.proofs.lemmas.List.{length-map}
@@ -20,11 +20,11 @@ use Rattle.diag_desk.specs.Entry.{AreEntries}
 use Rattle.diag_desk.specs.Legal.{Run, Legal}
 use Rattle.diag_desk.specs.Entries.{own, asked, replies}
 use Rattle.diag_world.specs.Headline.{IsPlay}
-use Rattle.diag_world.specs.Weaving.{weave, log_at, log_of, AsksItsLog, WeavingLaw}
+use Rattle.diag_world.specs.Weaving.{weave, log_at, AsksItsLog, WeavingLaw}
 use Rattle.diag_gate.specs.Views.{owns_from}
-use Rattle.diag_gate.specs.Seats.{SeatView, HostView, of_host, AllHome, Closed, fresh}
+use Rattle.diag_gate.specs.Seats.{SeatView, HostView, of_host, AllHome, Closed}
 use Rattle.diag_workers.specs.declared.working.WorkerRecord.{WorkerRecord}
-use Rattle.diag_workers.specs.Crew.{Worked, AllWorked, places_from}
+use Rattle.diag_workers.specs.Crew.{AllWorked, places_from}
 use Rattle.diag_workers.specs.Seating.{Out, Back}
 
 -- ---- seats of one gate, of testers in order

@@ -2,5 +2,4 @@ mod Compared
 mod Places
 mod Recording
 mod Outs
-mod Logs
 mod Headlines

@@ -1,11 +1,13 @@
 -- The logs of all testers, as they are read: in order, and the first that is at fault decides.
-use Rattle.std.specs.Prelude.{ℕ, ◌+◌, List, [], ◌∷◌, Result, Ok, Err}
+use Rattle.std.specs.Prelude.{◌≡◌, ℕ, ◌+◌, List, [], ◌∷◌, Result, Ok, Err}
 use Rattle.diag_can.specs.declared.frame.Event.{Event}
 use Rattle.diag_can.specs.declared.log.Timing.{Timing}
 use Rattle.diag_can.specs.declared.fault.LogFault.{LogFault}
 use Rattle.diag_can.specs.Log.{events}
 use Rattle.diag_setup.specs.declared.raw.RawSetup.{RawSetup}
 use Rattle.diag_setup.specs.Setup.{ids_of}
+use Rattle.diag_workers.specs.declared.playing.PlayFault.{PlayFault}
+use Rattle.diag_workers.specs.declared.playing.PlayFault.TheVariants.{Memory, Log, JournalFull, RecordsDisagree}
 
 -- the log of tester n, before those of the testers after it
 abbrev pub before_rest : ℕ → Result (List Event) LogFault → Result (List (List Event)) (ℕ × LogFault) → Result (List (List Event)) (ℕ × LogFault)
@@ -21,3 +23,17 @@ logs_from n setup timing (text ∷ texts) = before_rest n (events text (ids_of s
 -- the events of each tester's log, or the first tester whose log is at fault, and its fault
 abbrev pub logs_of : RawSetup → Timing → List (List ℕ) → Result (List (List Event)) (ℕ × LogFault)
 logs_of setup timing texts = logs_from 1 setup timing texts
+
+-- why a tester's log is not read, where this is what it says
+abbrev pub NotReadAt : ℕ → Result (List Event) LogFault → PlayFault → Type 0
+NotReadAt n log Memory = Unit {0}
+NotReadAt n log (Log who fault) = (who ≡ n) × (log ≡ Err fault)
+NotReadAt n log JournalFull = ⊥
+NotReadAt n log (RecordsDisagree who) = ⊥
+
+-- why the logs are not read, where this is what they say
+abbrev pub NotRead : Result (List (List Event)) (ℕ × LogFault) → PlayFault → Type 0
+NotRead logs Memory = Unit {0}
+NotRead logs (Log who fault) = logs ≡ Err (who, fault)
+NotRead logs JournalFull = ⊥
+NotRead logs (RecordsDisagree who) = ⊥

@@ -4,6 +4,7 @@
 mod agreeing;
 mod crewing;
 mod playing;
+mod reading;
 mod seating;
 mod watch;
 mod working;

@@ -9,9 +9,10 @@ ghost use Rattle.diag_world.specs.Weaving.{weave};
 ghost use Rattle.diag_workers.specs.Play.{logs_of};
 
 use crate::crewing::crew;
+use crate::reading::read_logs;
 use crate::seating::{doors_of, give_out, take_apart, take_in};
 use crate::watch::Watch;
-use diag_can::{Event, LogFault, Timing, read_log};
+use diag_can::{Event, LogFault, Timing};
 use diag_desk::{Desk, StepFault};
 use diag_gate::Gate;
 use diag_store::{Setup, Who};
@@ -42,7 +43,7 @@ pub enum PlayFault {
 ///
 /// The journal is a legal run of the sequential server from the setup's opening, and the run of a named interleaving of the logs;
 /// each tester's frames are what its flow control draws from the replies to it. The watch is told of each step before it is
-/// taken. The logs are read first, in order, and the first that refuses decides.
+/// taken. The logs are read first, each in its thread, and the first that refuses, in order, decides.
 pub fn play<W: Watch + Sync, R: Threads + Wait + Sync>(
     rt: &R,
     alloc: Global,
@@ -57,56 +58,11 @@ pub fn play<W: Watch + Sync, R: Threads + Wait + Sync>(
     ensures full { result ≡ Err PlayFault.JournalFull → (logs : List (List AnEvent)) × (logs_of setup.now timing (map (λ text. text.items) texts.now) ≡ Ok logs) }
     ensures agree { (who : ℕ) → result ≢ Err (PlayFault.RecordsDisagree who) }
 {
-    let logs = read_logs(alloc, setup, texts, timing)?;
+    let logs = read_logs(rt, alloc, setup, texts, timing)?;
     match play_logs(rt, alloc, setup, logs.as_slice(), watch) {
         Ok(played) => Ok(played),
         Err(StepFault::Memory) => Err(PlayFault::Memory),
         Err(StepFault::JournalFull) => Err(PlayFault::JournalFull),
-    }
-}
-
-/// Reads the logs in order. The first that refuses decides.
-fn read_logs(
-    alloc: Global,
-    setup: &Setup,
-    texts: &[Vec<u8>],
-    timing: Timing,
-) -> Result<Vec<Vec<Event>>, PlayFault>
-    requires { length texts.now ≡ length setup.now.testers }
-    ensures logs { IfOk result (λ logs. logs_of setup.now timing (map (λ text. text.items) texts.now) ≡ Ok (map (λ log. log.items) logs.items)) }
-    ensures count { IfOk result (λ logs. length logs.items ≡ length texts.now) }
-    ensures limits { IfOk result (λ logs. AllByRecursion (λ log. vec_len log ≤ 1000000) logs.items) }
-    ensures log { (who : ℕ) (fault : ALogFault) → result ≡ Err (PlayFault.Log who fault) → logs_of setup.now timing (map (λ text. text.items) texts.now) ≡ Err (who, fault) }
-    ensures full { result ≢ Err PlayFault.JournalFull }
-    ensures agree { (who : ℕ) → result ≢ Err (PlayFault.RecordsDisagree who) }
-{
-    let mut logs = Vec::new(alloc);
-    for (i, text) in texts.iter().enumerate() {
-        let Some(who) = setup.who(i) else {
-            unreachable!()
-        };
-        match read_log(alloc, text.as_slice(), &setup.ids(who), timing) {
-            Ok(log) => {
-                if logs.push(log).is_err() {
-                    return Err(PlayFault::Memory);
-                }
-            }
-            Err(fault) => return Err(refused(who, fault)),
-        }
-    }
-    Ok(logs)
-}
-
-/// Why a tester's log that was not read ends the play.
-fn refused(who: Who, fault: LogFault) -> PlayFault
-    ensures log { (t : ℕ) (f : ALogFault) → result ≡ PlayFault.Log t f → (who ≡ t) × (fault ≡ f) × (fault ≢ LogFault.Memory) }
-    ensures full { result ≢ PlayFault.JournalFull }
-    ensures agree { (t : ℕ) → result ≢ PlayFault.RecordsDisagree t }
-{
-    if fault == LogFault::Memory {
-        PlayFault::Memory
-    } else {
-        PlayFault::Log(who, fault)
     }
 }
 

@@ -115,9 +115,20 @@ impl Gate {
             if let Some(desk) = self.take(&mut seat.place, who) {
                 return self.work(&mut seat.place, who, desk, step);
             }
-            thread::yield_now();
+            give_way();
         }
         unreachable!()
+    }
+}
+
+/// How often a tester that found the desk out lets the others run before it tries again. A try takes the word's cache line from the one that
+/// has the desk, so a few turns more leave that one to take many steps in the time.
+const TURNS: u32 = 32;
+
+/// Lets the other threads run.
+fn give_way() {
+    for _ in 0..TURNS {
+        thread::yield_now();
     }
 }
 

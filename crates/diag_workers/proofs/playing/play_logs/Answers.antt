@@ -1,4 +1,4 @@
-use Rattle.std.proofs.Common.{◌≡◌, ◌<◌, ◌≤◌, ◌+◌, ℕ, List, length, map, get_or, sym, ap, subst, ◌∙◌, arith}
+use Rattle.std.proofs.Common.{◌≡◌, ◌<◌, ◌+◌, ℕ, List, length, map, get_or, sym, ap, subst, ◌∙◌, arith}
 use Rattle.diag_gate.specs.declared.door.GateDoor.{GateDoor}
 use Rattle.diag_gate.specs.Seats.{SeatView, HostView}
 use Rattle.diag_workers.specs.declared.watch.WatchedDoor.{WatchedDoor}
