@@ -1,12 +1,10 @@
 //! The worked examples with long messages, and with many frames.
 
-use super::pair::Pace;
-use super::script::{Script, Step, line, plays, settings};
-use super::trouble::{Trouble, holds};
+use super::script::{MAX_REQUEST, Script, Step, Turn, alone, opened, shows, shows_at};
+use super::trouble::{Failed, Trouble};
 use super::twin::Figures;
-use diag_tp::{LinkSetup, Message};
+use diag_tp::{Message, Sent};
 use std::alloc::Global;
-use std::test::Fail;
 
 const GO_ON: &str = "7E8#300000CCCCCCCCCC";
 
@@ -25,16 +23,23 @@ fn refused(alloc: Global, size: usize) -> Result<Step, Trouble> {
     })
 }
 
-/// Consecutives of seven bytes FF, numbered from this one to the one before `end`, modulo 16. After each the frames
-/// that go are those of this text where `block` is above 0 and divides its place, and none elsewhere.
-fn takes_parts(
-    script: &mut Script,
-    from: u32,
+/// A request 22 and FF, FF, .. on a link with this block size and receive limit: its First, answered by this flow
+/// control, then the Consecutives before that of place `end`, and that one, with which it is complete.
+struct Long {
+    block_size: u8,
+    max_request: u16,
+    first: &'static str,
+    grant: &'static str,
     end: u32,
-    block: u32,
-    grant: &str,
-) -> Result<(), Trouble> {
-    for place in from..end {
+    last: &'static [u8],
+    /// How many bytes FF.
+    size: usize,
+}
+
+/// Consecutives of seven bytes FF, numbered from 1 to the one before `end`, modulo 16. After each the frames
+/// that go are those of this text where `block` is above 0 and divides its place, and none elsewhere.
+fn takes_parts(script: &mut Script, end: u32, block: u32, grant: &str) -> Result<(), Trouble> {
+    for place in 1..end {
         let number = 0x20 | (place % 16) as u8;
         script.frame(&[number, 0xFF, 0xFF, 0xFF, 0xFF, 0xFF, 0xFF, 0xFF], None)?;
         let is_end = block > 0 && place % block == 0;
@@ -43,111 +48,95 @@ fn takes_parts(
     Ok(())
 }
 
-/// A request 22 and FF, FF, ..: its First, answered by this flow control, then the Consecutives before that of place `end`,
-/// and that one, with which it is complete.
-#[derive(Clone, Copy)]
-struct Long<'a> {
-    first: &'a str,
-    grant: &'a str,
-    end: u32,
-    block: u32,
-    last: &'a [u8],
-}
-
-/// A long request comes, which gives this step.
-fn takes(script: &mut Script, long: &Long<'_>, step: Step) -> Result<(), Trouble> {
+/// A long request comes, and is refused.
+fn takes(script: &mut Script, long: &Long) -> Result<(), Trouble> {
     script.takes(long.first, "", long.grant)?;
-    takes_parts(script, 1, long.end, long.block, long.grant)?;
+    takes_parts(script, long.end, u32::from(long.block_size), long.grant)?;
+    let step = refused(script.alloc, long.size)?;
     script.frame(long.last, Some(step))?;
     script.sends("7E8#037F2231CCCCCCCC")
 }
 
-/// Such a request is taken, with so many bytes FF.
-fn is_taken(alloc: Global, setup: &LinkSetup, long: &Long<'_>, size: usize) -> Result<(), Trouble> {
-    let step = refused(alloc, size)?;
-    takes(&mut Script::new(alloc, setup, Pace::Moves), long, step)
+/// Such a request is taken.
+fn is_taken(alloc: Global, long: &Long) -> Result<(), Trouble> {
+    takes(&mut opened(alloc, long.block_size, long.max_request)?, long)
 }
 
-fn long_request_is_taken(alloc: Global, setup: &LinkSetup, grant: &str) -> Result<(), Trouble> {
-    let long = Long {
-        first: "7E0#108122FFFFFFFFFF",
-        grant,
-        end: 18,
-        block: u32::from(setup.block_size),
-        last: &[0x22, 0xFF, 0xFF, 0xFF, 0xFF],
-    };
-    is_taken(alloc, setup, &long, 128)
-}
+const LONG_REQUEST: Long = Long {
+    block_size: 0,
+    max_request: MAX_REQUEST,
+    first: "7E0#108122FFFFFFFFFF",
+    grant: GO_ON,
+    end: 18,
+    last: &[0x22, 0xFF, 0xFF, 0xFF, 0xFF],
+    size: 128,
+};
 
+const IN_BLOCKS: Long = Long {
+    block_size: 8,
+    max_request: MAX_REQUEST,
+    first: "7E0#108122FFFFFFFFFF",
+    grant: "7E8#300800CCCCCCCCCC",
+    end: 18,
+    last: &[0x22, 0xFF, 0xFF, 0xFF, 0xFF],
+    size: 128,
+};
+
+const MISNUMBERED: [Turn; 3] = [
+    Turn("7E0#21FFFFFFFFFFFFFF", "", ""),
+    Turn("7E0#21FFFFFFFFFFFFFF", "", ""),
+    Turn("7E0#22FFFFFFFF", "", ""),
+];
+
+/// The 16th Consecutive has the number of the 17th.
 fn misnumbers(script: &mut Script) -> Result<(), Trouble> {
     script.takes("7E0#108122FFFFFFFFFF", "", GO_ON)?;
-    takes_parts(script, 1, 16, 0, "")?;
-    takes_parts(script, 17, 18, 0, "")?;
-    takes_parts(script, 17, 18, 0, "")?;
-    script.takes("7E0#22FFFFFFFF", "", "")
+    takes_parts(script, 16, 0, "")?;
+    script.plays(&MISNUMBERED)
 }
 
 #[test]
-fn long_request(rt: HostRuntime) -> Result<(), Fail> {
-    let setup = settings().ok_or("settings")?;
-    let alloc = rt.alloc();
-    assert!(rt; holds(long_request_is_taken(alloc, &setup, GO_ON))?, "0");
-    let blocks = LinkSetup {
-        block_size: 8,
-        ..settings().ok_or("settings")?
-    };
-    assert!(rt;
-        holds(long_request_is_taken(alloc, &blocks, "7E8#300800CCCCCCCCCC"))?,
-        "8"
-    );
-    let mut script = Script::new(alloc, &setup, Pace::Moves);
-    assert!(rt; holds(misnumbers(&mut script))?, "misnumbered");
-    Ok(())
+fn long_request(rt: HostRuntime) -> Result<(), Trouble> {
+    is_taken(rt.alloc(), &LONG_REQUEST)?;
+    is_taken(rt.alloc(), &IN_BLOCKS)?;
+    misnumbers(&mut opened(rt.alloc(), 0, MAX_REQUEST)?)
 }
 
-fn largest_is_taken(alloc: Global, setup: &LinkSetup) -> Result<(), Trouble> {
-    let long = Long {
-        first: "7E0#1FFF22FFFFFFFFFF",
-        grant: GO_ON,
-        end: 585,
-        block: 0,
-        last: &[0x29, 0xFF],
-    };
-    is_taken(alloc, setup, &long, 4094)
-}
+const LARGEST_BASE: Long = Long {
+    block_size: 0,
+    max_request: MAX_REQUEST,
+    first: "7E0#1FFF22FFFFFFFFFF",
+    grant: GO_ON,
+    end: 585,
+    last: &[0x29, 0xFF],
+    size: 4094,
+};
 
 #[test]
-fn largest_base_request(rt: HostRuntime) -> Result<(), Fail> {
-    let setup = settings().ok_or("settings")?;
-    assert!(rt; holds(largest_is_taken(rt.alloc(), &setup))?);
-    Ok(())
+fn largest_base_request(rt: HostRuntime) -> Result<(), Trouble> {
+    is_taken(rt.alloc(), &LARGEST_BASE)
 }
 
-fn long_message_is_taken(alloc: Global, setup: &LinkSetup) -> Result<(), Trouble> {
-    let long = Long {
-        first: "7E0#10000000138922FF",
-        grant: GO_ON,
-        end: 715,
-        block: 0,
-        last: &[0x2B, 0xFF],
-    };
-    is_taken(alloc, setup, &long, 5000)
-}
+const LONG_MESSAGE: Long = Long {
+    block_size: 0,
+    max_request: 65535,
+    first: "7E0#10000000138922FF",
+    grant: GO_ON,
+    end: 715,
+    last: &[0x2B, 0xFF],
+    size: 5000,
+};
+
+const LIMITS: [&[Turn]; 1] = [&[
+    Turn("7E0#1000000010000102", "", GO_ON),
+    Turn("7E0#1000000100000102", "", "7E8#320000CCCCCCCCCC"),
+    Turn("7E0#100000000FFF0102", "", ""),
+]];
 
 #[test]
-fn long_message_request(rt: HostRuntime) -> Result<(), Fail> {
-    let setup = LinkSetup {
-        max_request: 65535,
-        ..settings().ok_or("settings")?
-    };
-    assert!(rt; holds(long_message_is_taken(rt.alloc(), &setup))?);
-    let turns = [
-        line("7E0#1000000010000102", "", GO_ON),
-        line("7E0#1000000100000102", "", "7E8#320000CCCCCCCCCC"),
-        line("7E0#100000000FFF0102", "", ""),
-    ];
-    assert!(rt; holds(plays(rt.alloc(), &setup, &turns))?, "limits");
-    Ok(())
+fn long_message_request(rt: HostRuntime) -> Result<(), Failed> {
+    is_taken(rt.alloc(), &LONG_MESSAGE)?;
+    shows_at(rt.alloc(), 65535, &LIMITS)
 }
 
 /// The reply of 16 values of 255 bytes 00, each behind its identifier 0100.
@@ -159,24 +148,24 @@ fn long_values(alloc: Global) -> Result<Message, Trouble> {
     Ok(Message::new(alloc, bytes.as_slice())?)
 }
 
-/// Whether the frames that were not looked at are the Consecutives of this message after its first two bytes.
-fn are_parts(script: &Script, message: &Message) -> bool {
-    let rest = message.bytes().get(2..).unwrap_or(&[]);
+/// Whether this went at once, and is the Consecutive of this number with this part, filled with CC.
+fn is_part(sent: &Sent, number: u8, part: &[u8]) -> bool {
+    let [control, filled @ ..] = sent.frame.bytes.as_slice() else {
+        return false;
+    };
+    sent.at == 0 && *control == 0x20 | number && filled.len() == 7 && filled.starts_with(part)
+}
+
+/// Whether these are the 588 Consecutives of this message after its first two bytes.
+fn are_parts(all: &[Sent], message: &[u8]) -> bool {
     let mut number: u8 = 0;
-    let mut count: usize = 0;
-    for (sent, part) in script.unseen().iter().zip(rest.chunks(7)) {
+    for (sent, part) in all.iter().zip(message.chunks(7)) {
         number = number.wrapping_add(1) % 16;
-        count = count.saturating_add(1);
-        let bytes = sent.frame.bytes.as_slice();
-        let Some((control, filled)) = bytes.split_first() else {
-            return false;
-        };
-        let is_part = filled.starts_with(part) && bytes.len() == 8 && *control == 0x20 | number;
-        if !is_part || sent.at != 0 {
+        if !is_part(sent, number, part) {
             return false;
         }
     }
-    count == 588 && script.unseen().len() == 588
+    all.len() == 588 && message.len().div_ceil(7) == 588
 }
 
 /// The request for these values, and the reply.
@@ -192,35 +181,35 @@ fn long_step(alloc: Global, reply: Message) -> Result<Step, Trouble> {
     })
 }
 
+const ASKS_LONG: [Turn; 4] = [
+    Turn("7E0#1021220100010001", "", GO_ON),
+    Turn("7E0#2100010001000100", "", ""),
+    Turn("7E0#2201000100010001", "", ""),
+    Turn("7E0#2300010001000100", "", ""),
+];
+
 /// The request comes, and flow control for all of the reply.
 fn asks_long(script: &mut Script, step: Step) -> Result<(), Trouble> {
-    script.plays(&[
-        line("7E0#1021220100010001", "", GO_ON),
-        line("7E0#2100010001000100", "", ""),
-        line("7E0#2201000100010001", "", ""),
-        line("7E0#2300010001000100", "", ""),
-    ])?;
+    script.plays(&ASKS_LONG)?;
     script.frame(&[0x24, 0x01, 0x00, 0x01, 0x00, 0x01, 0x00], Some(step))?;
     script.sends("7E8#1000000010116201")?;
     script.frame(&[0x30, 0x00, 0x00], None)
 }
 
-/// Whether the last frame is the one of the example.
-fn ends_so(script: &Script) -> bool {
-    match script.unseen().last() {
-        Some(sent) => {
-            sent.frame.bytes.as_slice() == b"\x2C\x00\x00\xCC\xCC\xCC\xCC\xCC".as_slice()
-        }
+/// Whether the last of these frames is the one of the example.
+fn ends_so(all: &[Sent]) -> bool {
+    match all.last() {
+        Some(sent) => sent.frame.bytes.as_slice() == b"\x2C\x00\x00\xCC\xCC\xCC\xCC\xCC".as_slice(),
         None => false,
     }
 }
 
-fn long_message_is_sent(alloc: Global, setup: &LinkSetup) -> Result<(), Trouble> {
-    let message = long_values(alloc)?;
-    let step = long_step(alloc, message.try_copy()?)?;
-    let mut script = Script::new(alloc, setup, Pace::Moves);
-    asks_long(&mut script, step)?;
-    if ends_so(&script) && are_parts(&script, &message) {
+/// The message is the reply, and is sent.
+fn sends_long(script: &mut Script, message: &Message) -> Result<(), Trouble> {
+    let step = long_step(script.alloc, message.try_copy()?)?;
+    asks_long(script, step)?;
+    let rest = message.bytes().get(2..).unwrap_or(&[]);
+    if ends_so(script.unseen()) && are_parts(script.unseen(), rest) {
         Ok(())
     } else {
         Err(Trouble::Frames)
@@ -228,28 +217,26 @@ fn long_message_is_sent(alloc: Global, setup: &LinkSetup) -> Result<(), Trouble>
 }
 
 #[test]
-fn long_message_reply(rt: HostRuntime) -> Result<(), Fail> {
-    let setup = settings().ok_or("settings")?;
-    assert!(rt; holds(long_message_is_sent(rt.alloc(), &setup))?);
-    Ok(())
+fn long_message_reply(rt: HostRuntime) -> Result<(), Trouble> {
+    let message = long_values(rt.alloc())?;
+    sends_long(&mut opened(rt.alloc(), 0, MAX_REQUEST)?, &message)
 }
+
+const OTHER_FIRSTS: [Turn; 2] = [
+    Turn("7E0#1000FFFFFFFF0102", "", "7E8#320000CCCCCCCCCC"),
+    Turn("7E0#1000000000000102", "", ""),
+];
 
 fn first_is_repeated(script: &mut Script) -> Result<(), Trouble> {
     for _ in 0..1000 {
         script.takes("7E0#1FFF22FFFFFFFFFF", "", GO_ON)?;
     }
-    script.plays(&[
-        line("7E0#1000FFFFFFFF0102", "", "7E8#320000CCCCCCCCCC"),
-        line("7E0#1000000000000102", "", ""),
-    ])
+    script.plays(&OTHER_FIRSTS)
 }
 
 #[test]
-fn repeated_first(rt: HostRuntime) -> Result<(), Fail> {
-    let setup = settings().ok_or("settings")?;
-    let mut script = Script::new(rt.alloc(), &setup, Pace::Moves);
-    assert!(rt; holds(first_is_repeated(&mut script))?);
-    Ok(())
+fn repeated_first(rt: HostRuntime) -> Result<(), Trouble> {
+    first_is_repeated(&mut opened(rt.alloc(), 0, MAX_REQUEST)?)
 }
 
 /// So many times the tester makes the link wait for 999 ticks more.
@@ -262,37 +249,44 @@ fn waits_long(script: &mut Script, times: u32, sends: &str) -> Result<(), Troubl
     script.takes("7E0#300000", "", sends)
 }
 
+const AFTER_1000: &str = "7E8#215456494E303132@999000 7E8#2233343536373839@999000";
+
+const AFTER_3: &str = "7E8#215456494E303132@2997 7E8#2233343536373839@2997";
+
+const WITHIN_A_BLOCK: [&[Turn]; 1] = [&[
+    Turn("7E0#0322F190", VIN_STEP, "7E8#101462F190544553"),
+    Turn("7E0#300005", "", "7E8#215456494E303132"),
+    Turn("7E0#300100", "", ""),
+    Turn("tick 5", "", "7E8#2233343536373839@5"),
+]];
+
 #[test]
-fn long_waiting(rt: HostRuntime) -> Result<(), Fail> {
-    let setup = settings().ok_or("settings")?;
-    let alloc = rt.alloc();
-    let sends = "7E8#215456494E303132@999000 7E8#2233343536373839@999000";
-    let mut alone = Script::alone(alloc, &setup);
-    assert!(rt; holds(waits_long(&mut alone, 1000, sends))?, "1000");
-    let sends = "7E8#215456494E303132@2997 7E8#2233343536373839@2997";
-    let mut script = Script::new(alloc, &setup, Pace::Moves);
-    assert!(rt; holds(waits_long(&mut script, 3, sends))?, "3");
-    let turns = [
-        line("7E0#0322F190", VIN_STEP, "7E8#101462F190544553"),
-        line("7E0#300005", "", "7E8#215456494E303132"),
-        line("7E0#300100", "", ""),
-        line("tick 5", "", "7E8#2233343536373839@5"),
-    ];
-    assert!(rt; holds(plays(alloc, &setup, &turns))?, "within a block");
-    Ok(())
+fn long_waiting(rt: HostRuntime) -> Result<(), Failed> {
+    waits_long(&mut alone(rt.alloc())?, 1000, AFTER_1000)?;
+    waits_long(&mut opened(rt.alloc(), 0, MAX_REQUEST)?, 3, AFTER_3)?;
+    shows(rt.alloc(), &WITHIN_A_BLOCK)
 }
 
-fn thousand_wait(script: &mut Script, wanted: Figures) -> Result<(), Trouble> {
+const THREE_GO: [Turn; 3] = [
+    Turn("tick 1000", "", "7E8#101462F190544553@1000"),
+    Turn("tick 1000", "", "7E8#101462F190544553@2000"),
+    Turn("tick 1000", "", "7E8#101462F190544553@3000"),
+];
+
+const THEN_WAIT: Figures = Figures {
+    is_drained: true,
+    waiting: 996,
+    backlog: 2990,
+    now: 3000,
+};
+
+fn thousand_wait(script: &mut Script) -> Result<(), Trouble> {
     script.takes("7E0#0322F190", VIN_STEP, "7E8#101462F190544553")?;
     for _ in 1..1000 {
         script.takes("7E0#0322F190", VIN_STEP, "")?;
     }
-    script.plays(&[
-        line("tick 1000", "", "7E8#101462F190544553@1000"),
-        line("tick 1000", "", "7E8#101462F190544553@2000"),
-        line("tick 1000", "", "7E8#101462F190544553@3000"),
-    ])?;
-    if script.figures() == wanted {
+    script.plays(&THREE_GO)?;
+    if script.figures() == THEN_WAIT {
         Ok(())
     } else {
         Err(Trouble::Figures)
@@ -300,15 +294,6 @@ fn thousand_wait(script: &mut Script, wanted: Figures) -> Result<(), Trouble> {
 }
 
 #[test]
-fn thousand_replies(rt: HostRuntime) -> Result<(), Fail> {
-    let setup = settings().ok_or("settings")?;
-    let wanted = Figures {
-        is_drained: true,
-        waiting: 996,
-        backlog: 2990,
-        now: 3000,
-    };
-    let mut script = Script::new(rt.alloc(), &setup, Pace::Moves);
-    assert!(rt; holds(thousand_wait(&mut script, wanted))?);
-    Ok(())
+fn thousand_replies(rt: HostRuntime) -> Result<(), Trouble> {
+    thousand_wait(&mut opened(rt.alloc(), 0, MAX_REQUEST)?)
 }

@@ -1,12 +1,10 @@
 //! Messages, and their frames one by one.
 
 use super::cuts::cut;
-use super::trouble::{Trouble, holds};
-use diag_tp::{
-    Message, MessageFault, consecutive_frame, first_frame, flow_frame, frame_of, single_frame,
-};
-use std::alloc::{AllocError, Global};
-use std::test::Fail;
+use super::trouble::{Failed, Trouble};
+use diag_can::FrameBytes;
+use diag_tp::{Message, consecutive_frame, first_frame, flow_frame, frame_of, single_frame};
+use std::alloc::Global;
 
 /// A message of so many bytes.
 fn message(alloc: Global, size: usize) -> Result<Message, Trouble> {
@@ -21,53 +19,80 @@ fn message(alloc: Global, size: usize) -> Result<Message, Trouble> {
 fn has_frames(alloc: Global, size: usize, pad: Option<u8>) -> Result<(), Trouble> {
     let message = message(alloc, size)?;
     let frames = cut(alloc, message.bytes(), pad)?;
+    if are_frames(&message, frames.as_slice(), pad) {
+        Ok(())
+    } else {
+        Err(Trouble::Frames)
+    }
+}
+
+/// Whether these are all frames of a message.
+fn are_frames(message: &Message, frames: &[FrameBytes], pad: Option<u8>) -> bool {
     for (k, frame) in frames.iter().enumerate() {
-        match frame_of(&message, k, pad) {
+        match frame_of(message, k, pad) {
             Some(bytes) if bytes.as_slice() == frame.as_slice() => {}
-            _ => return Err(Trouble::Frames),
+            _ => return false,
         }
     }
-    match frame_of(&message, frames.len(), pad) {
-        None => Ok(()),
-        Some(_) => Err(Trouble::Frames),
-    }
+    frame_of(message, frames.len(), pad).is_none()
 }
 
-#[test]
-fn frames_of_messages(rt: HostRuntime) -> Result<(), Fail> {
-    for size in [1, 7, 8, 13, 14, 20, 118, 119, 4095, 4096, 5001, 65535] {
-        assert!(rt; holds(has_frames(rt.alloc(), size, Some(0xCC)))?, "{size}");
-        assert!(rt;
-            holds(has_frames(rt.alloc(), size, None))?,
-            "{size}, not filled"
-        );
-    }
-    Ok(())
-}
+const SIZES: [usize; 12] = [1, 7, 8, 13, 14, 20, 118, 119, 4095, 4096, 5001, 65535];
 
-#[test]
-fn lengths_of_messages(rt: HostRuntime) -> Result<(), Fail> {
-    let empty = Message::new(rt.alloc(), &[]);
-    assert!(rt; matches!(empty, Err(MessageFault::Length)));
-    match message(rt.alloc(), 65536) {
-        Err(Trouble::Memory) => Err(AllocError)?,
-        too_long => assert!(rt; matches!(too_long, Err(Trouble::Script))),
+/// The frames of messages of these sizes.
+fn have_frames(alloc: Global, pad: Option<u8>) -> Result<(), Failed> {
+    for size in SIZES {
+        if let Err(trouble) = has_frames(alloc, size, pad) {
+            return Err(Failed {
+                play: size,
+                trouble,
+            });
+        }
     }
     Ok(())
 }
 
 #[test]
-fn frames(rt: HostRuntime) {
-    let single = single_frame(&[0x3E, 0x00]);
-    assert_eq!(rt; single.as_slice(), [0x02, 0x3E, 0x00].as_slice());
-    let first = first_frame(20, &[0x62, 0xF1, 0x90, 0x54, 0x45, 0x53]);
-    let wanted = [0x10, 0x14, 0x62, 0xF1, 0x90, 0x54, 0x45, 0x53];
-    assert_eq!(rt; first.as_slice(), wanted.as_slice());
-    let long = first_frame(4113, &[0x62, 0x01]);
-    let wanted = [0x10, 0x00, 0x00, 0x00, 0x10, 0x11, 0x62, 0x01];
-    assert_eq!(rt; long.as_slice(), wanted.as_slice());
-    let consecutive = consecutive_frame(15, &[0x41]);
-    assert_eq!(rt; consecutive.as_slice(), [0x2F, 0x41].as_slice());
-    let flow = flow_frame(0, 8, 0xF1);
-    assert_eq!(rt; flow.as_slice(), [0x30, 0x08, 0xF1].as_slice());
+fn frames_of_messages(rt: HostRuntime) -> Result<(), Failed> {
+    have_frames(rt.alloc(), Some(0xCC))?;
+    have_frames(rt.alloc(), None)
+}
+
+/// There is no message of so many bytes.
+fn has_none(alloc: Global, size: usize) -> Result<(), Trouble> {
+    match message(alloc, size) {
+        Ok(_) => Err(Trouble::Frames),
+        Err(Trouble::Script) => Ok(()),
+        Err(trouble) => Err(trouble),
+    }
+}
+
+#[test]
+fn lengths_of_messages(rt: HostRuntime) -> Result<(), Trouble> {
+    has_none(rt.alloc(), 0)?;
+    has_none(rt.alloc(), 65536)
+}
+
+/// The frame has these bytes.
+fn has(frame: &FrameBytes, wanted: &[u8]) -> Result<(), Trouble> {
+    if frame.as_slice() == wanted {
+        Ok(())
+    } else {
+        Err(Trouble::Frames)
+    }
+}
+
+#[test]
+fn frames() -> Result<(), Trouble> {
+    has(&single_frame(b"\x3E\x00"), b"\x02\x3E\x00")?;
+    has(
+        &first_frame(20, b"\x62\xF1\x90TES"),
+        b"\x10\x14\x62\xF1\x90TES",
+    )?;
+    has(
+        &first_frame(4113, b"\x62\x01"),
+        b"\x10\x00\x00\x00\x10\x11\x62\x01",
+    )?;
+    has(&consecutive_frame(15, b"A"), b"\x2FA")?;
+    has(&flow_frame(0, 8, 0xF1), b"\x30\x08\xF1")
 }

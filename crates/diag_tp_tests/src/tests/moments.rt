@@ -31,36 +31,48 @@ pub(crate) fn moments(
 ) -> Result<Vec<Moment>, AllocError> {
     let mut all = Vec::new(alloc);
     all.push(Moment::silent(0))?;
-    let mut time = 0;
     for event in events {
-        match event {
-            Event::Physical(bytes) => all.push(Moment {
-                time,
-                kind: kind(bytes.as_slice(), max),
-            })?,
-            Event::Functional(_) => all.push(Moment::silent(time))?,
-            Event::Ticks(count) => time = wait(&mut all, time, count.get())?,
-        }
+        add(&mut all, event, max)?;
     }
     Ok(all)
 }
 
-/// So many unit ticks after this time; the time is then this.
-fn wait(all: &mut Vec<Moment>, mut time: u64, count: u16) -> Result<u64, AllocError> {
+/// Adds the moments of an event.
+fn add(all: &mut Vec<Moment>, event: &Event, max: u16) -> Result<(), AllocError> {
+    let time = time(all.as_slice(), all.len().saturating_sub(1));
+    let kind = match event {
+        Event::Physical(bytes) => kind(bytes.as_slice(), max),
+        Event::Functional(_) => Pci::Nothing,
+        Event::Ticks(count) => return wait(all, time, count.get()),
+    };
+    all.push(Moment { time, kind })?;
+    Ok(())
+}
+
+/// Adds so many unit ticks after this time.
+fn wait(all: &mut Vec<Moment>, mut time: u64, count: u16) -> Result<(), AllocError> {
     for _ in 0..count {
         time = time.saturating_add(1);
         all.push(Moment::silent(time))?;
     }
-    Ok(time)
+    Ok(())
 }
 
 /// The time of a moment.
 pub(crate) fn time(moments: &[Moment], moment: usize) -> u64 {
-    moments.get(moment).map_or(0, |moment| moment.time)
+    match moments.get(moment) {
+        Some(moment) => moment.time,
+        None => 0,
+    }
 }
 
 /// The first moment, from this one on, that is at least so many ticks after it.
 pub(crate) fn moment_after(moments: &[Moment], from: usize, ticks: u64) -> Option<usize> {
     let wanted = time(moments, from).saturating_add(ticks);
-    (from..moments.len()).find(|moment| time(moments, *moment) >= wanted)
+    for moment in from..moments.len() {
+        if time(moments, moment) >= wanted {
+            return Some(moment);
+        }
+    }
+    None
 }

@@ -1,7 +1,7 @@
 //! A link beside its slow twin.
 
 ghost use Rattle.std.specs.Prelude.{IsTrue};
-ghost use Rattle.diag_tp.specs.Link.{is_frame};
+ghost use Rattle.diag_tp.specs.Link.{has_reply_room, is_frame};
 
 use super::trouble::Trouble;
 use super::twin::{Figures, Twin};
@@ -10,7 +10,7 @@ use diag_tp::{Link, LinkSetup, Message, Request, Sent};
 use std::alloc::Global;
 
 /// How ticks pass: one by one, or in as few moves as may be.
-#[derive(Clone, Copy, PartialEq, Eq, Debug)]
+#[derive(Clone, Copy)]
 pub(crate) enum Pace {
     Ticks,
     Moves,
@@ -35,7 +35,12 @@ fn is_same(one: &Sent, other: &Sent) -> bool {
 
 /// Whether the first list begins with the second.
 fn starts_with(all: &[Sent], sent: &[Sent]) -> bool {
-    sent.len() <= all.len() && all.iter().zip(sent).all(|(one, other)| is_same(one, other))
+    for (one, other) in all.iter().zip(sent) {
+        if !is_same(one, other) {
+            return false;
+        }
+    }
+    sent.len() <= all.len()
 }
 
 /// Whether two requests are the same.
@@ -120,16 +125,26 @@ impl Pair {
             return Err(Trouble::State);
         }
         let request = self.link.feed(event);
-        if let Some(reply) = reply {
-            if self.link.waiting() >= 1_000_000 {
-                return Err(Trouble::State);
-            }
-            self.link.answer(reply);
+        let is_answered = self.answer(reply);
+        if is_answered && request.is_some() == completes && are_same(&request, &peeked) {
+            Ok(request)
+        } else {
+            Err(Trouble::Request)
         }
-        if request.is_some() != completes || !are_same(&request, &peeked) {
-            return Err(Trouble::Request);
+    }
+
+    /// Gives the link the reply, if there is one and less than a million wait; whether it could.
+    fn answer(&mut self, reply: Option<Message>) -> bool
+        requires { IsTrue (has_reply_room self.old.link) }
+    {
+        let Some(reply) = reply else {
+            return true;
+        };
+        if self.link.waiting() >= 1_000_000 {
+            return false;
         }
-        Ok(request)
+        self.link.answer(reply);
+        true
     }
 
     /// So many ticks, in moves before whose last tick nothing falls due, or one by one.

@@ -4,11 +4,10 @@ use super::chance::Chance;
 use super::kinds::{bytes_of, kind};
 use super::pair::{Pace, Pair};
 use super::script::settings;
-use super::trouble::{Trouble, holds};
+use super::trouble::{Failed, Trouble};
 use diag_can::{Event, TickCount};
 use diag_tp::{LinkSetup, Message, Pci};
 use std::alloc::Global;
-use std::test::Fail;
 
 /// A tester that sends by chance.
 #[derive(Drop)]
@@ -195,33 +194,47 @@ fn takes(alloc: Global, tester: &mut Tester, pair: &mut Pair) -> Result<(), Trou
     }
 }
 
-/// A link and its twin agree over the traffic of this seed.
-fn agree(alloc: Global, seed: u64) -> Result<(), Trouble> {
+/// The tester of this seed, and its link's pace.
+fn tester_of(seed: u64) -> Result<(Tester, Pace), Trouble> {
     let mut chance = Chance::new(seed);
-    let setup = short_settings(&mut chance).ok_or(Trouble::Script)?;
+    let Some(setup) = short_settings(&mut chance) else {
+        return Err(Trouble::Script);
+    };
     let pace = if chance.is_one_in(2) {
         Pace::Ticks
     } else {
         Pace::Moves
     };
-    let mut tester = Tester {
+    let tester = Tester {
         chance,
         setup,
         number: 1,
         left: 0,
     };
-    let mut pair = Pair::new(alloc, &tester.setup, pace);
+    Ok((tester, pace))
+}
+
+/// Fifty events go to a link and its twin.
+fn takes_all(alloc: Global, tester: &mut Tester, pair: &mut Pair) -> Result<(), Trouble> {
     for _ in 0..50 {
-        takes(alloc, &mut tester, &mut pair)?;
+        takes(alloc, tester, pair)?;
     }
     Ok(())
 }
 
+/// A link and its twin agree over the traffic of this seed.
+fn agree(alloc: Global, seed: u64) -> Result<(), Trouble> {
+    let (mut tester, pace) = tester_of(seed)?;
+    let mut pair = Pair::new(alloc, &tester.setup, pace);
+    takes_all(alloc, &mut tester, &mut pair)
+}
+
 #[test]
-fn slow_twin(rt: HostRuntime) -> Result<(), Fail> {
-    for seed in 1..=500 {
-        let outcome = agree(rt.alloc(), seed);
-        assert!(rt; holds(outcome)?, "{seed}: {outcome:?}");
+fn slow_twin(rt: HostRuntime) -> Result<(), Failed> {
+    for play in 1..=500 {
+        if let Err(trouble) = agree(rt.alloc(), play as u64) {
+            return Err(Failed { play, trouble });
+        }
     }
     Ok(())
 }
@@ -268,17 +281,31 @@ fn is_read(event: &Event, max: u16) -> bool {
     }
 }
 
+/// All frames of a tester are read alike.
+fn are_read(tester: &mut Tester) -> Result<(), Failed> {
+    for play in 0..20_000 {
+        let is_right = match tester.event() {
+            Some(event) => is_read(&event, 30) && is_read(&event, 65535),
+            None => false,
+        };
+        if !is_right {
+            let trouble = Trouble::TwinFrame;
+            return Err(Failed { play, trouble });
+        }
+    }
+    Ok(())
+}
+
 #[test]
-fn kinds(rt: HostRuntime) -> Result<(), Fail> {
+fn kinds() -> Result<(), Failed> {
+    let Some(setup) = settings() else {
+        return Err(Trouble::Script.into());
+    };
     let mut tester = Tester {
         chance: Chance::new(1),
-        setup: settings().ok_or("settings")?,
+        setup,
         number: 1,
         left: 0,
     };
-    for _ in 0..20_000 {
-        let event = tester.event().ok_or("an event")?;
-        assert!(rt; is_read(&event, 30) && is_read(&event, 65535), "{event:?}");
-    }
-    Ok(())
+    are_read(&mut tester)
 }

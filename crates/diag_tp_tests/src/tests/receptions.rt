@@ -62,23 +62,28 @@ fn consecutives(alloc: Global, later: &[Moment]) -> Result<Vec<&Moment>, AllocEr
     Ok(all)
 }
 
-/// The times of the frames of a reception, and last the time now.
-fn times(alloc: Global, first: u64, parts: &[&Moment], now: u64) -> Result<Vec<u64>, AllocError> {
-    let mut all = Vec::new(alloc);
-    all.push(first)?;
+/// Whether less than so many ticks lie between these frames, and up to now.
+fn are_close(first: u64, parts: &[&Moment], now: u64, n_cr: u64) -> bool {
+    let mut before = first;
     for part in parts {
-        all.push(part.time)?;
+        if part.time.saturating_sub(before) >= n_cr {
+            return false;
+        }
+        before = part.time;
     }
-    all.push(now)?;
-    Ok(all)
+    now.saturating_sub(before) < n_cr
 }
 
-/// Whether less than so many ticks lie between neighbours.
-fn are_close(times: &[u64], n_cr: u64) -> bool {
-    times
-        .iter()
-        .zip(times.iter().skip(1))
-        .all(|(one, next)| next.saturating_sub(*one) < n_cr)
+/// Whether these are the first Consecutives of a message of so many bytes.
+fn are_in_order(len: usize, parts: &[&Moment]) -> bool {
+    let mut i: usize = 0;
+    for part in parts {
+        i = i.saturating_add(1);
+        if !is_nth(len, i, part) {
+            return false;
+        }
+    }
+    true
 }
 
 /// The bytes of a message: those of the First and of the parts, as many as it has.
@@ -110,20 +115,31 @@ pub(crate) fn reception_after(
     let (Some(first), Some(last)) = (moments.get(start), moments.last()) else {
         return Ok(None);
     };
+    let later = moments.get(start..).unwrap_or(&[]);
+    let parts = consecutives(alloc, later)?;
+    joined(alloc, first, parts.as_slice(), last.time, n_cr)
+}
+
+/// The reception that these frames make, where they are in order and in time up to now.
+fn joined(
+    alloc: Global,
+    first: &Moment,
+    parts: &[&Moment],
+    now: u64,
+    n_cr: u64,
+) -> Result<Option<Reception>, AllocError> {
     let Pci::First { len, head } = &first.kind else {
         return Ok(None);
     };
     let len = usize::from(*len);
-    let later = moments.get(start..).unwrap_or(&[]);
-    let parts = consecutives(alloc, later)?;
-    let times = times(alloc, first.time, parts.as_slice(), last.time)?;
     let needed = len.saturating_sub(head_size(len)).div_ceil(7);
-    let in_order = parts.iter().zip(1..).all(|(part, i)| is_nth(len, i, part));
-    if !in_order || parts.len() > needed || !are_close(times.as_slice(), n_cr) {
+    let in_order = parts.len() <= needed && are_in_order(len, parts);
+    if !in_order || !are_close(first.time, parts, now, n_cr) {
         return Ok(None);
     }
+    let message = message(alloc, len, head.as_slice(), parts)?;
     Ok(Some(Reception {
-        message: message(alloc, len, head.as_slice(), parts.as_slice())?,
+        message,
         parts: parts.len(),
         needed,
     }))

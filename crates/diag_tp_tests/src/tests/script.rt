@@ -1,7 +1,7 @@
 //! Scripts: lines of a log, and what has to come of each.
 
 use super::pair::{Pace, Pair};
-use super::trouble::Trouble;
+use super::trouble::{Failed, Trouble};
 use super::twin::Figures;
 use diag_can::{CanId, Event, FrameBytes, Ids, TickCount, read_line};
 use diag_tp::{LinkSetup, Message, Request, Sent};
@@ -9,36 +9,39 @@ use hex::FromHexError;
 use std::alloc::Global;
 
 /// A line of a log and what comes of it.
-#[derive(Clone, Copy)]
-pub(crate) struct Turn {
+pub(crate) struct Turn(
     /// A frame as `7E0#0322F190`, or a tick line.
-    line: &'static str,
+    pub(crate) &'static str,
     /// The request that is complete then, and its reply, as in a journal: `P 3E00 7E00`, `F 3E80 -`; else empty.
-    step: &'static str,
+    pub(crate) &'static str,
     /// The frames that go then, each as `7E8#027E00CCCCCCCCCC`, with `@` and its time where that isn't 0.
-    sends: &'static str,
-}
+    pub(crate) &'static str,
+);
 
-/// A line of a log and what comes of it.
-pub(crate) fn line(line: &'static str, step: &'static str, sends: &'static str) -> Turn {
-    Turn { line, step, sends }
-}
-
-/// The settings of the examples.
-pub(crate) fn settings() -> Option<LinkSetup> {
+/// The settings of the examples, with this block size and this receive limit.
+fn settings_with(block_size: u8, max_request: u16) -> Option<LinkSetup> {
+    let ticks = TickCount::new(1000)?;
     Some(LinkSetup {
         ids: Ids {
             request: CanId::new(0x7E0)?,
             response: CanId::new(0x7E8)?,
             functional: CanId::new(0x7DF)?,
         },
-        block_size: 0,
+        block_size,
         st_min: 0,
-        max_request: 4095,
+        max_request,
         pad: Some(0xCC),
-        n_bs: TickCount::new(1000)?,
-        n_cr: TickCount::new(1000)?,
+        n_bs: ticks,
+        n_cr: ticks,
     })
+}
+
+/// The receive limit of the examples.
+pub(crate) const MAX_REQUEST: u16 = 4095;
+
+/// The settings of the examples.
+pub(crate) fn settings() -> Option<LinkSetup> {
+    settings_with(0, MAX_REQUEST)
 }
 
 /// The bytes that a hex text is.
@@ -92,25 +95,18 @@ fn step_of(alloc: Global, text: &str) -> Result<Option<Step>, Trouble> {
 
 /// Whether a frame is the one of this text.
 fn is_sent(alloc: Global, sent: &Sent, text: &str) -> Result<bool, Trouble> {
-    let (frame, at) = match text.split_once('@') {
-        Some((frame, at)) => (frame, at.parse::<u64>().map_err(|_| Trouble::Script)?),
-        None => (text, 0),
-    };
-    let Some(bytes) = frame.strip_prefix("7E8#") else {
+    let (frame, at) = text.split_once('@').unwrap_or((text, "0"));
+    let (Some(bytes), Ok(at)) = (frame.strip_prefix("7E8#"), at.parse::<u64>()) else {
         return Err(Trouble::Script);
     };
-    let bytes = decoded(alloc, bytes)?;
-    Ok(
-        sent.at == at
-            && sent.frame.id.get() == 0x7E8
-            && sent.frame.bytes.as_slice() == bytes.as_slice(),
-    )
+    let is_frame = sent.frame.bytes.as_slice() == decoded(alloc, bytes)?.as_slice();
+    Ok(is_frame && sent.at == at && sent.frame.id.get() == 0x7E8)
 }
 
 /// A link beside its twin, and how many of its frames were looked at.
 #[derive(Drop)]
 pub(crate) struct Script {
-    alloc: Global,
+    pub(crate) alloc: Global,
     ids: Ids,
     pair: Pair,
     seen: usize,
@@ -118,7 +114,7 @@ pub(crate) struct Script {
 
 impl Script {
     /// A link with these settings, and its twin.
-    pub(crate) fn new(alloc: Global, setup: &LinkSetup, pace: Pace) -> Script {
+    fn new(alloc: Global, setup: &LinkSetup, pace: Pace) -> Script {
         Script {
             alloc,
             ids: setup.ids,
@@ -128,7 +124,7 @@ impl Script {
     }
 
     /// The same without a twin.
-    pub(crate) fn alone(alloc: Global, setup: &LinkSetup) -> Script {
+    fn alone(alloc: Global, setup: &LinkSetup) -> Script {
         Script {
             alloc,
             ids: setup.ids,
@@ -149,8 +145,8 @@ impl Script {
 
     /// All turns.
     pub(crate) fn plays(&mut self, turns: &[Turn]) -> Result<(), Trouble> {
-        for turn in turns {
-            self.takes(turn.line, turn.step, turn.sends)?;
+        for Turn(line, step, sends) in turns {
+            self.takes(line, step, sends)?;
         }
         Ok(())
     }
@@ -158,14 +154,19 @@ impl Script {
     /// A line, which gives this step, and then these frames go.
     pub(crate) fn takes(&mut self, line: &str, step: &str, sends: &str) -> Result<(), Trouble> {
         let event = event_of(self.alloc, &self.ids, line)?;
+        self.follows(&event, step)?;
+        self.sends(sends)
+    }
+
+    /// An event, which gives this step.
+    fn follows(&mut self, event: &Event, step: &str) -> Result<(), Trouble> {
         match event {
-            Event::Ticks(count) => self.pair.wait(count)?,
+            Event::Ticks(count) => self.pair.wait(*count),
             Event::Physical(_) | Event::Functional(_) => {
                 let step = step_of(self.alloc, step)?;
-                self.gives(&event, step)?;
+                self.gives(event, step)
             }
         }
-        self.sends(sends)
     }
 
     /// A frame with the request identifier, which gives this step.
@@ -212,8 +213,42 @@ impl Script {
     }
 }
 
+/// A link with the settings of the examples, but this block size and this receive limit, and its twin.
+pub(crate) fn opened(alloc: Global, block_size: u8, max_request: u16) -> Result<Script, Trouble> {
+    match settings_with(block_size, max_request) {
+        Some(setup) => Ok(Script::new(alloc, &setup, Pace::Moves)),
+        None => Err(Trouble::Script),
+    }
+}
+
+/// A link with the settings of the examples, and no twin.
+pub(crate) fn alone(alloc: Global) -> Result<Script, Trouble> {
+    match settings() {
+        Some(setup) => Ok(Script::alone(alloc, &setup)),
+        None => Err(Trouble::Script),
+    }
+}
+
 /// All turns on a link with these settings, tick by tick and then in moves.
-pub(crate) fn plays(alloc: Global, setup: &LinkSetup, turns: &[Turn]) -> Result<(), Trouble> {
+fn plays(alloc: Global, setup: &LinkSetup, turns: &[Turn]) -> Result<(), Trouble> {
     Script::new(alloc, setup, Pace::Ticks).plays(turns)?;
     Script::new(alloc, setup, Pace::Moves).plays(turns)
+}
+
+/// All plays at this receive limit, each on a link of its own.
+pub(crate) fn shows_at(alloc: Global, max_request: u16, all: &[&[Turn]]) -> Result<(), Failed> {
+    let Some(setup) = settings_with(0, max_request) else {
+        return Err(Trouble::Script.into());
+    };
+    for (play, turns) in all.iter().enumerate() {
+        if let Err(trouble) = plays(alloc, &setup, turns) {
+            return Err(Failed { play, trouble });
+        }
+    }
+    Ok(())
+}
+
+/// All plays with the settings of the examples.
+pub(crate) fn shows(alloc: Global, all: &[&[Turn]]) -> Result<(), Failed> {
+    shows_at(alloc, MAX_REQUEST, all)
 }

@@ -4,7 +4,7 @@ use diag_tp::MessageFault;
 use std::alloc::{AllocError, AllocFailed};
 
 /// Why a play did not come to its end.
-#[derive(Clone, Copy, PartialEq, Eq, Debug)]
+#[derive(Clone, Copy, Debug)]
 pub(crate) enum Trouble {
     /// Memory was refused.
     Memory,
@@ -26,6 +26,20 @@ pub(crate) enum Trouble {
     TwinFigures,
 }
 
+/// A play did not come to its end.
+#[derive(Clone, Copy, Debug)]
+pub(crate) struct Failed {
+    /// Which of the test's plays, from 0.
+    pub(crate) play: usize,
+    pub(crate) trouble: Trouble,
+}
+
+impl From<Trouble> for Failed {
+    fn from(trouble: Trouble) -> Failed {
+        Failed { play: 0, trouble }
+    }
+}
+
 impl From<AllocError> for Trouble {
     fn from(_refused: AllocError) -> Trouble {
         Trouble::Memory
@@ -44,14 +58,5 @@ impl From<MessageFault> for Trouble {
             MessageFault::Memory => Trouble::Memory,
             MessageFault::Length => Trouble::Script,
         }
-    }
-}
-
-/// Whether a play came to its end; an error where memory was refused on the way.
-pub(crate) fn holds(outcome: Result<(), Trouble>) -> Result<bool, AllocError> {
-    match outcome {
-        Ok(()) => Ok(true),
-        Err(Trouble::Memory) => Err(AllocError),
-        Err(_) => Ok(false),
     }
 }

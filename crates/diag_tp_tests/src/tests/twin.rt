@@ -3,7 +3,7 @@
 use super::courses::{Course, draw};
 use super::cuts::{cut, frame};
 use super::kinds::{bytes_of, kind};
-use super::moments::{Moment, moments};
+use super::moments::{Moment, moments, time};
 use super::receptions::{Reception, reception_after};
 use diag_can::{Event, Frame, FrameBytes};
 use diag_tp::{LinkSetup, Message, Pci, Sent};
@@ -17,7 +17,7 @@ pub(crate) struct Asked {
 }
 
 /// What a link tells in numbers.
-#[derive(Clone, Copy, PartialEq, Eq, Debug)]
+#[derive(Clone, Copy, PartialEq)]
 pub(crate) struct Figures {
     pub(crate) is_drained: bool,
     pub(crate) waiting: usize,
@@ -133,13 +133,16 @@ impl Twin {
 
     /// The message that the last moment completes.
     fn completed(&self) -> Result<Option<Asked>, AllocError> {
-        match self.reception(self.moments()?.as_slice())? {
-            Some(reception) if reception.is_whole() => Ok(Some(Asked {
-                functional: false,
-                message: reception.message,
-            })),
-            _ => Ok(None),
+        let Some(reception) = self.reception(self.moments()?.as_slice())? else {
+            return Ok(None);
+        };
+        if !reception.is_whole() {
+            return Ok(None);
         }
+        Ok(Some(Asked {
+            functional: false,
+            message: reception.message,
+        }))
     }
 
     /// Flow control with these three bytes.
@@ -171,30 +174,45 @@ impl Twin {
         if block == 0 {
             return Ok(None);
         }
-        match self.reception(moments)? {
-            Some(reception) if reception.parts % block == 0 && !reception.is_whole() => {
-                Ok(Some(self.go_on()))
-            }
-            _ => Ok(None),
+        let Some(reception) = self.reception(moments)? else {
+            return Ok(None);
+        };
+        if reception.parts % block == 0 && !reception.is_whole() {
+            Ok(Some(self.go_on()))
+        } else {
+            Ok(None)
         }
     }
 
-    /// The messages that have begun: each starts at its own moment, or at the end of the one before.
+    /// The messages that have begun.
     fn sendings(&self, moments: &[Moment]) -> Result<Vec<Sending>, AllocError> {
         let mut all = Vec::new(self.alloc);
-        let mut free = Some(0);
         for answer in &self.answers {
-            let Some(end) = free else {
-                return Ok(all);
-            };
-            let frames = cut(self.alloc, answer.message.bytes(), self.setup.pad)?;
-            let start = answer.moment.max(end);
-            let n_bs = u64::from(self.setup.n_bs.get());
-            let course = draw(self.alloc, moments, n_bs, frames.len(), start)?;
-            free = course.stand.end();
-            all.push(Sending { frames, course })?;
+            self.begin(&mut all, moments, answer)?;
         }
         Ok(all)
+    }
+
+    /// Begins the next message, at its own moment or at the end of the one before, if that has one.
+    fn begin(
+        &self,
+        all: &mut Vec<Sending>,
+        moments: &[Moment],
+        answer: &Placed,
+    ) -> Result<(), AllocError> {
+        let free = match all.last() {
+            Some(before) => before.course.stand.end(),
+            None => Some(0),
+        };
+        let Some(end) = free else {
+            return Ok(());
+        };
+        let frames = cut(self.alloc, answer.message.bytes(), self.setup.pad)?;
+        let start = answer.moment.max(end);
+        let n_bs = u64::from(self.setup.n_bs.get());
+        let course = draw(self.alloc, moments, n_bs, frames.len(), start)?;
+        all.push(Sending { frames, course })?;
+        Ok(())
     }
 
     /// A frame that goes at this time.
@@ -280,7 +298,7 @@ impl Twin {
             is_drained: picture.wire.len() == handed,
             waiting: self.answers.len().saturating_sub(begun),
             backlog: frames as u64,
-            now: picture.moments.last().map_or(0, |moment| moment.time),
+            now: time(&picture.moments, picture.moments.len().saturating_sub(1)),
         })
     }
 }
