@@ -1,0 +1,73 @@
+//! What ends a test early.
+
+use diag_can::LogFault;
+use diag_desk::{JournalFault, StepFault};
+use diag_workers::PlayFault;
+use std::alloc::{AllocError, AllocFailed, Global};
+
+/// Why a test did not come to its end: memory was refused, or a call answered what it must not.
+#[derive(Clone, Copy, PartialEq, Eq, Debug, Drop)]
+pub(crate) enum Trouble {
+    Memory,
+    Full,
+    Log(u8, LogFault),
+    Wrong,
+}
+
+impl From<AllocError> for Trouble {
+    fn from(_refused: AllocError) -> Trouble {
+        Trouble::Memory
+    }
+}
+
+impl<T: Drop> From<AllocFailed<T>> for Trouble {
+    fn from(_refused: AllocFailed<T>) -> Trouble {
+        Trouble::Memory
+    }
+}
+
+impl From<StepFault> for Trouble {
+    fn from(fault: StepFault) -> Trouble {
+        match fault {
+            StepFault::Memory => Trouble::Memory,
+            StepFault::JournalFull => Trouble::Full,
+        }
+    }
+}
+
+impl From<LogFault> for Trouble {
+    fn from(fault: LogFault) -> Trouble {
+        match fault {
+            LogFault::Memory => Trouble::Memory,
+            _ => Trouble::Wrong,
+        }
+    }
+}
+
+impl From<JournalFault> for Trouble {
+    fn from(fault: JournalFault) -> Trouble {
+        match fault {
+            JournalFault::Memory => Trouble::Memory,
+            JournalFault::Line(_) => Trouble::Wrong,
+        }
+    }
+}
+
+impl From<PlayFault> for Trouble {
+    fn from(fault: PlayFault) -> Trouble {
+        match fault {
+            PlayFault::Memory => Trouble::Memory,
+            PlayFault::JournalFull => Trouble::Full,
+            PlayFault::Log(who, fault) => Trouble::Log(who.place(), fault),
+            PlayFault::RecordsDisagree(_) => Trouble::Wrong,
+        }
+    }
+}
+
+/// Whether what was tried holds; where memory was refused on the way, that is an answer too.
+pub(crate) fn holds(tried: Result<bool, Trouble>) -> bool {
+    match tried {
+        Ok(held) => held,
+        Err(trouble) => trouble == Trouble::Memory,
+    }
+}
