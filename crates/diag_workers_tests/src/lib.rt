@@ -8,6 +8,10 @@ mod agreeing;
 #[cfg(test)]
 mod given;
 #[cfg(test)]
+mod meeting;
+#[cfg(test)]
+mod plays;
+#[cfg(test)]
 mod trouble;
 #[cfg(test)]
 mod workers;
