@@ -10,11 +10,11 @@ use diag_setup::Setup;
 use diag_tp::Sent;
 use std::alloc::Global;
 
-/// The two logs of which the first tester takes the session and reads a value, and the second reads the codes and the value.
-pub(crate) const READERS: [&[&str]; 2] = [
-    &["7E0#021003", "7E0#0322F190", "7E0#300000"],
-    &["7E1#031902FF", "tick 10", "7E1#0322F190"],
-];
+/// The log of the first reader, which takes the session and reads a value.
+pub(crate) const FIRST_READER: [&str; 3] = ["7E0#021003", "7E0#0322F190", "7E0#300000"];
+
+/// The log of the second reader, which reads the codes and the value.
+pub(crate) const SECOND_READER: [&str; 3] = ["7E1#031902FF", "tick 10", "7E1#0322F190"];
 
 /// The log of a tester that writes a value.
 pub(crate) const WRITER: [&str; 6] = [

@@ -8,8 +8,6 @@ mod agreeing;
 #[cfg(test)]
 mod given;
 #[cfg(test)]
-mod meeting;
-#[cfg(test)]
 mod plays;
 #[cfg(test)]
 mod trouble;

@@ -3,12 +3,11 @@
 ghost use Rattle.std.specs.Prelude.{◌≡◌, length};
 
 use crate::given::{
-    NEW_VALUE, OLD_VALUE, READERS, WRITER, has_first_frames, has_second_frames, is_frame,
-    is_replayed, setup_of_two, text_of,
+    FIRST_READER, NEW_VALUE, OLD_VALUE, SECOND_READER, WRITER, has_first_frames, has_second_frames,
+    is_frame, is_replayed, setup_of_two, text_of,
 };
-use crate::meeting::Meeting;
 use crate::trouble::{Trouble, holds};
-use diag_can::Timing;
+use diag_can::{LineFault, LogFault, Timing};
 use diag_desk::journal_text_at;
 use diag_setup::Setup;
 use diag_workers::{NoWatch, Played, Watch, play};
@@ -16,19 +15,48 @@ use std::alloc::Global;
 use std::sync::Wait;
 use std::thread::Threads;
 
-/// Plays the lines of two logs.
-pub(crate) fn play_lines<W: Watch + Sync, R: Threads + Wait + Sync>(
-    rt: &R,
-    alloc: Global,
-    setup: &Setup,
-    lines: [&[&str]; 2],
-    watch: &W,
+/// A tester's log.
+#[derive(Clone, Copy)]
+enum Log {
+    Lines(&'static [&'static str]),
+    /// So many lines `tick`.
+    Ticks(u32),
+}
+
+/// What a play has to leave.
+#[derive(Clone, Copy)]
+enum Wanted {
+    /// The readers' frames, five entries, and the first tester in the session.
+    Readers,
+    /// Five frames of the writer, and the old or the new value.
+    OldOrNew,
+    /// The clocks of the stamps.
+    Clocks,
+    /// So many entries.
+    Entries(usize),
+}
+
+/// Two logs, and what their play has to leave.
+#[derive(Clone, Copy)]
+pub(crate) struct Case {
+    logs: [Log; 2],
     timing: Timing,
-) -> Result<Played, Trouble>
-    requires { length setup.now.testers ≡ 2 }
-{
-    let texts = [text_of(alloc, lines[0])?, text_of(alloc, lines[1])?];
-    Ok(play(rt, alloc, setup, &texts, watch, timing)?)
+    wanted: Wanted,
+}
+
+fn ticks(alloc: Global, lines: u32) -> Result<Vec<u8>, Trouble> {
+    let mut text = Vec::new(alloc);
+    for _ in 0..lines {
+        text.extend_from_slice(b"tick\n")?;
+    }
+    Ok(text)
+}
+
+fn log_text(alloc: Global, log: Log) -> Result<Vec<u8>, Trouble> {
+    match log {
+        Log::Lines(lines) => text_of(alloc, lines),
+        Log::Ticks(lines) => ticks(alloc, lines),
+    }
 }
 
 /// Whether the first tester has the session.
@@ -39,64 +67,114 @@ fn is_held(played: &Played) -> bool {
     }
 }
 
-/// Whether the readers were sent their frames, the journal of five entries replays and the first tester has the session.
-fn is_readers_play(alloc: Global, setup: &Setup, played: &Played) -> Result<bool, Trouble> {
-    is_replayed(alloc, setup, played.desk.journal())?;
+fn is_readers_play(played: &Played) -> bool {
     let [first, second] = played.sent.as_slice() else {
-        return Ok(false);
+        return false;
     };
     let sent = has_first_frames(first.as_slice()) && has_second_frames(second.as_slice());
-    Ok(sent && is_held(played) && played.desk.journal().len() == 5)
+    sent && is_held(played) && played.desk.journal().len() == 5
 }
 
-/// Whether the readers' play ends as it does in any legal order.
-fn readers_play<W: Watch + Sync, R: Threads + Wait + Sync>(
+/// Whether the writer was sent five frames, and the reader the first frame of the old or of the new value.
+fn has_old_or_new(played: &Played) -> bool {
+    let [writer, reader] = played.sent.as_slice() else {
+        return false;
+    };
+    let [first] = reader.as_slice() else {
+        return false;
+    };
+    let read = is_frame(first, 0, 0x7E9, &OLD_VALUE[0]) || is_frame(first, 0, 0x7E9, &NEW_VALUE);
+    read && writer.len() == 5
+}
+
+/// Whether the journal's text with clocks is that of the stamped log.
+fn has_clocks(alloc: Global, played: &Played) -> Result<bool, Trouble> {
+    let wanted = text_of(alloc, &STAMPED_JOURNAL)?;
+    let text = journal_text_at(alloc, played.desk.journal())?;
+    Ok(text.as_slice() == wanted.as_slice())
+}
+
+/// Whether a play left what it has to, and a journal that replays.
+fn leaves(alloc: Global, setup: &Setup, played: &Played, wanted: Wanted) -> Result<bool, Trouble> {
+    is_replayed(alloc, setup, played.desk.journal())?;
+    match wanted {
+        Wanted::Readers => Ok(is_readers_play(played)),
+        Wanted::OldOrNew => Ok(has_old_or_new(played)),
+        Wanted::Clocks => has_clocks(alloc, played),
+        Wanted::Entries(count) => Ok(played.desk.journal().len() == count),
+    }
+}
+
+fn play_logs<W: Watch + Sync, R: Threads + Wait + Sync>(
     rt: &R,
     alloc: Global,
+    setup: &Setup,
+    case: &Case,
+    watch: &W,
+) -> Result<Played, Trouble>
+    requires { length setup.now.testers ≡ 2 }
+{
+    let texts = [
+        log_text(alloc, case.logs[0])?,
+        log_text(alloc, case.logs[1])?,
+    ];
+    Ok(play(rt, alloc, setup, &texts, watch, case.timing)?)
+}
+
+fn play_leaves<W: Watch + Sync, R: Threads + Wait + Sync>(
+    rt: &R,
+    alloc: Global,
+    setup: &Setup,
+    case: &Case,
+    watch: &W,
+) -> Result<bool, Trouble>
+    requires { length setup.now.testers ≡ 2 }
+{
+    let played = play_logs(rt, alloc, setup, case, watch)?;
+    leaves(alloc, setup, &played, case.wanted)
+}
+
+/// Plays the logs of a case. Whether the play leaves what it has to, or why it was not made.
+pub(crate) fn tried<W: Watch + Sync, R: Threads + Wait + Sync>(
+    rt: &R,
+    alloc: Global,
+    case: &Case,
     watch: &W,
 ) -> Result<bool, Trouble> {
     let setup = setup_of_two(alloc)?;
-    let played = play_lines(rt, alloc, &setup, READERS, watch, Timing::Lines)?;
-    is_readers_play(alloc, &setup, &played)
+    play_leaves(rt, alloc, &setup, case, watch)
 }
+
+/// Whether a play was refused so, or for want of memory.
+fn is_refused(tried: Result<bool, Trouble>, wanted: Trouble) -> bool {
+    match tried {
+        Ok(_) => false,
+        Err(trouble) => trouble == wanted || trouble == Trouble::Memory,
+    }
+}
+
+/// Its frames are the same in every legal order.
+pub(crate) const READERS_PLAY: Case = Case {
+    logs: [Log::Lines(&FIRST_READER), Log::Lines(&SECOND_READER)],
+    timing: Timing::Lines,
+    wanted: Wanted::Readers,
+};
 
 #[test]
 fn threaded_play(rt: HostRuntime) {
-    assert!(rt; holds(readers_play(&rt, rt.alloc(), &NoWatch)));
+    assert!(rt; holds(tried(&rt, rt.alloc(), &READERS_PLAY, &NoWatch)));
 }
 
-/// Whether two workers of a play meet, and the watch is told of each of their steps once.
-pub(crate) fn play_meets<R: Threads + Wait + Sync>(rt: &R, alloc: Global) -> Result<bool, Trouble> {
-    let meeting = Meeting::new();
-    let played = readers_play(rt, alloc, &meeting)?;
-    Ok(played && meeting.is_met(2, 3))
-}
-
-/// Whether the journal replays, the writer was sent five frames, and the reader the first frame of the old or of the new value.
-fn has_old_or_new(alloc: Global, setup: &Setup, played: &Played) -> Result<bool, Trouble> {
-    is_replayed(alloc, setup, played.desk.journal())?;
-    let [writer, reader] = played.sent.as_slice() else {
-        return Ok(false);
-    };
-    let [first] = reader.as_slice() else {
-        return Ok(false);
-    };
-    let read = is_frame(first, 0, 0x7E9, &OLD_VALUE[0]) || is_frame(first, 0, 0x7E9, &NEW_VALUE);
-    Ok(read && writer.len() == 5)
-}
-
-fn old_or_new<R: Threads + Wait + Sync>(rt: &R, alloc: Global) -> Result<bool, Trouble> {
-    let setup = setup_of_two(alloc)?;
-    let reader: &[&str] = &["7E1#0322F190"];
-    let lines: [&[&str]; 2] = [&WRITER, reader];
-    let played = play_lines(rt, alloc, &setup, lines, &NoWatch, Timing::Lines)?;
-    has_old_or_new(alloc, &setup, &played)
-}
+const WRITER_AND_READER: Case = Case {
+    logs: [Log::Lines(&WRITER), Log::Lines(&["7E1#0322F190"])],
+    timing: Timing::Lines,
+    wanted: Wanted::OldOrNew,
+};
 
 /// One tester writes what the other reads.
 #[test]
 fn the_old_or_the_new_value(rt: HostRuntime) {
-    assert!(rt; holds(old_or_new(&rt, rt.alloc())));
+    assert!(rt; holds(tried(&rt, rt.alloc(), &WRITER_AND_READER, &NoWatch)));
 }
 
 const STAMPED: [&str; 5] = [
@@ -117,21 +195,64 @@ const STAMPED_JOURNAL: [&str; 7] = [
     "2501 1 P 3E00 7E00",
 ];
 
-/// Whether the journal's text with clocks is that of the stamped log.
-fn has_clocks(alloc: Global, played: &Played) -> Result<bool, Trouble> {
-    let wanted = text_of(alloc, &STAMPED_JOURNAL)?;
-    let text = journal_text_at(alloc, played.desk.journal())?;
-    Ok(text.as_slice() == wanted.as_slice())
-}
-
-fn stamps_told<R: Threads + Wait + Sync>(rt: &R, alloc: Global) -> Result<bool, Trouble> {
-    let setup = setup_of_two(alloc)?;
-    let lines: [&[&str]; 2] = [&STAMPED, &[]];
-    let played = play_lines(rt, alloc, &setup, lines, &NoWatch, Timing::Stamps)?;
-    has_clocks(alloc, &played)
-}
+const STAMPS: Case = Case {
+    logs: [Log::Lines(&STAMPED), Log::Ticks(0)],
+    timing: Timing::Stamps,
+    wanted: Wanted::Clocks,
+};
 
 #[test]
 fn stamps(rt: HostRuntime) {
-    assert!(rt; holds(stamps_told(&rt, rt.alloc())));
+    assert!(rt; holds(tried(&rt, rt.alloc(), &STAMPS, &NoWatch)));
+}
+
+/// A case of so many ticks of each tester, which leaves as many entries.
+fn ticking(first: u32, second: u32) -> Case {
+    Case {
+        logs: [Log::Ticks(first), Log::Ticks(second)],
+        timing: Timing::Lines,
+        wanted: Wanted::Entries(1_000_000),
+    }
+}
+
+#[test]
+fn million_lines(rt: HostRuntime) {
+    assert!(rt; holds(tried(&rt, rt.alloc(), &ticking(1_000_000, 0), &NoWatch)));
+}
+
+/// The journal is full with one line more of the other tester.
+#[test]
+fn million_lines_and_one_more(rt: HostRuntime) {
+    let full = tried(&rt, rt.alloc(), &ticking(1_000_000, 1), &NoWatch);
+    assert!(rt; is_refused(full, Trouble::Full));
+}
+
+/// A log has one line more than it may.
+#[test]
+fn too_many_lines(rt: HostRuntime) {
+    let long = tried(&rt, rt.alloc(), &ticking(1_000_001, 0), &NoWatch);
+    assert!(rt; is_refused(long, Trouble::Log(1, LogFault::TooManyLines)));
+}
+
+/// The second log's second line is at fault.
+const SECOND_AT_FAULT: Case = Case {
+    logs: [Log::Lines(&FIRST_READER), Log::Lines(&["tick", "7E1#023"])],
+    timing: Timing::Lines,
+    wanted: Wanted::Entries(0),
+};
+
+const BOTH_AT_FAULT: Case = Case {
+    logs: [Log::Lines(&["7E0#02", "7E0#023"]), Log::Lines(&["7E1#023"])],
+    timing: Timing::Lines,
+    wanted: Wanted::Entries(0),
+};
+
+/// A fault names its tester and its line, and that of the first tester in order that has one counts.
+#[test]
+fn a_log_at_fault(rt: HostRuntime) {
+    let bad = LogFault::Line(2, LineFault::BadLine);
+    let second = tried(&rt, rt.alloc(), &SECOND_AT_FAULT, &NoWatch);
+    let both = tried(&rt, rt.alloc(), &BOTH_AT_FAULT, &NoWatch);
+    assert!(rt; is_refused(second, Trouble::Log(2, bad)));
+    assert!(rt; is_refused(both, Trouble::Log(1, bad)));
 }

@@ -3,7 +3,8 @@
 ghost use Rattle.std.specs.Prelude.{◌≤◌, length};
 
 use crate::given::{
-    READERS, events_of, has_first_frames, has_second_frames, is_replayed, setup_of_two,
+    FIRST_READER, SECOND_READER, events_of, has_first_frames, has_second_frames, is_replayed,
+    setup_of_two,
 };
 use crate::trouble::{Trouble, holds};
 use diag_can::Event;
@@ -43,56 +44,62 @@ fn worked<R: Wait>(
     Ok(at_lock(rt, alloc, setup, desk, who, events.as_slice())?)
 }
 
-/// Whether a record is the whole of a journal, which replays.
+/// Whether a record is the whole of a journal, which replays, and has the frames of this reader.
 fn is_whole(
     alloc: Global,
     setup: &Setup,
     journal: &Journal,
     index: usize,
-    entries: &Journal,
+    record: &WorkerRecord,
 ) -> Result<bool, Trouble> {
     let who = setup.who(index).ok_or(Trouble::Wrong)?;
     is_replayed(alloc, setup, journal)?;
-    Ok(agree(journal, who, entries) && journal.len() == entries.len())
+    let (count, framed) = if index == 0 {
+        (2, has_first_frames(record.sent.as_slice()))
+    } else {
+        (3, has_second_frames(record.sent.as_slice()))
+    };
+    Ok(
+        framed
+            && journal.len() == count
+            && record.entries.len() == count
+            && agree(journal, who, &record.entries),
+    )
 }
 
-/// What a worker does with these lines at a desk of its own, whose whole journal is its record.
-fn worked_alone<R: Wait>(
+/// Whether the worker of a reader leaves what it must at a desk.
+fn is_played_at<R: Wait>(
+    rt: &R,
+    alloc: Global,
+    setup: &Setup,
+    desk: &Mutex<Desk>,
+    index: usize,
+    lines: &[&str],
+) -> Result<bool, Trouble> {
+    let record = worked(rt, alloc, setup, desk, index, lines)?;
+    is_whole(alloc, setup, desk.lock(rt).journal(), index, &record)
+}
+
+fn is_played_alone<R: Wait>(
     rt: &R,
     alloc: Global,
     setup: &Setup,
     index: usize,
     lines: &[&str],
-) -> Result<WorkerRecord, Trouble> {
+) -> Result<bool, Trouble> {
     let desk = Mutex::new(Desk::new(alloc, setup)?);
-    let record = worked(rt, alloc, setup, &desk, index, lines)?;
-    let desk = desk.into_inner();
-    match is_whole(alloc, setup, desk.journal(), index, &record.entries) {
-        Ok(true) => Ok(record),
-        Ok(false) => Err(Trouble::Wrong),
-        Err(trouble) => Err(trouble),
-    }
+    is_played_at(rt, alloc, setup, &desk, index, lines)
 }
 
-fn first_alone<R: Wait>(rt: &R, alloc: Global, setup: &Setup) -> Result<bool, Trouble> {
-    let record = worked_alone(rt, alloc, setup, 0, READERS[0])?;
-    Ok(record.entries.len() == 2 && has_first_frames(record.sent.as_slice()))
-}
-
-fn second_alone<R: Wait>(rt: &R, alloc: Global, setup: &Setup) -> Result<bool, Trouble> {
-    let record = worked_alone(rt, alloc, setup, 1, READERS[1])?;
-    Ok(record.entries.len() == 3 && has_second_frames(record.sent.as_slice()))
-}
-
-fn each_alone<R: Wait>(rt: &R, alloc: Global) -> Result<bool, Trouble> {
+/// Whether a reader's log is played at a desk of its own.
+fn alone<R: Wait>(rt: &R, alloc: Global, index: usize, lines: &[&str]) -> Result<bool, Trouble> {
     let setup = setup_of_two(alloc)?;
-    let first = first_alone(rt, alloc, &setup);
-    let second = second_alone(rt, alloc, &setup);
-    Ok(first? && second?)
+    is_played_alone(rt, alloc, &setup, index, lines)
 }
 
 /// Each log alone, at a door over a lock.
 #[test]
 fn threaded_play_alone(rt: HostRuntime) {
-    assert!(rt; holds(each_alone(&rt, rt.alloc())));
+    assert!(rt; holds(alone(&rt, rt.alloc(), 0, &FIRST_READER)));
+    assert!(rt; holds(alone(&rt, rt.alloc(), 1, &SECOND_READER)));
 }
