@@ -193,7 +193,12 @@ fn add_values(text: &mut Vec<u8>) -> Result<(), AllocError> {
 }
 
 fn tells_values(alloc: Global) -> Result<bool, Stop> {
-    Ok(told(alloc, &SIXTEEN_READS)?.as_slice() == values_told(alloc)?.as_slice())
+    let text = told(alloc, &SIXTEEN_READS)?;
+    Ok(is_values_told(alloc, text.as_slice())?)
+}
+
+fn is_values_told(alloc: Global, text: &[u8]) -> Result<bool, AllocError> {
+    Ok(text == values_told(alloc)?.as_slice())
 }
 
 #[test]
