@@ -2,7 +2,7 @@
 
 ghost use Rattle.std.specs.Prelude.{◌≡◌, IfOk};
 
-use crate::trouble::{Trouble, tester};
+use crate::trouble::{Trouble, desk_of_two, tester};
 use diag_desk::Desk;
 use diag_gate::{Gate, Host, Seat};
 use std::alloc::Global;
@@ -45,6 +45,13 @@ pub(crate) fn closed(gate: Gate, host: Host) -> Result<Desk, Trouble>
         return Err(Trouble::Wrong);
     }
     Ok(gate.close(host))
+}
+
+/// A gate of a desk of two testers, with no entry.
+pub(crate) fn gate_of_two(alloc: Global) -> Result<(Gate, Host), Trouble>
+    ensures { IfOk result (λ r. r.1.gate ≡ r.0) }
+{
+    opened(alloc, desk_of_two(alloc)?)
 }
 
 /// A gate of this desk.

@@ -2,8 +2,8 @@
 
 ghost use Rattle.std.specs.Prelude.{◌≡◌, IfOk};
 
-use crate::seating::{bring_home, closed, is_out, opened, seat_of};
-use crate::trouble::{Trouble, desk_of_two, holds, request, says};
+use crate::seating::{bring_home, closed, gate_of_two, is_out, seat_of};
+use crate::trouble::{Trouble, and, holds, request, says};
 use diag_can::TickCount;
 use diag_desk::{Journal, Step, StepFault, StepRef};
 use diag_gate::{Gate, Host, Seat, TryFault};
@@ -11,12 +11,12 @@ use diag_tp::Message;
 use std::alloc::Global;
 use std::sync::Wait;
 
-/// Whether a step is refused, since another seat has the desk, and comes back as it was.
-fn is_busy(gate: &Gate, seat: &mut Seat, step: Step, bytes: &[u8]) -> Result<bool, Trouble>
+/// Whether a request is refused, since another seat has the desk, and comes back as it was.
+fn is_busy(alloc: Global, gate: &Gate, seat: &mut Seat, bytes: &[u8]) -> Result<bool, Trouble>
     requires { seat.old.gate ≡ gate.now }
     ensures { seat.new.gate ≡ seat.old.gate }
 {
-    match gate.try_step(seat, step) {
+    match gate.try_step(seat, request(alloc, bytes)?) {
         Err(TryFault::Busy(Step::Request { message, .. })) => Ok(message.bytes() == bytes),
         _ => Err(Trouble::Wrong),
     }
@@ -37,11 +37,11 @@ fn tick(gate: &Gate, seat: &mut Seat) -> Result<(), Trouble>
 
 /// Has a seat take the desk and then step, while another seat is kept from its own step.
 fn step_held(
+    alloc: Global,
     gate: &Gate,
     seat: Seat,
     other: &mut Seat,
     step: &Step,
-    asked: Step,
 ) -> Result<(Seat, Result<Option<Message>, StepFault>), Trouble>
     requires seat { seat.gate ≡ gate.now }
     requires other { other.old.gate ≡ gate.now }
@@ -51,7 +51,7 @@ fn step_held(
     let Ok(held) = gate.try_take(seat) else {
         return Err(Trouble::Wrong);
     };
-    let busy = is_busy(gate, other, asked, &[0x10, 0x03]);
+    let busy = is_busy(alloc, gate, other, &[0x10, 0x03]);
     let (seat, answer) = held.step(step);
     if busy? {
         Ok((seat, answer))
@@ -76,13 +76,11 @@ fn step_held_again(
     ensures third { third.new.gate ≡ third.old.gate }
 {
     let quiet = request(alloc, &[0x10, 0x83])?;
-    let asked = request(alloc, &[0x10, 0x03])?;
-    let (seat, answer) = step_held(gate, seat, other, &quiet, asked)?;
+    let (seat, answer) = step_held(alloc, gate, seat, other, &quiet)?;
     match answer {
         Err(StepFault::Memory) => {
             tick(gate, third)?;
-            let asked = request(alloc, &[0x10, 0x03])?;
-            let (seat, answer) = step_held(gate, seat, other, &quiet, asked)?;
+            let (seat, answer) = step_held(alloc, gate, seat, other, &quiet)?;
             Ok((seat, answer?))
         }
         answer => Ok((seat, answer?)),
@@ -207,12 +205,20 @@ fn all_step<R: Wait>(rt: &R, alloc: Global, gate: &Gate, host: &mut Host) -> Res
     Ok(silent.is_none() && says(&taken, &BUSY) && says(&value, VALUE))
 }
 
-fn gate_calls_hold<R: Wait>(rt: &R, alloc: Global) -> Result<bool, Trouble> {
-    let (gate, mut host) = opened(alloc, desk_of_two(alloc)?)?;
-    let answered = all_step(rt, alloc, &gate, &mut host)?;
-    let once = is_out(&gate, &mut host, 1);
+/// Whether the desk of a gate whose seats are home has all entries.
+fn has_entries(gate: Gate, host: Host) -> Result<bool, Trouble>
+    requires { host.gate ≡ gate }
+{
     let desk = closed(gate, host)?;
-    Ok(once && answered && has_requests(desk.journal(), &WANTED))
+    Ok(has_requests(desk.journal(), &WANTED))
+}
+
+fn gate_calls_hold<R: Wait>(rt: &R, alloc: Global) -> Result<bool, Trouble> {
+    let (gate, mut host) = gate_of_two(alloc)?;
+    match all_step(rt, alloc, &gate, &mut host) {
+        Ok(true) if is_out(&gate, &mut host, 1) => has_entries(gate, host),
+        tried => and(tried, Ok(false)),
+    }
 }
 
 #[test]
@@ -245,11 +251,17 @@ fn keeps_from(gate: &Gate, seat: Seat, other: Seat) -> bool
     !early && late && seat.who().place() == 1 && other.who().place() == 2
 }
 
+fn one_keeps(gate: &Gate, host: &mut Host) -> Result<bool, Trouble>
+    requires { host.old.gate ≡ gate.now }
+{
+    let a = seat_of(gate, host, 1)?;
+    let b = seat_of(gate, host, 2)?;
+    Ok(keeps_from(gate, a, b))
+}
+
 fn one_takes(alloc: Global) -> Result<bool, Trouble> {
-    let (gate, mut host) = opened(alloc, desk_of_two(alloc)?)?;
-    let a = seat_of(&gate, &mut host, 1)?;
-    let b = seat_of(&gate, &mut host, 2)?;
-    Ok(keeps_from(&gate, a, b))
+    let (gate, mut host) = gate_of_two(alloc)?;
+    one_keeps(&gate, &mut host)
 }
 
 /// One seat at a time has the desk, and the others get their seat back.

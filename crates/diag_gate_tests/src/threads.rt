@@ -86,12 +86,39 @@ fn both_enter<R: Threads + Wait + Sync>(
     Ok(())
 }
 
+/// A gate of a desk of this setup.
+fn gate_of(alloc: Global, setup: &Setup) -> Result<(Gate, Host), Trouble>
+    ensures { IfOk result (λ r. r.1.gate ≡ r.0) }
+{
+    opened(alloc, Desk::new(alloc, setup)?)
+}
+
+/// The desk at which both have stepped.
+fn entered<R: Threads + Wait + Sync>(
+    rt: &R,
+    alloc: Global,
+    setup: &Setup,
+) -> Result<Desk, Trouble> {
+    let (gate, mut host) = gate_of(alloc, setup)?;
+    match both_enter(rt, alloc, &gate, &mut host) {
+        Ok(()) => closed(gate, host),
+        Err(trouble) => Err(trouble),
+    }
+}
+
+/// Whether both step, and a replay agrees.
+fn all_enter<R: Threads + Wait + Sync>(
+    rt: &R,
+    alloc: Global,
+    setup: &Setup,
+) -> Result<bool, Trouble> {
+    let desk = entered(rt, alloc, setup)?;
+    has_replay(alloc, setup, &desk)
+}
+
 fn all_entered<R: Threads + Wait + Sync>(rt: &R, alloc: Global) -> Result<bool, Trouble> {
     let setup = setup_of_two(alloc)?;
-    let (gate, mut host) = opened(alloc, Desk::new(alloc, &setup)?)?;
-    both_enter(rt, alloc, &gate, &mut host)?;
-    let desk = closed(gate, host)?;
-    has_replay(alloc, &setup, &desk)
+    all_enter(rt, alloc, &setup)
 }
 
 #[test]

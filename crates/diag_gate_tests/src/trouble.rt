@@ -65,6 +65,15 @@ pub(crate) fn holds(tried: Result<bool, Trouble>) -> bool {
     }
 }
 
+/// Whether both hold; where not both came to an end, the first trouble.
+pub(crate) fn and(
+    one: Result<bool, Trouble>,
+    other: Result<bool, Trouble>,
+) -> Result<bool, Trouble> {
+    let one = one?;
+    Ok(other? && one)
+}
+
 /// The tester of a place.
 pub(crate) fn tester(place: u8) -> Result<Who, Trouble> {
     Who::new(place).ok_or(Trouble::Wrong)
