@@ -6,7 +6,11 @@
 #[cfg(test)]
 mod agreeing;
 #[cfg(test)]
+mod crews;
+#[cfg(test)]
 mod given;
+#[cfg(test)]
+mod meeting;
 #[cfg(test)]
 mod plays;
 #[cfg(test)]
