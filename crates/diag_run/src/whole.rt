@@ -131,7 +131,6 @@ fn whole_text<T: Threads + Wait + Sync, R: Read>(
 /// # Errors
 /// The first fault in this order: the config, the number of files, each file read in order, what they say in order, the
 /// play or the replay, the writing. After `Write` a front of the text went out, after any other fault nothing.
-#[tactic(auto, using(crate::proofs::Inputs::no_write))]
 pub fn run<T: Threads + Wait + Sync, R: Read + Drop, W: Write>(
     rt: &T,
     alloc: Global,
