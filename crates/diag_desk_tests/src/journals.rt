@@ -1,14 +1,14 @@
 //! Worked examples as journals, made by steps and read back.
 
 use crate::script::{
-    Move, Trouble, holds, is_told, leaves, opened, raw_setup, request, stepped, takes, tester,
+    Move, Trouble, desk_of_two, holds, holds_at, is_told, leaves, opened, raw_setup, request,
+    stepped, takes, tester,
 };
 use diag_desk::{Desk, Journal, Step, journal_text_at, read_journal};
 use diag_fixtures::bytes;
 use diag_setup::{RawDid, RawSetup};
 use diag_tp::Message;
 use std::alloc::{AllocError, Global};
-use std::test::Fail;
 
 /// A write of F190 whose value is 41 to 51.
 const WRITE: &[u8] = b"\x2E\xF1\x90ABCDEFGHIJKLMNOPQ";
@@ -16,26 +16,32 @@ const WRITE: &[u8] = b"\x2E\xF1\x90ABCDEFGHIJKLMNOPQ";
 /// A read of F190.
 const READ: &[u8] = b"\x22\xF1\x90";
 
-#[test]
-fn first_reply(rt: HostRuntime) -> Result<(), Fail> {
-    let moves = [Move::Asks(1, b"\x10\x03")];
-    let text = b"diag-journal 1\n1 P 1003 5003003201F4\n";
-    assert!(rt; leaves(rt.alloc(), &moves, text)?);
-    Ok(())
-}
+const ENTERS: [Move; 1] = [Move::Asks(1, b"\x10\x03")];
 
 #[test]
-fn suppressed_reply(rt: HostRuntime) -> Result<(), Fail> {
-    let moves = [Move::Asks(1, b"\x10\x83")];
-    let text = b"diag-journal 1\n1 P 1083 -\n";
-    assert!(rt; leaves(rt.alloc(), &moves, text)?);
-    assert!(rt; holds(is_held(rt.alloc(), &moves))?);
-    Ok(())
+fn first_reply(rt: HostRuntime) -> Result<(), Trouble> {
+    leaves(
+        rt.alloc(),
+        &ENTERS,
+        b"diag-journal 1\n1 P 1003 5003003201F4\n",
+    )
+}
+
+const ENTERS_SILENTLY: [Move; 1] = [Move::Asks(1, b"\x10\x83")];
+
+#[test]
+fn suppressed_reply(rt: HostRuntime) -> Result<(), Trouble> {
+    leaves(
+        rt.alloc(),
+        &ENTERS_SILENTLY,
+        b"diag-journal 1\n1 P 1083 -\n",
+    )?;
+    holds(is_held(rt.alloc(), &ENTERS_SILENTLY))
 }
 
 /// Whether the first tester holds the session after the moves.
 fn is_held(alloc: Global, moves: &[Move]) -> Result<bool, Trouble> {
-    let mut desk = opened(alloc, raw_setup(alloc)?)?;
+    let mut desk = desk_of_two(alloc)?;
     is_held_on(alloc, &mut desk, moves)
 }
 
@@ -52,19 +58,18 @@ fn holds_session(desk: &Desk) -> bool {
 
 /// Entries that are pushed by hand, with and without a reply.
 #[test]
-fn pushed_entries(rt: HostRuntime) -> Result<(), Fail> {
-    assert!(rt; holds(is_pushed(rt.alloc()))?);
-    Ok(())
+fn pushed_entries(rt: HostRuntime) -> Result<(), Trouble> {
+    let mut journal = Journal::new(rt.alloc());
+    holds(are_pushed(rt.alloc(), &mut journal))
 }
 
-fn is_pushed(alloc: Global) -> Result<bool, Trouble> {
-    let mut journal = Journal::new(alloc);
-    if !pushes_silent(alloc, &mut journal)? || !pushes_reply(alloc, &mut journal)? {
+fn are_pushed(alloc: Global, journal: &mut Journal) -> Result<bool, Trouble> {
+    if !pushes_silent(alloc, journal)? || !pushes_reply(alloc, journal)? {
         return Ok(false);
     }
     is_told(
         alloc,
-        &journal,
+        journal,
         b"diag-journal 1\n1 P 1083 -\n2 F 3E00 7E00\n",
     )
 }
@@ -87,27 +92,31 @@ fn pushes_reply(alloc: Global, journal: &mut Journal) -> Result<bool, Trouble> {
 
 /// No request was completed, so there is no entry.
 #[test]
-fn wrong_order(rt: HostRuntime) -> Result<(), Fail> {
-    assert!(rt; leaves(rt.alloc(), &[], b"diag-journal 1\n")?);
-    Ok(())
+fn wrong_order(rt: HostRuntime) -> Result<(), Trouble> {
+    leaves(rt.alloc(), &[], b"diag-journal 1\n")
 }
 
-#[test]
-fn reception_timeout(rt: HostRuntime) -> Result<(), Fail> {
-    let in_time = [Move::Waits(1, 999), Move::Asks(1, WRITE)];
-    let text = b"diag-journal 1\n1 T 999\n1 P 2EF1904142434445464748494A4B4C4D4E4F5051 7F2E7F\n";
-    assert!(rt; leaves(rt.alloc(), &in_time, text)?);
-    let late = [Move::Waits(1, 1000)];
-    assert!(rt; leaves(rt.alloc(), &late, b"diag-journal 1\n1 T 1000\n")?);
-    Ok(())
-}
+const IN_TIME: [Move; 2] = [Move::Waits(1, 999), Move::Asks(1, WRITE)];
+
+const IN_TIME_TEXT: &[u8] =
+    b"diag-journal 1\n1 T 999\n1 P 2EF1904142434445464748494A4B4C4D4E4F5051 7F2E7F\n";
+
+const LATE: [Move; 1] = [Move::Waits(1, 1000)];
 
 #[test]
-fn functional_in_reception(rt: HostRuntime) -> Result<(), Fail> {
-    let moves = [Move::Calls(1, b"\x3E\x80"), Move::Asks(1, WRITE)];
-    let text = b"diag-journal 1\n1 F 3E80 -\n1 P 2EF1904142434445464748494A4B4C4D4E4F5051 7F2E7F\n";
-    assert!(rt; leaves(rt.alloc(), &moves, text)?);
-    Ok(())
+fn reception_timeout(rt: HostRuntime) -> Result<(), Trouble> {
+    leaves(rt.alloc(), &IN_TIME, IN_TIME_TEXT)?;
+    leaves(rt.alloc(), &LATE, b"diag-journal 1\n1 T 1000\n")
+}
+
+const CALLS: [Move; 2] = [Move::Calls(1, b"\x3E\x80"), Move::Asks(1, WRITE)];
+
+const CALLS_TEXT: &[u8] =
+    b"diag-journal 1\n1 F 3E80 -\n1 P 2EF1904142434445464748494A4B4C4D4E4F5051 7F2E7F\n";
+
+#[test]
+fn functional_in_reception(rt: HostRuntime) -> Result<(), Trouble> {
+    leaves(rt.alloc(), &CALLS, CALLS_TEXT)
 }
 
 const TWO_TESTERS: [Move; 9] = [
@@ -135,9 +144,8 @@ const TWO_TESTERS_TEXT: &[u8] = b"diag-journal 1
 ";
 
 #[test]
-fn two_testers(rt: HostRuntime) -> Result<(), Fail> {
-    assert!(rt; leaves(rt.alloc(), &TWO_TESTERS, TWO_TESTERS_TEXT)?);
-    Ok(())
+fn two_testers(rt: HostRuntime) -> Result<(), Trouble> {
+    leaves(rt.alloc(), &TWO_TESTERS, TWO_TESTERS_TEXT)
 }
 
 const STAMPS: [Move; 6] = [
@@ -159,14 +167,13 @@ const STAMPS_TEXT: &[u8] = b"diag-journal 2
 ";
 
 #[test]
-fn stamps(rt: HostRuntime) -> Result<(), Fail> {
-    assert!(rt; holds(leaves_stamps(rt.alloc()))?);
-    assert!(rt; holds(reads_stamps(rt.alloc()))?);
-    Ok(())
+fn stamps(rt: HostRuntime) -> Result<(), Trouble> {
+    holds(leaves_stamps(rt.alloc()))?;
+    holds(reads_stamps(rt.alloc()))
 }
 
 fn leaves_stamps(alloc: Global) -> Result<bool, Trouble> {
-    let mut desk = opened(alloc, raw_setup(alloc)?)?;
+    let mut desk = desk_of_two(alloc)?;
     leaves_stamps_on(alloc, &mut desk)
 }
 
@@ -248,11 +255,12 @@ fn passes_over_unknown(alloc: Global) -> Result<bool, Trouble> {
 /// Whether a request is entered with this reply by a desk with the identifier 0100.
 fn enters(alloc: Global, read: &[u8], reply: &[u8]) -> Result<bool, Trouble> {
     let mut desk = opened(alloc, long_setup(alloc)?)?;
-    enters_on(&mut desk, &request(alloc, false, read)?, reply)
+    enters_on(alloc, &mut desk, read, reply)
 }
 
-fn enters_on(desk: &mut Desk, step: &Step, reply: &[u8]) -> Result<bool, Trouble> {
-    Ok(stepped(desk, 1, step)? && has_first_reply(desk, reply))
+fn enters_on(alloc: Global, desk: &mut Desk, read: &[u8], reply: &[u8]) -> Result<bool, Trouble> {
+    let step = request(alloc, false, read)?;
+    Ok(stepped(desk, 1, &step)? && has_first_reply(desk, reply))
 }
 
 fn has_first_reply(desk: &Desk, reply: &[u8]) -> bool {
@@ -266,11 +274,15 @@ fn has_first_reply(desk: &Desk, reply: &[u8]) -> bool {
 const READS: [(usize, usize); 4] = [(1, 258), (15, 3856), (16, 4113), (254, 65279)];
 
 #[test]
-fn many_identifiers(rt: HostRuntime) -> Result<(), Fail> {
-    for (times, length) in READS {
-        assert!(rt; holds(reads_many(rt.alloc(), times, length))?);
+fn many_identifiers(rt: HostRuntime) -> Result<(), Trouble> {
+    reads_all(rt.alloc())?;
+    holds(reads_too_many(rt.alloc()))?;
+    holds(passes_over_unknown(rt.alloc()))
+}
+
+fn reads_all(alloc: Global) -> Result<(), Trouble> {
+    for (times, length) in &READS {
+        holds_at(*times, reads_many(alloc, *times, *length))?;
     }
-    assert!(rt; holds(reads_too_many(rt.alloc()))?);
-    assert!(rt; holds(passes_over_unknown(rt.alloc()))?);
     Ok(())
 }

@@ -1,11 +1,10 @@
 //! The most that a journal holds.
 
-use crate::script::{Trouble, holds, opened, raw_setup, request, tester, ticks};
+use crate::script::{Trouble, desk_of_two, holds, request, tester, ticks};
 use diag_desk::{
     Desk, Journal, JournalFault, JournalPush, MOST_ENTRIES, Step, StepFault, read_journal,
 };
 use std::alloc::{AllocError, Global};
-use std::test::Fail;
 
 /// Takes a step so many times.
 fn take_often(desk: &mut Desk, step: &Step, times: usize) -> Result<(), Trouble> {
@@ -21,9 +20,13 @@ fn take(desk: &mut Desk, step: &Step) -> Result<(), Trouble> {
 }
 
 fn fills(alloc: Global) -> Result<bool, Trouble> {
-    let mut desk = opened(alloc, raw_setup(alloc)?)?;
-    take_often(&mut desk, &ticks(1)?, MOST_ENTRIES)?;
-    stays_full(&mut desk, &request(alloc, false, b"\x10\x03")?)
+    let mut desk = desk_of_two(alloc)?;
+    fills_on(alloc, &mut desk)
+}
+
+fn fills_on(alloc: Global, desk: &mut Desk) -> Result<bool, Trouble> {
+    take_often(desk, &ticks(1)?, MOST_ENTRIES)?;
+    stays_full(desk, &request(alloc, false, b"\x10\x03")?)
 }
 
 /// Whether the journal is full, and a step that is refused leaves the journal and the ECU as they are.
@@ -45,9 +48,8 @@ fn refuses(desk: &mut Desk, step: &Step) -> Result<bool, Trouble> {
 }
 
 #[test]
-fn full_journal(rt: HostRuntime) -> Result<(), Fail> {
-    assert!(rt; holds(fills(rt.alloc()))?);
-    Ok(())
+fn full_journal(rt: HostRuntime) -> Result<(), Trouble> {
+    holds(fills(rt.alloc()))
 }
 
 /// A header of version 1, and so many lines `1 T 1`.
@@ -70,26 +72,29 @@ fn is_too_long(alloc: Global) -> Result<bool, Trouble> {
 }
 
 #[test]
-fn too_long_text(rt: HostRuntime) -> Result<(), Fail> {
-    assert!(rt; holds(is_too_long(rt.alloc()))?);
-    Ok(())
+fn too_long_text(rt: HostRuntime) -> Result<(), Trouble> {
+    holds(is_too_long(rt.alloc()))
 }
 
 /// Whether the longest journal is read, and takes no more.
 fn is_longest(alloc: Global) -> Result<bool, Trouble> {
     let text = text_of_ticks(alloc, MOST_ENTRIES)?;
-    let mut journal = read_journal(alloc, text.as_slice())?;
-    Ok(journal.is_full() && takes_no_more(alloc, &mut journal)?)
+    is_full_of(alloc, text.as_slice())
+}
+
+fn is_full_of(alloc: Global, text: &[u8]) -> Result<bool, Trouble> {
+    let mut journal = read_journal(alloc, text)?;
+    takes_no_more(alloc, &mut journal)
 }
 
 fn takes_no_more(alloc: Global, journal: &mut Journal) -> Result<bool, Trouble> {
+    let is_full = journal.is_full();
     let step = request(alloc, false, b"\x3E\x00")?;
     let pushed = journal.push(tester(1)?, &step, None);
-    Ok(pushed == Err(JournalPush::Full) && journal.len() == MOST_ENTRIES)
+    Ok(is_full && pushed == Err(JournalPush::Full) && journal.len() == MOST_ENTRIES)
 }
 
 #[test]
-fn longest_text(rt: HostRuntime) -> Result<(), Fail> {
-    assert!(rt; holds(is_longest(rt.alloc()))?);
-    Ok(())
+fn longest_text(rt: HostRuntime) -> Result<(), Trouble> {
+    holds(is_longest(rt.alloc()))
 }

@@ -1,25 +1,30 @@
 //! The forms of a journal's lines.
 
+use crate::script::{Trouble, holds, holds_at};
 use diag_desk::{JournalFault, read_journal};
-use std::alloc::{AllocError, Global};
-use std::test::Fail;
+use std::alloc::Global;
 
 /// Whether a text is refused at this line.
-fn is_refused(alloc: Global, text: &[u8], line: usize) -> Result<bool, AllocError> {
+fn is_refused(alloc: Global, text: &[u8], line: usize) -> Result<bool, Trouble> {
     match read_journal(alloc, text) {
         Ok(_journal) => Ok(false),
         Err(JournalFault::Line(found)) => Ok(found == line),
-        Err(JournalFault::Memory) => Err(AllocError),
+        Err(JournalFault::Memory) => Err(Trouble::Memory),
     }
 }
 
-/// Whether a text is read as a journal of so many entries.
-fn is_read(alloc: Global, text: &[u8], entries: usize) -> Result<bool, AllocError> {
-    match read_journal(alloc, text) {
-        Ok(journal) => Ok(journal.len() == entries),
-        Err(JournalFault::Line(_)) => Ok(false),
-        Err(JournalFault::Memory) => Err(AllocError),
+/// All texts are refused at this line.
+fn are_refused(alloc: Global, texts: &[&[u8]], line: usize) -> Result<(), Trouble> {
+    for (place, text) in texts.iter().enumerate() {
+        holds_at(place, is_refused(alloc, text, line))?;
     }
+    Ok(())
+}
+
+/// Whether a text is read as a journal of so many entries.
+fn is_read(alloc: Global, text: &[u8], entries: usize) -> Result<bool, Trouble> {
+    let journal = read_journal(alloc, text)?;
+    Ok(journal.len() == entries)
 }
 
 /// Texts whose header is wrong.
@@ -46,15 +51,10 @@ const FORMS: [&[u8]; 10] = [
 ];
 
 #[test]
-fn journal_line_forms(rt: HostRuntime) -> Result<(), Fail> {
-    for text in HEADERS {
-        assert!(rt; is_refused(rt.alloc(), text, 1)?);
-    }
-    for text in FORMS {
-        assert!(rt; is_refused(rt.alloc(), text, 2)?, "{text:?}");
-    }
-    assert!(rt; is_read(rt.alloc(), b"diag-journal 1\n8 T 1\n", 1)?);
-    Ok(())
+fn journal_line_forms(rt: HostRuntime) -> Result<(), Trouble> {
+    are_refused(rt.alloc(), &HEADERS, 1)?;
+    are_refused(rt.alloc(), &FORMS, 2)?;
+    holds(is_read(rt.alloc(), b"diag-journal 1\n8 T 1\n", 1))
 }
 
 /// Other spellings of lines that would be well.
@@ -71,18 +71,14 @@ const SPELLINGS: [&[u8]; 9] = [
 ];
 
 #[test]
-fn one_spelling(rt: HostRuntime) -> Result<(), Fail> {
-    for text in SPELLINGS {
-        assert!(rt; is_refused(rt.alloc(), text, 2)?, "{text:?}");
-    }
-    assert!(rt; is_read(rt.alloc(), b"diag-journal 1\n1 T 60000\n8 F 00 -\n", 2)?);
-    Ok(())
+fn one_spelling(rt: HostRuntime) -> Result<(), Trouble> {
+    are_refused(rt.alloc(), &SPELLINGS, 2)?;
+    holds(is_read(rt.alloc(), b"diag-journal 1\n1 T 60000\n8 F 00 -\n", 2))
 }
 
 /// The stamp of the third line is not the ticks of its tester so far.
 #[test]
-fn stamps(rt: HostRuntime) -> Result<(), Fail> {
+fn stamps(rt: HostRuntime) -> Result<(), Trouble> {
     let text = b"diag-journal 2\n0 1 P 1003 5003003201F4\n2501 1 T 2500\n2500 1 P 3E00 7E00\n";
-    assert!(rt; is_refused(rt.alloc(), text, 3)?);
-    Ok(())
+    holds(is_refused(rt.alloc(), text, 3))
 }

@@ -1,14 +1,13 @@
 //! Replay of journals that are read.
 
-use crate::script::{Trouble, holds, raw_setup};
+use crate::script::{Trouble, holds, holds_at, setup_of_two};
 use diag_desk::{Journal, ReplayFault, journal_text, read_journal, replay};
 use diag_ecu::Ecu;
 use diag_setup::Setup;
 use std::alloc::{AllocError, Global};
-use std::test::Fail;
 
 /// What a replay by the setup with two testers comes to.
-#[derive(Clone, Copy, PartialEq, Eq, Debug, Drop)]
+#[derive(Clone, Copy, PartialEq)]
 enum Replayed {
     /// The first tester is the holder, and the code 012345 has the status 2F.
     Held,
@@ -18,12 +17,9 @@ enum Replayed {
     Differs(usize),
 }
 
-fn replay_of(alloc: Global, text: &[u8]) -> Result<Replayed, Trouble> {
+fn replay_of(alloc: Global, setup: &Setup, text: &[u8]) -> Result<Replayed, Trouble> {
     let journal = read_journal(alloc, text)?;
-    match raw_setup(alloc)?.check() {
-        Ok(setup) => replayed_by(alloc, &setup, &journal),
-        Err(_) => Err(Trouble::Wrong),
-    }
+    replayed_by(alloc, setup, &journal)
 }
 
 fn replayed_by(alloc: Global, setup: &Setup, journal: &Journal) -> Result<Replayed, Trouble> {
@@ -38,12 +34,22 @@ fn replayed_by(alloc: Global, setup: &Setup, journal: &Journal) -> Result<Replay
     }
 }
 
-/// Whether the journal of a text is replayed like this.
-fn replays_as(alloc: Global, text: &[u8], wanted: Replayed) -> Result<bool, AllocError> {
-    match replay_of(alloc, text) {
-        Ok(found) => Ok(found == wanted),
-        Err(trouble) => holds(Err(trouble)),
+/// The text of a journal, and what its replay comes to.
+type Replay = (&'static [u8], Replayed);
+
+/// The journals of all texts are replayed like this.
+fn replays_as(alloc: Global, setup: &Setup, all: &[Replay]) -> Result<(), Trouble> {
+    for (place, (text, wanted)) in all.iter().enumerate() {
+        let found = replay_of(alloc, setup, text)?;
+        holds_at(place, Ok(found == *wanted))?;
     }
+    Ok(())
+}
+
+/// The same, by the setup with two testers.
+fn replays_all(alloc: Global, all: &[Replay]) -> Result<(), Trouble> {
+    let setup = setup_of_two(alloc)?;
+    replays_as(alloc, &setup, all)
 }
 
 /// Whether the journal of a text has so many entries.
@@ -59,33 +65,38 @@ fn is_held(ecu: &Ecu) -> bool {
     }
 }
 
+const SAME: [Replay; 2] = [
+    (b"diag-journal 1\n1 P 1083 -\n", Replayed::Held),
+    (b"diag-journal 1\n1 P 3E80 -\n", Replayed::Other),
+];
+
 #[test]
-fn replays(rt: HostRuntime) -> Result<(), Fail> {
-    assert!(rt; replays_as(rt.alloc(), b"diag-journal 1\n1 P 1083 -\n", Replayed::Held)?);
-    assert!(rt; replays_as(rt.alloc(), b"diag-journal 1\n1 P 3E80 -\n", Replayed::Other)?);
-    Ok(())
+fn replays(rt: HostRuntime) -> Result<(), Trouble> {
+    replays_all(rt.alloc(), &SAME)
 }
 
 /// Journals, and which entry of each differs.
-const DIFFERENT: [(&[u8], usize); 6] = [
-    (b"diag-journal 1\n1 P 1003 5003003201F5\n", 1),
-    (b"diag-journal 1\n1 P 1003 -\n", 1),
-    (b"diag-journal 1\n1 P 1083 5003003201F4\n", 1),
-    (b"diag-journal 1\n3 T 1\n", 1),
-    (b"diag-journal 1\n8 T 1\n", 1),
+const DIFFERENT: [Replay; 6] = [
+    (
+        b"diag-journal 1\n1 P 1003 5003003201F5\n",
+        Replayed::Differs(1),
+    ),
+    (b"diag-journal 1\n1 P 1003 -\n", Replayed::Differs(1)),
+    (
+        b"diag-journal 1\n1 P 1083 5003003201F4\n",
+        Replayed::Differs(1),
+    ),
+    (b"diag-journal 1\n3 T 1\n", Replayed::Differs(1)),
+    (b"diag-journal 1\n8 T 1\n", Replayed::Differs(1)),
     (
         b"diag-journal 1\n1 P 3E00 7E00\n1 P 3E80 7E00\n2 P 3E00 7E01\n",
-        2,
+        Replayed::Differs(2),
     ),
 ];
 
 #[test]
-fn replay_differs(rt: HostRuntime) -> Result<(), Fail> {
-    for (text, entry) in DIFFERENT {
-        let wanted = Replayed::Differs(entry);
-        assert!(rt; replays_as(rt.alloc(), text, wanted)?, "{text:?}");
-    }
-    Ok(())
+fn replay_differs(rt: HostRuntime) -> Result<(), Trouble> {
+    replays_all(rt.alloc(), &DIFFERENT)
 }
 
 /// A journal with stamps.
@@ -106,13 +117,13 @@ const PLAIN: &[u8] = b"diag-journal 1
 1 P 3E00 7E00
 ";
 
+const HELD: [Replay; 2] = [(STAMPED, Replayed::Held), (PLAIN, Replayed::Held)];
+
 #[test]
-fn stamps(rt: HostRuntime) -> Result<(), Fail> {
-    assert!(rt; replays_as(rt.alloc(), STAMPED, Replayed::Held)?);
-    assert!(rt; replays_as(rt.alloc(), PLAIN, Replayed::Held)?);
-    assert!(rt; holds(has_entries(rt.alloc(), STAMPED, 6))?);
-    assert!(rt; holds(has_entries(rt.alloc(), PLAIN, 4))?);
-    Ok(())
+fn stamps(rt: HostRuntime) -> Result<(), Trouble> {
+    replays_all(rt.alloc(), &HELD)?;
+    holds(has_entries(rt.alloc(), STAMPED, 6))?;
+    holds(has_entries(rt.alloc(), PLAIN, 4))
 }
 
 /// Whether a text of version 2 is written as version 1 without its stamps.
@@ -127,7 +138,6 @@ fn is_plain(alloc: Global, journal: &Journal) -> Result<bool, AllocError> {
 }
 
 #[test]
-fn versions(rt: HostRuntime) -> Result<(), Fail> {
-    assert!(rt; holds(loses_stamps(rt.alloc()))?);
-    Ok(())
+fn versions(rt: HostRuntime) -> Result<(), Trouble> {
+    holds(loses_stamps(rt.alloc()))
 }

@@ -5,7 +5,7 @@ use diag_desk::{
     Desk, Journal, JournalFault, ReplayFault, Step, StepFault, journal_text, read_journal,
 };
 use diag_fixtures::raw_two_testers;
-use diag_setup::{RawSetup, Who};
+use diag_setup::{RawSetup, Setup, Who};
 use diag_tp::{Message, MessageFault};
 use std::alloc::{AllocError, Global};
 
@@ -19,10 +19,12 @@ pub(crate) enum Move {
 }
 
 /// Why a test did not come to its end: memory was refused, or a call answered what it must not.
-#[derive(Clone, Copy, PartialEq, Eq, Debug, Drop)]
+#[derive(Clone, Copy, Debug)]
 pub(crate) enum Trouble {
     Memory,
     Wrong,
+    /// What is wrong is at this place of a table, from 0.
+    WrongAt(usize),
 }
 
 impl From<AllocError> for Trouble {
@@ -67,12 +69,17 @@ impl From<ReplayFault> for Trouble {
     }
 }
 
-/// Whether what was tried holds; an error where memory was refused on the way.
-pub(crate) fn holds(tried: Result<bool, Trouble>) -> Result<bool, AllocError> {
-    match tried {
-        Ok(held) => Ok(held),
-        Err(Trouble::Memory) => Err(AllocError),
-        Err(Trouble::Wrong) => Ok(false),
+/// What was tried came to its end and holds.
+pub(crate) fn holds(tried: Result<bool, Trouble>) -> Result<(), Trouble> {
+    if tried? { Ok(()) } else { Err(Trouble::Wrong) }
+}
+
+/// The same of a place in a table.
+pub(crate) fn holds_at(place: usize, tried: Result<bool, Trouble>) -> Result<(), Trouble> {
+    if tried? {
+        Ok(())
+    } else {
+        Err(Trouble::WrongAt(place))
     }
 }
 
@@ -89,12 +96,31 @@ pub(crate) fn raw_setup(alloc: Global) -> Result<RawSetup, AllocError> {
     raw_two_testers(alloc)
 }
 
-/// The desk of a setup that isn't checked yet.
-pub(crate) fn opened(alloc: Global, raw: RawSetup) -> Result<Desk, Trouble> {
+/// The setup that is right.
+fn checked(raw: RawSetup) -> Result<Setup, Trouble> {
     match raw.check() {
-        Ok(setup) => Ok(Desk::new(alloc, &setup)?),
+        Ok(setup) => Ok(setup),
         Err(_) => Err(Trouble::Wrong),
     }
+}
+
+/// The setup with two testers.
+pub(crate) fn setup_of_two(alloc: Global) -> Result<Setup, Trouble> {
+    checked(raw_setup(alloc)?)
+}
+
+/// The desk of a setup that isn't checked yet.
+pub(crate) fn opened(alloc: Global, raw: RawSetup) -> Result<Desk, Trouble> {
+    let setup = checked(raw)?;
+    match Desk::new(alloc, &setup) {
+        Ok(desk) => Ok(desk),
+        Err(AllocError) => Err(Trouble::Memory),
+    }
+}
+
+/// The desk of the setup with two testers.
+pub(crate) fn desk_of_two(alloc: Global) -> Result<Desk, Trouble> {
+    opened(alloc, raw_setup(alloc)?)
 }
 
 /// The step of a request.
@@ -113,14 +139,10 @@ pub(crate) fn ticks(count: u16) -> Result<Step, Trouble> {
     }
 }
 
-/// Whether the moves, from the opening, leave a journal of this text of version 1.
-pub(crate) fn leaves(alloc: Global, moves: &[Move], text: &[u8]) -> Result<bool, AllocError> {
-    holds(opens_and_leaves(alloc, moves, text))
-}
-
-fn opens_and_leaves(alloc: Global, moves: &[Move], text: &[u8]) -> Result<bool, Trouble> {
-    let mut desk = opened(alloc, raw_setup(alloc)?)?;
-    leaves_on(alloc, &mut desk, moves, text)
+/// The moves, from the opening, leave a journal of this text of version 1.
+pub(crate) fn leaves(alloc: Global, moves: &[Move], text: &[u8]) -> Result<(), Trouble> {
+    let mut desk = desk_of_two(alloc)?;
+    holds(leaves_on(alloc, &mut desk, moves, text))
 }
 
 fn leaves_on(alloc: Global, desk: &mut Desk, moves: &[Move], text: &[u8]) -> Result<bool, Trouble> {
@@ -177,7 +199,12 @@ fn is_reply(kept: Option<&[u8]>, reply: &Option<Message>) -> bool {
 
 /// Whether the journal's text of version 1 is this one, and is read back as a journal of the same text.
 pub(crate) fn is_told(alloc: Global, journal: &Journal, text: &[u8]) -> Result<bool, Trouble> {
-    Ok(has_text(alloc, journal, text)? && has_text(alloc, &read_journal(alloc, text)?, text)?)
+    Ok(has_text(alloc, journal, text)? && is_read_back(alloc, text)?)
+}
+
+fn is_read_back(alloc: Global, text: &[u8]) -> Result<bool, Trouble> {
+    let read = read_journal(alloc, text)?;
+    Ok(has_text(alloc, &read, text)?)
 }
 
 fn has_text(alloc: Global, journal: &Journal, text: &[u8]) -> Result<bool, AllocError> {
