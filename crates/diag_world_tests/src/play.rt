@@ -60,8 +60,17 @@ pub(crate) fn told(alloc: Global, play: &Play) -> Result<Vec<u8>, Stop> {
 
 fn told_of(alloc: Global, setup: &Setup, play: &Play) -> Result<Vec<u8>, Stop> {
     let logs = logs_of(alloc, setup, &play.logs, play.timing)?;
-    let left = played(alloc, setup, logs.as_slice())?;
-    text_left(alloc, setup, &left, play.timing)
+    told_by(alloc, setup, logs.as_slice(), play.timing)
+}
+
+fn told_by(
+    alloc: Global,
+    setup: &Setup,
+    logs: &[Vec<Event>],
+    timing: Timing,
+) -> Result<Vec<u8>, Stop> {
+    let left = played(alloc, setup, logs)?;
+    text_left(alloc, setup, &left, timing)
 }
 
 /// The events of the logs.
