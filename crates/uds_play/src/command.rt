@@ -1,5 +1,8 @@
 //! The words of the command line.
 
+ghost use Rattle.std.specs.Prelude.{◌≡◌};
+ghost use Rattle.uds_play.specs.declared.command.Refusal.TheVariants.{Memory};
+
 use clap::error::ErrorKind;
 use clap::{Arg, ArgAction, ArgMatches, Command, Error};
 use diag_can::Timing;
@@ -24,6 +27,8 @@ pub enum Refusal {
 }
 
 impl From<AllocError> for Refusal {
+    ghost from_gives = { λ _ e. e ≡ Memory };
+
     fn from(_e: AllocError) -> Refusal {
         Refusal::Memory
     }
