@@ -5,3 +5,5 @@
 mod setups;
 #[cfg(test)]
 mod tables;
+#[cfg(test)]
+mod trouble;

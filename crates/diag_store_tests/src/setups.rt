@@ -1,12 +1,12 @@
 //! Setups that are refused, and the largest that is taken.
 
+use crate::trouble::{Trouble, holds};
 use diag_fixtures::{bytes, key_row, raw_two_testers, rows, tester, two_testers};
 use diag_store::{
     Dids, DtcMemory, Items, RawCode, RawDid, RawLevel, RawRoutine, RawSetup, RawTester, Routines,
     Security, Setup, SetupFault, Values,
 };
 use std::alloc::{AllocError, Global};
-use std::test::Fail;
 
 type Raw = Result<RawSetup, AllocError>;
 
@@ -40,11 +40,17 @@ fn with_one_name(alloc: Global) -> Raw {
 }
 
 fn with_one_code(alloc: Global) -> Raw {
-    let mut raw = raw_setup(alloc)?;
-    raw.codes.push(RawCode {
+    let one = RawCode {
+        code: 0x01_2345,
+        status: 0x2F,
+    };
+    let other = RawCode {
         code: 0x01_2345,
         status: 0,
-    })?;
+    };
+    let codes = rows(alloc, [one, other])?;
+    let mut raw = raw_setup(alloc)?;
+    raw.codes = codes;
     Ok(raw)
 }
 
@@ -73,7 +79,6 @@ fn two(alloc: Global, names: [&[u8]; 2], ids: [u32; 4]) -> Result<Items<RawTeste
 }
 
 fn with_unknown_code(alloc: Global) -> Raw {
-    let mut raw = raw_setup(alloc)?;
     let routine = RawRoutine {
         id: 0x0203,
         time_ms: 100,
@@ -81,12 +86,13 @@ fn with_unknown_code(alloc: Global) -> Raw {
         level: 0,
         on_done: Some(RawCode { code: 1, status: 0 }),
     };
-    raw.routines = rows(alloc, [routine])?;
+    let routines = rows(alloc, [routine])?;
+    let mut raw = raw_setup(alloc)?;
+    raw.routines = routines;
     Ok(raw)
 }
 
 fn with_unknown_level(alloc: Global) -> Raw {
-    let mut raw = raw_setup(alloc)?;
     let did = RawDid {
         id: 0xF190,
         value: bytes(alloc, b"x")?,
@@ -94,7 +100,9 @@ fn with_unknown_level(alloc: Global) -> Raw {
         write: false,
         write_level: 3,
     };
-    raw.dids = rows(alloc, [did])?;
+    let dids = rows(alloc, [did])?;
+    let mut raw = raw_setup(alloc)?;
+    raw.dids = dids;
     Ok(raw)
 }
 
@@ -105,71 +113,64 @@ fn with_long_request(alloc: Global) -> Raw {
 }
 
 fn without_key_rows(alloc: Global) -> Raw {
-    let mut raw = raw_setup(alloc)?;
     let level = RawLevel {
         sub: 1,
         rows: Items::new(alloc),
     };
-    raw.levels = rows(alloc, [level])?;
+    let levels = rows(alloc, [level])?;
+    let mut raw = raw_setup(alloc)?;
+    raw.levels = levels;
     Ok(raw)
 }
 
 #[test]
-fn setup_faults(rt: HostRuntime) -> Result<(), Fail> {
+fn setup_faults(rt: HostRuntime) -> Result<(), Trouble> {
     let alloc = rt.alloc();
-    assert_eq!(rt; fault_of(without_tester(alloc)?), Some(SetupFault::Empty));
-    assert_eq!(rt; fault_of(without_key_rows(alloc)?), Some(SetupFault::Empty));
-    assert_eq!(rt; fault_of(without_time(alloc)?), Some(SetupFault::Range));
-    assert_eq!(rt;
-        fault_of(with_long_request(alloc)?),
-        Some(SetupFault::Range)
-    );
-    assert_eq!(rt;
-        fault_of(with_unknown_code(alloc)?),
-        Some(SetupFault::UnknownCode)
-    );
-    assert_eq!(rt;
-        fault_of(with_unknown_level(alloc)?),
-        Some(SetupFault::UnknownLevel)
-    );
-    Ok(())
+    is_refused(without_tester(alloc), SetupFault::Empty)?;
+    is_refused(without_key_rows(alloc), SetupFault::Empty)?;
+    is_refused(without_time(alloc), SetupFault::Range)?;
+    is_refused(with_long_request(alloc), SetupFault::Range)?;
+    is_refused(with_unknown_code(alloc), SetupFault::UnknownCode)?;
+    is_refused(with_unknown_level(alloc), SetupFault::UnknownLevel)
 }
 
 #[test]
-fn duplicate_faults(rt: HostRuntime) -> Result<(), Fail> {
+fn duplicate_faults(rt: HostRuntime) -> Result<(), Trouble> {
     let alloc = rt.alloc();
-    assert_eq!(rt;
-        fault_of(with_one_name(alloc)?),
-        Some(SetupFault::DuplicateId)
-    );
-    assert_eq!(rt;
-        fault_of(with_one_request(alloc)?),
-        Some(SetupFault::DuplicateId)
-    );
-    assert_eq!(rt;
-        fault_of(with_response_as_request(alloc)?),
-        Some(SetupFault::DuplicateId)
-    );
-    assert_eq!(rt;
-        fault_of(with_one_code(alloc)?),
-        Some(SetupFault::DuplicateId)
-    );
-    Ok(())
+    is_refused(with_one_name(alloc), SetupFault::DuplicateId)?;
+    is_refused(with_one_request(alloc), SetupFault::DuplicateId)?;
+    is_refused(with_response_as_request(alloc), SetupFault::DuplicateId)?;
+    is_refused(with_one_code(alloc), SetupFault::DuplicateId)
+}
+
+/// The setup is refused for this.
+fn is_refused(raw: Raw, wanted: SetupFault) -> Result<(), Trouble> {
+    if fault_of(raw?) == Some(wanted) {
+        Ok(())
+    } else {
+        Err(Trouble::Wrong)
+    }
 }
 
 fn fault_of(raw: RawSetup) -> Option<SetupFault> {
-    raw.check().err()
+    match raw.check() {
+        Ok(_setup) => None,
+        Err(fault) => Some(fault),
+    }
 }
 
 #[test]
-fn setup_tells(rt: HostRuntime) -> Result<(), Fail> {
+fn setup_tells(rt: HostRuntime) -> Result<(), Trouble> {
     let setup = setup_of(rt.alloc())?;
-    assert_eq!(rt; setup.testers(), 2);
-    assert_eq!(rt; identifiers(&setup, 1), Some((2, 0x7E1, 0x7E9, 0x7DF)));
-    assert_eq!(rt; identifiers(&setup, 2), None);
-    assert!(rt; has_name(&setup, 1, b"B"));
-    assert!(rt; has_times(&setup));
-    Ok(())
+    holds(Ok(has_testers(&setup) && has_times(&setup)))
+}
+
+/// Whether there are two testers, of whom the second is B.
+fn has_testers(setup: &Setup) -> bool {
+    setup.testers() == 2
+        && identifiers(setup, 1) == Some((2, 0x7E1, 0x7E9, 0x7DF))
+        && identifiers(setup, 2).is_none()
+        && has_name(setup, 1, b"B")
 }
 
 /// The place of a tester, counted from 0, and its three identifiers.
@@ -198,11 +199,10 @@ fn has_times(setup: &Setup) -> bool {
 }
 
 #[test]
-fn setup_of_a_link(rt: HostRuntime) -> Result<(), Fail> {
+fn setup_of_a_link(rt: HostRuntime) -> Result<(), Trouble> {
     let setup = setup_of(rt.alloc())?;
-    assert_eq!(rt; frames(&setup), Some((0, 0, 4095, Some(0xCC))));
-    assert_eq!(rt; waits(&setup), Some((1000, 1000)));
-    Ok(())
+    let has_frames = frames(&setup) == Some((0, 0, 4095, Some(0xCC)));
+    holds(Ok(has_frames && waits(&setup) == Some((1000, 1000))))
 }
 
 /// How the first tester's link sends and receives.
@@ -288,12 +288,17 @@ fn full_level(alloc: Global, sub: u32) -> Result<RawLevel, AllocError> {
 
 fn largest(alloc: Global) -> Raw {
     let mut raw = raw_setup(alloc)?;
+    fill(alloc, &mut raw)?;
+    Ok(raw)
+}
+
+fn fill(alloc: Global, raw: &mut RawSetup) -> Result<(), AllocError> {
     raw.testers = most_testers(alloc)?;
     raw.dids = most_dids(alloc)?;
     raw.codes = most_codes(alloc)?;
     raw.routines = most_routines(alloc)?;
     raw.levels = most_levels(alloc)?;
-    Ok(raw)
+    Ok(())
 }
 
 /// Whether the largest setup is accepted, and the tables hold all of it.
@@ -306,41 +311,59 @@ fn is_held(alloc: Global) -> Result<bool, AllocError> {
 
 fn holds_all(alloc: Global, setup: &Setup) -> Result<bool, AllocError> {
     Ok(
-        setup.testers() == 8
-            && identifiers(setup, 7) == Some((8, 0x70E, 0x70F, 0x7DF))
-            && holds_identifiers(&Dids::new(alloc, setup)?)
-            && holds_codes(&DtcMemory::new(alloc, setup)?)
-            && holds_routines(&Routines::new(alloc, setup)?)
-            && holds_levels(&Security::new(alloc, setup)?),
+        holds_testers(setup)
+            && holds_identifiers(alloc, setup)?
+            && holds_codes(alloc, setup)?
+            && holds_routines(alloc, setup)?
+            && holds_levels(alloc, setup)?,
     )
 }
 
-fn holds_identifiers(dids: &Dids) -> bool {
+fn holds_testers(setup: &Setup) -> bool {
+    setup.testers() == 8 && identifiers(setup, 7) == Some((8, 0x70E, 0x70F, 0x7DF))
+}
+
+fn holds_identifiers(alloc: Global, setup: &Setup) -> Result<bool, AllocError> {
+    let dids = Dids::new(alloc, setup)?;
+    Ok(has_identifiers(&dids))
+}
+
+fn has_identifiers(dids: &Dids) -> bool {
     let value = [0x5A; 255];
     dids.get(0xFFC0) == Some(value.as_slice())
         && dids.get(0xFFFF) == Some(value.as_slice())
         && dids.get(0xFFBF).is_none()
 }
 
-fn holds_codes(codes: &DtcMemory) -> bool {
+fn holds_codes(alloc: Global, setup: &Setup) -> Result<bool, AllocError> {
+    let codes = DtcMemory::new(alloc, setup)?;
+    Ok(has_codes(&codes))
+}
+
+fn has_codes(codes: &DtcMemory) -> bool {
     codes.len() == 256
         && codes.at(0) == Some((0xFF_FEFF, 255))
         && codes.at(255) == Some((0xFF_FFFE, 0))
         && codes.count(0x80) == 128
 }
 
-fn holds_routines(routines: &Routines) -> bool {
+fn holds_routines(alloc: Global, setup: &Setup) -> Result<bool, AllocError> {
+    let routines = Routines::new(alloc, setup)?;
+    Ok(has_routines(&routines))
+}
+
+fn has_routines(routines: &Routines) -> bool {
     routines.result(0xFFF0) == Some([0x33; 32].as_slice())
         && routines.level(0xFFFF) == Some(61)
         && routines.level(0xFFEF).is_none()
 }
 
-fn holds_levels(security: &Security) -> bool {
-    security.key_len(59) == Some(16) && security.key_len(57).is_none()
+fn holds_levels(alloc: Global, setup: &Setup) -> Result<bool, AllocError> {
+    let security = Security::new(alloc, setup)?;
+    Ok(security.key_len(59) == Some(16) && security.key_len(57).is_none())
 }
 
 #[test]
-fn largest_setup(rt: HostRuntime) -> Result<(), Fail> {
-    assert!(rt; is_held(rt.alloc())?);
-    Ok(())
+fn largest_setup(rt: HostRuntime) -> Result<(), Trouble> {
+    holds(is_held(rt.alloc()))
 }

@@ -1,5 +1,6 @@
 //! The tables, by the calls that the services make of them.
 
+use crate::trouble::{Trouble, holds};
 use diag_fixtures::{bytes, raw_two_testers, two_testers};
 use diag_store::{
     DidFault, DidRule, Dids, DtcMemory, KeyAnswer, RawCode, RawRoutine, RawSetup, RoutineState,
@@ -7,7 +8,6 @@ use diag_store::{
 };
 use std::alloc::{AllocError, Global};
 use std::process::Abort;
-use std::test::Fail;
 
 const FIRST_SEED: &[u8] = &[0x11, 0x22, 0x33, 0x44];
 
@@ -35,25 +35,60 @@ fn key(rt: &impl Abort, security: &mut Security, who: Who, key: &[u8]) -> KeyAns
     security.key(who, 1, key)
 }
 
-/// The security of a tester who was delayed for three wrong keys, and then unlocked level 1.
-fn after_security_access(rt: &impl Abort, security: &mut Security, who: Who) {
-    assert!(rt; gives_seed(rt, security, who, Some(FIRST_SEED)));
-    assert_eq!(rt; key(rt, security, who, WRONG_KEY), KeyAnswer::Wrong);
-    assert!(rt; gives_seed(rt, security, who, Some(SECOND_SEED)));
-    assert_eq!(rt; key(rt, security, who, WRONG_KEY), KeyAnswer::Wrong);
-    assert!(rt; gives_seed(rt, security, who, Some(FIRST_SEED)));
-    assert_eq!(rt; key(rt, security, who, WRONG_KEY), KeyAnswer::TooMany);
-    assert!(rt; gives_seed(rt, security, who, None));
-    for _ in 0..1999 {
+/// What a tester does at level 1, and what comes of it.
+enum Act {
+    /// The seed is these bytes; None for a delay.
+    Seed(Option<&'static [u8]>),
+    /// The key is answered so.
+    Key(&'static [u8], KeyAnswer),
+    Ticks(u32),
+}
+
+/// Three wrong keys delay the tester, who then unlocks the level.
+const ACCESS: [Act; 15] = [
+    Act::Seed(Some(FIRST_SEED)),
+    Act::Key(WRONG_KEY, KeyAnswer::Wrong),
+    Act::Seed(Some(SECOND_SEED)),
+    Act::Key(WRONG_KEY, KeyAnswer::Wrong),
+    Act::Seed(Some(FIRST_SEED)),
+    Act::Key(WRONG_KEY, KeyAnswer::TooMany),
+    Act::Seed(None),
+    Act::Ticks(1999),
+    Act::Seed(None),
+    Act::Ticks(1),
+    Act::Seed(Some(SECOND_SEED)),
+    Act::Seed(Some(SECOND_SEED)),
+    Act::Key(SECOND_KEY, KeyAnswer::Right),
+    Act::Seed(Some(WRONG_KEY)),
+    Act::Key(SECOND_KEY, KeyAnswer::NoSeed),
+];
+
+fn wait(security: &mut Security, who: Who, count: u32) {
+    for _ in 0..count {
         security.tick(who);
     }
-    assert!(rt; gives_seed(rt, security, who, None));
-    security.tick(who);
-    assert!(rt; gives_seed(rt, security, who, Some(SECOND_SEED)));
-    assert!(rt; gives_seed(rt, security, who, Some(SECOND_SEED)));
-    assert_eq!(rt; key(rt, security, who, SECOND_KEY), KeyAnswer::Right);
-    assert!(rt; gives_seed(rt, security, who, Some(WRONG_KEY)));
-    assert_eq!(rt; key(rt, security, who, SECOND_KEY), KeyAnswer::NoSeed);
+}
+
+/// Whether this comes of an act.
+fn comes(rt: &impl Abort, security: &mut Security, who: Who, act: &Act) -> bool {
+    match act {
+        Act::Seed(want) => gives_seed(rt, security, who, *want),
+        Act::Key(bytes, answer) => key(rt, security, who, bytes) == *answer,
+        Act::Ticks(count) => {
+            wait(security, who, *count);
+            true
+        }
+    }
+}
+
+/// Whether all acts come out so.
+fn has_access(rt: &impl Abort, security: &mut Security, who: Who) -> bool {
+    for act in &ACCESS {
+        if !comes(rt, security, who, act) {
+            return false;
+        }
+    }
+    true
 }
 
 /// The setup with two testers.
@@ -62,23 +97,25 @@ fn setup_of(alloc: Global) -> Result<Setup, AllocError> {
 }
 
 #[test]
-fn security_access(rt: HostRuntime) -> Result<(), Fail> {
-    assert!(rt; opens_and_unlocks(&rt, rt.alloc())?);
-    Ok(())
+fn security_access(rt: HostRuntime) -> Result<(), Trouble> {
+    let mut security = security_of(rt.alloc())?;
+    holds(unlocks(&rt, &mut security))
 }
 
-fn opens_and_unlocks(rt: &impl Abort, alloc: Global) -> Result<bool, AllocError> {
+fn security_of(alloc: Global) -> Result<Security, AllocError> {
     let setup = setup_of(alloc)?;
-    let mut security = Security::new(alloc, &setup)?;
-    unlocks(rt, &mut security)
+    Security::new(alloc, &setup)
 }
 
 fn unlocks(rt: &impl Abort, security: &mut Security) -> Result<bool, AllocError> {
     let Some(who) = Who::new(1) else {
         return Ok(false);
     };
-    after_security_access(rt, security, who);
-    Ok(copies_security(rt, security, who)? && is_unlocked(security))
+    Ok(
+        has_access(rt, security, who)
+            && copies_security(rt, security, who)?
+            && is_unlocked(security),
+    )
 }
 
 /// Whether a copy goes on where the first stands, and is locked alone.
@@ -94,15 +131,14 @@ fn is_unlocked(security: &Security) -> bool {
 }
 
 #[test]
-fn written_copy(rt: HostRuntime) -> Result<(), Fail> {
-    assert!(rt; opens_and_writes(rt.alloc())?);
-    Ok(())
+fn written_copy(rt: HostRuntime) -> Result<(), Trouble> {
+    let dids = dids_of(rt.alloc())?;
+    holds(keeps_values(&dids))
 }
 
-fn opens_and_writes(alloc: Global) -> Result<bool, AllocError> {
+fn dids_of(alloc: Global) -> Result<Dids, AllocError> {
     let setup = setup_of(alloc)?;
-    let dids = Dids::new(alloc, &setup)?;
-    keeps_values(&dids)
+    Dids::new(alloc, &setup)
 }
 
 /// Whether a copy takes a value, and the first keeps its own.
@@ -136,15 +172,14 @@ fn has_rule(dids: &Dids) -> bool {
 }
 
 #[test]
-fn trouble_codes(rt: HostRuntime) -> Result<(), Fail> {
-    assert!(rt; opens_and_clears(rt.alloc())?);
-    Ok(())
+fn trouble_codes(rt: HostRuntime) -> Result<(), Trouble> {
+    let mut codes = codes_of(rt.alloc())?;
+    holds(clears(&mut codes))
 }
 
-fn opens_and_clears(alloc: Global) -> Result<bool, AllocError> {
+fn codes_of(alloc: Global) -> Result<DtcMemory, AllocError> {
     let setup = setup_of(alloc)?;
-    let mut codes = DtcMemory::new(alloc, &setup)?;
-    clears(&mut codes)
+    DtcMemory::new(alloc, &setup)
 }
 
 /// Whether the codes are cleared, and stay so while a copy gets a status.
@@ -243,7 +278,9 @@ fn has_result(routines: &Routines) -> bool {
 }
 
 /// Which routines are started, in order, whether the setting is on, and the status of the code after 100 ticks.
-const RUNS: [(&[u16], bool, u8); 4] = [
+type Run = (&'static [u16], bool, u8);
+
+const RUNS: [Run; 4] = [
     (&[0x0203], true, 0x2F),
     (&[0x0203, 0x0204], true, 0x01),
     (&[0x0204, 0x0203], true, 0x01),
@@ -251,9 +288,8 @@ const RUNS: [(&[u16], bool, u8); 4] = [
 ];
 
 #[test]
-fn routine_and_setting(rt: HostRuntime) -> Result<(), Fail> {
-    assert!(rt; runs_routines(&rt, rt.alloc())?);
-    Ok(())
+fn routine_and_setting(rt: HostRuntime) -> Result<(), Trouble> {
+    holds(runs_routines(&rt, rt.alloc()))
 }
 
 fn runs_routines(rt: &impl Abort, alloc: Global) -> Result<bool, AllocError> {
@@ -264,27 +300,26 @@ fn runs_routines(rt: &impl Abort, alloc: Global) -> Result<bool, AllocError> {
 }
 
 fn runs_all(rt: &impl Abort, alloc: Global, setup: &Setup) -> Result<bool, AllocError> {
-    for (order, setting, status) in RUNS {
-        let mut codes = DtcMemory::new(alloc, setup)?;
-        let mut routines = Routines::new(alloc, setup)?;
-        if !codes.clear(0xFF_FFFF) {
-            return Ok(false);
-        }
-        start_all(rt, &mut routines, order);
-        if !runs(rt, &mut codes, &mut routines, setting, status) {
+    for run in &RUNS {
+        if !runs_one(rt, alloc, setup, run)? {
             return Ok(false);
         }
     }
     Ok(true)
 }
 
-fn runs(
-    rt: &impl Abort,
-    codes: &mut DtcMemory,
-    routines: &mut Routines,
-    setting: bool,
-    status: u8,
-) -> bool {
+fn runs_one(rt: &impl Abort, alloc: Global, setup: &Setup, run: &Run) -> Result<bool, AllocError> {
+    let mut codes = DtcMemory::new(alloc, setup)?;
+    let mut routines = Routines::new(alloc, setup)?;
+    Ok(runs(rt, &mut codes, &mut routines, run))
+}
+
+fn runs(rt: &impl Abort, codes: &mut DtcMemory, routines: &mut Routines, run: &Run) -> bool {
+    let (order, setting, status) = *run;
+    if !codes.clear(0xFF_FFFF) {
+        return false;
+    }
+    start_all(rt, routines, order);
     if !runs_until_the_last_tick(codes, routines, setting)
         || !is_done_with(codes, routines, setting, status)
     {
@@ -295,16 +330,15 @@ fn runs(
 }
 
 #[test]
-fn copied_routines(rt: HostRuntime) -> Result<(), Fail> {
-    assert!(rt; opens_and_starts(&rt, rt.alloc())?);
-    Ok(())
+fn copied_routines(rt: HostRuntime) -> Result<(), Trouble> {
+    let mut routines = routines_of(rt.alloc())?;
+    start(&rt, &mut routines, 0x0203);
+    holds(keeps_running(&routines))
 }
 
-fn opens_and_starts(rt: &impl Abort, alloc: Global) -> Result<bool, AllocError> {
+fn routines_of(alloc: Global) -> Result<Routines, AllocError> {
     let setup = setup_of(alloc)?;
-    let mut routines = Routines::new(alloc, &setup)?;
-    start(rt, &mut routines, 0x0203);
-    keeps_running(&routines)
+    Routines::new(alloc, &setup)
 }
 
 /// Whether a routine runs on while those of a copy are made idle.
