@@ -2,6 +2,7 @@
 
 use super::given::{CONFIG, Dribble, PLAY, SERIAL, Source, ended};
 use diag_run::{Job, ReadFault, read_whole};
+use std::alloc::AllocError;
 use std::process::Abort;
 use std::sync::Wait;
 use std::test::Fail;
@@ -24,7 +25,7 @@ fn written<T: Threads + Wait + Sync + AllocGlobal>(
     takes_none: bool,
 ) -> Result<(Vec<u8>, u8), Fail> {
     let mut out = Dribble {
-        taken: Vec::new(rt.alloc()),
+        taken: Vec::with_capacity(rt.alloc(), 4096)?,
         calls: 0,
         fails_at,
         takes_none,
@@ -178,6 +179,9 @@ fn a_config_past_its_limit(rt: HostRuntime) -> Result<(), Fail> {
     let mut reader = Source::line_feeds(1_048_577);
     reader.at_once = 1;
     let read = read_whole(rt.alloc(), &mut reader, 1_048_576);
+    if matches!(read, Err(ReadFault::Memory)) {
+        Err(AllocError)?;
+    }
     assert!(rt; matches!(read, Err(ReadFault::Long)));
     assert_eq!(rt; reader.calls, 1_048_577);
     Ok(())

@@ -16,7 +16,7 @@ fn text_of<T: Threads + Wait + Sync + AllocGlobal + Abort>(
     a: &[u8],
     b: &[u8],
 ) -> Result<Vec<u8>, AllocError> {
-    let mut out = Vec::new(rt.alloc());
+    let mut out = Vec::with_capacity(rt.alloc(), 262_144)?;
     let files = two(rt.alloc(), a, b)?;
     let (_told, status) = ended(rt, job, Source::whole(CONFIG), files, &mut out)?;
     assert_eq!(rt; status, 0);
