@@ -1,33 +1,35 @@
 //! Reads of many identifiers, up to the longest reply.
 
 use crate::tests::script::{
-    LONG_VALUE, Trouble, add_long_value, asked, holds, message_of, opened, raw_setup, read_of,
-    repeated,
+    LONG_VALUE, Trouble, add_long_value, asked, holds, holds_at, message_of, opened, raw_setup,
+    read_of, repeated,
 };
+use diag_ecu::Ecu;
 use diag_store::{RawSetup, Who};
 use diag_tp::Message;
 use std::alloc::{AllocError, Global};
-use std::test::Fail;
 
 /// How many identifiers are read, and how long the reply is.
 const READS: [(usize, usize); 4] = [(1, 258), (15, 3856), (16, 4113), (254, 65279)];
 
 #[test]
-fn many_identifiers(rt: HostRuntime) -> Result<(), Fail> {
-    for (times, length) in READS {
-        assert!(rt;
-            holds(reads_many(rt.alloc(), times, length))?,
-            "{times} identifiers"
-        );
+fn many_identifiers(rt: HostRuntime) -> Result<(), Trouble> {
+    reads_all(rt.alloc())?;
+    holds(reads_too_many(rt.alloc()))?;
+    holds(passes_over_unknown(rt.alloc()))
+}
+
+fn reads_all(alloc: Global) -> Result<(), Trouble> {
+    for (times, length) in &READS {
+        holds_at(*times, reads_many(alloc, *times, *length))?;
     }
-    assert!(rt; holds(reads_too_many(rt.alloc()))?);
-    assert!(rt; holds(passes_over_unknown(rt.alloc()))?);
     Ok(())
 }
 
 fn reads_many(alloc: Global, times: usize, length: usize) -> Result<bool, Trouble> {
     let wanted = data_reply(alloc, times)?;
-    Ok(wanted.len() == length && gives(alloc, &read_of(alloc, times)?, wanted.as_slice())?)
+    let read = read_of(alloc, times)?;
+    Ok(wanted.len() == length && gives(alloc, &read, wanted.as_slice())?)
 }
 
 fn reads_too_many(alloc: Global) -> Result<bool, Trouble> {
@@ -50,8 +52,12 @@ fn gives(alloc: Global, request: &Message, wanted: &[u8]) -> Result<bool, Troubl
 
 fn data_of(alloc: Global, request: &Message) -> Result<Option<Message>, Trouble> {
     let mut ecu = opened(alloc, long_setup(alloc)?)?;
+    data_on(&mut ecu, request)
+}
+
+fn data_on(ecu: &mut Ecu, request: &Message) -> Result<Option<Message>, Trouble> {
     match Who::new(1) {
-        Some(who) => Ok(asked(&mut ecu, who, false, request)?),
+        Some(who) => Ok(asked(ecu, who, false, request)?),
         None => Err(Trouble::Wrong),
     }
 }

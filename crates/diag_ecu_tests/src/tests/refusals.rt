@@ -1,7 +1,7 @@
 //! Every pair of a service and a negative response code that it can give.
 
 use crate::tests::script::{
-    Move, Trouble, add_long_value, goes_on, holds, is_answered, message_of, opened, raw_setup,
+    Move, Trouble, add_long_value, goes_on, holds_at, is_answered, message_of, opened, raw_setup,
     read_of,
 };
 use diag_ecu::Ecu;
@@ -9,10 +9,8 @@ use diag_fixtures::bytes;
 use diag_store::{RawDid, RawRoutine, RawSetup};
 use diag_tp::Message;
 use std::alloc::{AllocError, Global};
-use std::test::Fail;
 
 /// What stands before a request.
-#[derive(Clone, Copy)]
 enum Before {
     /// Nobody is the holder.
     Nothing,
@@ -31,7 +29,6 @@ enum Before {
 }
 
 /// The request that is refused.
-#[derive(Clone, Copy)]
 enum Asked {
     /// These bytes, in hex.
     Hex(&'static str),
@@ -39,7 +36,10 @@ enum Asked {
     Reads(usize),
 }
 
-const REFUSALS: [(Before, Asked, &str); 40] = [
+/// What stands before, what is asked, and the reply.
+type Refusal = (Before, Asked, &'static str);
+
+const REFUSALS: [Refusal; 40] = [
     (Before::Nothing, Asked::Hex("23"), "7F2311"),
     (Before::Nothing, Asked::Hex("1004"), "7F1012"),
     (Before::Nothing, Asked::Hex("10"), "7F1013"),
@@ -83,50 +83,42 @@ const REFUSALS: [(Before, Asked, &str); 40] = [
 ];
 
 #[test]
-fn every_refusal(rt: HostRuntime) -> Result<(), Fail> {
-    for (before, request, reply) in REFUSALS {
-        assert!(rt;
-            holds(refuses(rt.alloc(), before, request, reply))?,
-            "{reply}"
-        );
+fn every_refusal(rt: HostRuntime) -> Result<(), Trouble> {
+    refuses_all(rt.alloc())
+}
+
+fn refuses_all(alloc: Global) -> Result<(), Trouble> {
+    for (place, refusal) in REFUSALS.iter().enumerate() {
+        holds_at(place, refuses(alloc, refusal))?;
     }
     Ok(())
 }
 
-fn refuses(
-    alloc: Global,
-    before: Before,
-    request: Asked,
-    reply: &'static str,
-) -> Result<bool, Trouble> {
+fn refuses(alloc: Global, refusal: &Refusal) -> Result<bool, Trouble> {
     let mut ecu = opened(alloc, closed_setup(alloc)?)?;
-    refuses_after(alloc, &mut ecu, before, request, reply)
+    refuses_on(alloc, &mut ecu, refusal)
 }
 
-fn refuses_after(
-    alloc: Global,
-    ecu: &mut Ecu,
-    before: Before,
-    request: Asked,
-    reply: &'static str,
-) -> Result<bool, Trouble> {
+fn refuses_on(alloc: Global, ecu: &mut Ecu, refusal: &Refusal) -> Result<bool, Trouble> {
+    let (before, request, reply) = refusal;
     if !goes_on(alloc, ecu, before.moves())? {
         return Ok(false);
     }
-    is_answered(alloc, ecu, 1, false, &request.message(alloc)?, reply)
+    let message = request.message(alloc)?;
+    is_answered(alloc, ecu, 1, false, &message, reply)
 }
 
 impl Asked {
-    fn message(self, alloc: Global) -> Result<Message, Trouble> {
+    fn message(&self, alloc: Global) -> Result<Message, Trouble> {
         match self {
             Asked::Hex(text) => message_of(alloc, text),
-            Asked::Reads(times) => read_of(alloc, times),
+            Asked::Reads(times) => read_of(alloc, *times),
         }
     }
 }
 
 impl Before {
-    fn moves(self) -> &'static [Move] {
+    fn moves(&self) -> &'static [Move] {
         match self {
             Before::Nothing => &[],
             Before::Another => &[Move::Asks(2, "1083", "-")],

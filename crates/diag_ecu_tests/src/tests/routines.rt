@@ -1,10 +1,9 @@
 //! Trouble codes, and the routines that set them.
 
-use crate::tests::script::{EXTENDED, Move, plays, plays_on, raw_setup};
+use crate::tests::script::{EXTENDED, Move, Trouble, plays, plays_all, plays_on, raw_setup};
 use diag_fixtures::bytes;
 use diag_store::{RawCode, RawRoutine, RawSetup};
 use std::alloc::{AllocError, Global};
-use std::test::Fail;
 
 const CODES: [Move; 6] = [
     Move::Asks(1, "14FFFF", "7F1413"),
@@ -16,9 +15,8 @@ const CODES: [Move; 6] = [
 ];
 
 #[test]
-fn trouble_codes(rt: HostRuntime) -> Result<(), Fail> {
-    assert!(rt; plays(rt.alloc(), &[&CODES])?);
-    Ok(())
+fn trouble_codes(rt: HostRuntime) -> Result<(), Trouble> {
+    plays(rt.alloc(), &[&CODES])
 }
 
 /// Of the status 2F only the bits 0F are available.
@@ -32,10 +30,8 @@ const AVAILABLE: [Move; 6] = [
 ];
 
 #[test]
-fn availability(rt: HostRuntime) -> Result<(), Fail> {
-    let raw = masked_setup(rt.alloc())?;
-    assert!(rt; plays_on(rt.alloc(), raw, &[&AVAILABLE])?);
-    Ok(())
+fn availability(rt: HostRuntime) -> Result<(), Trouble> {
+    plays_on(rt.alloc(), masked_setup(rt.alloc())?, &[&AVAILABLE])
 }
 
 fn masked_setup(alloc: Global) -> Result<RawSetup, AllocError> {
@@ -78,12 +74,15 @@ const SETTING_ON: [Move; 7] = [
     Move::Asks(1, "1902FF", "5902FF0123452F"),
 ];
 
+const SETTINGS: [&[&[Move]]; 3] = [
+    &[&SETTING_OFF, &STARTS, &ENDS],
+    &[&SETTING_OFF, &STARTS, &ENTERS_AGAIN, &ENDS],
+    &[&SETTING_ON],
+];
+
 #[test]
-fn routine_and_setting(rt: HostRuntime) -> Result<(), Fail> {
-    assert!(rt; plays(rt.alloc(), &[&SETTING_OFF, &STARTS, &ENDS])?);
-    assert!(rt; plays(rt.alloc(), &[&SETTING_OFF, &STARTS, &ENTERS_AGAIN, &ENDS])?);
-    assert!(rt; plays(rt.alloc(), &[&SETTING_ON])?);
-    Ok(())
+fn routine_and_setting(rt: HostRuntime) -> Result<(), Trouble> {
+    plays_all(rt.alloc(), &SETTINGS)
 }
 
 /// The routine 0204 after 0203, and before it.
@@ -105,17 +104,20 @@ const BOTH: [[Move; 5]; 2] = [
 ];
 
 #[test]
-fn routines_end_by_rising_identifier(rt: HostRuntime) -> Result<(), Fail> {
-    for moves in &BOTH {
-        assert!(rt; runs_both(rt.alloc(), moves)?);
-    }
-    Ok(())
+fn routines_end_by_rising_identifier(rt: HostRuntime) -> Result<(), Trouble> {
+    let [first, second] = &BOTH;
+    runs_both(rt.alloc(), first)?;
+    runs_both(rt.alloc(), second)
 }
 
-fn runs_both(alloc: Global, moves: &[Move]) -> Result<bool, AllocError> {
+fn runs_both(alloc: Global, moves: &[Move]) -> Result<(), Trouble> {
+    plays_on(alloc, larger_setup(alloc)?, &[moves])
+}
+
+fn larger_setup(alloc: Global) -> Result<RawSetup, AllocError> {
     let mut raw = raw_setup(alloc)?;
     add_second_routine(alloc, &mut raw)?;
-    plays_on(alloc, raw, &[moves])
+    Ok(raw)
 }
 
 /// Gives a setup a further routine 0204 like 0203, of status 01.

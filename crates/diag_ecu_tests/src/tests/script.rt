@@ -3,14 +3,13 @@
 use diag_can::TickCount;
 use diag_ecu::{Ecu, Session};
 use diag_fixtures::{bytes, raw_two_testers};
-use diag_store::{RawDid, RawSetup, Who};
+use diag_store::{RawDid, RawSetup, Setup, Who};
 use diag_tp::{Message, MessageFault};
 use hex::FromHexError;
 use std::alloc::{AllocError, Global};
 
 /// What a tester does, which is named by its place, and what the ECU tells of itself then. Requests and replies are
 /// hex text; the reply `-` is none.
-#[derive(Clone, Copy)]
 pub enum Move {
     Asks(u8, &'static str, &'static str),
     /// The same by a functional request.
@@ -23,10 +22,12 @@ pub enum Move {
 }
 
 /// Why a test did not come to its end: memory was refused, or a call answered what it must not.
-#[derive(Clone, Copy, PartialEq, Eq, Debug, Drop)]
+#[derive(Clone, Copy, Debug)]
 pub enum Trouble {
     Memory,
     Wrong,
+    /// What is wrong is at this place of a table, from 0.
+    WrongAt(usize),
 }
 
 impl From<AllocError> for Trouble {
@@ -59,12 +60,21 @@ pub const EXTENDED: &str = "5003003201F4";
 /// The value of the identifier 0100.
 pub const LONG_VALUE: [u8; 255] = [0x5A; 255];
 
-/// Whether all went as it should; an error where memory was refused on the way.
-pub fn holds(outcome: Result<bool, Trouble>) -> Result<bool, AllocError> {
-    match outcome {
-        Ok(right) => Ok(right),
-        Err(Trouble::Memory) => Err(AllocError),
-        Err(Trouble::Wrong) => Ok(false),
+/// All went as it should.
+pub fn holds(outcome: Result<bool, Trouble>) -> Result<(), Trouble> {
+    if outcome? {
+        Ok(())
+    } else {
+        Err(Trouble::Wrong)
+    }
+}
+
+/// The same of a place in a table.
+pub fn holds_at(place: usize, outcome: Result<bool, Trouble>) -> Result<(), Trouble> {
+    if outcome? {
+        Ok(())
+    } else {
+        Err(Trouble::WrongAt(place))
     }
 }
 
@@ -75,10 +85,24 @@ pub fn raw_setup(alloc: Global) -> Result<RawSetup, AllocError> {
 
 /// The ECU of a setup that isn't checked yet.
 pub fn opened(alloc: Global, raw: RawSetup) -> Result<Ecu, Trouble> {
+    let setup = checked(raw)?;
+    match Ecu::new(alloc, &setup) {
+        Ok(ecu) => Ok(ecu),
+        Err(AllocError) => Err(Trouble::Memory),
+    }
+}
+
+/// The setup that is right.
+fn checked(raw: RawSetup) -> Result<Setup, Trouble> {
     match raw.check() {
-        Ok(setup) => Ok(Ecu::new(alloc, &setup)?),
+        Ok(setup) => Ok(setup),
         Err(_) => Err(Trouble::Wrong),
     }
+}
+
+/// The ECU of the setup with two testers.
+pub fn ecu_of_two(alloc: Global) -> Result<Ecu, Trouble> {
+    opened(alloc, raw_setup(alloc)?)
 }
 
 /// Gives a setup a further identifier 0100 of 255 bytes.
@@ -92,19 +116,24 @@ pub fn add_long_value(alloc: Global, raw: &mut RawSetup) -> Result<(), AllocErro
     })
 }
 
-/// Whether the moves get their replies from the ECU of the setup with two testers, as it opens.
-pub fn plays(alloc: Global, parts: &[&[Move]]) -> Result<bool, AllocError> {
-    plays_on(alloc, raw_setup(alloc)?, parts)
+/// The moves of all parts get their replies from the ECU of the setup with two testers, as it opens.
+pub fn plays(alloc: Global, parts: &[&[Move]]) -> Result<(), Trouble> {
+    let mut ecu = ecu_of_two(alloc)?;
+    holds(goes_through(alloc, &mut ecu, parts))
 }
 
 /// The same of another setup.
-pub fn plays_on(alloc: Global, raw: RawSetup, parts: &[&[Move]]) -> Result<bool, AllocError> {
-    holds(opens_and_goes(alloc, raw, parts))
+pub fn plays_on(alloc: Global, raw: RawSetup, parts: &[&[Move]]) -> Result<(), Trouble> {
+    let mut ecu = opened(alloc, raw)?;
+    holds(goes_through(alloc, &mut ecu, parts))
 }
 
-fn opens_and_goes(alloc: Global, raw: RawSetup, parts: &[&[Move]]) -> Result<bool, Trouble> {
-    let mut ecu = opened(alloc, raw)?;
-    goes_through(alloc, &mut ecu, parts)
+/// Several plays, each on an ECU of its own.
+pub fn plays_all(alloc: Global, plays_of: &[&[&[Move]]]) -> Result<(), Trouble> {
+    for parts in plays_of {
+        plays(alloc, parts)?;
+    }
+    Ok(())
 }
 
 /// Whether the moves of all parts get their replies from this ECU.
@@ -120,32 +149,34 @@ pub fn goes_through(alloc: Global, ecu: &mut Ecu, parts: &[&[Move]]) -> Result<b
 /// Whether the moves get their replies from this ECU.
 pub fn goes_on(alloc: Global, ecu: &mut Ecu, moves: &[Move]) -> Result<bool, Trouble> {
     for step in moves {
-        if !goes(alloc, ecu, *step)? {
+        if !goes(alloc, ecu, step)? {
             return Ok(false);
         }
     }
     Ok(true)
 }
 
-fn goes(alloc: Global, ecu: &mut Ecu, step: Move) -> Result<bool, Trouble> {
+fn goes(alloc: Global, ecu: &mut Ecu, step: &Move) -> Result<bool, Trouble> {
     match step {
-        Move::Asks(place, request, reply) => {
-            is_answered(
-                alloc,
-                ecu,
-                place,
-                false,
-                &message_of(alloc, request)?,
-                reply,
-            )
-        }
-        Move::Calls(place, request, reply) => {
-            is_answered(alloc, ecu, place, true, &message_of(alloc, request)?, reply)
-        }
-        Move::Waits(place, count) => Ok(waits(ecu, place, count)),
-        Move::Held(place) => Ok(is_held_by(ecu, place)),
-        Move::Status(status) => Ok(ecu.codes().status(0x01_2345) == Some(status)),
+        Move::Asks(place, request, reply) => asks(alloc, ecu, *place, false, request, reply),
+        Move::Calls(place, request, reply) => asks(alloc, ecu, *place, true, request, reply),
+        Move::Waits(place, count) => Ok(waits(ecu, *place, *count)),
+        Move::Held(place) => Ok(is_held_by(ecu, *place)),
+        Move::Status(status) => Ok(ecu.codes().status(0x01_2345) == Some(*status)),
     }
+}
+
+/// Whether a request in hex gets this reply.
+fn asks(
+    alloc: Global,
+    ecu: &mut Ecu,
+    place: u8,
+    functional: bool,
+    request: &str,
+    reply: &str,
+) -> Result<bool, Trouble> {
+    let request = message_of(alloc, request)?;
+    is_answered(alloc, ecu, place, functional, &request, reply)
 }
 
 /// Whether a request gets this reply.

@@ -1,31 +1,29 @@
 //! The session: who holds it, how it ends, and what isn't sent.
 
 use crate::tests::script::{
-    EXTENDED, Move, Trouble, holds, is_held_by, is_reply, message_of, opened, plays, raw_setup,
+    EXTENDED, Move, Trouble, ecu_of_two, holds, is_held_by, is_reply, message_of, plays,
 };
 use diag_ecu::Ecu;
 use diag_store::Who;
 use diag_tp::Message;
 use std::alloc::Global;
-use std::test::Fail;
 
 const SUPPRESSED: [Move; 3] = [Move::Held(0), Move::Asks(1, "1083", "-"), Move::Held(1)];
 
 #[test]
-fn suppressed_reply(rt: HostRuntime) -> Result<(), Fail> {
-    assert!(rt; plays(rt.alloc(), &[&SUPPRESSED])?);
-    Ok(())
+fn suppressed_reply(rt: HostRuntime) -> Result<(), Trouble> {
+    plays(rt.alloc(), &[&SUPPRESSED])
 }
 
 #[test]
-fn reply_and_settle(rt: HostRuntime) -> Result<(), Fail> {
-    assert!(rt; holds(settles(rt.alloc()))?);
-    Ok(())
+fn reply_and_settle(rt: HostRuntime) -> Result<(), Trouble> {
+    let request = message_of(rt.alloc(), "1003")?;
+    holds(settles(rt.alloc(), &request))
 }
 
-fn settles(alloc: Global) -> Result<bool, Trouble> {
-    let mut ecu = opened(alloc, raw_setup(alloc)?)?;
-    settles_after(&mut ecu, &message_of(alloc, "1003")?, alloc)
+fn settles(alloc: Global, request: &Message) -> Result<bool, Trouble> {
+    let mut ecu = ecu_of_two(alloc)?;
+    settles_after(&mut ecu, request, alloc)
 }
 
 /// A reply alone changes nothing; the state changes when the ECU settles.
@@ -55,9 +53,8 @@ const CALLS: [Move; 6] = [
 ];
 
 #[test]
-fn functional_silence(rt: HostRuntime) -> Result<(), Fail> {
-    assert!(rt; plays(rt.alloc(), &[&CALLS])?);
-    Ok(())
+fn functional_silence(rt: HostRuntime) -> Result<(), Trouble> {
+    plays(rt.alloc(), &[&CALLS])
 }
 
 const ENTERS: [Move; 2] = [
@@ -90,9 +87,13 @@ const HOLDERS: [[Move; 3]; 4] = [
 ];
 
 #[test]
-fn session_holder(rt: HostRuntime) -> Result<(), Fail> {
+fn session_holder(rt: HostRuntime) -> Result<(), Trouble> {
+    are_held(rt.alloc())
+}
+
+fn are_held(alloc: Global) -> Result<(), Trouble> {
     for moves in &HOLDERS {
-        assert!(rt; plays(rt.alloc(), &[&ENTERS, moves])?);
+        plays(alloc, &[&ENTERS, moves])?;
     }
     Ok(())
 }
@@ -113,10 +114,9 @@ const SILENT_RESETS: [Move; 4] = [
 ];
 
 #[test]
-fn ecu_reset(rt: HostRuntime) -> Result<(), Fail> {
-    assert!(rt; plays(rt.alloc(), &[&RESETS])?);
-    assert!(rt; plays(rt.alloc(), &[&SILENT_RESETS])?);
-    Ok(())
+fn ecu_reset(rt: HostRuntime) -> Result<(), Trouble> {
+    plays(rt.alloc(), &[&RESETS])?;
+    plays(rt.alloc(), &[&SILENT_RESETS])
 }
 
 const UNLOCKS: [Move; 3] = [
@@ -140,9 +140,13 @@ const LOCKED: [Move; 2] = [
 ];
 
 #[test]
-fn relock(rt: HostRuntime) -> Result<(), Fail> {
+fn relock(rt: HostRuntime) -> Result<(), Trouble> {
+    locks(rt.alloc())
+}
+
+fn locks(alloc: Global) -> Result<(), Trouble> {
     for end in &ENDS {
-        assert!(rt; plays(rt.alloc(), &[&UNLOCKS, end, &LOCKED])?);
+        plays(alloc, &[&UNLOCKS, end, &LOCKED])?;
     }
     Ok(())
 }

@@ -1,11 +1,10 @@
 //! Seeds, keys and the delay, and a copy of an ECU that is unlocked.
 
 use crate::tests::script::{
-    EXTENDED, Move, Trouble, goes_on, goes_through, holds, opened, plays, raw_setup,
+    EXTENDED, Move, Trouble, ecu_of_two, goes_on, goes_through, holds, plays_all,
 };
 use diag_ecu::Ecu;
 use std::alloc::Global;
-use std::test::Fail;
 
 /// Three wrong keys in a row, and the delay.
 const WRONG_KEYS: [Move; 8] = [
@@ -32,11 +31,11 @@ const RIGHT_KEY: [Move; 6] = [
 /// One tick before the end of the delay.
 const TOO_EARLY: [Move; 2] = [Move::Waits(1, 1999), Move::Asks(1, "2701", "7F2737")];
 
+const ACCESSES: [&[&[Move]]; 2] = [&[&WRONG_KEYS, &RIGHT_KEY], &[&WRONG_KEYS, &TOO_EARLY]];
+
 #[test]
-fn security_access(rt: HostRuntime) -> Result<(), Fail> {
-    assert!(rt; plays(rt.alloc(), &[&WRONG_KEYS, &RIGHT_KEY])?);
-    assert!(rt; plays(rt.alloc(), &[&WRONG_KEYS, &TOO_EARLY])?);
-    Ok(())
+fn security_access(rt: HostRuntime) -> Result<(), Trouble> {
+    plays_all(rt.alloc(), &ACCESSES)
 }
 
 /// The seed of an unlocked level, a write, and another tester's read.
@@ -49,14 +48,9 @@ const WRITES: [Move; 3] = [
 const READS: [Move; 1] = [Move::Asks(2, "22F190", "62F1905445535456494E30313233343536373839")];
 
 #[test]
-fn copied_ecu(rt: HostRuntime) -> Result<(), Fail> {
-    assert!(rt; holds(copies(rt.alloc()))?);
-    Ok(())
-}
-
-fn copies(alloc: Global) -> Result<bool, Trouble> {
-    let mut ecu = opened(alloc, raw_setup(alloc)?)?;
-    copies_after(alloc, &mut ecu)
+fn copied_ecu(rt: HostRuntime) -> Result<(), Trouble> {
+    let mut ecu = ecu_of_two(rt.alloc())?;
+    holds(copies_after(rt.alloc(), &mut ecu))
 }
 
 /// A copy goes on where the first stands, and what it does leaves the first as it was.
@@ -64,13 +58,16 @@ fn copies_after(alloc: Global, ecu: &mut Ecu) -> Result<bool, Trouble> {
     if !goes_through(alloc, ecu, &[&WRONG_KEYS, &RIGHT_KEY])? || !writes_copy(alloc, ecu)? {
         return Ok(false);
     }
-    goes_on(alloc, ecu, &READS)
+    Ok(has_value(ecu, b"TESTVIN0123456789") && goes_on(alloc, ecu, &READS)?)
 }
 
 fn writes_copy(alloc: Global, ecu: &Ecu) -> Result<bool, Trouble> {
     let mut copy = ecu.try_copy()?;
-    let written = goes_on(alloc, &mut copy, &WRITES)?;
-    Ok(written && has_value(&copy, b"ABCDEFGHIJKLMNOPQ") && has_value(ecu, b"TESTVIN0123456789"))
+    writes_on(alloc, &mut copy)
+}
+
+fn writes_on(alloc: Global, copy: &mut Ecu) -> Result<bool, Trouble> {
+    Ok(goes_on(alloc, copy, &WRITES)? && has_value(copy, b"ABCDEFGHIJKLMNOPQ"))
 }
 
 fn has_value(ecu: &Ecu, value: &[u8]) -> bool {
