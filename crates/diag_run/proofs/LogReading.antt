@@ -7,7 +7,7 @@ use Rattle.diag_can.specs.declared.frame.Event.{Event}
 use Rattle.diag_can.specs.declared.log.Timing.{Timing}
 use Rattle.diag_setup.specs.Setup.{ids_of}
 use Rattle.diag_setup.specs.declared.raw.RawSetup.{RawSetup}
-use Rattle.diag_run.specs.Files.{Refusal, bad_log, ◌>>=◌, logs_from}
+use Rattle.diag_run.specs.Files.{Refusal, bad_log, logs_from}
 use Rattle.diag_run.proofs.Reading.{with_front, regroup}
 
 module _ (timing : Timing) (setup : RawSetup) (front : List (List Event)) (n : ℕ) (text : List ℕ) (texts : List (List ℕ)) (total : Result (List (List Event)) Refusal) where

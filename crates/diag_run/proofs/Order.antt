@@ -1,5 +1,5 @@
 -- Which faults are met before a file is read.
-use Rattle.std.proofs.Common.{◌≡◌, ℕ, suc, ◌+◌, ◌≤◌, ◌<◌, Bool, true, false, nat_le, nat_lt, length, List, [], ◌∷◌, ◌++◌, Result, Ok, Err, IfErr, refl, sym, ap, ◌∙◌, arith, inl, inr}
+use Rattle.std.proofs.Common.{◌≡◌, ℕ, ◌+◌, false, nat_le, nat_lt, length, List, [], ◌∷◌, Result, Ok, Err, IfErr, refl, arith, inl, inr}
 use Rattle.std.proofs.lemmas.Bool.{cases_Bool}
 use Rattle.std.proofs.lemmas.Bool.Decides.{nat_tests}
 use Rattle.diag_run.specs.Files.{Refusal, config_long, bad_config, wrong_count, file_long, bad_log, ◌>>=◌, is_before, within, files_from}

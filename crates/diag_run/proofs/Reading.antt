@@ -1,8 +1,8 @@
 -- Reading files one after the other, as a loop does.
-use Rattle.std.proofs.Common.{◌≡◌, ℕ, suc, ◌+◌, ◌-◌, ◌≤◌, ◌<◌, length, drop, get_or, map, List, [], ◌∷◌, ◌++◌, Option, Some, Result, Ok, Err, refl, sym, ap, ◌∙◌, append_assoc, arith, le-leb, nat_le, false}
+use Rattle.std.proofs.Common.{◌≡◌, ℕ, ◌+◌, ◌≤◌, ◌<◌, length, drop, get_or, map, List, [], ◌∷◌, ◌++◌, Option, Some, Result, Ok, Err, refl, sym, ap, ◌∙◌, append_assoc, arith, le-leb, nat_le, false}
 use Rattle.std.proofs.lemmas.List.{append-nil, drop_more, drop-map, drop-drop, length-map}
 use Rattle.std.proofs.lemmas.Bool.Decides.{nat_tests}
-use Rattle.diag_run.specs.Files.{Refusal, file_long, ◌>>=◌, AreKnown, within, files_from}
+use Rattle.diag_run.specs.Files.{Refusal, file_long, ◌>>=◌, AreKnown, files_from}
 
 -- what was read before, and what is still read
 abbrev pub with_front : {A : Type 0} → List A → Result (List A) Refusal → Result (List A) Refusal

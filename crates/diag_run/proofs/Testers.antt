@@ -1,5 +1,5 @@
 -- Going over the testers of a setup, and over a list seen item by item.
-use Rattle.std.proofs.Common.{◌≡◌, ℕ, ◌+◌, ◌<◌, Bool, true, false, nat_lt, length, drop, get_or, map, List, ◌∷◌, Some, None, if◌then◌else◌, inl, inr, refl, sym, ap, ◌∙◌}
+use Rattle.std.proofs.Common.{◌≡◌, ℕ, ◌+◌, ◌<◌, nat_lt, length, drop, get_or, map, List, ◌∷◌, Some, None, inl, inr, sym, ap, ◌∙◌}
 use Rattle.std.proofs.lemmas.Bool.{cases_Bool}
 use Rattle.std.proofs.lemmas.List.{drop_more, drop-map}
 use Rattle.diag_setup.specs.Setup.{who_at}

@@ -1,5 +1,5 @@
 -- The logs as a threaded play reads them are those that a run reads, and so is what it gives for them.
-use Rattle.std.proofs.Common.{◌≡◌, ℕ, suc, ◌+◌, Bool, length, map, List, [], ◌∷◌, Result, Ok, Err, IfOk, IsOk, refl, sym, ap, ◌∙◌, arith}
+use Rattle.std.proofs.Common.{◌≡◌, ℕ, suc, ◌+◌, Bool, length, map, List, [], ◌∷◌, Result, Ok, Err, IfOk, IsOk, refl, sym, ap, ◌∙◌}
 use Rattle.std.proofs.lemmas.List.{length-map}
 use Rattle.diag_can.specs.Log.{events}
 use Rattle.diag_can.specs.declared.fault.LogFault.{LogFault}

@@ -1,5 +1,5 @@
 -- What a run writes for its config and its files, or the fault that it answers.
-use Rattle.std.specs.Prelude.{◌≡◌, ◌≢◌, ◌<◌, ◌⊎◌, ℕ, Bool, if◌then◌else◌, List, [], ◌∷◌, ◌++◌, length, map, Option, Some, Result, Ok, Err, IsOk, IsOkAnd, IfSome}
+use Rattle.std.specs.Prelude.{◌≡◌, ◌≢◌, ◌<◌, ◌⊎◌, ℕ, Bool, if◌then◌else◌, List, [], ◌∷◌, length, map, Option, Some, Result, Ok, Err, IsOk, IsOkAnd, IfSome}
 use Rattle.std.specs.Io.KnownBytes.{Appends, Keeps}
 use Rattle.diag_can.specs.declared.frame.Event.{Event}
 use Rattle.diag_can.specs.declared.log.Timing.{Timing}
@@ -19,7 +19,7 @@ use Rattle.diag_run.specs.Faults.{fault_text, status}
 use Rattle.diag_run.specs.Files.{Refusal, ◌>>=◌, Fails, AreKnown, config_of, counted, files_from, logs_from}
 use Rattle.diag_run.specs.Text.{journal_part, whole_text, replay_text}
 use Rattle.diag_run.specs.declared.fault.RunFault.{RunFault}
-use Rattle.diag_run.specs.declared.fault.RunFault.TheVariants.{Files, Config, ConfigLong, Log, JournalLine, FileLong, Memory, JournalFull, RecordsDisagree, Read, Write, Differs}
+use Rattle.diag_run.specs.declared.fault.RunFault.TheVariants.{JournalLine, Memory, JournalFull, Write, Differs}
 use Rattle.diag_run.specs.declared.whole.Given.{Given}
 use Rattle.diag_run.specs.declared.whole.Outcome.{Outcome}
 use Rattle.diag_run.specs.declared.whole.Outcome.TheVariants as outcome

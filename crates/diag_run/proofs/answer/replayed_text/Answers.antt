@@ -1,4 +1,3 @@
-use Rattle.std.proofs.Common.{◌≡◌}
 use Rattle.diag_run.proofs.answer.replayed_text.Goals as goal
 
 pub returns-in-Err-Differs : goal.returns-in-Err-Differs

@@ -1,9 +1,9 @@
-use Rattle.std.proofs.Common.{◌≡◌, ◌+◌, ◌≤◌, ◌<◌, List, ℕ, ◌∷◌, ◌++◌, [], length, drop, get_or, map, Some, ◌∙◌, sym, ap, refl, arith, rules}
+use Rattle.std.proofs.Common.{◌≡◌, ◌+◌, ◌≤◌, ◌<◌, List, ℕ, ◌∷◌, ◌++◌, [], length, drop, map, ◌∙◌, ap, arith, rules}
 use Rattle.std.proofs.lemmas.List.{map_push, drop-set-lt, drop_all, length-append, length-set}
 use Rattle.std.proofs.lemmas.Grind.{drop_more_same}
-use Rattle.diag_run.specs.Files.{AreKnown, files_from}
+use Rattle.diag_run.specs.Files.{files_from}
 use Rattle.diag_run.proofs.Order.{AllLater-front, AllLater-files}
-use Rattle.diag_run.proofs.Reading.{with_front, AreKnown-length, known_at, goes_on, too_long, is_done}
+use Rattle.diag_run.proofs.Reading.{AreKnown-length, known_at, goes_on, too_long, is_done}
 use Rattle.diag_run.proofs.files.read_files.Goals as goal
 
 pub loop-index-preserved : goal.loop-index-preserved

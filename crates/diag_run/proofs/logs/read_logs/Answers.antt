@@ -1,11 +1,8 @@
-use Rattle.std.proofs.Common.{◌≡◌, ◌+◌, ◌<◌, length, List, [], ◌∷◌, ◌++◌, Ok, Err, Some, map, drop, refl, sym, ap, subst, ◌∙◌, arith, rules}
+use Rattle.std.proofs.Common.{◌≡◌, ◌+◌, length, [], ◌∷◌, ◌++◌, Ok, Err, map, drop, ap, subst, ◌∙◌, arith, rules}
 use Rattle.std.proofs.lemmas.List.{map_push, drop_all, length-append, length-map}
 use Rattle.diag_can.specs.Log.{events}
-use Rattle.diag_can.specs.declared.frame.Event.{Event}
 use Rattle.diag_setup.specs.Setup.{ids_of}
-use Rattle.diag_run.specs.Files.{bad_log, logs_from}
 use Rattle.diag_run.proofs.LogReading.{log_goes_on, log_stops, logs_done}
-use Rattle.diag_run.proofs.Reading.{with_front}
 use Rattle.diag_run.proofs.Testers.{seen_at, who_found}
 use Rattle.diag_run.proofs.logs.read_logs.Goals as goal
 

@@ -1,5 +1,4 @@
-use Rattle.std.proofs.Common.{◌≡◌, ℕ, ◌+◌, ◌++◌, ◌∷◌, List, Some, get_or, drop, refl, sym, ap, ◌∙◌, append_assoc, arith, rules, option_map}
-use Rattle.diag_store.specs.Dtcs.{row_pair}
+use Rattle.std.proofs.Common.{ℕ, ◌+◌, ◌++◌, List, drop, sym, ap, ◌∙◌, append_assoc, rules}
 use Rattle.diag_run.specs.Text.{code_line, code_lines}
 use Rattle.diag_run.proofs.Codes.{code_here}
 use Rattle.diag_run.proofs.text.add_codes.Goals as goal

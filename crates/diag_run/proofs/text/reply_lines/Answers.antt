@@ -1,7 +1,7 @@
-use Rattle.std.proofs.Common.{◌≡◌, ℕ, ◌+◌, ◌<◌, length, List, [], ◌∷◌, ◌++◌, map, drop, refl, sym, ap, subst, ◌∙◌, append_assoc, append-nil, arith, rules}
+use Rattle.std.proofs.Common.{◌≡◌, ◌+◌, [], ◌++◌, map, drop, subst, arith, rules}
 use Rattle.std.proofs.lemmas.List.{drop_all, length-map}
 use Rattle.diag_setup.specs.Setup.{name_of}
-use Rattle.diag_run.specs.Text.{lines_of, lines_from}
+use Rattle.diag_run.specs.Text.{lines_of}
 use Rattle.diag_run.proofs.Lines.{lines_here, lines_done}
 use Rattle.diag_run.proofs.Testers.{seen_at, who_found}
 use Rattle.diag_run.proofs.text.reply_lines.Goals as goal
