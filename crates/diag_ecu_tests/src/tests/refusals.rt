@@ -39,7 +39,7 @@ enum Asked {
 /// What stands before, what is asked, and the reply.
 type Refusal = (Before, Asked, &'static str);
 
-const REFUSALS: [Refusal; 40] = [
+const REFUSALS: &[Refusal] = &[
     (Before::Nothing, Asked::Hex("23"), "7F2311"),
     (Before::Nothing, Asked::Hex("1004"), "7F1012"),
     (Before::Nothing, Asked::Hex("10"), "7F1013"),
