@@ -89,7 +89,11 @@ const MISNUMBERED: [Turn; 3] = [
 ];
 
 /// The 16th Consecutive has the number of the 17th.
-fn misnumbers(script: &mut Script) -> Result<(), Trouble> {
+fn misnumbers(alloc: Global) -> Result<(), Trouble> {
+    misnumbers_on(&mut opened(alloc, 0, MAX_REQUEST)?)
+}
+
+fn misnumbers_on(script: &mut Script) -> Result<(), Trouble> {
     script.takes("7E0#108122FFFFFFFFFF", "", GO_ON)?;
     takes_parts(script, 16, 0, "")?;
     script.plays(&MISNUMBERED)
@@ -99,7 +103,7 @@ fn misnumbers(script: &mut Script) -> Result<(), Trouble> {
 fn long_request(rt: HostRuntime) -> Result<(), Trouble> {
     is_taken(rt.alloc(), &LONG_REQUEST)?;
     is_taken(rt.alloc(), &IN_BLOCKS)?;
-    misnumbers(&mut opened(rt.alloc(), 0, MAX_REQUEST)?)
+    misnumbers(rt.alloc())
 }
 
 const LARGEST_BASE: Long = Long {
@@ -249,6 +253,11 @@ fn waits_long(script: &mut Script, times: u32, sends: &str) -> Result<(), Troubl
     script.takes("7E0#300000", "", sends)
 }
 
+fn waits_out(opened: Result<Script, Trouble>, times: u32, sends: &str) -> Result<(), Trouble> {
+    let mut script = opened?;
+    waits_long(&mut script, times, sends)
+}
+
 const AFTER_1000: &str = "7E8#215456494E303132@999000 7E8#2233343536373839@999000";
 
 const AFTER_3: &str = "7E8#215456494E303132@2997 7E8#2233343536373839@2997";
@@ -262,8 +271,8 @@ const WITHIN_A_BLOCK: [&[Turn]; 1] = [&[
 
 #[test]
 fn long_waiting(rt: HostRuntime) -> Result<(), Failed> {
-    waits_long(&mut alone(rt.alloc())?, 1000, AFTER_1000)?;
-    waits_long(&mut opened(rt.alloc(), 0, MAX_REQUEST)?, 3, AFTER_3)?;
+    waits_out(alone(rt.alloc()), 1000, AFTER_1000)?;
+    waits_out(opened(rt.alloc(), 0, MAX_REQUEST), 3, AFTER_3)?;
     shows(rt.alloc(), &WITHIN_A_BLOCK)
 }
 

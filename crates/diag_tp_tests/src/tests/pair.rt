@@ -108,10 +108,20 @@ impl Pair {
             Event::Ticks(_) => return Err(Trouble::State),
             Event::Physical(_) | Event::Functional(_) => self.receive(event, reply)?,
         };
-        self.tell(event, copy)?;
-        self.compare_request(&request)?;
-        self.send()?;
+        self.follow(event, copy, &request)?;
         Ok(request)
+    }
+
+    /// The twin takes the frame and the reply, gives the same request, and what is due is sent.
+    fn follow(
+        &mut self,
+        event: &Event,
+        reply: Option<Message>,
+        request: &Option<Request>,
+    ) -> Result<(), Trouble> {
+        self.tell(event, reply)?;
+        self.compare_request(request)?;
+        self.send()
     }
 
     /// The link takes a frame, with the reply to what it gives. What it gives is told beforehand, too.

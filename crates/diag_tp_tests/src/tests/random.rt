@@ -173,25 +173,35 @@ impl Tester {
         if completes == self.chance.is_one_in(6) {
             return Ok(None);
         }
-        let mut bytes = Vec::new(alloc);
-        for _ in 0..self.chance.below(40).saturating_add(1) {
-            bytes.push(self.chance.byte())?;
+        let size = usize::from(self.chance.below(40).saturating_add(1));
+        let mut bytes = [0; 40];
+        for byte in bytes.iter_mut().take(size) {
+            *byte = self.chance.byte();
         }
-        Ok(Some(Message::new(alloc, bytes.as_slice())?))
+        Ok(Some(Message::new(alloc, &bytes[..size.min(40)])?))
     }
 }
 
 /// An event goes to a link and its twin.
 fn takes(alloc: Global, tester: &mut Tester, pair: &mut Pair) -> Result<(), Trouble> {
-    let event = tester.event().ok_or(Trouble::Script)?;
-    match event {
-        Event::Ticks(count) => pair.wait(count),
-        Event::Physical(_) | Event::Functional(_) => {
-            let reply = tester.reply(alloc, pair.completes(&event))?;
-            pair.frame(&event, reply)?;
-            Ok(())
-        }
+    match tester.event() {
+        Some(event) => takes_one(alloc, tester, pair, &event),
+        None => Err(Trouble::Script),
     }
+}
+
+fn takes_one(
+    alloc: Global,
+    tester: &mut Tester,
+    pair: &mut Pair,
+    event: &Event,
+) -> Result<(), Trouble> {
+    if let Event::Ticks(count) = event {
+        return pair.wait(*count);
+    }
+    let reply = tester.reply(alloc, pair.completes(event))?;
+    pair.frame(event, reply)?;
+    Ok(())
 }
 
 /// The tester of this seed, and its link's pace.
@@ -239,35 +249,31 @@ fn slow_twin(rt: HostRuntime) -> Result<(), Failed> {
     Ok(())
 }
 
+/// Which kind this is, and its numbers.
+fn numbers(kind: &Pci) -> (u8, u16, u8, u8) {
+    match kind {
+        Pci::Single(_) => (0, 0, 0, 0),
+        Pci::First { len, .. } => (1, *len, 0, 0),
+        Pci::TooLong => (2, 0, 0, 0),
+        Pci::Consecutive { number, .. } => (3, u16::from(*number), 0, 0),
+        Pci::Flow { status, block, gap } => (4, u16::from(*status), *block, *gap),
+        Pci::Nothing => (5, 0, 0, 0),
+    }
+}
+
+/// Its part of a message.
+fn part(kind: &Pci) -> &[u8] {
+    match kind {
+        Pci::Single(part) | Pci::First { head: part, .. } | Pci::Consecutive { part, .. } => {
+            part.as_slice()
+        }
+        _ => &[],
+    }
+}
+
 /// Whether two kinds are the same.
 fn are_same(one: &Pci, other: &Pci) -> bool {
-    match (one, other) {
-        (Pci::Single(one), Pci::Single(other)) => one.as_slice() == other.as_slice(),
-        (
-            Pci::First { len, head },
-            Pci::First {
-                len: other_len,
-                head: other_head,
-            },
-        ) => len == other_len && head.as_slice() == other_head.as_slice(),
-        (Pci::TooLong, Pci::TooLong) | (Pci::Nothing, Pci::Nothing) => true,
-        (
-            Pci::Consecutive { number, part },
-            Pci::Consecutive {
-                number: other_number,
-                part: other_part,
-            },
-        ) => number == other_number && part.as_slice() == other_part.as_slice(),
-        (
-            Pci::Flow { status, block, gap },
-            Pci::Flow {
-                status: other_status,
-                block: other_block,
-                gap: other_gap,
-            },
-        ) => status == other_status && block == other_block && gap == other_gap,
-        _ => false,
-    }
+    numbers(one) == numbers(other) && part(one) == part(other)
 }
 
 /// Whether a frame is the same to the link as by the table.

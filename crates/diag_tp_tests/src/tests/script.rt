@@ -229,10 +229,14 @@ pub(crate) fn alone(alloc: Global) -> Result<Script, Trouble> {
     }
 }
 
+fn plays_at(alloc: Global, setup: &LinkSetup, pace: Pace, turns: &[Turn]) -> Result<(), Trouble> {
+    Script::new(alloc, setup, pace).plays(turns)
+}
+
 /// All turns on a link with these settings, tick by tick and then in moves.
 fn plays(alloc: Global, setup: &LinkSetup, turns: &[Turn]) -> Result<(), Trouble> {
-    Script::new(alloc, setup, Pace::Ticks).plays(turns)?;
-    Script::new(alloc, setup, Pace::Moves).plays(turns)
+    plays_at(alloc, setup, Pace::Ticks, turns)?;
+    plays_at(alloc, setup, Pace::Moves, turns)
 }
 
 /// All plays at this receive limit, each on a link of its own.
