@@ -60,14 +60,14 @@ fn step_held(
     }
 }
 
-/// The same, once more where memory was refused: the desk was then not kept from a third seat.
+/// The same, once more where memory was refused: the desk was then not kept from a third seat. Whether it is silent.
 fn step_held_again(
     alloc: Global,
     gate: &Gate,
     seat: Seat,
     other: &mut Seat,
     third: &mut Seat,
-) -> Result<(Seat, Option<Message>), Trouble>
+) -> Result<(Seat, bool), Trouble>
     requires seat { seat.gate ≡ gate.now }
     requires other { other.old.gate ≡ gate.now }
     requires third { third.old.gate ≡ gate.now }
@@ -81,20 +81,22 @@ fn step_held_again(
         Err(StepFault::Memory) => {
             tick(gate, third)?;
             let (seat, answer) = step_held(alloc, gate, seat, other, &quiet)?;
-            Ok((seat, answer?))
+            Ok((seat, answer?.is_none()))
         }
-        answer => Ok((seat, answer?)),
+        answer => Ok((seat, answer?.is_none())),
     }
 }
 
-/// Has a seat try a step, once more where memory was refused: the desk was then not kept from a third seat.
+/// Has a seat try a step, once more where memory was refused: the desk was then not kept from a third seat. Whether it
+/// is answered so.
 fn try_again(
     alloc: Global,
     gate: &Gate,
     seat: &mut Seat,
     third: &mut Seat,
     bytes: &[u8],
-) -> Result<Option<Message>, Trouble>
+    wanted: &[u8],
+) -> Result<bool, Trouble>
     requires seat { seat.old.gate ≡ gate.now }
     requires third { third.old.gate ≡ gate.now }
     ensures seat { seat.new.gate ≡ seat.old.gate }
@@ -103,13 +105,14 @@ fn try_again(
     match gate.try_step(seat, request(alloc, bytes)?) {
         Err(TryFault::Memory) => {
             tick(gate, third)?;
-            Ok(gate.try_step(seat, request(alloc, bytes)?)?)
+            Ok(says(&gate.try_step(seat, request(alloc, bytes)?)?, wanted))
         }
-        answer => Ok(answer?),
+        answer => Ok(says(&answer?, wanted)),
     }
 }
 
-/// A step that waits, once more where memory was refused: the desk was then not kept from a third seat.
+/// A step that waits, once more where memory was refused: the desk was then not kept from a third seat. Whether it is
+/// answered so.
 fn wait_again<R: Wait>(
     rt: &R,
     alloc: Global,
@@ -117,7 +120,8 @@ fn wait_again<R: Wait>(
     seat: &mut Seat,
     third: &mut Seat,
     bytes: &[u8],
-) -> Result<Option<Message>, Trouble>
+    wanted: &[u8],
+) -> Result<bool, Trouble>
     requires seat { seat.old.gate ≡ gate.now }
     requires third { third.old.gate ≡ gate.now }
     ensures seat { seat.new.gate ≡ seat.old.gate }
@@ -127,9 +131,9 @@ fn wait_again<R: Wait>(
     match gate.step(rt, seat, &asked) {
         Err(StepFault::Memory) => {
             tick(gate, third)?;
-            Ok(gate.step(rt, seat, &asked)?)
+            Ok(says(&gate.step(rt, seat, &asked)?, wanted))
         }
-        answer => Ok(answer?),
+        answer => Ok(says(&answer?, wanted)),
     }
 }
 
@@ -197,12 +201,20 @@ fn all_step<R: Wait>(rt: &R, alloc: Global, gate: &Gate, host: &mut Host) -> Res
     let mut b = seat_of(gate, host, 2)?;
     let mut third = seat_of(gate, host, 8)?;
     let (mut a, silent) = step_held_again(alloc, gate, a, &mut b, &mut third)?;
-    let taken = try_again(alloc, gate, &mut b, &mut third, &[0x10, 0x03])?;
-    let value = wait_again(rt, alloc, gate, &mut a, &mut third, &[0x22, 0xF1, 0x90])?;
+    let taken = try_again(alloc, gate, &mut b, &mut third, &[0x10, 0x03], &BUSY)?;
+    let value = wait_again(
+        rt,
+        alloc,
+        gate,
+        &mut a,
+        &mut third,
+        &[0x22, 0xF1, 0x90],
+        VALUE,
+    )?;
     bring_home(gate, host, a);
     bring_home(gate, host, b);
     bring_home(gate, host, third);
-    Ok(silent.is_none() && says(&taken, &BUSY) && says(&value, VALUE))
+    Ok(silent && taken && value)
 }
 
 /// Whether the desk of a gate whose seats are home has all entries.
