@@ -5,13 +5,14 @@
 # memory, what it answers without a refusal. A test must end with the error of a refused allocation, or pass where it
 # had no more need of the memory.
 # A request may fall in any thread; how many there are may then be another from run to run.
-# REFUSE_SECONDS (default 240) bounds the time; what was not reached is said. The last line is 'N passed, M failed'.
+# A test that makes many requests, or that takes long, has as many of them refused, evenly chosen, as fit in REFUSE_TEST_SECONDS
+# (default 3). REFUSE_SECONDS (default 600) bounds the whole; what was not reached is said. The last line is 'N passed, M failed'.
 set -uo pipefail
 cd "$(dirname "$0")/.." || exit 2
 room=$(mktemp -d)
 trap 'rm -rf "$room"' EXIT
 cc -O2 -shared -fPIC -o "$room/refuse.so" tools/refuse.c -ldl || { echo "refuse: no C compiler"; echo "0 passed, 1 failed"; exit 1; }
-end=$(($(date +%s) + ${REFUSE_SECONDS:-240}))
+end=$(($(date +%s) + ${REFUSE_SECONDS:-600}))
 passed=0
 failed=0
 
@@ -62,7 +63,7 @@ sweep_run() {
   good "$name: $((n - 1)) requests"
 }
 
-# sweep_test PROGRAM NAME: one test; at most 200 requests and about 15 seconds, evenly chosen where it makes more
+# sweep_test PROGRAM NAME: one test
 sweep_test() {
   local program=$1 name=$2 n=1 step=1 begun took most total
   begun=$(date +%s%N)
@@ -70,7 +71,7 @@ sweep_test() {
   took=$((($(date +%s%N) - begun) / 1000000 + 1))
   total=$asked
   if [ "$status" != 0 ]; then bad "$name: status $status without a refusal"; return; fi
-  most=$((15000 / took + 1))
+  most=$((${REFUSE_TEST_SECONDS:-3} * 1000 / took + 1))
   [ "$most" -gt 200 ] && most=200
   [ "$total" -gt "$most" ] && step=$((total / most + 1))
   while [ "$n" -le "$total" ]; do
