@@ -77,7 +77,7 @@ sweep_test() {
   while [ "$n" -le "$total" ]; do
     if late; then echo "refused: $name: no time after $((n - 1)) requests"; return; fi
     refused "$n" "$program" "$name"
-    if [ "$status" != 0 ] && ! grep -Eq '[Ee]rror: (Memory|Alloc(Error|Failed))' "$room/err"; then bad "$name: request $n: status $status"; return; fi
+    if [ "$status" != 0 ] && ! grep -Eq '[Ee]rror: .*(Memory|Alloc(Error|Failed))' "$room/err"; then bad "$name: request $n: status $status"; return; fi
     n=$((n + step))
   done
   good "$name: $total requests, one of each $step"
