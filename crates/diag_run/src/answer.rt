@@ -6,7 +6,7 @@ ghost use Rattle.diag_run.specs.Run.{GivesPlayed, GivesWoven, GivesReplayed, pla
 
 use crate::fault::RunFault;
 use crate::logs::read_logs;
-use crate::text::{journal_part, play_text, play_text_beside, replay_text};
+use crate::text::{journal_part, play_text, replay_text};
 use diag_can::Timing;
 use diag_desk::{JournalFault, ReplayFault, StepFault, read_journal, replay};
 use diag_setup::Setup;
@@ -52,26 +52,7 @@ pub(crate) fn woven_text<R: Threads + Wait + Sync>(
     ensures { GivesWoven only_journal timing setup.now (logs_from timing setup.now 1 (map (λ text. text.items) texts.now)) (answered (λ text. text.items) result) }
 {
     let played = play(rt, alloc, setup, texts, &NoWatch, timing)?;
-    Ok(text_beside(rt, alloc, setup, &played, only_journal, timing)?)
-}
-
-/// What is written of a play, its parts made beside each other: the journal alone where that is asked for.
-fn text_beside<R: Threads + Sync>(
-    rt: &R,
-    alloc: Global,
-    setup: &Setup,
-    played: &Played,
-    only_journal: bool,
-    timing: Timing,
-) -> Result<Vec<u8>, AllocError>
-    requires { length played.now.sent.items ≡ length setup.now.testers }
-    ensures { IfOk result (λ text. text.items ≡ played_text only_journal timing setup.now played.now.desk (map (λ sent. sent.items) played.now.sent.items)) }
-{
-    if only_journal {
-        journal_part(alloc, timing, played.desk.journal())
-    } else {
-        play_text_beside(rt, alloc, setup, played, timing)
-    }
+    Ok(text_of(alloc, setup, &played, only_journal, timing)?)
 }
 
 /// What is written of a play: the journal alone where that is asked for.

@@ -13,7 +13,6 @@ use diag_store::DtcMemory;
 use diag_tp::Sent;
 use diag_world::Played;
 use std::alloc::{AllocError, Global};
-use std::thread::{Threads, join};
 
 /// All that a play writes: the reply lines of each tester, tester by tester, the journal, and the end.
 ///
@@ -30,64 +29,10 @@ pub fn play_text(
 {
     let mut text = reply_lines(alloc, setup, played.sent.as_slice())?;
     let journal = journal_part(alloc, timing, played.desk.journal())?;
-    add_rest(
-        &mut text,
-        alloc,
-        setup,
-        journal.as_slice(),
-        played.desk.ecu(),
-    )?;
+    text.extend_from_slice(journal.as_slice())?;
+    let end = end_text(alloc, setup, played.desk.ecu())?;
+    text.extend_from_slice(end.as_slice())?;
     Ok(text)
-}
-
-/// The same, the journal's text made beside the reply lines.
-pub(crate) fn play_text_beside<R: Threads + Sync>(
-    rt: &R,
-    alloc: Global,
-    setup: &Setup,
-    played: &Played,
-    timing: Timing,
-) -> Result<Vec<u8>, AllocError>
-    requires { length played.now.sent.items ≡ length setup.now.testers }
-    ensures { IfOk result (λ text. text.items ≡ whole_text timing setup.now played.now.desk (map (λ sent. sent.items) played.now.sent.items)) }
-{
-    let sent = played.sent.as_slice();
-    let journal = played.desk.journal();
-    let (lines, journal) = join(
-        rt,
-        move || -> Result<Vec<u8>, AllocError>
-            requires { length sent.now ≡ length setup.now.testers }
-            ensures { IfOk result (λ text. text.items ≡ lines_from setup.entry.now 1 (map (λ frames. frames.items) sent.entry.now)) }
-        { reply_lines(alloc, setup, sent) },
-        move || -> Result<Vec<u8>, AllocError>
-            ensures { IfOk result (λ text. text.items ≡ journal_part timing journal.entry.now.entries) }
-        { journal_part(alloc, timing, journal) },
-    );
-    let mut text = lines?;
-    let journal = journal?;
-    add_rest(
-        &mut text,
-        alloc,
-        setup,
-        journal.as_slice(),
-        played.desk.ecu(),
-    )?;
-    Ok(text)
-}
-
-/// Adds what stands behind the reply lines: the journal's text, and the end.
-fn add_rest(
-    text: &mut Vec<u8>,
-    alloc: Global,
-    setup: &Setup,
-    journal: &[u8],
-    ecu: &Ecu,
-) -> Result<(), AllocError>
-    ensures { OnOk result (text.new.items ≡ text.old.items ++ journal.now ++ end_text setup.now ecu.now) }
-{
-    text.extend_from_slice(journal)?;
-    let end = end_text(alloc, setup, ecu)?;
-    text.extend_from_slice(end.as_slice())
 }
 
 /// The reply lines, tester by tester.
