@@ -5,8 +5,8 @@
 # memory, what it answers without a refusal. A test must end with the error of a refused allocation, or pass where it
 # had no more need of the memory.
 # A request may fall in any thread; how many there are may then be another from run to run.
-# A test that makes many requests, or that takes long, has as many of them refused, evenly chosen, as fit in REFUSE_TEST_SECONDS
-# (default 3). REFUSE_SECONDS (default 600) bounds the whole; what was not reached is said. The last line is 'N passed, M failed'.
+# A test that makes many requests, or that takes long, has 200 of them refused, evenly chosen, or as many as fit in
+# REFUSE_TEST_SECONDS (default 3). REFUSE_SECONDS (default 600) bounds the whole; what was not reached is said. The last line is 'N passed, M failed'.
 set -uo pipefail
 cd "$(dirname "$0")/.." || exit 2
 room=$(mktemp -d)
