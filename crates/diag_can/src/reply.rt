@@ -1,11 +1,18 @@
 //! The line of a frame that a tester was sent, in candump's log notation.
 
-ghost use Rattle.std.specs.Prelude.{◌≡◌, ◌++◌, true, string_bytes, IfOk, OnOk, OnErr};
-ghost use Rattle.std.specs.Fmt.{decimal, digits};
+ghost use Rattle.std.specs.Prelude.{◌≡◌, ◌≤◌, ◌++◌, true, decimal, replicate, IfOk, OnOk, OnErr};
+ghost use Rattle.std.specs.Fmt.{digits};
 ghost use Rattle.diag_can.specs.Reply.{zero_filled, stamp, frame_text, reply_line};
 
 use crate::frame::{CanId, Frame};
+use crate::upper::{upper_digit, write_hex};
+use itoa::Buffer;
 use std::alloc::{AllocError, Global};
+
+/// More bytes than a line has beside its name.
+const LINE_ROOM: usize = 64;
+
+const ZEROS: [u8; 10] = *b"0000000000";
 
 /// Appends the line of a frame that the tester `name` was sent at `at` milliseconds:
 /// `(SECONDS.MILLISECONDS000) NAME ID#BYTES` and LF, where the seconds have ten digits or more, the milliseconds three,
@@ -25,7 +32,7 @@ pub fn write_line(text: &mut Vec<u8>, name: &[u8], at: u64, frame: &Frame) -> Re
 fn line(alloc: Global, name: &[u8], at: u64, frame: &Frame) -> Result<Vec<u8>, AllocError>
     ensures { IfOk result (λ line. line.items ≡ reply_line name.now at frame.now) }
 {
-    let mut line = Vec::new(alloc);
+    let mut line = Vec::with_capacity(alloc, name.len().saturating_add(LINE_ROOM))?;
     add_stamp(&mut line, at)?;
     line.push(b' ')?;
     line.extend_from_slice(name)?;
@@ -39,39 +46,49 @@ fn line(alloc: Global, name: &[u8], at: u64, frame: &Frame) -> Result<Vec<u8>, A
 fn add_stamp(line: &mut Vec<u8>, at: u64) -> Result<(), AllocError>
     ensures { OnOk result (line.new.items ≡ line.old.items ++ stamp at) }
 {
-    let alloc = *line.allocator();
     line.push(b'(')?;
-    line.extend_from_slice(seconds(alloc, at / 1000)?.as_bytes())?;
+    add_zero_filled(line, 10, at / 1000)?;
     line.push(b'.')?;
-    line.extend_from_slice(milliseconds(alloc, at % 1000)?.as_bytes())?;
+    add_zero_filled(line, 3, at % 1000)?;
     line.extend_from_slice(b"000)")
+}
+
+/// A number in decimal, with zeros before it up to a width.
+fn add_zero_filled(line: &mut Vec<u8>, width: usize, number: u64) -> Result<(), AllocError>
+    requires { width ≤ 10 }
+    ensures { OnOk result (line.new.items ≡ line.old.items ++ zero_filled width (decimal number)) }
+{
+    let mut buffer = Buffer::new();
+    let digits = buffer.format(number).as_bytes();
+    line.extend_from_slice(zeros(width.saturating_sub(digits.len())))?;
+    line.extend_from_slice(digits)
+}
+
+/// That many zeros.
+fn zeros(count: usize) -> &'static [u8]
+    requires { count ≤ 10 }
+    ensures { result.now ≡ replicate count 48 }
+{
+    &ZEROS[..count]
 }
 
 /// The identifier, `#` and the bytes.
 fn add_frame(line: &mut Vec<u8>, frame: &Frame) -> Result<(), AllocError>
     ensures { OnOk result (line.new.items ≡ line.old.items ++ frame_text frame.now) }
 {
-    let alloc = *line.allocator();
-    line.extend_from_slice(identifier(alloc, frame.id)?.as_bytes())?;
+    add_identifier(line, frame.id)?;
     line.push(b'#')?;
-    line.extend_from_slice(hex::encode_upper(alloc, frame.bytes.as_slice())?.as_bytes())
+    write_hex(line, frame.bytes.as_slice())
 }
 
-fn seconds(alloc: Global, n: u64) -> Result<String, AllocError>
-    ensures { IfOk result (λ t. string_bytes t ≡ zero_filled 10 (decimal n)) }
-{
-    format!(in alloc; "{n:010}")
-}
-
-fn milliseconds(alloc: Global, n: u64) -> Result<String, AllocError>
-    ensures { IfOk result (λ t. string_bytes t ≡ zero_filled 3 (decimal n)) }
-{
-    format!(in alloc; "{n:03}")
-}
-
-fn identifier(alloc: Global, id: CanId) -> Result<String, AllocError>
-    ensures { IfOk result (λ t. string_bytes t ≡ zero_filled 3 (digits 16 true id)) }
+/// The identifier in three digits.
+fn add_identifier(line: &mut Vec<u8>, id: CanId) -> Result<(), AllocError>
+    ensures { OnOk result (line.new.items ≡ line.old.items ++ zero_filled 3 (digits 16 true id)) }
 {
     let number = id.get();
-    format!(in alloc; "{number:03X}")
+    line.extend_from_slice(&[
+        upper_digit((number / 256) as u8),
+        upper_digit((number / 16 % 16) as u8),
+        upper_digit((number % 16) as u8),
+    ])
 }

@@ -1,8 +1,5 @@
 -- Upper-case hex has one spelling: what decodes from upper-case digits is written back as it was.
 use Rattle.std.proofs.Common.{◌≡◌, ℕ, zero, suc, ◌+◌, ◌*◌, ◌/◌, ◌%◌, ◌<◌, ◌==◌, Bool, true, not, ◌&&◌, ◌||◌, inl, inr, List, [], ◌∷◌, length, slice_index, Option, Some, None, unwrap_or, Result, Ok, Err, refl, sym, ap, ◌∙◌, arith}
-use Rattle.std.proofs.Common.{◌++◌, take, slice_get, append_assoc, append-nil}
-use Rattle.std.proofs.lemmas.List.{take_more}
-use Rattle.std.proofs.lemmas.Option.{slice_get_within, get_or_from_slice_get}
 use Rattle.std.specs.List.{list_all}
 use Rattle.std.specs.Result.{result_unwrap_or}
 use Rattle.std.proofs.lemmas.Bool.{and_parts, cases_lt, eqb-true}
@@ -105,19 +102,3 @@ pub text-message : (m text : List ℕ) → IsMessage m → encode_upper m ≡ te
 text-message m text h e =
     let len : length text ≡ 2 * length m = ap length (sym e) ∙ length-encode_with upper_digits m in
     (len, ap (list_all is_upper_digit) (sym e) ∙ upper-encode m h.2, decode_sized-twice text (length m) len ∙ ap decode_of (sym e) ∙ decode_of-encode_upper m h.2)
-
-upper-append : (bytes : List ℕ) (b : ℕ) → encode_upper (bytes ++ b ∷ []) ≡ encode_upper bytes ++ slice_index upper_digits (b / 16) ∷ slice_index upper_digits (b % 16) ∷ []
-unfolding encode_with
-upper-append [] b = refl
-upper-append (x ∷ bytes) b = ap (λ text. slice_index upper_digits (x / 16) ∷ slice_index upper_digits (x % 16) ∷ text) (upper-append bytes b)
-
--- the hex of one byte more, after a text
-pub upper_more : (old bytes text next : List ℕ) (i b high low : ℕ) → slice_get bytes i ≡ Some b → text ≡ old ++ encode_upper (take i bytes) → next ≡ text ++ high ∷ low ∷ []
-    → high ≡ slice_index upper_digits (b / 16) → low ≡ slice_index upper_digits (b % 16) → next ≡ old ++ encode_upper (take (i + 1) bytes)
-upper_more old bytes text next i b high low at t n h l =
-    let taken : take (i + 1) bytes ≡ take i bytes ++ b ∷ [] = take_more bytes i b (slice_get_within bytes i b at) ∙ ap (λ x. take i bytes ++ x ∷ []) (get_or_from_slice_get bytes i b b at) in
-    n ∙ (λ j. t j ++ h j ∷ l j ∷ []) ∙ append_assoc old (encode_upper (take i bytes)) _ ∙ ap (λ x. old ++ x) (sym (ap encode_upper taken ∙ upper-append (take i bytes) b))
-
-pub upper_none : (old : List ℕ) → old ≡ old ++ encode_upper []
-unfolding encode_with
-upper_none old = sym (append-nil old)

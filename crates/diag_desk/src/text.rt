@@ -1,15 +1,14 @@
 //! Writing the text of a journal, in one buffer.
-ghost use Rattle.std.specs.Prelude.{◌≡◌, ◌≤◌, ◌<◌, ◌++◌, OnOk, IfOk, codes, decimal, option_copied, slice_index};
-ghost use Rattle.hex.specs.Hex.{encode_upper, upper_digits};
+ghost use Rattle.std.specs.Prelude.{◌≡◌, ◌≤◌, ◌<◌, ◌++◌, OnOk, IfOk, codes, decimal, option_copied};
+ghost use Rattle.hex.specs.Hex.{encode_upper};
 ghost use Rattle.diag_desk.specs.Entry.{entry_seen, step_seen};
 ghost use Rattle.diag_desk.specs.Text.{ended, entry_line, header, journal_text, journal_text_at, kind_text, reply_text, stamped_line, step_text, text_of, ticks_in};
 
 use crate::clocks::Clocks;
 use crate::entry::{EntryRef, StepRef};
 use crate::journal::Journal;
+use diag_can::write_hex;
 use std::alloc::{AllocError, Global};
-
-const UPPER_DIGITS: [u8; 16] = *b"0123456789ABCDEF";
 
 /// The text of version 1: the line `diag-journal 1`, then a line for each entry, each ended by LF.
 ///
@@ -90,24 +89,6 @@ fn write_decimal(text: &mut Vec<u8>, number: u64) -> Result<(), AllocError>
 {
     let mut buffer = itoa::Buffer::new();
     text.extend_from_slice(buffer.format(number).as_bytes())
-}
-
-/// Appends a message in upper-case hex.
-fn write_hex(text: &mut Vec<u8>, bytes: &[u8]) -> Result<(), AllocError>
-    ensures { OnOk result (text.new.items ≡ text.old.items ++ encode_upper bytes.now) }
-{
-    for byte in bytes {
-        text.extend_from_slice(&[upper_digit(*byte / 16), upper_digit(*byte % 16)])?;
-    }
-    Ok(())
-}
-
-/// The digit of a value below 16.
-fn upper_digit(value: u8) -> u8
-    requires { value < 16 }
-    ensures { result ≡ slice_index upper_digits value }
-{
-    UPPER_DIGITS[usize::from(value)]
 }
 
 /// Appends the line of an entry.

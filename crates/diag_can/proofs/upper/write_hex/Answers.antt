@@ -1,6 +1,6 @@
 use Rattle.std.proofs.lemmas.Option.{slice_get-get_or}
-use Rattle.diag_desk.proofs.HexText.{upper_more, upper_none}
-use Rattle.diag_desk.proofs.text.write_hex.Goals as goal
+use Rattle.diag_can.proofs.Hex.{upper_more, upper_none}
+use Rattle.diag_can.proofs.upper.write_hex.Goals as goal
 
 pub loop-byte-init : goal.loop-byte-init
 loop-byte-init c = upper_none c.args.text.now.items

@@ -1,6 +1,6 @@
 use Rattle.std.proofs.Common.{◌≡◌, ◌++◌, take}
 use Rattle.hex.specs.Hex.{encode_upper}
-use Rattle.diag_desk.proofs.text.write_hex.Given as goal
+use Rattle.diag_can.proofs.upper.write_hex.Given as goal
 
 -- what is written so far is the hex of the bytes so far
 abbrev pub invariant-loop-byte : goal.invariant-loop-byte

@@ -1,0 +1,29 @@
+//! Upper-case hex, appended to a text. (The library `hex` makes a text of its own of each call.)
+
+ghost use Rattle.std.specs.Prelude.{◌≡◌, ◌<◌, ◌++◌, OnOk, slice_index};
+ghost use Rattle.hex.specs.Hex.{encode_upper, upper_digits};
+
+use std::alloc::AllocError;
+
+const UPPER_DIGITS: [u8; 16] = *b"0123456789ABCDEF";
+
+/// The digit of a value below 16.
+pub(crate) fn upper_digit(value: u8) -> u8
+    requires { value < 16 }
+    ensures { result ≡ slice_index upper_digits value }
+{
+    UPPER_DIGITS[usize::from(value)]
+}
+
+/// Appends bytes in upper-case hex, two digits a byte.
+///
+/// # Errors
+/// `AllocError` where memory is refused; digits may then have been appended.
+pub fn write_hex(text: &mut Vec<u8>, bytes: &[u8]) -> Result<(), AllocError>
+    ensures { OnOk result (text.new.items ≡ text.old.items ++ encode_upper bytes.now) }
+{
+    for byte in bytes {
+        text.extend_from_slice(&[upper_digit(*byte / 16), upper_digit(*byte % 16)])?;
+    }
+    Ok(())
+}
