@@ -1,12 +1,13 @@
 //! What a run writes for what it has read: the text of a play, or of a replay.
 
 ghost use Rattle.std.specs.Prelude.{◌≡◌, length, map, IfOk};
+ghost use Rattle.std.specs.List.{concat};
 ghost use Rattle.diag_run.specs.Files.{logs_from};
 ghost use Rattle.diag_run.specs.Run.{GivesPlayed, GivesWoven, GivesReplayed, played_text, answered};
 
 use crate::fault::RunFault;
 use crate::logs::read_logs;
-use crate::text::{journal_part, play_text, replay_text};
+use crate::text::{journal_part, one_part, play_parts, play_text, replay_text};
 use diag_can::Timing;
 use diag_desk::{JournalFault, ReplayFault, StepFault, read_journal, replay};
 use diag_setup::Setup;
@@ -23,16 +24,16 @@ pub(crate) fn played_text(
     texts: &[Vec<u8>],
     only_journal: bool,
     timing: Timing,
-) -> Result<Vec<u8>, RunFault>
+) -> Result<Vec<Vec<u8>>, RunFault>
     requires { length texts.now ≡ length setup.now.testers }
-    ensures { GivesPlayed only_journal timing setup.now (logs_from timing setup.now 1 (map (λ text. text.items) texts.now)) (answered (λ text. text.items) result) }
+    ensures { GivesPlayed only_journal timing setup.now (logs_from timing setup.now 1 (map (λ text. text.items) texts.now)) (answered (λ parts. concat (map (λ part. part.items) parts.items)) result) }
 {
     let logs = match read_logs(alloc, setup, timing, texts) {
         Ok(logs) => logs,
         Err(fault) => return Err(fault),
     };
     match serial(alloc, setup, logs.as_slice()) {
-        Ok(played) => Ok(text_of(alloc, setup, &played, only_journal, timing)?),
+        Ok(played) => Ok(in_one(alloc, setup, &played, only_journal, timing)?),
         Err(StepFault::Memory) => Err(RunFault::Memory),
         Err(StepFault::JournalFull) => Err(RunFault::JournalFull),
     }
@@ -47,35 +48,59 @@ pub(crate) fn woven_text<R: Threads + Wait + Sync>(
     texts: &[Vec<u8>],
     only_journal: bool,
     timing: Timing,
-) -> Result<Vec<u8>, RunFault>
+) -> Result<Vec<Vec<u8>>, RunFault>
     requires { length texts.now ≡ length setup.now.testers }
-    ensures { GivesWoven only_journal timing setup.now (logs_from timing setup.now 1 (map (λ text. text.items) texts.now)) (answered (λ text. text.items) result) }
+    ensures { GivesWoven only_journal timing setup.now (logs_from timing setup.now 1 (map (λ text. text.items) texts.now)) (answered (λ parts. concat (map (λ part. part.items) parts.items)) result) }
 {
     let played = play(rt, alloc, setup, texts, &NoWatch, timing)?;
-    Ok(text_of(alloc, setup, &played, only_journal, timing)?)
+    Ok(in_parts(rt, alloc, setup, &played, only_journal, timing)?)
 }
 
-/// What is written of a play: the journal alone where that is asked for.
-fn text_of(
+/// What is written of a play, in parts that are made beside each other: the journal alone where that is asked for.
+fn in_parts<R: Threads + Sync>(
+    rt: &R,
     alloc: Global,
     setup: &Setup,
     played: &Played,
     only_journal: bool,
     timing: Timing,
-) -> Result<Vec<u8>, AllocError>
+) -> Result<Vec<Vec<u8>>, AllocError>
     requires { length played.now.sent.items ≡ length setup.now.testers }
-    ensures { IfOk result (λ text. text.items ≡ played_text only_journal timing setup.now played.now.desk (map (λ sent. sent.items) played.now.sent.items)) }
+    ensures { IfOk result (λ parts. concat (map (λ part. part.items) parts.items) ≡ played_text only_journal timing setup.now played.now.desk (map (λ sent. sent.items) played.now.sent.items)) }
 {
     if only_journal {
-        journal_part(alloc, timing, played.desk.journal())
+        one_part(alloc, journal_part(alloc, timing, played.desk.journal())?)
     } else {
-        play_text(alloc, setup, played, timing)
+        play_parts(rt, alloc, setup, played, timing)
     }
 }
 
+/// The same in one part.
+fn in_one(
+    alloc: Global,
+    setup: &Setup,
+    played: &Played,
+    only_journal: bool,
+    timing: Timing,
+) -> Result<Vec<Vec<u8>>, AllocError>
+    requires { length played.now.sent.items ≡ length setup.now.testers }
+    ensures { IfOk result (λ parts. concat (map (λ part. part.items) parts.items) ≡ played_text only_journal timing setup.now played.now.desk (map (λ sent. sent.items) played.now.sent.items)) }
+{
+    let text = if only_journal {
+        journal_part(alloc, timing, played.desk.journal())?
+    } else {
+        play_text(alloc, setup, played, timing)?
+    };
+    one_part(alloc, text)
+}
+
 /// Replays the journal that these bytes say, and says what the replay writes.
-pub(crate) fn replayed_text(alloc: Global, setup: &Setup, bytes: &[u8]) -> Result<Vec<u8>, RunFault>
-    ensures { GivesReplayed setup.now bytes.now (answered (λ text. text.items) result) }
+pub(crate) fn replayed_text(
+    alloc: Global,
+    setup: &Setup,
+    bytes: &[u8],
+) -> Result<Vec<Vec<u8>>, RunFault>
+    ensures { GivesReplayed setup.now bytes.now (answered (λ parts. concat (map (λ part. part.items) parts.items)) result) }
 {
     let journal = match read_journal(alloc, bytes) {
         Ok(journal) => journal,
@@ -83,7 +108,7 @@ pub(crate) fn replayed_text(alloc: Global, setup: &Setup, bytes: &[u8]) -> Resul
         Err(JournalFault::Memory) => return Err(RunFault::Memory),
     };
     match replay(alloc, setup, &journal) {
-        Ok(ecu) => Ok(replay_text(alloc, setup, &journal, &ecu)?),
+        Ok(ecu) => Ok(one_part(alloc, replay_text(alloc, setup, &journal, &ecu)?)?),
         Err(ReplayFault::Differs(n)) => Err(RunFault::Differs(n)),
         Err(ReplayFault::Memory) => Err(RunFault::Memory),
     }

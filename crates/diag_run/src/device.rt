@@ -1,7 +1,8 @@
 //! Reading a whole file and writing a whole text, by loops of their own.
 
-ghost use Rattle.std.specs.Prelude.{◌≡◌, ◌+◌, ◌<◌, ◌^◌, ◌≤◌, ℕ, List, length, take, IfOk, IfSome, OnOk, OnErr, Err, Some};
+ghost use Rattle.std.specs.Prelude.{◌≡◌, ◌+◌, ◌<◌, ◌^◌, ◌≤◌, ℕ, List, length, map, take, IfOk, IfSome, OnOk, OnErr, Err, Some};
 ghost use Rattle.std.specs.Io.KnownBytes.{Appends, Keeps};
+ghost use Rattle.std.specs.List.{concat};
 ghost use Rattle.diag_run.specs.Bytes.{AppendsFront};
 
 use std::alloc::{AllocError, Global};
@@ -33,7 +34,7 @@ pub fn read_whole<R: Read>(
     ensures long { result ≡ Err ReadFault.Long → IfSome (R.remaining reader.old) (λ bytes. limit < length bytes) }
 {
     let mut bytes = Vec::new(alloc);
-    let mut buffer = [0u8; 4096];
+    let mut buffer = [0u8; 65_536];
     for turn in 0..limit + 1 {
         let Ok(count) = reader.read(&mut buffer) else {
             return Err(ReadFault::Device);
@@ -51,8 +52,22 @@ pub fn read_whole<R: Read>(
     Err(ReadFault::Long)
 }
 
-/// Writes the whole text, and flushes. After a fault a front of the text went out.
-pub fn write_whole<W: Write>(out: &mut W, text: &[u8]) -> Result<(), WriteFault>
+/// Writes the parts of a text, one behind the other, and flushes. After a fault a front of the text went out.
+pub fn write_whole<W: Write>(out: &mut W, parts: &[Vec<u8>]) -> Result<(), WriteFault>
+    ensures whole { OnOk result (Appends (W.contents out.old) (W.contents out.new) (concat (map (λ part. part.items) parts.now))) }
+    ensures front { OnErr result (AppendsFront (W.contents out.old) (W.contents out.new) (concat (map (λ part. part.items) parts.now))) }
+{
+    for part in parts {
+        write_part(out, part.as_slice())?;
+    }
+    match out.flush() {
+        Ok(()) => Ok(()),
+        Err(_) => Err(WriteFault),
+    }
+}
+
+/// Writes all of a part. After a fault a front of it went out.
+fn write_part<W: Write>(out: &mut W, text: &[u8]) -> Result<(), WriteFault>
     ensures whole { OnOk result (Appends (W.contents out.old) (W.contents out.new) text.now) }
     ensures front { OnErr result (AppendsFront (W.contents out.old) (W.contents out.new) text.now) }
 {
@@ -67,8 +82,5 @@ pub fn write_whole<W: Write>(out: &mut W, text: &[u8]) -> Result<(), WriteFault>
         }
         written += count;
     }
-    match out.flush() {
-        Ok(()) => Ok(()),
-        Err(_) => Err(WriteFault),
-    }
+    Ok(())
 }

@@ -1,6 +1,8 @@
 //! The texts that a run writes.
 
-ghost use Rattle.std.specs.Prelude.{◌≡◌, ◌++◌, ◌≤◌, codes, length, map, IfOk, OnOk};
+ghost use Rattle.std.specs.Prelude.{◌≡◌, ◌+◌, ◌++◌, ◌≤◌, codes, length, map, IfOk, OnOk};
+ghost use Rattle.std.specs.List.{concat};
+ghost use Rattle.std.specs.Thread.{IsSync};
 ghost use Rattle.hex.specs.Hex.{encode_upper};
 ghost use Rattle.diag_store.specs.Dtcs.{row_pair};
 ghost use Rattle.diag_run.specs.Text.{lines_of, lines_from, journal_part, holder_name, extended_session, extended_lines, holder_lines, code_line, code_lines, end_text, whole_text, replay_text};
@@ -13,6 +15,7 @@ use diag_store::DtcMemory;
 use diag_tp::Sent;
 use diag_world::Played;
 use std::alloc::{AllocError, Global};
+use std::thread::{Threads, join};
 
 /// All that a play writes: the reply lines of each tester, tester by tester, the journal, and the end.
 ///
@@ -34,6 +37,148 @@ pub fn play_text(
     text.extend_from_slice(end.as_slice())?;
     Ok(text)
 }
+
+/// The parts of the same text, made beside each other: the reply lines of each tester, the journal, and the end.
+pub(crate) fn play_parts<R: Threads + Sync>(
+    rt: &R,
+    alloc: Global,
+    setup: &Setup,
+    played: &Played,
+    timing: Timing,
+) -> Result<Vec<Vec<u8>>, AllocError>
+    requires { length played.now.sent.items ≡ length setup.now.testers }
+    ensures { IfOk result (λ parts. concat (map (λ part. part.items) parts.items) ≡ whole_text timing setup.now played.now.desk (map (λ sent. sent.items) played.now.sent.items)) }
+{
+    let _at_most_8 = setup.testers();
+    let sent = played.sent.as_slice();
+    let journal = played.desk.journal();
+    let (lines, journal) = join(
+        rt,
+        move || -> Result<Vec<Vec<u8>>, AllocError>
+            requires { IsSync R.row × (length sent.now ≡ length setup.now.testers) × (length setup.now.testers ≤ 8) }
+            ensures { IfOk result (λ parts. concat (map (λ part. part.items) parts.items) ≡ lines_from setup.entry.now 1 (map (λ frames. frames.items) sent.entry.now)) }
+        { lines_beside(rt, alloc, setup, 0, sent) },
+        move || -> Result<Vec<u8>, AllocError>
+            ensures { IfOk result (λ text. text.items ≡ journal_part timing journal.entry.now.entries) }
+        { journal_part(alloc, timing, journal) },
+    );
+    let mut parts = lines?;
+    let journal = journal?;
+    let end = end_text(alloc, setup, played.desk.ecu())?;
+    add_part(&mut parts, journal)?;
+    add_part(&mut parts, end)?;
+    Ok(parts)
+}
+
+/// The reply lines of the testers from this place on, which are counted from 0, in parts that are made beside each other.
+fn lines_beside<R: Threads + Sync>(
+    rt: &R,
+    alloc: Global,
+    setup: &Setup,
+    place: usize,
+    sent: &[Vec<Sent>],
+) -> Result<Vec<Vec<u8>>, AllocError>
+    requires place { place + length sent.now ≡ length setup.now.testers }
+    requires few { length setup.now.testers ≤ 8 }
+    ensures { IfOk result (λ parts. concat (map (λ part. part.items) parts.items) ≡ lines_from setup.now (place + 1) (map (λ frames. frames.items) sent.now)) }
+{
+    let Some((frames, rest)) = sent.split_first() else {
+        return Ok(Vec::new(alloc));
+    };
+    let Some(who) = setup.who(place) else {
+        unreachable!()
+    };
+    let name = setup.name(who);
+    let frames = frames.as_slice();
+    let (own, others) = join(
+        rt,
+        move || -> Result<Vec<Vec<u8>>, AllocError>
+            requires { IsSync R.row }
+            ensures { IfOk result (λ parts. concat (map (λ part. part.items) parts.items) ≡ lines_of name.entry.now frames.entry.now) }
+        { lines_halved(rt, alloc, name, frames, MOST_PARTS) },
+        move || -> Result<Vec<Vec<u8>>, AllocError>
+            requires { IsSync R.row × (place + 1 + length rest.now ≡ length setup.now.testers) × (length setup.now.testers ≤ 8) }
+            ensures { IfOk result (λ parts. concat (map (λ part. part.items) parts.items) ≡ lines_from setup.entry.now (place + 1 + 1) (map (λ frames. frames.items) rest.entry.now)) }
+        { lines_beside(rt, alloc, setup, place + 1, rest) },
+    );
+    both(own?, others?)
+}
+
+/// The most parts that one tester's lines are made in.
+const MOST_PARTS: u8 = 4;
+
+/// So few lines are not worth a thread.
+const FEW_LINES: usize = 65_536;
+
+/// The reply lines of one tester; where there are many, in halves that are made beside each other, so many parts at most.
+fn lines_halved<R: Threads + Sync>(
+    rt: &R,
+    alloc: Global,
+    name: &[u8],
+    sent: &[Sent],
+    most: u8,
+) -> Result<Vec<Vec<u8>>, AllocError>
+    ensures { IfOk result (λ parts. concat (map (λ part. part.items) parts.items) ≡ lines_of name.now sent.now) }
+{
+    if most < 2 || sent.len() <= FEW_LINES {
+        let lines = tester_lines(alloc, name, sent)?;
+        return one_part(alloc, lines);
+    }
+    let (front, back) = sent.split_at(sent.len() / 2);
+    let half = most / 2;
+    let (front, back) = join(
+        rt,
+        move || -> Result<Vec<Vec<u8>>, AllocError>
+            requires { IsSync R.row }
+            ensures { IfOk result (λ parts. concat (map (λ part. part.items) parts.items) ≡ lines_of name.entry.now front.entry.now) }
+        { lines_halved(rt, alloc, name, front, half) },
+        move || -> Result<Vec<Vec<u8>>, AllocError>
+            requires { IsSync R.row }
+            ensures { IfOk result (λ parts. concat (map (λ part. part.items) parts.items) ≡ lines_of name.entry.now back.entry.now) }
+        { lines_halved(rt, alloc, name, back, half) },
+    );
+    both(front?, back?)
+}
+
+/// The parts of one text and then those of another.
+fn both(mut parts: Vec<Vec<u8>>, mut others: Vec<Vec<u8>>) -> Result<Vec<Vec<u8>>, AllocError>
+    ensures { IfOk result (λ all. concat (map (λ part. part.items) all.items) ≡ concat (map (λ part. part.items) parts.items) ++ concat (map (λ part. part.items) others.items)) }
+{
+    parts.append(&mut others)?;
+    Ok(parts)
+}
+
+/// Adds a part.
+fn add_part(parts: &mut Vec<Vec<u8>>, part: Vec<u8>) -> Result<(), AllocError>
+    ensures { OnOk result (concat (map (λ part. part.items) parts.new.items) ≡ concat (map (λ part. part.items) parts.old.items) ++ part.items) }
+{
+    parts.push(part)?;
+    Ok(())
+}
+
+/// A text in one part.
+pub(crate) fn one_part(alloc: Global, text: Vec<u8>) -> Result<Vec<Vec<u8>>, AllocError>
+    ensures { IfOk result (λ parts. concat (map (λ part. part.items) parts.items) ≡ text.items) }
+{
+    let mut parts = Vec::new(alloc);
+    parts.push(text)?;
+    Ok(parts)
+}
+
+/// The lines of the frames that one tester was sent.
+fn tester_lines(alloc: Global, name: &[u8], sent: &[Sent]) -> Result<Vec<u8>, AllocError>
+    ensures { IfOk result (λ text. text.items ≡ lines_of name.now sent.now) }
+{
+    let room = sent
+        .len()
+        .saturating_mul(name.len().saturating_add(LINE_ROOM));
+    let mut text = Vec::with_capacity(alloc, room)?;
+    add_lines(&mut text, name, sent)?;
+    Ok(text)
+}
+
+/// What a line has beside its name, where its time is below 10,000,000,000 seconds.
+const LINE_ROOM: usize = 42;
 
 /// The reply lines, tester by tester.
 fn reply_lines(alloc: Global, setup: &Setup, sent: &[Vec<Sent>]) -> Result<Vec<u8>, AllocError>

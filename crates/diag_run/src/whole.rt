@@ -2,6 +2,7 @@
 
 ghost use Rattle.std.specs.Prelude.{◌≡◌, ◌≢◌, ◌<◌, ◌^◌, ℕ, List, length, map, IfOk, IfErr, OnOk, Some, Err};
 ghost use Rattle.std.specs.Io.KnownBytes.{Keeps};
+ghost use Rattle.std.specs.List.{concat};
 ghost use Rattle.diag_run.specs.Files.{AreKnown, Gives};
 ghost use Rattle.diag_run.specs.Run.{wanted, limit, read_of, GivesText, GivesRun, Wrote, WroteFront, IsFaultOf, TellsOf, inputs_of, answered};
 
@@ -84,15 +85,15 @@ fn read_all<R: Read>(
     }
 }
 
-/// The text that is written for what was read.
+/// The text that is written for what was read, in parts.
 fn text_for<R: Threads + Wait + Sync>(
     rt: &R,
     alloc: Global,
     job: Job,
     given: &Given,
-) -> Result<Vec<u8>, RunFault>
+) -> Result<Vec<Vec<u8>>, RunFault>
     requires { length given.now.texts.items ≡ wanted job given.now.setup }
-    ensures { GivesText job (inputs_of given.now) (answered (λ text. text.items) result) }
+    ensures { GivesText job (inputs_of given.now) (answered (λ parts. concat (map (λ part. part.items) parts.items)) result) }
 {
     let texts = given.texts.as_slice();
     match job {
@@ -108,16 +109,16 @@ fn text_for<R: Threads + Wait + Sync>(
     }
 }
 
-/// The whole text of a run.
+/// The whole text of a run, in parts.
 fn whole_text<T: Threads + Wait + Sync, R: Read>(
     rt: &T,
     alloc: Global,
     job: Job,
     config: &mut R,
     files: &mut [R],
-) -> Result<Vec<u8>, RunFault>
+) -> Result<Vec<Vec<u8>>, RunFault>
     ensures answer { (bytes : List ℕ) (known : List (List ℕ)) → R.remaining config.old ≡ Some bytes → AreKnown R.remaining files.old known
-        → GivesRun job (read_of job bytes known) (answered (λ text. text.items) result) }
+        → GivesRun job (read_of job bytes known) (answered (λ parts. concat (map (λ part. part.items) parts.items)) result) }
 {
     match read_all(alloc, job, config, files) {
         Ok(given) => text_for(rt, alloc, job, &given),
@@ -147,11 +148,11 @@ pub fn run<T: Threads + Wait + Sync, R: Read + Drop, W: Write>(
     ensures front { result ≡ Err RunFault.Write → (bytes : List ℕ) (known : List (List ℕ)) → R.remaining config ≡ Some bytes → AreKnown R.remaining files.items known
         → WroteFront job (read_of job bytes known) (W.contents out.old) (W.contents out.new) }
 {
-    let text = match whole_text(rt, alloc, job, &mut config, files.as_mut_slice()) {
-        Ok(text) => text,
+    let parts = match whole_text(rt, alloc, job, &mut config, files.as_mut_slice()) {
+        Ok(parts) => parts,
         Err(fault) => return Err(fault),
     };
-    match write_whole(out, text.as_slice()) {
+    match write_whole(out, parts.as_slice()) {
         Ok(()) => Ok(()),
         Err(_) => Err(RunFault::Write),
     }

@@ -1,5 +1,5 @@
 //! A thread for each tester's worker.
-ghost use Rattle.std.specs.Prelude.{◌≡◌, ◌<◌, ◌≤◌, ◌∷◌, length, map, IfOk, vec_len};
+ghost use Rattle.std.specs.Prelude.{◌≡◌, ◌<◌, ◌≤◌, ◌∷◌, [], length, map, IfOk, vec_len};
 ghost use Rattle.std.specs.List.{AllByRecursion};
 ghost use Rattle.std.specs.Thread.{IsSync, IsSend};
 ghost use Rattle.diag_setup.specs.Setup.{link_of};
@@ -10,7 +10,7 @@ use diag_can::Event;
 use diag_desk::StepFault;
 use diag_gate::Door;
 use diag_store::Setup;
-use std::alloc::Global;
+use std::alloc::{AllocError, Global};
 use std::thread::{Threads, join};
 
 /// Plays each log through its door, each in a thread of its own.
@@ -31,7 +31,7 @@ pub fn crew<D: Door + Send + Drop, R: Threads + Sync>(
     crew_of(rt, alloc, setup, logs, doors)
 }
 
-/// The first tester's worker beside those of the rest.
+/// The first tester's worker beside those of the rest. The last worker needs no thread of its own.
 fn crew_of<D: Door + Send + Drop, R: Threads + Sync>(
     rt: &R,
     alloc: Global,
@@ -48,6 +48,10 @@ fn crew_of<D: Door + Send + Drop, R: Threads + Sync>(
         return Ok(Vec::new(alloc));
     };
     let door = first_of(&mut doors);
+    if logs.is_empty() {
+        let one = worked(alloc, setup, log, door)?;
+        return Ok(one_of(alloc, one)?);
+    }
     let (one, others) = join(
         rt,
         move || -> Result<(WorkerRecord, D), StepFault>
@@ -65,6 +69,15 @@ fn crew_of<D: Door + Send + Drop, R: Threads + Sync>(
         return Err(StepFault::Memory);
     }
     Ok(done)
+}
+
+/// A list of one item.
+pub(crate) fn one_of<T: Drop>(alloc: Global, item: T) -> Result<Vec<T>, AllocError>
+    ensures { IfOk result (λ list. list.items ≡ item ∷ []) }
+{
+    let mut list = Vec::new(alloc);
+    list.push(item)?;
+    Ok(list)
 }
 
 /// Takes the first item.

@@ -1,15 +1,16 @@
 //! All testers' logs, read at the same time.
-ghost use Rattle.std.specs.Prelude.{◌≡◌, ◌+◌, ◌≤◌, ◌<◌, length, map, IfOk, IfErr, vec_len, Ok};
+ghost use Rattle.std.specs.Prelude.{◌≡◌, ◌+◌, ◌≤◌, ◌∷◌, [], length, map, IfOk, IfErr, vec_len, Ok};
 ghost use Rattle.std.specs.List.{AllByRecursion};
 ghost use Rattle.std.specs.Thread.{IsSync};
 ghost use Rattle.diag_can.specs.Log.{events};
 ghost use Rattle.diag_setup.specs.Setup.{ids_of};
 ghost use Rattle.diag_workers.specs.Play.{NotRead, NotReadAt, logs_from, logs_of};
 
+use crate::crewing::one_of;
 use crate::playing::PlayFault;
 use diag_can::{Event, LogFault, Timing, read_log};
 use diag_store::{Setup, Who};
-use std::alloc::Global;
+use std::alloc::{AllocError, Global};
 use std::thread::{Threads, join};
 
 /// Reads each log in a thread of its own. The first that refuses, in order, decides.
@@ -30,7 +31,7 @@ pub(crate) fn read_logs<R: Threads + Sync>(
     read_from(rt, alloc, setup, 1, texts, timing)
 }
 
-/// Reads the log of the tester of this place beside those of the testers after it.
+/// Reads the log of the tester of this place beside those of the testers after it. The last needs no thread of its own.
 fn read_from<R: Threads + Sync>(
     rt: &R,
     alloc: Global,
@@ -49,6 +50,12 @@ fn read_from<R: Threads + Sync>(
     let Some((text, rest)) = texts.split_first() else {
         return Ok(Vec::new(alloc));
     };
+    if rest.is_empty() {
+        return last(
+            alloc,
+            read_one(alloc, setup, place, text.as_slice(), timing)?,
+        );
+    }
     let (one, others) = join(
         rt,
         move || -> Result<Vec<Event>, PlayFault>
@@ -68,6 +75,17 @@ fn read_from<R: Threads + Sync>(
         return Err(PlayFault::Memory);
     }
     Ok(logs)
+}
+
+/// The logs where no log follows this one.
+fn last(alloc: Global, log: Vec<Event>) -> Result<Vec<Vec<Event>>, PlayFault>
+    ensures logs { IfOk result (λ logs. logs.items ≡ log ∷ []) }
+    ensures refused { IfErr result (λ fault. fault ≡ PlayFault.Memory) }
+{
+    match one_of(alloc, log) {
+        Ok(logs) => Ok(logs),
+        Err(AllocError) => Err(PlayFault::Memory),
+    }
 }
 
 /// Reads the log of the tester of this place.

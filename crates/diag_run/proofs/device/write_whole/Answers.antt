@@ -1,15 +1,14 @@
-use Rattle.std.proofs.Common.{arith, length-take, length-drop}
-use Rattle.diag_run.proofs.Writing.{AppendsFront-kept, AppendsFront-more, Appends-more}
+use Rattle.std.proofs.Common.{rules}
+use Rattle.diag_run.proofs.Testers.{seen_at}
+use Rattle.diag_run.proofs.Writing.{on_fault, part_front, part_more}
 use Rattle.diag_run.proofs.device.write_whole.Goals as goal
 
-pub loop-written-preserved : goal.loop-written-preserved
-loop-written-preserved g c = record {
-  sent = Appends-more _ _ _ c.args.text.now c.loop-written.written c.loop-written.invariant.sent c.in-Ok.count c.in-Ok.ensures.bytes;
-  within = grind (arith, c.in-Ok.ensures.bound, length-take, length-drop);
-}
+pub loop-part-preserved : goal.loop-part-preserved
+loop-part-preserved g c =
+    let next = seen_at (λ part. part.items) c.args.parts.now c.loop-part.part-index c.part-item.result c.loop-part-test.true c.part-item.is in
+    part_more _ _ _ c.loop-part.part-index c.loop-part.invariant _ c.part-item.result.items next (search rules)
 
-pub returns-in-Err-clause-front : goal.returns-in-Err-clause-front
-returns-in-Err-clause-front g c = AppendsFront-kept _ _ _ c.args.text.now c.loop-written.written c.loop-written.invariant.sent c.in-Err.ensures.bytes
-
-pub returns-then-count-eq0-clause-front : goal.returns-then-count-eq0-clause-front
-returns-then-count-eq0-clause-front g c = AppendsFront-more _ _ _ c.args.text.now c.loop-written.written c.loop-written.invariant.sent c.in-Ok.count c.in-Ok.ensures.bytes
+pub returns-in_err-write_part-clause-front : goal.returns-in_err-write_part-clause-front
+returns-in_err-write_part-clause-front g c =
+    let next = seen_at (λ part. part.items) c.args.parts.now c.loop-part.part-index c.part-item.result c.loop-part-test.true c.part-item.is in
+    on_fault c.from_residual.result (part_front _ _ _ c.loop-part.part-index c.loop-part.invariant _ c.part-item.result.items next (rw c.as_slice.ensures.value at c.in_err-write_part.ensures.front))

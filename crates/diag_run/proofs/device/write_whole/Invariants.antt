@@ -1,12 +1,6 @@
-use Rattle.std.proofs.Common.{length, ◌-◌, ◌≤◌, take}
-use Rattle.std.specs.Io.KnownBytes.{Appends}
+use Rattle.std.proofs.Common.{map}
+use Rattle.diag_run.proofs.Writing.{WroteParts}
 use Rattle.diag_run.proofs.device.write_whole.Given as goal
 
-abbrev pub invariant-loop-written : goal.invariant-loop-written
-invariant-loop-written g l = record {
-  sent : Appends (g.W.Write.contents l.initial.out) (g.W.Write.contents l.out) (take l.written l.text);
-  within : l.written ≤ length l.text;
-}
-
-abbrev pub decreases-loop-written : goal.decreases-loop-written
-decreases-loop-written g l = length l.text - l.written
+abbrev pub invariant-loop-part : goal.invariant-loop-part
+invariant-loop-part g l = WroteParts (g.W.Write.contents l.initial.out) (g.W.Write.contents l.out) (map (λ part. part.items) l.parts) l.part-index

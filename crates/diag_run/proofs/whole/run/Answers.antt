@@ -1,4 +1,5 @@
-use Rattle.std.proofs.Common.{arith, rules}
+use Rattle.std.proofs.Common.{map, arith, rules}
+use Rattle.std.specs.List.{concat}
 use Rattle.std.proofs.KnownBytes.{Keeps-refl}
 use Rattle.diag_run.proofs.Inputs.{no_write}
 use Rattle.diag_run.proofs.whole.run.Goals as goal
@@ -11,14 +12,14 @@ returns-in-Err-clause-nothing g c _ = Keeps-refl (g.W.Write.contents c.args.out.
 
 pub returns-in-Ok-write_whole-clause-done : goal.returns-in-Ok-write_whole-clause-done
 returns-in-Ok-write_whole-clause-done g c bytes known config_is files_are = record {
-  text = c.in-Ok.text.items;
+  text = concat (map (λ part. part.items) c.in-Ok.parts.items);
   gives = search rules;
   appends = rw c.as_slice.ensures.value at c.in-Ok-write_whole.ensures.whole;
 }
 
 pub returns-clause-front : goal.returns-clause-front
 returns-clause-front g c _ bytes known config_is files_are = record {
-  text = c.in-Ok.text.items;
+  text = concat (map (λ part. part.items) c.in-Ok.parts.items);
   gives = search rules;
   appends = rw c.as_slice.ensures.value at c.in-Err-write_whole.ensures.front;
 }
