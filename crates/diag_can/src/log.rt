@@ -1,14 +1,14 @@
 //! The log of a tester's link.
 
 ghost use Rattle.std.specs.Prelude.{◌≡◌, ◌≢◌, ◌<◌, ◌≤◌, ◌⊎◌, [], ◌∷◌, ◌++◌, length, MatchOption, IfOk, IfErr, OnOk};
-ghost use Rattle.std.specs.List.{position_or_len};
 ghost use Rattle.diag_can.specs.Line.{frame_moment};
-ghost use Rattle.diag_can.specs.Log.{is_feed, without_return, lines_of, silence, waited, line_gives, events};
+ghost use Rattle.diag_can.specs.Log.{without_return, lines_of, silence, waited, line_gives, events};
 ghost use Rattle.diag_can.specs.Reading.{later, fault_with};
 
 use crate::fault::LogFault;
 use crate::frame::{Event, Ids, TickCount};
 use crate::read::timed_event;
+use memchr::memchr;
 use std::alloc::Global;
 
 /// Whether the stamps of a log carry time.
@@ -82,14 +82,6 @@ fn without_return(line: &[u8]) -> &[u8]
     }
 }
 
-/// How many bytes stand before the first LF, or in the whole text.
-fn line_len(text: &[u8]) -> usize
-    ensures count { result ≡ position_or_len is_feed text.now }
-    ensures fits { result ≤ length text.now }
-{
-    text.iter().take_while(|c| **c != b'\n').count()
-}
-
 /// The first line of a text and what follows its LF, or None of an empty text.
 fn next_line(text: &[u8]) -> Option<(&[u8], &[u8])>
     ensures { MatchOption result (text.now ≡ []) (λ r. lines_of text.now ≡ r.0.now ∷ lines_of r.1.now) }
@@ -97,14 +89,10 @@ fn next_line(text: &[u8]) -> Option<(&[u8], &[u8])>
     if text.is_empty() {
         return None;
     }
-    let end = line_len(text);
-    if end == text.len() {
-        return Some((without_return(text), &[]));
+    match memchr(b'\n', text) {
+        None => Some((without_return(text), &[])),
+        Some(end) => Some((without_return(&text[..end]), &text[end + 1..])),
     }
-    Some((
-        without_return(text.split_at(end).0),
-        text.split_at(end + 1).1,
-    ))
 }
 
 /// The milliseconds before an event of this moment.

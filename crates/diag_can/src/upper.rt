@@ -1,6 +1,6 @@
 //! Upper-case hex, appended to a text. (The library `hex` makes a text of its own of each call.)
 
-ghost use Rattle.std.specs.Prelude.{◌≡◌, ◌<◌, ◌++◌, OnOk, slice_index};
+ghost use Rattle.std.specs.Prelude.{◌≡◌, ◌<◌, ◌++◌, OnOk, OnErr, slice_index};
 ghost use Rattle.hex.specs.Hex.{encode_upper, upper_digits};
 
 use std::alloc::AllocError;
@@ -18,12 +18,15 @@ pub(crate) fn upper_digit(value: u8) -> u8
 /// Appends bytes in upper-case hex, two digits a byte.
 ///
 /// # Errors
-/// `AllocError` where memory is refused; digits may then have been appended.
+/// `AllocError` where memory is refused; the text stays as it was.
 pub fn write_hex(text: &mut Vec<u8>, bytes: &[u8]) -> Result<(), AllocError>
-    ensures { OnOk result (text.new.items ≡ text.old.items ++ encode_upper bytes.now) }
+    ensures ok { OnOk result (text.new.items ≡ text.old.items ++ encode_upper bytes.now) }
+    ensures err { OnErr result (text.new.items ≡ text.old.items) }
 {
+    text.reserve(2 * bytes.len())?;
     for byte in bytes {
-        text.extend_from_slice(&[upper_digit(*byte / 16), upper_digit(*byte % 16)])?;
+        text.push_reserved(upper_digit(*byte / 16));
+        text.push_reserved(upper_digit(*byte % 16));
     }
     Ok(())
 }
