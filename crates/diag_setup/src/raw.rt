@@ -4,76 +4,115 @@ ghost use Rattle.std.specs.Prelude.{◌≡◌, ℕ};
 
 use crate::items::Items;
 
-/// A setup as it was read: numbers of any size, lists of any length, in any order.
+/// A setup as it was read: numbers of any size, lists of any length, in any order. The range that stands at a field is
+/// what `check` lets through.
 #[derive(Drop)]
 pub struct RawSetup {
+    /// P2Server_max in milliseconds, 0 to 65535 (ISO 14229-1:2013, 9.2).
     pub p2_ms: u32,
+    /// P2*Server_max in units of 10 ms, 0 to 65535 (ISO 14229-1:2013, 9.2).
     pub p2_star_10ms: u32,
+    /// S3Server in milliseconds, 1 to 600000.
     pub s3_ms: u32,
+    /// N_Bs in milliseconds, 1 to 60000 (ISO 15765-2:2016, 9.8).
     pub n_bs_ms: u32,
+    /// N_Cr in milliseconds, 1 to 60000 (ISO 15765-2:2016, 9.8).
     pub n_cr_ms: u32,
+    /// BS, 0 to 255 (ISO 15765-2:2016, 9.6.5); 0 is no limit.
     pub block_size: u32,
+    /// STmin as its byte (ISO 15765-2:2016, 9.6.5): 0 to 127 are milliseconds, 241 to 249 are 100 to 900 microseconds.
     pub st_min: u32,
+    /// The longest request, in bytes, 8 to 65535.
     pub max_request: u32,
+    /// Whether frames are filled to 8 bytes.
     pub pad: bool,
+    /// The byte that fills them, 0 to 255.
     pub pad_byte: u32,
+    /// DTCStatusAvailabilityMask, 0 to 255 (ISO 14229-1:2013, 11.3).
     pub availability: u32,
+    /// The CAN identifier of functional requests, 0 to 0x7FF.
     pub functional: u32,
+    /// Wrong keys until the delay, 1 to 255 (ISO 14229-1:2013, 9.4).
     pub attempts: u32,
+    /// The delay after them, in milliseconds, 1 to 600000.
     pub delay_ms: u32,
+    /// 1 to 8 testers, no two of one name; no two CAN identifiers of the setup are equal.
     pub testers: Items<RawTester>,
+    /// Up to 64 data identifiers, no two equal.
     pub dids: Items<RawDid>,
+    /// Up to 256 trouble codes, no two equal.
     pub codes: Items<RawCode>,
+    /// Up to 16 routines, no two of one identifier.
     pub routines: Items<RawRoutine>,
+    /// Up to 4 security levels, no two of one sub-function.
     pub levels: Items<RawLevel>,
 }
 
 /// A tester, by its place in the list.
 #[derive(Drop)]
 pub struct RawTester {
+    /// 1 to 16 letters, digits or `_` of ASCII.
     pub name: Items<u8>,
+    /// The CAN identifier of its requests, 0 to 0x7FF.
     pub request: u32,
+    /// The CAN identifier of the responses to it, 0 to 0x7FF.
     pub response: u32,
 }
 
-/// A data identifier with its first value; a level of 0 is open.
+/// A data identifier with its first value.
 #[derive(Drop)]
 pub struct RawDid {
+    /// dataIdentifier, 0 to 0xFFFF (ISO 14229-1:2013, C.1).
     pub id: u32,
+    /// Its first value, 1 to 255 bytes.
     pub value: Items<u8>,
+    /// The sub-function of the level that reading needs; 0 is open.
     pub read_level: u32,
+    /// Whether it can be written.
     pub write: bool,
+    /// The sub-function of the level that writing needs; 0 is open.
     pub write_level: u32,
 }
 
 /// A trouble code with its status.
 #[derive(Clone, Copy, PartialEq, Eq, Debug, Drop)]
 pub struct RawCode {
+    /// The code of three bytes, 0 to 0xFFFFFE.
     pub code: u32,
+    /// statusOfDTC, 0 to 255 (ISO 14229-1:2013, D.2).
     pub status: u32,
 }
 
-/// A routine; a code that it names gets the status beside it when the routine is done.
+/// A routine.
 #[derive(Drop)]
 pub struct RawRoutine {
+    /// routineIdentifier, 0 to 0xFFFF (ISO 14229-1:2013, 13.2).
     pub id: u32,
+    /// How long it runs, in milliseconds, 1 to 600000.
     pub time_ms: u32,
+    /// What it gives when it is done, 0 to 32 bytes.
     pub result: Items<u8>,
+    /// The sub-function of the level that it needs; 0 is open.
     pub level: u32,
+    /// A code of the list, which gets the status beside it when the routine is done.
     pub on_done: Option<RawCode>,
 }
 
 /// A seed with its key.
 #[derive(Drop)]
 pub struct RawKeyRow {
+    /// 1 to 16 bytes, not all of them 0.
     pub seed: Items<u8>,
+    /// 1 to 16 bytes.
     pub key: Items<u8>,
 }
 
 /// A security level: its odd sub-function and its rows.
 #[derive(Drop)]
 pub struct RawLevel {
+    /// The sub-function requestSeed, odd, 1 to 65 (ISO 14229-1:2013, 9.4).
     pub sub: u32,
+    /// 1 to 64 rows, whose seeds have one length, and whose keys have one.
     pub rows: Items<RawKeyRow>,
 }
 
@@ -81,6 +120,7 @@ pub struct RawLevel {
 pub trait Keyed {
     ghost key_of: { Self → ℕ };
 
+    /// Its key.
     fn key(&self) -> u32
         ensures { result ≡ key_of self.now };
 }

@@ -33,9 +33,13 @@ impl Model for Setup {
 /// The values that the services answer with.
 #[derive(Clone, Copy, PartialEq, Eq, Debug, Drop)]
 pub struct Values {
+    /// P2Server_max in milliseconds (ISO 14229-1:2013, 9.2).
     pub p2_ms: u16,
+    /// P2*Server_max in units of 10 ms (9.2).
     pub p2_star_10ms: u16,
+    /// S3Server in milliseconds, 1 to 600000.
     pub s3_ms: u32,
+    /// DTCStatusAvailabilityMask (11.3).
     pub availability: u8,
 }
 
