@@ -1,4 +1,4 @@
-//! The data identifiers.
+//! The data identifiers (ISO 14229-1:2013, 10.2 and 10.7).
 
 ghost use Rattle.std.specs.Prelude.{◌≡◌, ◌≤◌, true, OnOk, OnErr, IfOk, IsTrue, option_copied, position, length};
 ghost use Rattle.diag_store.specs.Dids.{id_of, has_id, value_of, rule_of, write_answer, with_value};
@@ -12,26 +12,34 @@ use diag_setup::{Keyed, RawDid, Setup};
 use std::alloc::{AllocError, Global};
 use std::marker::Model;
 
-/// Who may read and write a data identifier; a level of 0 is open.
+/// Who may read and write a data identifier.
 #[derive(Clone, Copy, PartialEq, Eq, Debug, Drop)]
 pub struct DidRule {
+    /// The odd sub-function of the level that reading needs; 0 is open.
     pub read_level: u8,
+    /// Whether it can be written.
     pub write: bool,
+    /// The odd sub-function of the level that writing needs; 0 is open.
     pub write_level: u8,
 }
 
 /// A data identifier with its value.
 #[derive(Clone, Drop)]
 pub struct DidRow {
+    /// dataIdentifier.
     pub id: u16,
+    /// Its value now.
     pub value: ArrayVec<u8, 255>,
+    /// Who may read and write it.
     pub rule: DidRule,
 }
 
 /// Why a value was not written.
 #[derive(Clone, Copy, PartialEq, Eq, Debug, Drop)]
 pub enum DidFault {
+    /// No such identifier.
     Unknown,
+    /// Another length than the value kept.
     Length,
 }
 

@@ -1,4 +1,4 @@
-//! The trouble codes.
+//! The trouble codes (ISO 14229-1:2013, 11.2 and 11.3).
 
 ghost use Rattle.std.specs.Prelude.{IsTrue, ◌≡◌, ◌≤◌, ℕ, true, IfOk, is_some, option_map, length, map, slice_get};
 ghost use Rattle.std.specs.Bool.{OnFalse};
@@ -15,7 +15,9 @@ use std::marker::Model;
 /// A trouble code with its status byte.
 #[derive(Clone, Copy, PartialEq, Eq, Debug, Drop)]
 pub struct Dtc {
+    /// The code of three bytes.
     pub code: u32,
+    /// statusOfDTC (D.2).
     pub status: u8,
 }
 
@@ -48,10 +50,10 @@ impl Model for DtcMemory {
     ghost invariant = { λ d. (length d.rows.items ≤ 256) × (is_rising code_of d.rows.items ≡ true) };
 }
 
-/// The group of all codes.
+/// groupOfDTC of all codes (ISO 14229-1:2013, D.1).
 pub const ALL_GROUPS: u32 = 0xFF_FFFF;
 
-/// The status after clearing: the two tests "not completed".
+/// statusOfDTC after clearing: bits 4 and 6, testNotCompletedSinceLastClear and testNotCompletedThisOperationCycle (D.2).
 const CLEARED_STATUS: u8 = 0x50;
 
 impl DtcMemory {

@@ -1,4 +1,4 @@
-//! The seeds and keys of the security levels.
+//! The seeds and keys of the security levels (ISO 14229-1:2013, 9.4).
 
 ghost use Rattle.std.specs.Prelude.{◌≡◌, ◌≤◌, ◌+◌, ◌%◌, true, option_and_then, option_copied, find, position, length, map, slice_get, IfOk, IsTrue};
 ghost use Rattle.std.specs.List.{All};
@@ -18,7 +18,9 @@ use std::marker::Model;
 /// A seed with its key.
 #[derive(Clone, Drop)]
 pub struct KeyRow {
+    /// securitySeed.
     pub seed: ArrayVec<u8, 16>,
+    /// The securityKey that it asks for.
     pub key: ArrayVec<u8, 16>,
 }
 
@@ -42,8 +44,11 @@ impl Model for KeyRows {
 /// A security level: its odd sub-function, its rows, and which row is next.
 #[derive(Drop)]
 pub struct Level {
+    /// The sub-function requestSeed.
     pub sub: u8,
+    /// The seeds with their keys.
     pub rows: KeyRows,
+    /// The row of the next new seed, from 0.
     pub next: u8,
 }
 

@@ -1,4 +1,4 @@
-//! The routines.
+//! The routines (ISO 14229-1:2013, 13.2).
 
 ghost use Rattle.std.specs.Prelude.{◌≡◌, ◌≤◌, true, length, option_map, IsTrue, IfOk, IfSome, is_some, option_copied, position, if◌then◌else◌};
 ghost use Rattle.diag_store.specs.Routines.{id_of, has_id, routine_of, state_of, routine_level, result_of, started, stopped, all_idle, state_after_tick, ends_now, rows_after_tick, quiet_in, quiet_ticks, state_later, rows_later, reported, codes_after_tick};
@@ -16,8 +16,11 @@ use std::marker::Model;
 /// What a routine does now.
 #[derive(Clone, Copy, PartialEq, Eq, Debug, Drop)]
 pub enum RoutineState {
+    /// Not started, or stopped.
     Idle,
+    /// Started: so many ticks (milliseconds) are left.
     Running(u32),
+    /// It ran to its end.
     Done,
 }
 
@@ -31,11 +34,17 @@ pub struct DtcOnDone {
 /// A routine.
 #[derive(Clone, Drop)]
 pub struct Routine {
+    /// routineIdentifier.
     pub id: u16,
+    /// How long it runs, in milliseconds.
     pub time_ms: u32,
+    /// What it gives when it is done.
     pub result: ArrayVec<u8, 32>,
+    /// The odd sub-function of the level that it needs; 0 is open.
     pub level: u8,
+    /// The code that gets a status when it is done.
     pub on_done: Option<DtcOnDone>,
+    /// What it does now.
     pub state: RoutineState,
 }
 

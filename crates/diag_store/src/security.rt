@@ -1,4 +1,4 @@
-//! The security access of the testers: seeds, keys, and the delay after too many wrong keys.
+//! The security access of the testers: seeds, keys, and the delay after too many wrong keys (ISO 14229-1:2013, 9.4).
 
 ghost use Rattle.std.specs.Prelude.{◌≡◌, ◌≤◌, ◌<◌, bytes_eq, is_some, replicate, length, IsTrue, IfOk};
 ghost use Rattle.diag_store.specs.Security.{IsSecurity, is_unlocked, level_of, key_len, locked, is_delayed, outstanding_row, seed_at, key_at, next_row, seed_answer, after_seed, key_answer, after_key, after_tick, after_ticks};
@@ -13,36 +13,52 @@ use std::marker::Model;
 /// The seed that a tester was given last.
 #[derive(Clone, Copy, PartialEq, Eq, Debug, Drop)]
 pub struct Outstanding {
+    /// The odd sub-function of its level.
     pub level: u8,
+    /// Its row in that level, from 0.
     pub row: u8,
 }
 
 /// The answer to a request for a seed.
 #[derive(Drop)]
 pub enum SeedAnswer {
+    /// requiredTimeDelayNotExpired (0x37): the tester's delay is not over.
     Delayed,
+    /// The seed; zeros where the level is unlocked.
     Seed(ArrayVec<u8, 16>),
 }
 
 /// The answer to a key.
 #[derive(Clone, Copy, PartialEq, Eq, Debug, Drop)]
 pub enum KeyAnswer {
+    /// requiredTimeDelayNotExpired (0x37): the tester's delay is not over.
     Delayed,
+    /// requestSequenceError (0x24): no seed of this level is outstanding.
     NoSeed,
+    /// The level is unlocked.
     Right,
+    /// invalidKey (0x35).
     Wrong,
+    /// exceedNumberOfAttempts (0x36): one wrong key too many, and the delay begins.
     TooMany,
 }
 
 /// The security levels, and what the testers did with them.
 #[derive(Drop)]
 pub struct SecurityState {
+    /// Wrong keys until the delay, at least 1.
     pub attempts: u8,
+    /// The delay after them, in milliseconds, at least 1.
     pub delay_ms: u32,
+    /// The levels with their seeds and keys.
     pub levels: Levels,
+    /// The odd sub-function of the unlocked level.
     pub unlocked: Option<u8>,
+    /// The seed that waits for its key.
     pub outstanding: Option<Outstanding>,
+    /// The wrong keys of each tester, by its place.
     pub wrong_keys: [u8; 8],
+    /// The ticks (milliseconds) that are left of each tester's delay, by its place; 0 is none.
     pub delays: [u32; 8],
 }
 
