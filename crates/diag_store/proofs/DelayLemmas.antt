@@ -1,6 +1,6 @@
 -- Many ticks of a tester's delay at once.
 use Rattle.std.proofs.Common.{◌≡◌, ℕ, zero, suc, ◌-◌, ◌<◌, ◌≤◌, false, List, [], ◌∷◌, ◌==◌, slice_index, slice_set, refl, ap, sym, ◌∙◌, arith}
-use Rattle.std.proofs.lemmas.Bool.{eq-eqb, ne_eqb}
+use Rattle.std.proofs.lemmas.Bool.{ne_eqb}
 use Rattle.diag_store.specs.Security.{after_tick, after_ticks}
 use Rattle.diag_store.specs.declared.security.SecurityState.{SecurityState}
 

@@ -9,7 +9,6 @@ use Rattle.diag_setup.specs.declared.raw.RawLevel.{RawLevel}
 use Rattle.diag_store.specs.declared.dids.DidRow.{DidRow}
 use Rattle.diag_store.specs.declared.dtcs.Dtc.{Dtc}
 use Rattle.diag_store.specs.declared.routines.Routine.{Routine}
-use Rattle.diag_store.specs.declared.routines.DtcOnDone.{DtcOnDone}
 use Rattle.diag_store.specs.declared.routines.RoutineState.TheVariants.{Idle}
 use Rattle.diag_store.specs.declared.levels.KeyRow.{KeyRow}
 use Rattle.diag_store.specs.declared.levels.Level.{Level}
@@ -31,16 +30,13 @@ dtc_row row = record { code = row.code; status = row.status }
 abbrev pub opening_codes : RawSetup → List Dtc
 opening_codes setup = map dtc_row setup.codes
 
-abbrev pub on_done_row : RawCode → DtcOnDone
-on_done_row row = record { code = row.code; status = row.status }
-
 abbrev pub routine_row : RawRoutine → Routine
 routine_row routine = record {
   id = routine.id;
   time_ms = routine.time_ms;
   result = record { items = routine.result };
   level = routine.level;
-  on_done = option_map on_done_row routine.on_done;
+  on_done = option_map dtc_row routine.on_done;
   state = Idle;
 }
 

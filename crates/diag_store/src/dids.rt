@@ -6,11 +6,13 @@ ghost use Rattle.diag_setup.specs.Fits.{DidFits};
 ghost use Rattle.diag_setup.specs.Rows.{is_rising};
 ghost use Rattle.diag_store.specs.Opening.{opening_dids, did_row};
 
+use crate::bytes::bytes_of;
 use crate::search::{find_place, find_row};
 use arrayvec::ArrayVec;
 use diag_setup::{Keyed, RawDid, Setup};
 use std::alloc::{AllocError, Global};
 use std::marker::Model;
+use thiserror::Error;
 
 /// Who may read and write a data identifier.
 #[derive(Clone, Copy, PartialEq, Eq, Debug, Drop)]
@@ -35,11 +37,13 @@ pub struct DidRow {
 }
 
 /// Why a value was not written.
-#[derive(Clone, Copy, PartialEq, Eq, Debug, Drop)]
+#[derive(Clone, Copy, PartialEq, Eq, Debug, Drop, Error)]
 pub enum DidFault {
     /// No such identifier.
+    #[error("no such identifier")]
     Unknown,
     /// Another length than the value kept.
+    #[error("another length than the value kept")]
     Length,
 }
 
@@ -141,7 +145,7 @@ fn set_value(rows: &mut [DidRow], id: u16, value: &[u8])
     ensures { rows.new ≡ with_value rows.old id value.now }
 {
     if let Some(place) = place_of(rows, id) {
-        rows[place].value = kept(value);
+        rows[place].value = bytes_of(value);
     }
 }
 
@@ -153,22 +157,13 @@ fn place_of(rows: &[DidRow], id: u16) -> Option<usize>
     find_place(rows, u32::from(id))
 }
 
-fn kept(value: &[u8]) -> ArrayVec<u8, 255>
-    requires { length value.now ≤ 255 }
-    ensures { result.items ≡ value.now }
-{
-    let mut bytes = ArrayVec::new();
-    let _ = bytes.try_extend_from_slice(value);
-    bytes
-}
-
 fn did_row(did: &RawDid) -> DidRow
     requires { DidFits did.now }
     ensures { result ≡ did_row did.now }
 {
     DidRow {
         id: did.id as u16,
-        value: kept(did.value.as_slice()),
+        value: bytes_of(did.value.as_slice()),
         rule: DidRule {
             read_level: did.read_level as u8,
             write: did.write,

@@ -161,8 +161,8 @@ fn count_matching(rows: &[Dtc], mask: u8) -> u16
     rows.iter().filter(|row| row.status & mask != 0).count() as u16
 }
 
-fn dtc_row(row: &RawCode) -> Dtc
-    requires { CodeFits row.now }
+pub(crate) fn dtc_row(row: &RawCode) -> Dtc
+    requires { row.now.status ≤ 0xFF }
     ensures { result ≡ dtc_row row.now }
 {
     Dtc {

@@ -9,6 +9,7 @@ ghost use Rattle.diag_store.specs.Rows.{change_first};
 ghost use Rattle.diag_store.specs.Security.{has_sub, sub_of, first_key_len, moved_on};
 ghost use Rattle.diag_store.specs.Opening.{level_row, key_row};
 
+use crate::bytes::bytes_of;
 use crate::search::{find_place, find_row};
 use arrayvec::ArrayVec;
 use diag_setup::{Keyed, RawKeyRow, RawLevel};
@@ -222,16 +223,6 @@ fn row_after(row: u8, rows: usize) -> u8
     ensures { result ≡ (row + 1) % rows }
 {
     ((row as usize + 1) % rows) as u8
-}
-
-/// These bytes.
-pub(crate) fn bytes_of(bytes: &[u8]) -> ArrayVec<u8, 16>
-    requires { length bytes.now ≤ 16 }
-    ensures { result.items ≡ bytes.now }
-{
-    let mut kept = ArrayVec::new();
-    let _ = kept.try_extend_from_slice(bytes);
-    kept
 }
 
 fn key_row(row: &RawKeyRow) -> KeyRow

@@ -1,6 +1,7 @@
 //! The tables of the ECU: data identifiers, trouble codes, routines and security levels.
 #![tactic(auto)]
 
+mod bytes;
 mod dids;
 mod dtcs;
 mod levels;
@@ -15,5 +16,5 @@ pub use diag_setup::{
 pub use dids::{DidFault, DidRow, DidRule, Dids};
 pub use dtcs::{Dtc, DtcMemory};
 pub use levels::{KeyRow, KeyRows, Level, Levels};
-pub use routines::{DtcOnDone, Routine, RoutineState, Routines};
+pub use routines::{Routine, RoutineState, Routines};
 pub use security::{KeyAnswer, Outstanding, Security, SecurityState, SeedAnswer};

@@ -4,9 +4,10 @@ ghost use Rattle.std.specs.Prelude.{◌≡◌, ◌≤◌, true, length, option_m
 ghost use Rattle.diag_store.specs.Routines.{id_of, has_id, routine_of, state_of, routine_level, result_of, started, stopped, all_idle, state_after_tick, ends_now, rows_after_tick, quiet_in, quiet_ticks, state_later, rows_later, reported, codes_after_tick};
 ghost use Rattle.diag_setup.specs.Fits.{RoutineFits, OnDoneFits};
 ghost use Rattle.diag_setup.specs.Rows.{is_rising};
-ghost use Rattle.diag_store.specs.Opening.{opening_routines, routine_row, on_done_row};
+ghost use Rattle.diag_store.specs.Opening.{dtc_row, opening_routines, routine_row};
 
-use crate::dtcs::DtcMemory;
+use crate::bytes::bytes_of;
+use crate::dtcs::{Dtc, DtcMemory, dtc_row};
 use crate::search::{find_place, find_row};
 use arrayvec::ArrayVec;
 use diag_setup::{Keyed, RawCode, RawRoutine, Setup};
@@ -24,13 +25,6 @@ pub enum RoutineState {
     Done,
 }
 
-/// The status that a code gets when a routine is done.
-#[derive(Clone, Copy, PartialEq, Eq, Debug, Drop)]
-pub struct DtcOnDone {
-    pub code: u32,
-    pub status: u8,
-}
-
 /// A routine.
 #[derive(Clone, Drop)]
 pub struct Routine {
@@ -42,8 +36,8 @@ pub struct Routine {
     pub result: ArrayVec<u8, 32>,
     /// The odd sub-function of the level that it needs; 0 is open.
     pub level: u8,
-    /// The code that gets a status when it is done.
-    pub on_done: Option<DtcOnDone>,
+    /// The code that it gives a status when it is done.
+    pub on_done: Option<Dtc>,
     /// What it does now.
     pub state: RoutineState,
 }
@@ -294,7 +288,7 @@ fn report(rows: &[Routine], codes: &mut DtcMemory)
     }
 }
 
-fn report_one(on_done: Option<DtcOnDone>, codes: &mut DtcMemory)
+fn report_one(on_done: Option<Dtc>, codes: &mut DtcMemory)
     ensures { codes.new ≡ reported codes.old on_done }
 {
     if let Some(on_done) = on_done {
@@ -309,31 +303,19 @@ fn routine_row(routine: &RawRoutine) -> Routine
     Routine {
         id: routine.id as u16,
         time_ms: routine.time_ms,
-        result: kept(routine.result.as_slice()),
+        result: bytes_of(routine.result.as_slice()),
         level: routine.level as u8,
         on_done: on_done_row(&routine.on_done),
         state: RoutineState::Idle,
     }
 }
 
-fn on_done_row(on_done: &Option<RawCode>) -> Option<DtcOnDone>
+fn on_done_row(on_done: &Option<RawCode>) -> Option<Dtc>
     requires { OnDoneFits on_done.now }
-    ensures { result ≡ option_map on_done_row on_done.now }
+    ensures { result ≡ option_map dtc_row on_done.now }
 {
     match on_done {
-        Some(row) => Some(DtcOnDone {
-            code: row.code,
-            status: row.status as u8,
-        }),
+        Some(row) => Some(dtc_row(row)),
         None => None,
     }
-}
-
-fn kept(bytes: &[u8]) -> ArrayVec<u8, 32>
-    requires { length bytes.now ≤ 32 }
-    ensures { result.items ≡ bytes.now }
-{
-    let mut kept = ArrayVec::new();
-    let _ = kept.try_extend_from_slice(bytes);
-    kept
 }

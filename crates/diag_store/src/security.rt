@@ -4,7 +4,8 @@ ghost use Rattle.std.specs.Prelude.{◌≡◌, ◌≤◌, ◌<◌, bytes_eq, is_
 ghost use Rattle.diag_store.specs.Security.{IsSecurity, is_unlocked, level_of, key_len, locked, is_delayed, outstanding_row, seed_at, key_at, next_row, seed_answer, after_seed, key_answer, after_key, after_tick, after_ticks};
 ghost use Rattle.diag_store.specs.Opening.{opening_security};
 
-use crate::levels::{Levels, bytes_of};
+use crate::bytes::bytes_of;
+use crate::levels::Levels;
 use arrayvec::ArrayVec;
 use diag_setup::{Setup, Who};
 use std::alloc::{AllocError, Global};
