@@ -25,7 +25,7 @@ ghost use Rattle.diag_tp.specs.Sender.{
 
 use crate::frames::frame_of;
 use crate::message::Message;
-use crate::queue::frame_count;
+use crate::queue::frames_of;
 use crate::setup::LinkSetup;
 use diag_can::FrameBytes;
 
@@ -153,7 +153,7 @@ impl Sending {
         ensures fields { Some result ≡ block_fields setup.now self (block_size block (frames_of self.message - self.next)) gap }
         ensures sound { IsSound result }
     {
-        let left = frame_count(&self.message) - self.next;
+        let left = frames_of(&self.message) - self.next;
         let size = if block == 0 {
             left
         } else {
@@ -196,7 +196,7 @@ impl Sending {
         ensures fields { result ≡ one_gone self }
         ensures sound { IfSome result (λ c. IsSound c) }
     {
-        if self.next + 1 == frame_count(&self.message) {
+        if self.next + 1 == frames_of(&self.message) {
             return None;
         }
         self.next += 1;

@@ -181,7 +181,7 @@ impl Queue {
         requires few { length (waits self.old.replies) < 1000000 }
         ensures { self.new.replies ≡ self.old.replies ++ message ∷ [] }
     {
-        let further = frame_count(&message) - 1;
+        let further = frames_of(&message) - 1;
         self.replies.push_back_reserved(message);
         self.runs.push(further);
         self.further += u64::from(further);
@@ -194,7 +194,7 @@ impl Queue {
         ensures room { self.old.room ≤ self.new.room }
     {
         let message = self.replies.pop_front()?;
-        let further = frame_count(&message) - 1;
+        let further = frames_of(&message) - 1;
         self.runs.pop(further);
         self.further -= u64::from(further);
         Some(message)
@@ -232,7 +232,7 @@ impl Queue {
 }
 
 /// How many frames a message has.
-pub(crate) fn frame_count(message: &Message) -> u16
+pub(crate) fn frames_of(message: &Message) -> u16
     ensures count { result ≡ frames_of message.now }
     ensures some { 1 ≤ result }
     ensures few { result < 10000 }

@@ -6,10 +6,10 @@ use Rattle.diag_tp.proofs.queue.Queue.pop.Goals as goal
 pub pop-requires : goal.pop-requires
 pop-requires c =
     let inside = c.self.inside in
-    let counted = c.frame_count-further.ensures.count in
-    let some = c.frame_count-further.ensures.some in
+    let counted = c.frames_of-further.ensures.count in
+    let some = c.frames_of-further.ensures.some in
     record {
-      some = λ none. run-some inside.replies.items c.pop_front.new.self.items c.in_ok-message.message inside.runs.before inside.runs.last (c.frame_count-further.result - 1)
+      some = λ none. run-some inside.replies.items c.pop_front.new.self.items c.in_ok-message.message inside.runs.before inside.runs.last (c.frames_of-further.result - 1)
           c.in_ok-message.ensures.items (omega arith) (omega arith) c.self.invariant.0 none;
     }
 
@@ -18,7 +18,7 @@ overflow_sub-self c =
     let inside = c.self.inside in
     let sum = c.self.invariant.1 in
     let all = further-first inside.replies.items c.pop_front.new.self.items c.in_ok-message.message c.in_ok-message.ensures.items in
-    let counted = c.frame_count-further.ensures.count in
+    let counted = c.frames_of-further.ensures.count in
     let less = c.from.ensures in
     omega arith
 
@@ -32,10 +32,10 @@ invariant_of-self-2 c =
     let W = inside.replies.items in
     let V = c.pop_front.new.self.items in
     let P = c.in_ok-message.message in
-    let counted = c.frame_count-further.ensures.count in
-    let some = c.frame_count-further.ensures.some in
+    let counted = c.frames_of-further.ensures.count in
+    let some = c.frames_of-further.ensures.some in
     let split = c.in_ok-message.ensures.items in
-    let done = popped W V P inside.runs.before c.pop.new.self.before inside.runs.last c.pop.new.self.last (c.frame_count-further.result - 1) split (omega arith) (omega arith) held.0 c.pop.ensures.single c.pop.ensures.longer in
+    let done = popped W V P inside.runs.before c.pop.new.self.before inside.runs.last c.pop.new.self.last (c.frames_of-further.result - 1) split (omega arith) (omega arith) held.0 c.pop.ensures.single c.pop.ensures.longer in
     let sum = held.1 in
     let all = further-first W V P split in
     let less = c.from.ensures in

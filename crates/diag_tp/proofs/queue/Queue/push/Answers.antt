@@ -23,7 +23,7 @@ overflow_add-self c =
     let same = ap (λ q. length (waits q.replies)) c.self.view_is in
     let few = c.requires.few in
     let more = c.from.ensures in
-    let short = c.frame_count-further.ensures.few in
+    let short = c.frames_of-further.ensures.few in
     omega arith
 
 pub invariant_of-self : goal.invariant_of-self
@@ -31,10 +31,10 @@ invariant_of-self c =
     let inside = c.self.inside in
     let held = c.self.invariant in
     let P = c.args.message in
-    let counted = c.frame_count-further.ensures.count in
-    let some = c.frame_count-further.ensures.some in
-    let short = c.frame_count-further.ensures.few in
-    let done = pushed inside.replies.items P inside.runs.before c.push.new.self.before inside.runs.last c.push.new.self.last (c.frame_count-further.result - 1) (omega arith) (omega arith) held.0 c.push.ensures.single c.push.ensures.longer in
+    let counted = c.frames_of-further.ensures.count in
+    let some = c.frames_of-further.ensures.some in
+    let short = c.frames_of-further.ensures.few in
+    let done = pushed inside.replies.items P inside.runs.before c.push.new.self.before inside.runs.last c.push.new.self.last (c.frames_of-further.result - 1) (omega arith) (omega arith) held.0 c.push.ensures.single c.push.ensures.longer in
     let longer = longer-few inside.replies.items inside.runs.before inside.runs.last held.0 in
     let same = ap (λ q. length (waits q.replies)) c.self.view_is in
     let few = c.requires.few in
