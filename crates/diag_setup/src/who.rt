@@ -46,6 +46,6 @@ impl Who {
         ensures same { result ≡ self.now - 1 }
         ensures fits { result < 8 }
     {
-        self.place as usize - 1
+        usize::from(self.place) - 1
     }
 }
