@@ -247,20 +247,14 @@ impl SecurityState {
         ensures answer { result ≡ seed_answer self.old who sub }
         ensures state { self.new ≡ after_seed self.old who sub }
     {
-        if self.is_delayed(who) {
-            return SeedAnswer::Delayed;
-        }
-        if self.is_unlocked(sub) {
-            return SeedAnswer::Seed(zeros(self.seed_at(sub, 0).len()));
-        }
-        if let Some(row) = self.outstanding_row(sub) {
-            return SeedAnswer::Seed(self.seed_at(sub, row));
+        let answer = self.seed_answer(who, sub);
+        if self.is_delayed(who) || self.is_unlocked(sub) || self.outstanding_row(sub).is_some() {
+            return answer;
         }
         let row = self.next_row(sub);
-        let seed = self.seed_at(sub, row);
         self.outstanding = Some(Outstanding { level: sub, row });
         self.levels.move_on(sub);
-        SeedAnswer::Seed(seed)
+        answer
     }
 
     fn seed_answer(&self, who: Who, sub: u8) -> SeedAnswer
@@ -304,25 +298,22 @@ impl SecurityState {
         ensures answer { result ≡ key_answer self.old who sub key.now }
         ensures state { self.new ≡ after_key self.old who sub key.now }
     {
-        if self.is_delayed(who) {
-            return KeyAnswer::Delayed;
-        }
-        let Some(row) = self.outstanding_row(sub) else {
-            return KeyAnswer::NoSeed;
-        };
-        self.outstanding = None;
+        let answer = self.key_answer(who, sub, key);
         let tester = who.index();
-        if self.is_key_at(sub, row, key) {
-            self.unlocked = Some(sub);
-            self.wrong_keys[tester] = 0;
-            return KeyAnswer::Right;
+        match answer {
+            KeyAnswer::Delayed | KeyAnswer::NoSeed => return answer,
+            KeyAnswer::Right => {
+                self.unlocked = Some(sub);
+                self.wrong_keys[tester] = 0;
+            }
+            KeyAnswer::Wrong => self.wrong_keys[tester] += 1,
+            KeyAnswer::TooMany => {
+                self.wrong_keys[tester] += 1;
+                self.delays[tester] = self.delay_ms;
+            }
         }
-        self.wrong_keys[tester] += 1;
-        if self.wrong_keys[tester] < self.attempts {
-            return KeyAnswer::Wrong;
-        }
-        self.delays[tester] = self.delay_ms;
-        KeyAnswer::TooMany
+        self.outstanding = None;
+        answer
     }
 
     #[tactic(auto, using(crate::proofs::DelayLemmas::no_delay, crate::proofs::DelayLemmas::shorter, crate::proofs::DelayLemmas::over))]
