@@ -130,9 +130,7 @@ pub fn key_row(alloc: Global, seed: &[u8], key: &[u8]) -> Result<RawKeyRow, Allo
 pub fn bytes(alloc: Global, bytes: &[u8]) -> Result<Items<u8>, AllocError>
     ensures { IfOk result (λ made. made ≡ bytes.now) }
 {
-    let mut kept = Vec::new(alloc);
-    kept.extend_from_slice(bytes)?;
-    Ok(Items::from_vec(kept))
+    Ok(Items::from_vec(Vec::from_slice(alloc, bytes)?))
 }
 
 /// These rows in their order.
