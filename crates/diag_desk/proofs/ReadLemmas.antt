@@ -130,6 +130,7 @@ text_header es text (inr e) = (true, e ∙ sym (append-nil (text_of true es)))
 
 pub header_fault : (text : List ℕ) → ((stamped : Bool) (rest : List ℕ) → cut 10 text ≡ Some (header stamped, rest) → ⊥) → FaultAt text 1
 header_fault text no_header = record {
+  some = omega arith;
   before = λ lt. absurd (omega arith);
   fault = λ b. no_header b.stamped _ (header_cut b.stamped b.entries text b.rest b.is);
   none = λ es h is. let parts = text_header es text is in no_header parts.0 _ (header_cut parts.0 es text [] parts.1);
@@ -187,6 +188,7 @@ texts_apart stamped other es ks text rest more h k t u stuck =
 
 pub stuck_fault : (stamped : Bool) (es : List Entry) (text rest : List ℕ) (n : ℕ) → IsJournal es → text ≡ text_of stamped es ++ rest → n ≡ length es + 2 → Stuck stamped es rest → FaultAt text n
 stuck_fault stamped es text rest n h t number stuck = record {
+  some = omega arith;
   before = λ lt. record { stamped = stamped; entries = es; rest = rest; journal = h; lines = omega arith; is = t };
   fault = λ b. let apart = texts_apart stamped b.stamped es b.entries text rest b.rest h b.journal t b.is stuck in let lines = b.lines in absurd (omega (arith, apart.0));
   none = λ ks k is. let parts = text_header ks text is in (texts_apart stamped parts.0 es ks text rest [] h k t parts.1 stuck).1 refl;

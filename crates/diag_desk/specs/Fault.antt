@@ -1,5 +1,5 @@
 -- Which line of a text is the first at fault.
-use Rattle.std.specs.Prelude.{◌≡◌, ◌<◌, ◌+◌, ◌-◌, ◌⊎◌, ℕ, Bool, List, ◌++◌, length}
+use Rattle.std.specs.Prelude.{◌≡◌, ◌≤◌, ◌<◌, ◌+◌, ◌-◌, ◌⊎◌, ℕ, Bool, List, ◌++◌, length}
 use Rattle.diag_desk.specs.declared.entry.Entry.{Entry}
 use Rattle.diag_desk.specs.Entry.{IsJournal}
 use Rattle.diag_desk.specs.Text.{text_of, journal_text, journal_text_at}
@@ -16,8 +16,9 @@ pub record Begins (text : List ℕ) (n : ℕ) : Type 0 where
   pub lines : length entries + 1 ≡ n
   pub is : text ≡ text_of stamped entries ++ rest
 
--- line n is the first at fault: the lines before it are a journal's, with it they are none's, and the text is none's
+-- line n, from 1, is the first at fault: the lines before it are a journal's, with it they are none's, and the text is none's
 pub record FaultAt (text : List ℕ) (n : ℕ) : Type 0 where
+  pub some : 1 ≤ n
   pub before : 1 < n → Begins text (n - 1)
   pub fault : Begins text n → ⊥
   pub none : (entries : List Entry) → IsJournal entries → IsTextOf text entries → ⊥
