@@ -6,7 +6,7 @@ use Rattle.diag_store.specs.declared.security.SecurityState.{SecurityState}
 use Rattle.diag_ecu.specs.declared.service.Service.{Service}
 use Rattle.diag_ecu.specs.declared.service.Service.TheVariants.{DiagnosticSessionControl, EcuReset, ClearDiagnosticInformation, ReadDtcInformation, ReadDataByIdentifier, SecurityAccess, WriteDataByIdentifier, RoutineControl, TesterPresent, ControlDtcSetting}
 use Rattle.diag_ecu.specs.declared.service.Nrc.{Nrc}
-use Rattle.diag_ecu.specs.declared.service.Nrc.TheVariants.{ServiceNotSupported, InvalidKey, ExceededNumberOfAttempts}
+use Rattle.diag_ecu.specs.declared.service.Nrc.TheVariants.{ServiceNotSupported, InvalidKey, ExceedNumberOfAttempts}
 use Rattle.diag_ecu.specs.State.{State, is_holder, is_open, session_ended, s3_filled, relocked}
 use Rattle.diag_ecu.specs.Elapse.{elapse, ticked, s3_ticked, routines_ticked, delay_ticked}
 use Rattle.diag_ecu.specs.Respond as ecu
@@ -79,7 +79,7 @@ elapse_keeps s who (suc n) = keeps_then s (ticked s who) (elapse (ticked s who) 
 
 refused_keeps : (s : State) (who : ℕ) (nrc : Nrc) → Keeps s (ecu.refused s who nrc)
 refused_keeps s who InvalidKey = inl (refl, refl)
-refused_keeps s who ExceededNumberOfAttempts = inl (refl, refl)
+refused_keeps s who ExceedNumberOfAttempts = inl (refl, refl)
 refused_keeps s who _ = inl (refl, refl)
 
 session_keeps : (s : State) (who n : ℕ) → Keeps s (ecu.session_effect s who n)
@@ -349,7 +349,7 @@ elapse_rules s who (suc n) = rules_then s (ticked s who) (elapse (ticked s who) 
 
 refused_rules : (s : State) (who : ℕ) (nrc : Nrc) → SameRules s (ecu.refused s who nrc)
 refused_rules s who InvalidKey id = refl
-refused_rules s who ExceededNumberOfAttempts id = refl
+refused_rules s who ExceedNumberOfAttempts id = refl
 refused_rules s who _ id = refl
 
 effect_rules : (s : State) (who : ℕ) (service : Service) (p : List ℕ) → SameRules s (ecu.effect s who service p)

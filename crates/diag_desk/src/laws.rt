@@ -14,7 +14,7 @@ pub fn texts_have_one_journal()
 {}
 
 /// A value that needs a security level is written only after its tester has sent the level's key, and has stayed the
-/// holder with the level unlocked since (ISO 14229-1, SecurityAccess).
+/// holder with the level unlocked since (ISO 14229-1:2013, 9.4).
 pub fn writes_follow_unlocking()
     ensures { unlock_law }
 {}

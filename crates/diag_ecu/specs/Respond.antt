@@ -17,7 +17,7 @@ use Rattle.diag_store.specs.declared.security.KeyAnswer.TheVariants.{Delayed as 
 use Rattle.diag_ecu.specs.declared.service.Service.{Service}
 use Rattle.diag_ecu.specs.declared.service.Service.TheVariants.{DiagnosticSessionControl, EcuReset, ClearDiagnosticInformation, ReadDtcInformation, ReadDataByIdentifier, SecurityAccess, WriteDataByIdentifier, RoutineControl, TesterPresent, ControlDtcSetting}
 use Rattle.diag_ecu.specs.declared.service.Nrc.{Nrc}
-use Rattle.diag_ecu.specs.declared.service.Nrc.TheVariants.{ServiceNotSupported, SubFunctionNotSupported, IncorrectMessageLength, ResponseTooLong, BusyRepeatRequest, ConditionsNotCorrect, RequestSequenceError, RequestOutOfRange, SecurityAccessDenied, InvalidKey, ExceededNumberOfAttempts, RequiredTimeDelayNotExpired, ServiceNotSupportedInActiveSession}
+use Rattle.diag_ecu.specs.declared.service.Nrc.TheVariants.{ServiceNotSupported, SubFunctionNotSupported, IncorrectMessageLengthOrInvalidFormat, ResponseTooLong, BusyRepeatRequest, ConditionsNotCorrect, RequestSequenceError, RequestOutOfRange, SecurityAccessDenied, InvalidKey, ExceedNumberOfAttempts, RequiredTimeDelayNotExpired, ServiceNotSupportedInActiveSession}
 use Rattle.diag_ecu.specs.Bytes.{bytes_16, bytes_24, number_16, number_24, has_bit_7, without_bit_7}
 use Rattle.diag_ecu.specs.Service.{service_of, nrc_code, has_sub_function, needs_extended, shortest, is_silent}
 use Rattle.diag_ecu.specs.State.{State, is_holder, is_held_by_another, is_open, relocked, session_ended, s3_filled}
@@ -160,9 +160,9 @@ abbrev pub common_checks : State → ℕ → Service → List ℕ → List Check
 common_checks s who service p =
     (needs_extended service && not (is_holder s who), ServiceNotSupportedInActiveSession)
     ∷ (is_held_by_another s who && needs_no_other_holder service p, BusyRepeatRequest)
-    ∷ (nat_lt (length p) (shortest service), IncorrectMessageLength)
+    ∷ (nat_lt (length p) (shortest service), IncorrectMessageLengthOrInvalidFormat)
     ∷ (not (is_sub_function s service (sub p)), SubFunctionNotSupported)
-    ∷ (not (has_exact_length s service p), IncorrectMessageLength)
+    ∷ (not (has_exact_length s service p), IncorrectMessageLengthOrInvalidFormat)
     ∷ []
 
 -- whether the tester may read by a rule; an unknown identifier has none
@@ -186,7 +186,7 @@ write_checks s who p =
     let id = number_16 p 1 in
     (not (is_writable (dids.rule_of s.dids id)), RequestOutOfRange)
     ∷ (not (is_open s who (write_level (dids.rule_of s.dids id))), SecurityAccessDenied)
-    ∷ (not (security.option_is (option_map (λ v. length v) (dids.value_of s.dids id)) (length (drop 3 p))), IncorrectMessageLength)
+    ∷ (not (security.option_is (option_map (λ v. length v) (dids.value_of s.dids id)) (length (drop 3 p))), IncorrectMessageLengthOrInvalidFormat)
     ∷ []
 
 abbrev pub security_checks : State → ℕ → List ℕ → List Check
@@ -194,7 +194,7 @@ security_checks s who p =
     let is_key = not (is_seed_request s p) in
     (security.is_delayed s.security who, RequiredTimeDelayNotExpired)
     ∷ (is_key && is_none (security.outstanding_row s.security.outstanding (key_level p)), RequestSequenceError)
-    ∷ (is_key && not (security.is_right_key s.security (key_level p) (drop 2 p)), if security.is_last_attempt s.security who then ExceededNumberOfAttempts else InvalidKey)
+    ∷ (is_key && not (security.is_right_key s.security (key_level p) (drop 2 p)), if security.is_last_attempt s.security who then ExceedNumberOfAttempts else InvalidKey)
     ∷ []
 
 abbrev pub state_is_idle : RoutineState → Bool
@@ -280,7 +280,7 @@ effect s who _ p = s
 -- a refused request changes nothing, but for a wrong key
 abbrev pub refused : State → ℕ → Nrc → State
 refused s who InvalidKey = record s { security = security.after_wrong_key s.security who }
-refused s who ExceededNumberOfAttempts = record s { security = security.after_wrong_key s.security who }
+refused s who ExceedNumberOfAttempts = record s { security = security.after_wrong_key s.security who }
 refused s who _ = s
 
 -- ---- the response
@@ -344,4 +344,4 @@ key_refusal KeyDelayed = Some RequiredTimeDelayNotExpired
 key_refusal NoSeed = Some RequestSequenceError
 key_refusal Right = None
 key_refusal Wrong = Some InvalidKey
-key_refusal TooMany = Some ExceededNumberOfAttempts
+key_refusal TooMany = Some ExceedNumberOfAttempts

@@ -21,7 +21,7 @@ pub struct Ecu {
     pub(crate) holder: Option<Who>,
     /// The ticks left of S3; 0 while nobody is the holder.
     pub(crate) s3_left: u32,
-    /// Whether routines that are done set status bits (ISO 14229-1, 9.8).
+    /// Whether routines that are done set status bits (ISO 14229-1:2013, 9.9).
     pub(crate) status_update: bool,
 }
 
@@ -110,7 +110,8 @@ impl Ecu {
         }
     }
 
-    /// Goes to the state after a tester's request. It takes no memory.
+    /// Goes to the state after a tester's request, which is the same for a functional and a physical one. It takes no
+    /// memory.
     pub fn settle(&mut self, who: Who, functional: bool, message: &Message)
         ensures { self.new ≡ after_request self.old who functional message.now }
     {

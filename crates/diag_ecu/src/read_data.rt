@@ -1,4 +1,4 @@
-//! Reading data by identifier (ISO 14229-1, 10.2).
+//! Reading data by identifier (ISO 14229-1:2013, 10.2).
 ghost use Rattle.std.specs.Prelude.{◌≡◌, ◌↔◌, ◌≤◌, ◌++◌, ◌∷◌, [], length, IsSome, IfSome, IfOk, OnOk, Some, None};
 ghost use Rattle.std.specs.List.{list_any, list_all};
 ghost use Rattle.diag_ecu.specs.Respond.{ids_in, knows, may_read, data_records, data_reply, did_record, read_checks, first_holding};

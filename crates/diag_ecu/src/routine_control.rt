@@ -1,4 +1,4 @@
-//! Routine control (ISO 14229-1, 13.2).
+//! Routine control (ISO 14229-1:2013, 13.2).
 ghost use Rattle.std.specs.Prelude.{◌≡◌, length, is_some, IfOk, IsTrue};
 ghost use Rattle.diag_ecu.specs.Respond.{routine_checks, routine_of, routine_effect, first_holding, positive_reply, sub};
 ghost use Rattle.diag_ecu.specs.Bytes.{number_16};

@@ -1,4 +1,4 @@
-//! Security access: seeds and keys (ISO 14229-1, 9.4).
+//! Security access: seeds and keys (ISO 14229-1:2013, 9.4).
 ghost use Rattle.std.specs.Prelude.{◌≡◌, ◌≤◌, ◌-◌, length, is_some, false, IsTrue, IfOk};
 ghost use Rattle.diag_store.specs.Security.{level_of, is_delayed};
 ghost use Rattle.diag_ecu.specs.Respond.{own_outcome, security_checks, first_holding, positive_reply, is_sub_function, sub, seed_refusal, key_refusal};
@@ -73,6 +73,6 @@ fn key_refusal(answer: KeyAnswer) -> Option<Nrc>
         KeyAnswer::NoSeed => Some(Nrc::RequestSequenceError),
         KeyAnswer::Right => None,
         KeyAnswer::Wrong => Some(Nrc::InvalidKey),
-        KeyAnswer::TooMany => Some(Nrc::ExceededNumberOfAttempts),
+        KeyAnswer::TooMany => Some(Nrc::ExceedNumberOfAttempts),
     }
 }

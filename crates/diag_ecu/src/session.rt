@@ -1,4 +1,4 @@
-//! Diagnostic session control and ECU reset (ISO 14229-1, 9.2 and 9.3).
+//! Diagnostic session control and ECU reset (ISO 14229-1:2013, 9.2 and 9.3).
 ghost use Rattle.std.specs.Prelude.{◌≡◌, IfOk};
 ghost use Rattle.diag_ecu.specs.Respond.{positive_reply, session_effect, sub};
 ghost use Rattle.diag_ecu.specs.State.{session_of, session_ended};
@@ -13,7 +13,9 @@ use std::alloc::AllocError;
 /// The session of a tester.
 #[derive(Clone, Copy, PartialEq, Eq, Debug, Drop)]
 pub enum Session {
+    /// defaultSession (01).
     Default,
+    /// extendedDiagnosticSession (03).
     Extended,
 }
 

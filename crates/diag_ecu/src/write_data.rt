@@ -1,4 +1,4 @@
-//! Writing data by identifier (ISO 14229-1, 10.7).
+//! Writing data by identifier (ISO 14229-1:2013, 10.7).
 ghost use Rattle.std.specs.Prelude.{◌≡◌, ◌≤◌, length, drop, option_map, Some, IfOk};
 ghost use Rattle.diag_store.specs.Dids.{value_of, with_value};
 ghost use Rattle.diag_ecu.specs.Bytes.{number_16};
@@ -29,7 +29,7 @@ impl Ecu {
         }
         match self.dids.get(id) {
             Some(kept) if kept.len() == p.len() - 3 => None,
-            _ => Some(Nrc::IncorrectMessageLength),
+            _ => Some(Nrc::IncorrectMessageLengthOrInvalidFormat),
         }
     }
 
