@@ -126,10 +126,10 @@ abbrev NoneHold : List ecu.Check → Type 0
 NoneHold [] = Unit {0}
 NoneHold (check ∷ rest) = (check.0 ≡ false) × NoneHold rest
 
-all_pass : (checks : List ecu.Check) → ecu.first_holding checks ≡ None → NoneHold checks
+all_pass : (checks : List ecu.Check) → first_holding checks ≡ None → NoneHold checks
 all_pass [] e = tt
 all_pass (check ∷ rest) e =
-    elim check.0 as (λ b. cond b (Some check.1) (ecu.first_holding rest) ≡ None → (b ≡ false) × NoneHold rest) [
+    elim check.0 as (λ b. cond b (Some check.1) (first_holding rest) ≡ None → (b ≡ false) × NoneHold rest) [
       | true ↦ λ p. cc
       | false ↦ λ p. (refl, all_pass rest p)
     ] e
@@ -170,7 +170,7 @@ above_level (suc n) known none passes = omega arith
 
 -- a key that passes the checks is the right one, of the holder
 key_passes : (s : State) (who : ℕ) (p : List ℕ) → ecu.is_seed_request s p ≡ false
-    → ecu.first_holding (ecu.checks s who SecurityAccess p) ≡ None
+    → first_holding (ecu.checks s who SecurityAccess p) ≡ None
     → (s.holder ≡ Some who) × KeyOf s who p who (ecu.key_level p)
 key_passes s who p key passes =
     let h = all_pass (ecu.checks s who SecurityAccess p) passes in
@@ -188,7 +188,7 @@ key_passes s who p key passes =
 
 -- what a served request leaves: all as it was, or nothing unlocked, or what its key unlocked
 pub effect_unlocks : (s : State) (who : ℕ) (service : Service) (p : List ℕ) (holder level : ℕ)
-    → ecu.first_holding (ecu.checks s who service p) ≡ None
+    → first_holding (ecu.checks s who service p) ≡ None
     → HasUnlocked (ecu.effect s who service p) holder level
     → HasUnlocked s holder level ⊎ ((service ≡ SecurityAccess) × KeyOf s who p holder level)
 effect_unlocks s who DiagnosticSessionControl p holder level passes h = inl (unlocked_before s (ecu.session_effect s who (ecu.sub p)) holder level (session_keeps s who (ecu.sub p)) h)
@@ -232,7 +232,7 @@ request_unlocks s who functional p holder level h =
     → HasUnlocked s holder level ⊎ ((ecu.sid p ≡ 0x27) × KeyOf s who p holder level)) [
       | None ↦ λ is u. inl u
       | Some service ↦ λ is u.
-          elim (ecu.first_holding (ecu.checks s who service p)) as (λ first. ecu.first_holding (ecu.checks s who service p) ≡ first
+          elim (first_holding (ecu.checks s who service p)) as (λ first. first_holding (ecu.checks s who service p) ≡ first
           → HasUnlocked (ecu.outcome_of s who service p first).state holder level
           → HasUnlocked s holder level ⊎ ((ecu.sid p ≡ 0x27) × KeyOf s who p holder level)) [
             | Some nrc ↦ λ refusal v. inl (unlocked_before s (ecu.refused s who nrc) holder level (refused_keeps s who nrc) v)
@@ -375,7 +375,7 @@ outcome_rules s who service p (Some nrc) = refused_rules s who nrc
 
 served_rules : (s : State) (who : ℕ) (service : Option Service) (p : List ℕ) → SameRules s (ecu.served s who service p).state
 served_rules s who None p = λ id. refl
-served_rules s who (Some service) p = outcome_rules s who service p (ecu.first_holding (ecu.checks s who service p))
+served_rules s who (Some service) p = outcome_rules s who service p (first_holding (ecu.checks s who service p))
 
 step_rules : (s : State) (who : ℕ) (step : Step) → SameRules s (after_step s who step)
 step_rules s who (Request functional p) =
@@ -422,10 +422,10 @@ positive_sent functional p reply whole e =
 -- the reply of a service begins with its identifier and 40
 dtc_first : (s : State) (p : List ℕ) → slice_index (ecu.dtc_reply s p) 0 ≡ 0x59
 dtc_first s p =
-    elim (ecu.sub p == 0x01) as (λ b. slice_index (cond b (0x59 ∷ 0x01 ∷ s.values.availability ∷ 0x01 ∷ bytes_16 (length (ecu.counted s p)))
-    (if ecu.sub p == 0x02 then ecu.counted_reply s (bit_and (slice_index p 2) s.values.availability) else ecu.all_reply s)) 0 ≡ 0x59) [
+    elim (ecu.sub p == 0x01) as (λ b. slice_index (cond b (0x59 ∷ 0x01 ∷ s.values.availability ∷ 0x01 ∷ bytes_16 (length (dtcs.matching s.codes (ecu.mask_of s p))))
+    (if ecu.sub p == 0x02 then ecu.counted_reply s (ecu.mask_of s p) else ecu.all_reply s)) 0 ≡ 0x59) [
       | true ↦ refl
-      | false ↦ elim (ecu.sub p == 0x02) as (λ b. slice_index (cond b (ecu.counted_reply s (bit_and (slice_index p 2) s.values.availability)) (ecu.all_reply s)) 0 ≡ 0x59) [ true ↦ refl | false ↦ refl ]
+      | false ↦ elim (ecu.sub p == 0x02) as (λ b. slice_index (cond b (ecu.counted_reply s (ecu.mask_of s p)) (ecu.all_reply s)) 0 ≡ 0x59) [ true ↦ refl | false ↦ refl ]
     ]
 
 open_unlocked : (s : State) (who level : ℕ) → 0 < level → is_open s who level ≡ true → HasUnlocked s who level
@@ -438,8 +438,8 @@ open_unlocked s who level above e =
     ] refl e
 
 -- a positive reply to a write of an identifier whose level is above 0
-write_open : (s : State) (who id : ℕ) (service : Service) (p : List ℕ) → ecu.first_holding (ecu.checks s who service p) ≡ None
-    → ecu.positive_reply s service p ≡ 0x6E ∷ id / 256 ∷ id % 256 ∷ [] → 0 < write_level_of s id → HasUnlocked s who (write_level_of s id)
+write_open : (s : State) (who id : ℕ) (service : Service) (p : List ℕ) → first_holding (ecu.checks s who service p) ≡ None
+    → ecu.positive_reply s service p ≡ 0x6E ∷ bytes_16 id → 0 < write_level_of s id → HasUnlocked s who (write_level_of s id)
 write_open s who id WriteDataByIdentifier p passes e above =
     let h = all_pass (ecu.checks s who WriteDataByIdentifier p) passes in
     let number = number_16 p 1 in
@@ -459,14 +459,14 @@ write_open s who id RoutineControl p passes e above = absurd (other_first 0x71 r
 write_open s who id TesterPresent p passes e above = absurd (other_first 0x7E refl _ _ e)
 write_open s who id ControlDtcSetting p passes e above = absurd (other_first 0xC5 refl _ _ e)
 
-reply_open : (s : State) (who id : ℕ) (step : Step) → reply_to s who step ≡ Some (0x6E ∷ id / 256 ∷ id % 256 ∷ []) → 0 < write_level_of s id → HasUnlocked s who (write_level_of s id)
+reply_open : (s : State) (who id : ℕ) (step : Step) → reply_to s who step ≡ Some (0x6E ∷ bytes_16 id) → 0 < write_level_of s id → HasUnlocked s who (write_level_of s id)
 reply_open s who id (Ticks n) e above = cc e
 reply_open s who id (Request functional p) e above =
-    elim (service_of (ecu.sid p)) as (λ service. ecu.sent functional p (ecu.served s who service p).answer ≡ Some (0x6E ∷ id / 256 ∷ id % 256 ∷ []) → HasUnlocked s who (write_level_of s id)) [
+    elim (service_of (ecu.sid p)) as (λ service. ecu.sent functional p (ecu.served s who service p).answer ≡ Some (0x6E ∷ bytes_16 id) → HasUnlocked s who (write_level_of s id)) [
       | None ↦ λ r. absurd (negative_differs functional p _ ServiceNotSupported r)
       | Some service ↦ λ r.
-          elim (ecu.first_holding (ecu.checks s who service p)) as (λ first. ecu.first_holding (ecu.checks s who service p) ≡ first
-          → ecu.sent functional p (ecu.outcome_of s who service p first).answer ≡ Some (0x6E ∷ id / 256 ∷ id % 256 ∷ []) → HasUnlocked s who (write_level_of s id)) [
+          elim (first_holding (ecu.checks s who service p)) as (λ first. first_holding (ecu.checks s who service p) ≡ first
+          → ecu.sent functional p (ecu.outcome_of s who service p first).answer ≡ Some (0x6E ∷ bytes_16 id) → HasUnlocked s who (write_level_of s id)) [
             | Some nrc ↦ λ refusal q. absurd (negative_differs functional p _ nrc q)
             | None ↦ λ passes q. write_open s who id service p passes (positive_sent functional p (ecu.positive_reply s service p) _ q) above
           ] refl r

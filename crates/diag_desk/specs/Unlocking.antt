@@ -3,6 +3,7 @@ use Rattle.std.specs.Prelude.{◌≡◌, ◌<◌, ◌≤◌, ◌+◌, ◌/◌, �
 use Rattle.diag_tp.specs.declared.step.Step.TheVariants.{Request}
 use Rattle.diag_desk.specs.declared.entry.Entry.{Entry}
 use Rattle.diag_desk.specs.Legal.{Legal, after}
+use Rattle.diag_ecu.specs.Bytes.{bytes_16}
 use Rattle.diag_ecu.specs.State.{State}
 use Rattle.diag_ecu.specs.Respond as ecu
 use Rattle.diag_store.specs.Dids as dids
@@ -42,6 +43,6 @@ write_level_of s id = ecu.write_level (dids.rule_of s.dids id)
 abbrev pub unlock_law : Type 0
 unlock_law = (s : State) (entries : List Entry) → s.security.unlocked ≡ None → Legal s entries
     → (i : ℕ) (e : Entry) (id : ℕ) → slice_get entries i ≡ Some e
-    → e.reply ≡ Some (0x6E ∷ id / 256 ∷ id % 256 ∷ [])
+    → e.reply ≡ Some (0x6E ∷ bytes_16 id)
     → 0 < write_level_of s id
     → UnlockedBefore s entries i e.who (write_level_of s id)

@@ -2,6 +2,7 @@
 use Rattle.std.proofs.Common.{◌≡◌, ℕ, ◌≤◌, Bool, true, false, not, cond, List, [], ◌∷◌, ◌++◌, length, drop, Option, Some, None, Ok, refl, sym, ap, eq-eqb, ◌==◌}
 use Rattle.std.specs.Prelude.{is_some, option_map}
 use Rattle.std.proofs.lemmas.Bool.{ltb-false, eqb-true}
+use Rattle.diag_setup.specs.Setup.{first_holding}
 use Rattle.diag_store.specs.Dids.{value_of, write_answer_of}
 use Rattle.diag_store.specs.Security.{is_delayed, option_is}
 use Rattle.diag_store.specs.declared.routines.Routine.{Routine}
@@ -11,7 +12,7 @@ use Rattle.diag_ecu.specs.declared.service.Nrc.{Nrc}
 use Rattle.diag_ecu.specs.Service.{shortest}
 use Rattle.diag_ecu.specs.Bytes.{number_16}
 use Rattle.diag_ecu.specs.State.{State}
-use Rattle.diag_ecu.specs.Respond.{Check, sub, common_checks, own_checks, clear_checks, read_checks, write_checks, setting_checks, routine_checks_of, routine_checks, routine_of, security_checks, data_reply, first_holding, refused, served, own_outcome, is_sub_function, has_exact_length}
+use Rattle.diag_ecu.specs.Respond.{Check, sub, common_checks, own_checks, clear_checks, read_checks, write_checks, setting_checks, routine_checks_of, routine_checks, routine_of, security_checks, data_reply, refused, served, own_outcome, is_sub_function, has_exact_length}
 
 pub first_of_more : (xs ys : List Check) (nrc : Nrc) → first_holding xs ≡ Some nrc → first_holding (xs ++ ys) ≡ Some nrc
 first_of_more [] ys nrc h = cc

@@ -1,6 +1,7 @@
 -- What the ECU answers a request, and what it is then: the checks in their order, then the service's row.
 use Rattle.std.specs.Prelude.{ℕ, ◌-◌, ◌%◌, ◌==◌, ◌&&◌, ◌||◌, Bool, true, false, not, List, [], ◌∷◌, ◌++◌, length, drop, flat_map, Option, Some, None, is_some, is_none, option_map, if◌then◌else◌, nat_lt, bit_and, slice_index, Result, Ok, Err}
 use Rattle.std.specs.List.{list_any, list_all}
+use Rattle.diag_setup.specs.Setup.{first_holding}
 use Rattle.diag_store.specs.Dids as dids
 use Rattle.diag_store.specs.Dtcs as dtcs
 use Rattle.diag_store.specs.Routines as routines
@@ -87,8 +88,9 @@ has_exact_length s ControlDtcSetting p = (length p == 2) || (length p == 5)
 abbrev pub report : ℕ → Dtc → List ℕ
 report availability row = bytes_24 row.code ++ bit_and row.status availability ∷ []
 
-abbrev pub counted : State → List ℕ → List Dtc
-counted s p = dtcs.matching s.codes (bit_and (slice_index p 2) s.values.availability)
+-- the DTCStatusMask of a request AND the DTCStatusAvailabilityMask
+abbrev pub mask_of : State → List ℕ → ℕ
+mask_of s p = bit_and (slice_index p 2) s.values.availability
 
 -- the codes that have a bit of the mask, and all codes
 abbrev pub counted_reply : State → ℕ → List ℕ
@@ -97,10 +99,11 @@ counted_reply s mask = 0x59 ∷ 0x02 ∷ s.values.availability ∷ flat_map (rep
 abbrev pub all_reply : State → List ℕ
 all_reply s = 0x59 ∷ 0x0A ∷ s.values.availability ∷ flat_map (report s.values.availability) s.codes
 
+-- 01 reportNumberOfDTCByStatusMask, 02 reportDTCByStatusMask, 0A reportSupportedDTC
 abbrev pub dtc_reply : State → List ℕ → List ℕ
 dtc_reply s p =
-    if sub p == 0x01 then 0x59 ∷ 0x01 ∷ s.values.availability ∷ 0x01 ∷ bytes_16 (length (counted s p))
-    else if sub p == 0x02 then counted_reply s (bit_and (slice_index p 2) s.values.availability)
+    if sub p == 0x01 then 0x59 ∷ 0x01 ∷ s.values.availability ∷ 0x01 ∷ bytes_16 (length (dtcs.matching s.codes (mask_of s p)))
+    else if sub p == 0x02 then counted_reply s (mask_of s p)
     else all_reply s
 
 -- whether there is such an identifier
@@ -241,11 +244,6 @@ own_checks s who _ p = []
 
 abbrev pub checks : State → ℕ → Service → List ℕ → List Check
 checks s who service p = common_checks s who service p ++ own_checks s who service p
-
--- the code of the first check that holds
-abbrev pub first_holding : List Check → Option Nrc
-first_holding [] = None
-first_holding (check ∷ rest) = if check.0 then Some check.1 else first_holding rest
 
 -- ---- effects
 

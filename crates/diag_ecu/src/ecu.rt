@@ -1,7 +1,8 @@
 //! The ECU: what it holds, and what it does with a request.
 ghost use Rattle.std.specs.Prelude.{◌≡◌, ◌≤◌, ◌+◌, ◌++◌, None, Some, length, IfOk, IfNone, OnOk, OnErr};
+ghost use Rattle.diag_setup.specs.Setup.{first_holding};
 ghost use Rattle.diag_ecu.specs.State.{opening, is_holder, is_held_by_another, is_open};
-ghost use Rattle.diag_ecu.specs.Respond.{first_holding, common_checks, own_checks, checks, after_request, reply, outcome, served, own_outcome, effect, positive_reply, kept_alive, sent_negative, is_suppressed};
+ghost use Rattle.diag_ecu.specs.Respond.{common_checks, own_checks, checks, after_request, reply, outcome, served, own_outcome, effect, positive_reply, kept_alive, sent_negative, is_suppressed};
 
 use crate::bytes::sub_of;
 use crate::service::{Nrc, Service};

@@ -1,7 +1,8 @@
 //! Reading data by identifier (ISO 14229-1:2013, 10.2).
 ghost use Rattle.std.specs.Prelude.{◌≡◌, ◌↔◌, ◌≤◌, ◌++◌, ◌∷◌, [], length, IsSome, IfSome, IfOk, OnOk, Some, None};
 ghost use Rattle.std.specs.List.{list_any, list_all};
-ghost use Rattle.diag_ecu.specs.Respond.{ids_in, knows, may_read, data_records, data_reply, did_record, read_checks, first_holding};
+ghost use Rattle.diag_setup.specs.Setup.{first_holding};
+ghost use Rattle.diag_ecu.specs.Respond.{ids_in, knows, may_read, data_records, data_reply, did_record, read_checks};
 
 use crate::bytes::{bytes_16, number_16};
 use crate::ecu::Ecu;

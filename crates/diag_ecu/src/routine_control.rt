@@ -1,6 +1,7 @@
 //! Routine control (ISO 14229-1:2013, 13.2).
 ghost use Rattle.std.specs.Prelude.{◌≡◌, length, is_some, IfOk, IsTrue};
-ghost use Rattle.diag_ecu.specs.Respond.{routine_checks, routine_of, routine_effect, first_holding, positive_reply, sub};
+ghost use Rattle.diag_setup.specs.Setup.{first_holding};
+ghost use Rattle.diag_ecu.specs.Respond.{routine_checks, routine_of, routine_effect, positive_reply, sub};
 ghost use Rattle.diag_ecu.specs.Bytes.{number_16};
 
 use crate::bytes::{bytes_16, number_16_at, sub_of};

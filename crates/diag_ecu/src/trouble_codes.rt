@@ -1,8 +1,9 @@
 //! Trouble codes: clearing them, reading them, and the setting of their status bits (ISO 14229-1:2013, 11.2, 11.3 and 9.9).
 ghost use Rattle.std.specs.Prelude.{◌<◌, drop, ◌∷◌, [], ◌≡◌, ◌≤◌, ◌+◌, ◌*◌, ◌++◌, ◌==◌, length, flat_map, OnOk, IfOk};
+ghost use Rattle.diag_setup.specs.Setup.{first_holding};
 ghost use Rattle.diag_store.specs.Dtcs.{is_known_group, matching, cleared};
 ghost use Rattle.diag_ecu.specs.Bytes as spec;
-ghost use Rattle.diag_ecu.specs.Respond.{sub, clear_checks, setting_checks, first_holding, report, dtc_reply, counted_reply, all_reply};
+ghost use Rattle.diag_ecu.specs.Respond.{sub, clear_checks, setting_checks, report, dtc_reply, counted_reply, all_reply};
 
 use crate::bytes::{bytes_16, bytes_24, number_24, sub_of};
 use crate::ecu::Ecu;

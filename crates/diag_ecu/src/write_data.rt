@@ -1,8 +1,9 @@
 //! Writing data by identifier (ISO 14229-1:2013, 10.7).
 ghost use Rattle.std.specs.Prelude.{◌≡◌, ◌≤◌, length, drop, option_map, Some, IfOk};
+ghost use Rattle.diag_setup.specs.Setup.{first_holding};
 ghost use Rattle.diag_store.specs.Dids.{value_of, with_value};
 ghost use Rattle.diag_ecu.specs.Bytes.{number_16};
-ghost use Rattle.diag_ecu.specs.Respond.{write_checks, first_holding, positive_reply, sub};
+ghost use Rattle.diag_ecu.specs.Respond.{write_checks, positive_reply, sub};
 
 use crate::bytes::{bytes_16, number_16_at};
 use crate::ecu::Ecu;

@@ -1,5 +1,6 @@
 use Rattle.std.proofs.Common.{◌≡◌, Some, sym}
-use Rattle.diag_ecu.specs.Respond.{first_holding, common_checks, own_checks}
+use Rattle.diag_setup.specs.Setup.{first_holding}
+use Rattle.diag_ecu.specs.Respond.{common_checks, own_checks}
 use Rattle.diag_ecu.proofs.PassLemmas.{first_of_more}
 use Rattle.diag_ecu.proofs.ecu.Ecu.refusal.Goals as goal
 
