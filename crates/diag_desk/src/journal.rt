@@ -13,6 +13,15 @@ use std::alloc::{AllocError, Global};
 use std::marker::Model;
 use thiserror::Error;
 
+/// The bytes of a text's first line with its LF, as `diag-journal 1`.
+const HEADER: usize = 15;
+
+/// The most bytes of an entry's line with its LF, without a stamp and the hex of its messages: those of `8 T 60000`.
+const LINE: usize = 10;
+
+/// The most bytes of a stamp and its space: 1,000,000 entries have at most 60,000,000,000 ticks.
+const STAMP: usize = 12;
+
 /// Why an entry was not added.
 #[derive(Clone, Copy, PartialEq, Eq, Debug, Drop, Error)]
 pub enum JournalPush {
@@ -151,11 +160,11 @@ impl Journal {
 
     /// No fewer bytes than a text of the journal has.
     pub(crate) fn text_room(&self, stamped: bool) -> usize {
-        let line = if stamped { 22 } else { 10 };
+        let line = if stamped { STAMP + LINE } else { LINE };
         self.bytes
             .len()
             .saturating_mul(2)
             .saturating_add(self.heads.len().saturating_mul(line))
-            .saturating_add(16)
+            .saturating_add(HEADER)
     }
 }
