@@ -1,6 +1,8 @@
 -- A level is unlocked by its key alone, and stays unlocked only while its tester is the holder.
 use Rattle.std.proofs.Common.{◌≡◌, ℕ, zero, suc, ◌+◌, ◌-◌, ◌<◌, ◌≤◌, ◌==◌, ◌⊎◌, inl, inr, Bool, true, false, cond, not, ◌&&◌, List, [], ◌∷◌, length, take, drop, slice_get, slice_index, slice_set, Option, Some, None, Ok, Err, refl, sym, ap, ◌∙◌, arith}
-use Rattle.std.specs.Prelude.{nat_le, is_some, is_none, ◌||◌, ◌/◌, ◌%◌, bytes_eq, unwrap_or, option_map, bit_and, if◌then◌else◌}
+use Rattle.std.specs.Prelude.{nat_le, is_some, is_none, ◌||◌, ◌/◌, ◌%◌, bytes_eq, unwrap_or, option_map, if◌then◌else◌}
+use Rattle.diag_setup.specs.Setup.{first_holding}
+use Rattle.diag_store.specs.Dtcs as dtcs
 use Rattle.diag_store.specs.Security as security
 use Rattle.diag_store.specs.declared.security.SecurityState.{SecurityState}
 use Rattle.diag_ecu.specs.declared.service.Service.{Service}

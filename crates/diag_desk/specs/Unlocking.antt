@@ -1,5 +1,5 @@
 -- What has to come before a value is written that needs a security level.
-use Rattle.std.specs.Prelude.{◌≡◌, ◌<◌, ◌≤◌, ◌+◌, ◌/◌, ◌%◌, ℕ, Bool, List, [], ◌∷◌, take, drop, slice_get, Some, None}
+use Rattle.std.specs.Prelude.{◌≡◌, ◌<◌, ◌≤◌, ◌+◌, ℕ, Bool, List, ◌∷◌, take, drop, slice_get, Some, None}
 use Rattle.diag_tp.specs.declared.step.Step.TheVariants.{Request}
 use Rattle.diag_desk.specs.declared.entry.Entry.{Entry}
 use Rattle.diag_desk.specs.Legal.{Legal, after}
