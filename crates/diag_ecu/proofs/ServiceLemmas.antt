@@ -1,5 +1,5 @@
 -- What single services and ticks do, told by the tables.
-use Rattle.std.proofs.Common.{◌≡◌, append_assoc, add-one, ℕ, zero, suc, ◌+◌, ◌-◌, ◌<◌, true, false, not, cond, List, [], ◌∷◌, ◌++◌, length, drop, Option, Some, None, is_none, refl, ap, arith, slice_get, bit_and, ◌==◌, if◌then◌else◌}
+use Rattle.std.proofs.Common.{◌≡◌, append_assoc, add-one, ℕ, zero, suc, ◌+◌, ◌<◌, true, false, not, cond, List, [], ◌∷◌, ◌++◌, length, drop, Option, Some, None, is_none, refl, ap, arith, slice_get, bit_and, ◌==◌, if◌then◌else◌}
 use Rattle.std.specs.Prelude.{flat_map, option_map}
 use Rattle.diag_store.specs.Routines as routines
 use Rattle.diag_store.specs.Security as security
@@ -10,7 +10,6 @@ use Rattle.diag_store.specs.declared.routines.RoutineState.TheVariants.{Done}
 use Rattle.diag_ecu.specs.declared.service.Service.TheVariants.{SecurityAccess}
 use Rattle.diag_ecu.specs.State.{State}
 use Rattle.diag_ecu.specs.Bytes.{bytes_24}
-use Rattle.diag_ecu.specs.Elapse.{elapse, ticked}
 use Rattle.diag_ecu.specs.Respond.{own_outcome, is_seed_request, key_level, routine_results, report}
 
 -- a key that is right, wrong or not looked at changes what the table of levels says

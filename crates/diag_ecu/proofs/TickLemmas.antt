@@ -1,16 +1,16 @@
 -- Many ticks at once: the delay apart from the session, and the ticks in which nothing ends.
 use Rattle.std.proofs.Common.{◌≡◌, ℕ, zero, suc, ◌+◌, ◌-◌, ◌≤◌, Bool, true, false, cond, List, [], ◌∷◌, Option, Some, None, refl, ap, sym, ◌∙◌, arith}
-use Rattle.std.specs.Prelude.{min, nat_le, is_some, ◌==◌, if◌then◌else◌, slice_index, slice_set}
+use Rattle.std.specs.Prelude.{nat_le, is_some, ◌==◌, if◌then◌else◌, slice_index, slice_set}
 use Rattle.std.proofs.lemmas.Bool.{lt-leb}
 use Rattle.diag_store.specs.Security as security
-use Rattle.diag_store.specs.Routines.{quiet_in, quiet_ticks, state_later, row_later, rows_later, state_after_tick, ends_now, tick_one, rows_after_tick, reported, codes_after_tick}
+use Rattle.diag_store.specs.Routines.{quiet_in, quiet_ticks, state_later, rows_later, state_after_tick, ends_now, rows_after_tick, codes_after_tick}
 use Rattle.diag_store.specs.declared.dtcs.Dtc.{Dtc}
 use Rattle.diag_store.specs.declared.routines.Routine.{Routine}
 use Rattle.diag_store.specs.declared.routines.RoutineState.{RoutineState}
 use Rattle.diag_store.specs.declared.routines.RoutineState.TheVariants.{Idle, Running, Done}
 use Rattle.diag_store.specs.declared.security.SecurityState.{SecurityState}
 use Rattle.diag_ecu.specs.State.{State, is_holder, session_ended}
-use Rattle.diag_ecu.specs.Elapse.{elapse, ticked, delay_ticked, routines_ticked, s3_ticked, session_ticked, session_elapsed, delay_elapsed}
+use Rattle.diag_ecu.specs.Elapse.{elapse, ticked, delay_ticked, routines_ticked, session_ticked, session_elapsed, delay_elapsed}
 
 -- ---- the delay apart from the session
 
