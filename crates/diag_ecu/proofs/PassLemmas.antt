@@ -131,10 +131,14 @@ pub routine_known : (s : State) (who : ℕ) (p : List ℕ) → first_holding (ro
 routine_known s who p h = routine_there s who (sub p) (routine_of s p) h
 
 -- a request that a check of every service refuses changes nothing
-pub common-stays : (s : State) (who : ℕ) (service : Service) (p : List ℕ) (nrc : Nrc) → Some nrc ≡ first_holding (common_checks s who service p) → s ≡ (served s who (Some service) p).state
-common-stays s who service p nrc found =
+pub common-stays : (s : State) (who : ℕ) (service : Service) (p : List ℕ) (refusal : Option Nrc) → is_some refusal ≡ true → refusal ≡ first_holding (common_checks s who service p)
+    → s ≡ (served s who (Some service) p).state
+common-stays s who service p None some found = cc some
+common-stays s who service p (Some nrc) some found =
     rw (first_of_more (common_checks s who service p) (own_checks s who service p) nrc (sym found)) (sym (common-kept s who service p nrc (sym found)))
 
 -- nor does one that a check of its service refuses, but for those of a key
-pub own-stays : (s : State) (who : ℕ) (service : Service) (p : List ℕ) (nrc : Nrc) → (service ≡ SecurityAccess → ⊥) → Some nrc ≡ first_holding (own_checks s who service p) → s ≡ (own_outcome s who service p).state
-own-stays s who service p nrc other found = rw (sym found) (sym (own-kept s who service p nrc other (sym found)))
+pub own-stays : (s : State) (who : ℕ) (service : Service) (p : List ℕ) (refusal : Option Nrc) → (service ≡ SecurityAccess → ⊥) → is_some refusal ≡ true
+    → refusal ≡ first_holding (own_checks s who service p) → s ≡ (own_outcome s who service p).state
+own-stays s who service p None other some found = cc some
+own-stays s who service p (Some nrc) other some found = rw (sym found) (sym (own-kept s who service p nrc other (sym found)))

@@ -223,9 +223,8 @@ impl Ecu {
         requires { 1 ≤ length p.now }
         ensures { self.new ≡ (served self.old who (Some service) p.now).state }
     {
-        match self.common_refusal(who, service, p) {
-            Some(_) => {}
-            None => self.perform(who, service, p),
+        if self.common_refusal(who, service, p).is_none() {
+            self.perform(who, service, p);
         }
     }
 
@@ -237,10 +236,11 @@ impl Ecu {
     {
         match service {
             Service::SecurityAccess => self.access_security(who, p),
-            _ => match self.own_refusal(who, service, p) {
-                Some(_) => {}
-                None => self.take_effect(who, service, p),
-            },
+            _ => {
+                if self.own_refusal(who, service, p).is_none() {
+                    self.take_effect(who, service, p);
+                }
+            }
         }
     }
 
