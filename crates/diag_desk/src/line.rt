@@ -77,10 +77,10 @@ fn place_in(text: &[u8]) -> Option<Who>
     ensures some { IfSome result (λ who. ((48 + who) ∷ [] ≡ text.now) × (1 ≤ who) × (who ≤ 8)) }
     ensures none { IfNone result ((who : ℕ) → 1 ≤ who → who ≤ 8 → (48 + who) ∷ [] ≢ text.now) }
 {
-    if text.len() != 1 || text[0] < b'1' || text[0] > b'8' {
-        return None;
+    match text {
+        [digit @ b'1'..=b'8'] => Who::new(*digit - b'0'),
+        _ => None,
     }
-    Who::new(text[0] - b'0')
 }
 
 /// The kind whose letter is a text.
@@ -88,17 +88,11 @@ fn kind_in(text: &[u8]) -> Option<Kind>
     ensures some { IfSome result (λ kind. kind_code kind ∷ [] ≡ text.now) }
     ensures none { IfNone result ((kind : IsKind) → kind_code kind ∷ [] ≢ text.now) }
 {
-    if text.len() != 1 {
-        return None;
-    }
-    if text[0] == b'P' {
-        Some(Kind::Physical)
-    } else if text[0] == b'F' {
-        Some(Kind::Functional)
-    } else if text[0] == b'T' {
-        Some(Kind::Ticks)
-    } else {
-        None
+    match text {
+        [b'P'] => Some(Kind::Physical),
+        [b'F'] => Some(Kind::Functional),
+        [b'T'] => Some(Kind::Ticks),
+        _ => None,
     }
 }
 
@@ -110,10 +104,7 @@ fn step_in(kind: Kind, body: &[u8]) -> Option<LineStep<'_>>
     match kind {
         Kind::Physical => request_in(false, body),
         Kind::Functional => request_in(true, body),
-        Kind::Ticks => match count_in(body) {
-            Some(count) => Some(LineStep::Ticks(count)),
-            None => None,
-        },
+        Kind::Ticks => Some(LineStep::Ticks(count_in(body)?)),
     }
 }
 
@@ -175,9 +166,7 @@ fn count_in(text: &[u8]) -> Option<TickCount>
     ensures some { IfSome result (λ count. (decimal count ≡ text.now) × (1 ≤ count) × (count ≤ 60000)) }
     ensures none { IfNone result (IsNoCount text.now) }
 {
-    let Some(number) = number_in(text) else {
-        return None;
-    };
+    let number = number_in(text)?;
     if number < 1 || 60000 < number {
         return None;
     }
