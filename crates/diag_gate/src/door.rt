@@ -1,7 +1,8 @@
 //! What a worker steps through, and the door over a gate.
-ghost use Rattle.std.specs.Prelude.{◌≡◌, ◌++◌, ◌∷◌, [], IfOk, MatchResult};
+ghost use Rattle.std.specs.Prelude.{◌≡◌, ℕ, ◌++◌, ◌∷◌, [], Some, IfOk, MatchResult};
 ghost use Rattle.diag_desk.specs.Entry.{HasNoReply};
 ghost use Rattle.diag_desk.specs.Entries.{entry};
+ghost use Rattle.diag_gate.specs.Seats.{Answered, Refused, waited};
 
 use crate::gate::{Gate, Seat};
 use diag_desk::{Step, StepFault};
@@ -91,7 +92,14 @@ impl<R: Wait> Door for GateDoor<'_, R> {
         self.seat.who()
     }
 
-    fn step(&mut self, step: &Step) -> Result<Option<Message>, StepFault> {
+    /// The gate's step, by its seat. It waits until no other seat has the desk.
+    fn step(&mut self, step: &Step) -> Result<Option<Message>, StepFault>
+        ensures made { (missed : ℕ) × MatchResult result (λ reply. Answered (waited self.old missed) self.new step.now reply) (λ fault. Refused (waited self.old missed) self.new fault) }
+        ensures given { MatchResult result (λ reply. self.new.own ≡ self.old.own ++ entry self.old.who step.now reply ∷ []) (λ _. self.new.own ≡ self.old.own) }
+        ensures quiet { IfOk result (λ reply. HasNoReply step.now reply) }
+        ensures tester { self.new.who ≡ self.old.who }
+        ensures home { Some self.new.gate ≡ Some self.old.gate }
+    {
         self.gate.step(self.rt, &mut self.seat, step)
     }
 }

@@ -1,5 +1,8 @@
 //! The door over a lock.
-ghost use Rattle.std.specs.Prelude.{◌≡◌, [], None};
+ghost use Rattle.std.specs.Prelude.{◌≡◌, ◌++◌, ◌∷◌, [], length, None, Err, IfOk, MatchResult};
+ghost use Rattle.diag_desk.specs.Entry.{HasNoReply};
+ghost use Rattle.diag_desk.specs.Entries.{entry};
+ghost use Rattle.diag_desk.specs.Legal.{Run, Legal};
 
 use crate::door::Door;
 use diag_desk::{Desk, Journal, Step, StepFault};
@@ -46,18 +49,36 @@ impl<'a, R: Wait> Door for LockDoor<'a, R> {
         self.who
     }
 
-    /// Its own journal has room before it locks, and a full one is looked at first.
-    fn step(&mut self, step: &Step) -> Result<Option<Message>, StepFault> {
+    /// Its own journal has room before it locks, and a full one is looked at first. The answer is the desk's, so that it is lawful behind some
+    /// legal journal; which desk it was, its type alone says.
+    fn step(&mut self, step: &Step) -> Result<Option<Message>, StepFault>
+        ensures lawful { IfOk result (λ reply. (desk : Run) × Legal desk.opening (desk.journal ++ entry self.old.who step.now reply ∷ [])) }
+        ensures full { length self.old.given.entries ≡ 1000000 → result ≡ Err StepFault.JournalFull }
+        ensures given { MatchResult result (λ reply. self.new.given.entries ≡ self.old.given.entries ++ entry self.old.who step.now reply ∷ []) (λ _. self.new.given.entries ≡ self.old.given.entries) }
+        ensures quiet { IfOk result (λ reply. HasNoReply step.now reply) }
+        ensures tester { self.new.who ≡ self.old.who }
+        ensures home { ⟦<LockDoor<'a, R> as Door>⟧.home self.new ≡ ⟦<LockDoor<'a, R> as Door>⟧.home self.old }
+    {
         if self.given.is_full() {
             return Err(StepFault::JournalFull);
         }
         if self.given.make_room(step).is_err() {
             return Err(StepFault::Memory);
         }
-        let reply = self.desk.lock(self.rt).step(self.who, step)?;
+        let reply = lawful_step(&mut self.desk.lock(self.rt), self.who, step)?;
         if self.given.push(self.who, step, reply.as_ref()).is_err() {
             unreachable!();
         }
         Ok(reply)
     }
+}
+
+// A desk's step, whose reply is lawful behind the desk's journal.
+fn lawful_step(desk: &mut Desk, who: Who, step: &Step) -> Result<Option<Message>, StepFault>
+    ensures lawful { IfOk result (λ reply. (desk : Run) × Legal desk.opening (desk.journal ++ entry who step.now reply ∷ [])) }
+    ensures quiet { IfOk result (λ reply. HasNoReply step.now reply) }
+{
+    let reply = desk.step(who, step)?;
+    let _journal = desk.journal();
+    Ok(reply)
 }
