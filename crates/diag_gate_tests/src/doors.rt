@@ -59,8 +59,8 @@ fn lets_go<R: Wait>(rt: &R, alloc: Global) -> Result<bool, Trouble> {
 
 /// After its step a door has let the desk go, so another seat's step is taken at once.
 #[test]
-fn door_lets_go(rt: HostRuntime) {
-    assert!(rt; holds(lets_go(&rt, rt.alloc())));
+fn door_lets_go(rt: HostRuntime) -> Result<(), Trouble> {
+    holds(lets_go(&rt, rt.alloc()))
 }
 
 fn are_answered<R: Wait>(rt: &R, alloc: Global, desk: &Mutex<Desk>) -> Result<bool, Trouble> {
@@ -87,6 +87,6 @@ fn locked_steps<R: Wait>(rt: &R, alloc: Global) -> Result<bool, Trouble> {
 }
 
 #[test]
-fn doors_over_a_lock(rt: HostRuntime) {
-    assert!(rt; holds(locked_steps(&rt, rt.alloc())));
+fn doors_over_a_lock(rt: HostRuntime) -> Result<(), Trouble> {
+    holds(locked_steps(&rt, rt.alloc()))
 }

@@ -3,7 +3,7 @@
 ghost use Rattle.std.specs.Prelude.{◌≡◌, IfOk};
 
 use crate::seating::{bring_home, closed, gate_of_two, is_out, seat_of};
-use crate::trouble::{Trouble, and, holds, request, says};
+use crate::trouble::{Trouble, holds, request, says};
 use diag_can::TickCount;
 use diag_desk::{Journal, Step, StepFault, StepRef};
 use diag_gate::{Gate, Host, Seat, TryFault};
@@ -60,14 +60,37 @@ fn step_held(
     }
 }
 
-/// The same, once more where memory was refused: the desk was then not kept from a third seat. Whether it is silent.
+/// What a step came to that is taken once more where memory was refused.
+#[derive(Clone, Copy)]
+struct Outcome {
+    right: bool,
+    refused: bool,
+}
+
+/// A step that was answered at once.
+fn at_once(right: bool) -> Outcome {
+    Outcome {
+        right,
+        refused: false,
+    }
+}
+
+/// A step that was answered when it was taken once more.
+fn once_more(right: bool) -> Outcome {
+    Outcome {
+        right,
+        refused: true,
+    }
+}
+
+/// The same, once more where memory was refused: the desk was then not kept from a third seat. It has to be silent.
 fn step_held_again(
     alloc: Global,
     gate: &Gate,
     seat: Seat,
     other: &mut Seat,
     third: &mut Seat,
-) -> Result<(Seat, bool), Trouble>
+) -> Result<(Seat, Outcome), Trouble>
     requires seat { seat.gate ≡ gate.now }
     requires other { other.old.gate ≡ gate.now }
     requires third { third.old.gate ≡ gate.now }
@@ -81,14 +104,13 @@ fn step_held_again(
         Err(StepFault::Memory) => {
             tick(gate, third)?;
             let (seat, answer) = step_held(alloc, gate, seat, other, &quiet)?;
-            Ok((seat, answer?.is_none()))
+            Ok((seat, once_more(answer?.is_none())))
         }
-        answer => Ok((seat, answer?.is_none())),
+        answer => Ok((seat, at_once(answer?.is_none()))),
     }
 }
 
-/// Has a seat try a step, once more where memory was refused: the desk was then not kept from a third seat. Whether it
-/// is answered so.
+/// Has a seat try a step, once more where memory was refused: the desk was then not kept from a third seat.
 fn try_again(
     alloc: Global,
     gate: &Gate,
@@ -96,7 +118,7 @@ fn try_again(
     third: &mut Seat,
     bytes: &[u8],
     wanted: &[u8],
-) -> Result<bool, Trouble>
+) -> Result<Outcome, Trouble>
     requires seat { seat.old.gate ≡ gate.now }
     requires third { third.old.gate ≡ gate.now }
     ensures seat { seat.new.gate ≡ seat.old.gate }
@@ -105,14 +127,14 @@ fn try_again(
     match gate.try_step(seat, request(alloc, bytes)?) {
         Err(TryFault::Memory) => {
             tick(gate, third)?;
-            Ok(says(&gate.try_step(seat, request(alloc, bytes)?)?, wanted))
+            let reply = gate.try_step(seat, request(alloc, bytes)?)?;
+            Ok(once_more(says(&reply, wanted)))
         }
-        answer => Ok(says(&answer?, wanted)),
+        answer => Ok(at_once(says(&answer?, wanted))),
     }
 }
 
-/// A step that waits, once more where memory was refused: the desk was then not kept from a third seat. Whether it is
-/// answered so.
+/// A step that waits, once more where memory was refused: the desk was then not kept from a third seat.
 fn wait_again<R: Wait>(
     rt: &R,
     alloc: Global,
@@ -121,7 +143,7 @@ fn wait_again<R: Wait>(
     third: &mut Seat,
     bytes: &[u8],
     wanted: &[u8],
-) -> Result<bool, Trouble>
+) -> Result<Outcome, Trouble>
     requires seat { seat.old.gate ≡ gate.now }
     requires third { third.old.gate ≡ gate.now }
     ensures seat { seat.new.gate ≡ seat.old.gate }
@@ -131,9 +153,9 @@ fn wait_again<R: Wait>(
     match gate.step(rt, seat, &asked) {
         Err(StepFault::Memory) => {
             tick(gate, third)?;
-            Ok(says(&gate.step(rt, seat, &asked)?, wanted))
+            Ok(once_more(says(&gate.step(rt, seat, &asked)?, wanted)))
         }
-        answer => Ok(says(&answer?, wanted)),
+        answer => Ok(at_once(says(&answer?, wanted))),
     }
 }
 
@@ -192,8 +214,13 @@ fn has_requests(journal: &Journal, wanted: &[Wanted]) -> bool {
     next == wanted.len()
 }
 
-/// Three seats step one after another, and come home: whether each was answered as it must be.
-fn all_step<R: Wait>(rt: &R, alloc: Global, gate: &Gate, host: &mut Host) -> Result<bool, Trouble>
+/// Three seats step one after another, and come home.
+fn all_step<R: Wait>(
+    rt: &R,
+    alloc: Global,
+    gate: &Gate,
+    host: &mut Host,
+) -> Result<Outcome, Trouble>
     requires { host.old.gate ≡ gate.now }
     ensures { host.new.gate ≡ host.old.gate }
 {
@@ -214,7 +241,10 @@ fn all_step<R: Wait>(rt: &R, alloc: Global, gate: &Gate, host: &mut Host) -> Res
     bring_home(gate, host, a);
     bring_home(gate, host, b);
     bring_home(gate, host, third);
-    Ok(silent && taken && value)
+    Ok(Outcome {
+        right: silent.right && taken.right && value.right,
+        refused: silent.refused || taken.refused || value.refused,
+    })
 }
 
 /// Whether the desk of a gate whose seats are home has all entries.
@@ -225,17 +255,21 @@ fn has_entries(gate: Gate, host: Host) -> Result<bool, Trouble>
     Ok(has_requests(desk.journal(), &WANTED))
 }
 
+/// The calls go on to their end where memory was refused on the way, which is then the error.
 fn gate_calls_hold<R: Wait>(rt: &R, alloc: Global) -> Result<bool, Trouble> {
     let (gate, mut host) = gate_of_two(alloc)?;
-    match all_step(rt, alloc, &gate, &mut host) {
-        Ok(true) if is_out(&gate, &mut host, 1) => has_entries(gate, host),
-        tried => and(tried, Ok(false)),
+    let steps = all_step(rt, alloc, &gate, &mut host)?;
+    let is_out = is_out(&gate, &mut host, 1);
+    let is_right = has_entries(gate, host)? && is_out && steps.right;
+    if is_right && steps.refused {
+        return Err(Trouble::Memory);
     }
+    Ok(is_right)
 }
 
 #[test]
-fn gate_calls(rt: HostRuntime) {
-    assert!(rt; holds(gate_calls_hold(&rt, rt.alloc())));
+fn gate_calls(rt: HostRuntime) -> Result<(), Trouble> {
+    holds(gate_calls_hold(&rt, rt.alloc()))
 }
 
 /// Whether a seat is given the desk; it puts the desk back.
@@ -278,6 +312,6 @@ fn one_takes(alloc: Global) -> Result<bool, Trouble> {
 
 /// One seat at a time has the desk, and the others get their seat back.
 #[test]
-fn one_takes_at_a_time(rt: HostRuntime) {
-    assert!(rt; holds(one_takes(rt.alloc())));
+fn one_takes_at_a_time(rt: HostRuntime) -> Result<(), Trouble> {
+    holds(one_takes(rt.alloc()))
 }

@@ -122,6 +122,6 @@ fn all_entered<R: Threads + Wait + Sync>(rt: &R, alloc: Global) -> Result<bool, 
 }
 
 #[test]
-fn two_threads(rt: HostRuntime) {
-    assert!(rt; holds(all_entered(&rt, rt.alloc())));
+fn two_threads(rt: HostRuntime) -> Result<(), Trouble> {
+    holds(all_entered(&rt, rt.alloc()))
 }
