@@ -14,7 +14,7 @@ use std::snapshot::Snapshot;
 
 type Place = atomic_table::Seat<Option<DeskBox>, View>;
 
-/// Contracts see which gate it is.
+/// A desk behind one atomic word: one seat at a time has the whole desk. Contracts see which gate it is.
 #[derive(Drop)]
 pub struct Gate {
     table: Table<Option<DeskBox>, View, Snapshot<DeskBox>, OneHistory, Global>,
@@ -88,7 +88,7 @@ impl<'a> Model for Held<'a> {
 mod steps;
 
 impl Gate {
-    /// Where it is refused, the desk is dropped.
+    /// A gate over a desk, and the host that gives out its seats. Refused, the desk is dropped.
     pub fn new(alloc: Global, desk: Desk) -> Result<(Gate, Host), AllocError>
         ensures { IfOk result (λ r. r.1 ≡ record { gate = r.0; opening = desk.opening; seen = desk.journal; owns = owns_from 0 9 desk.journal; given = replicate 9 false }) }
     {
@@ -110,7 +110,7 @@ impl Gate {
         }
     }
 
-    /// None where the host has given this tester out before.
+    /// The seat of a tester, once for each tester: None where this host has given it out before.
     pub fn split(&self, host: &mut Host, who: Who) -> Option<Seat>
         requires { host.old.gate ≡ self.now }
         ensures some { IfSome result (λ s. Gave host.old host.new who s) }
@@ -172,6 +172,7 @@ impl Host {
 }
 
 impl Seat {
+    /// Its tester.
     pub fn who(&self) -> Who
         ensures { result ≡ self.now.who }
     {

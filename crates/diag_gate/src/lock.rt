@@ -73,7 +73,7 @@ impl<'a, R: Wait> Door for LockDoor<'a, R> {
     }
 }
 
-// A desk's step, whose reply is lawful behind the desk's journal.
+/// A desk's step, whose reply is lawful behind the desk's journal.
 fn lawful_step(desk: &mut Desk, who: Who, step: &Step) -> Result<Option<Message>, StepFault>
     ensures lawful { IfOk result (λ reply. (desk : Run) × Legal desk.opening (desk.journal ++ entry who step.now reply ∷ [])) }
     ensures quiet { IfOk result (λ reply. HasNoReply step.now reply) }

@@ -10,10 +10,13 @@ use std::snapshot::Snapshot;
 pub struct View {
     /// False once another has taken it in.
     pub live: bool,
+    /// The ECU that the desk was opened with.
     pub opening: Ecu,
+    /// The journal as it was when last seen.
     pub seen: LinkedList<Entry>,
     /// After a join, the shorter of what the two had seen.
     pub told: LinkedList<Entry>,
+    /// A seat, which has one tester, or the host.
     pub is_seat: bool,
     /// A seat's tester. The host's is the one that it gives next.
     pub who: u64,
@@ -21,10 +24,13 @@ pub struct View {
     pub own: LinkedList<Entry>,
     /// The host's: the own entries of each tester that is with it, by place.
     pub owns: LinkedList<Option<LinkedList<Entry>>>,
+    /// Whether it has the desk.
     pub holds: bool,
+    /// How many of its takes found the desk out.
     pub missed: u64,
 }
 
+/// The rule that the table keeps: there is one legal journal from one opening, and every view is right about it.
 pub struct OneHistory;
 
 impl TableRule<Option<DeskBox>, View, Snapshot<DeskBox>> for OneHistory {

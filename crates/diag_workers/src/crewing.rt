@@ -1,4 +1,4 @@
-//! A thread for each tester's worker.
+//! All testers' workers at the same time.
 ghost use Rattle.std.specs.Prelude.{◌≡◌, ◌<◌, ◌≤◌, ◌∷◌, [], length, map, IfOk, vec_len};
 ghost use Rattle.std.specs.List.{AllByRecursion};
 ghost use Rattle.std.specs.Thread.{IsSync, IsSend};
@@ -13,8 +13,9 @@ use diag_store::Setup;
 use std::alloc::{AllocError, Global};
 use std::thread::{Threads, join};
 
-/// Plays each log through its door, each in a thread of its own.
+/// Plays each log through its door, all at the same time: the last on the calling thread, each other in a thread of its own.
 ///
+/// Where a thread can't be started, its log is played on the calling thread, after those that follow it.
 /// A refusal is that of the first tester, in order, that was refused; the doors are then dropped.
 pub fn crew<D: Door + Send + Drop, R: Threads + Sync>(
     rt: &R,

@@ -1,4 +1,4 @@
-//! One worker a tester, each in a thread of its own, and the plays of all testers' logs.
+//! One worker a tester, all at the same time, and the plays of all testers' logs.
 #![tactic(auto)]
 
 mod agreeing;

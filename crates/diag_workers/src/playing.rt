@@ -39,11 +39,12 @@ pub enum PlayFault {
     RecordsDisagree(Who),
 }
 
-/// Plays all logs at the same time, a thread for each tester, over one desk behind a gate.
+/// Plays all logs at the same time, over one desk behind a gate: the last on the calling thread, each other in a thread of its own.
+/// Where a thread can't be started, its log is played on the calling thread.
 ///
 /// The journal is a legal run of the sequential server from the setup's opening, and the run of a named interleaving of the logs;
 /// each tester's frames are what its flow control draws from the replies to it. The watch is told of each step before it is
-/// taken. The logs are read first, each in its thread, and the first that refuses, in order, decides.
+/// taken. The logs are read first, at the same time too, and the first that refuses, in order, decides.
 pub fn play<W: Watch + Sync, R: Threads + Wait + Sync>(
     rt: &R,
     alloc: Global,

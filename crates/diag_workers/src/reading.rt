@@ -13,7 +13,8 @@ use diag_store::{Setup, Who};
 use std::alloc::{AllocError, Global};
 use std::thread::{Threads, join};
 
-/// Reads each log in a thread of its own. The first that refuses, in order, decides.
+/// Reads all logs at the same time: the last on the calling thread, each other in a thread of its own, or on the calling thread where none
+/// can be started. The first that refuses, in order, decides.
 pub(crate) fn read_logs<R: Threads + Sync>(
     rt: &R,
     alloc: Global,

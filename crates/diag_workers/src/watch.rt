@@ -6,6 +6,7 @@ use diag_tp::Message;
 
 /// Is told of each step before its door is asked, while nothing is held.
 pub trait Watch {
+    /// This tester's door is asked for its next step now.
     fn called(&self, who: Who);
 }
 

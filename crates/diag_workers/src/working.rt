@@ -20,7 +20,9 @@ use std::alloc::Global;
 /// What one worker did: what it asked, with the answers, and the frames that it sent.
 #[derive(Drop)]
 pub struct WorkerRecord {
+    /// What it asked, with the answers, in order.
     pub entries: Journal,
+    /// The frames that it sent, in order, each with its time in ticks.
     pub sent: Vec<Sent>,
 }
 

@@ -16,7 +16,7 @@ use std::sync::Wait;
 use std::thread;
 
 impl Gate {
-    // The desk, where the word was found to be 0.
+    /// The desk, where the word was found to be 0.
     fn take(&self, place: &mut Place, who: Who) -> Option<DeskBox>
         requires gate { place.old.table_id ≡ self.now }
         requires seat { IsSeat who place.old.me }
@@ -31,7 +31,7 @@ impl Gate {
         }
     }
 
-    // Puts the desk back, with what the seat's tester did to it.
+    /// Puts the desk back, with what the seat's tester did to it.
     fn put(&self, place: &mut Place, who: Who, desk: DeskBox)
         requires gate { place.old.table_id ≡ self.now }
         requires held { (before : _) × IsHeld who place.old.me before × (desk.opening ≡ before.opening) }
@@ -47,7 +47,7 @@ impl Gate {
         shared.store::<Release>(place, 0, 0);
     }
 
-    // One step at the desk that the seat has.
+    /// One step at the desk that the seat has.
     fn work(
         &self,
         place: &mut Place,
