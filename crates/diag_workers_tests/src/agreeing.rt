@@ -69,6 +69,6 @@ fn agrees(alloc: Global) -> Result<bool, Trouble> {
 
 /// The reader's entries agree, and with the last reply changed or left out they don't.
 #[test]
-fn agree_on_two_testers(rt: HostRuntime) {
-    assert!(rt; holds(agrees(rt.alloc())));
+fn agree_on_two_testers(rt: HostRuntime) -> Result<(), Trouble> {
+    holds(agrees(rt.alloc()))
 }

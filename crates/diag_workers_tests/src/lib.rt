@@ -1,6 +1,7 @@
 //! Tests of the workers and of plays over their public calls.
 //!
-//! Want of memory is an allowed answer everywhere, so that each allocation can be refused in turn.
+//! Where memory is refused, a test ends with that as its error: so each allocation can be refused in turn, and with memory enough such an
+//! answer fails the test.
 #![tactic(auto)]
 
 #[cfg(test)]

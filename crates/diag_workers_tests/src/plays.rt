@@ -145,11 +145,12 @@ pub(crate) fn tried<W: Watch + Sync, R: Threads + Wait + Sync>(
     play_leaves(rt, alloc, &setup, case, watch)
 }
 
-/// Whether a play was refused so, or for want of memory.
-fn is_refused(tried: Result<bool, Trouble>, wanted: Trouble) -> bool {
+/// Whether a play was refused so.
+fn is_refused(tried: Result<bool, Trouble>, wanted: Trouble) -> Result<bool, Trouble> {
     match tried {
-        Ok(_) => false,
-        Err(trouble) => trouble == wanted || trouble == Trouble::Memory,
+        Ok(_) => Ok(false),
+        Err(Trouble::Memory) => Err(Trouble::Memory),
+        Err(trouble) => Ok(trouble == wanted),
     }
 }
 
@@ -161,8 +162,8 @@ pub(crate) const READERS_PLAY: Case = Case {
 };
 
 #[test]
-fn threaded_play(rt: HostRuntime) {
-    assert!(rt; holds(tried(&rt, rt.alloc(), &READERS_PLAY, &NoWatch)));
+fn threaded_play(rt: HostRuntime) -> Result<(), Trouble> {
+    holds(tried(&rt, rt.alloc(), &READERS_PLAY, &NoWatch))
 }
 
 const WRITER_AND_READER: Case = Case {
@@ -173,8 +174,8 @@ const WRITER_AND_READER: Case = Case {
 
 /// One tester writes what the other reads.
 #[test]
-fn the_old_or_the_new_value(rt: HostRuntime) {
-    assert!(rt; holds(tried(&rt, rt.alloc(), &WRITER_AND_READER, &NoWatch)));
+fn the_old_or_the_new_value(rt: HostRuntime) -> Result<(), Trouble> {
+    holds(tried(&rt, rt.alloc(), &WRITER_AND_READER, &NoWatch))
 }
 
 const STAMPED: [&str; 5] = [
@@ -202,8 +203,8 @@ const STAMPS: Case = Case {
 };
 
 #[test]
-fn stamps(rt: HostRuntime) {
-    assert!(rt; holds(tried(&rt, rt.alloc(), &STAMPS, &NoWatch)));
+fn stamps(rt: HostRuntime) -> Result<(), Trouble> {
+    holds(tried(&rt, rt.alloc(), &STAMPS, &NoWatch))
 }
 
 /// A case of so many ticks of each tester, which leaves as many entries.
@@ -216,22 +217,22 @@ fn ticking(first: u32, second: u32) -> Case {
 }
 
 #[test]
-fn million_lines(rt: HostRuntime) {
-    assert!(rt; holds(tried(&rt, rt.alloc(), &ticking(1_000_000, 0), &NoWatch)));
+fn million_lines(rt: HostRuntime) -> Result<(), Trouble> {
+    holds(tried(&rt, rt.alloc(), &ticking(1_000_000, 0), &NoWatch))
 }
 
 /// The journal is full with one line more of the other tester.
 #[test]
-fn million_lines_and_one_more(rt: HostRuntime) {
+fn million_lines_and_one_more(rt: HostRuntime) -> Result<(), Trouble> {
     let full = tried(&rt, rt.alloc(), &ticking(1_000_000, 1), &NoWatch);
-    assert!(rt; is_refused(full, Trouble::Full));
+    holds(is_refused(full, Trouble::Full))
 }
 
 /// A log has one line more than it may.
 #[test]
-fn too_many_lines(rt: HostRuntime) {
+fn too_many_lines(rt: HostRuntime) -> Result<(), Trouble> {
     let long = tried(&rt, rt.alloc(), &ticking(1_000_001, 0), &NoWatch);
-    assert!(rt; is_refused(long, Trouble::Log(1, LogFault::TooManyLines)));
+    holds(is_refused(long, Trouble::Log(1, LogFault::TooManyLines)))
 }
 
 /// The second log's second line is at fault.
@@ -249,10 +250,10 @@ const BOTH_AT_FAULT: Case = Case {
 
 /// A fault names its tester and its line, and that of the first tester in order that has one counts.
 #[test]
-fn a_log_at_fault(rt: HostRuntime) {
+fn a_log_at_fault(rt: HostRuntime) -> Result<(), Trouble> {
     let bad = LogFault::Line(2, LineFault::BadLine);
     let second = tried(&rt, rt.alloc(), &SECOND_AT_FAULT, &NoWatch);
     let both = tried(&rt, rt.alloc(), &BOTH_AT_FAULT, &NoWatch);
-    assert!(rt; is_refused(second, Trouble::Log(2, bad)));
-    assert!(rt; is_refused(both, Trouble::Log(1, bad)));
+    holds(is_refused(second, Trouble::Log(2, bad)))?;
+    holds(is_refused(both, Trouble::Log(1, bad)))
 }

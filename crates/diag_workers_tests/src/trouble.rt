@@ -64,10 +64,7 @@ impl From<PlayFault> for Trouble {
     }
 }
 
-/// Whether what was tried holds; where memory was refused on the way, that is an answer too.
-pub(crate) fn holds(tried: Result<bool, Trouble>) -> bool {
-    match tried {
-        Ok(held) => held,
-        Err(trouble) => trouble == Trouble::Memory,
-    }
+/// What was tried came to its end and holds.
+pub(crate) fn holds(tried: Result<bool, Trouble>) -> Result<(), Trouble> {
+    if tried? { Ok(()) } else { Err(Trouble::Wrong) }
 }

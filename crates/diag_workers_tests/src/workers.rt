@@ -99,7 +99,7 @@ fn alone<R: Wait>(rt: &R, alloc: Global, index: usize, lines: &[&str]) -> Result
 
 /// Each log alone, at a door over a lock.
 #[test]
-fn threaded_play_alone(rt: HostRuntime) {
-    assert!(rt; holds(alone(&rt, rt.alloc(), 0, &FIRST_READER)));
-    assert!(rt; holds(alone(&rt, rt.alloc(), 1, &SECOND_READER)));
+fn threaded_play_alone(rt: HostRuntime) -> Result<(), Trouble> {
+    holds(alone(&rt, rt.alloc(), 0, &FIRST_READER))?;
+    holds(alone(&rt, rt.alloc(), 1, &SECOND_READER))
 }
