@@ -67,9 +67,9 @@ fn take_round(
     ensures testers { length world.new.lanes ≡ length world.old.lanes }
     ensures full { result ≡ Err StepFault.JournalFull → (M : List (ℕ × AnEvent)) → Stands setup.now world.old M → 1000000 < length (steps_of (link_of setup.now) (M ++ first_of_each 1 (map (drop round) (map (λ log. log.items) logs.now)))) }
 {
-    for (place, log) in logs.iter().enumerate() {
+    for (index, log) in logs.iter().enumerate() {
         if round < log.len() {
-            let Some(who) = setup.who(place) else {
+            let Some(who) = setup.who(index) else {
                 unreachable!()
             };
             world.event(who, &log[round])?;

@@ -58,8 +58,8 @@ impl World {
     {
         let desk = Desk::new(alloc, setup)?;
         let mut testers = Vec::with_capacity(alloc, setup.testers())?;
-        for place in 0..setup.testers() {
-            let Some(who) = setup.who(place) else {
+        for index in 0..setup.testers() {
+            let Some(who) = setup.who(index) else {
                 unreachable!()
             };
             testers.push_reserved(Lane::new(alloc, setup.link(who)));
@@ -79,8 +79,8 @@ impl World {
         ensures full { result ≡ Err StepFault.JournalFull → (length self.old.desk.journal ≡ 1000000) × EachInterleaving self.old (λ setup M. IsSome (gives (link_of setup who) (items_of M who) event.now)) }
         ensures first { length self.old.desk.journal ≡ 1000000 → EachInterleaving self.old (λ setup M. IsSome (gives (link_of setup who) (items_of M who) event.now) → result ≡ Err StepFault.JournalFull) }
     {
-        let place = usize::from(who.place()) - 1;
-        let tester = &mut self.testers[place];
+        let index = usize::from(who.place()) - 1;
+        let tester = &mut self.testers[index];
         tester.take(&mut self.desk, who, event)
     }
 
@@ -96,8 +96,8 @@ impl World {
         requires in_setup { who ≤ length self.now.lanes }
         ensures { EachInterleaving self.now (λ setup M. result.now ≡ drawn (link_of setup who) (items_of M who) (replies (own self.now.desk.journal who))) }
     {
-        let place = usize::from(who.place()) - 1;
-        self.testers[place].sent()
+        let index = usize::from(who.place()) - 1;
+        self.testers[index].sent()
     }
 
     /// What the play leaves; the frames go into a list that has room for each tester's.

@@ -16,12 +16,12 @@ use Rattle.diag_world.proofs.Worlds.{set_cases, world_takes, own_le, on_ok, on_e
 use Rattle.diag_world.proofs.world.World.event.Goals as goal
 
 -- the tester stands at its place
-found : (c : goal.After-self-1) → slice_get c.self.inside.testers.items (c.from-place.result - 1) ≡ Some c.index_mut-tester.result.now
+found : (c : goal.After-self-1) → slice_get c.self.inside.testers.items (c.from-index.result - 1) ≡ Some c.index_mut-tester.result.now
 found c =
     let testers = c.self.inside.testers.items in
-    let i = c.from-place.result - 1 in
+    let i = c.from-index.result - 1 in
     let many = ap (λ w. length w.lanes) c.self.view_is in
-    let within : i < length testers = omega (arith, c.requires.in_setup, many, length-map testers lane_of, c.from-place.ensures, c.place.ensures.same, c.place.ensures.fits.0) in
+    let within : i < length testers = omega (arith, c.requires.in_setup, many, length-map testers lane_of, c.from-index.ensures, c.place.ensures.same, c.place.ensures.fits.0) in
     slice_get_read testers (length testers) i c.index_mut-tester.result.now refl within c.index_mut-tester.ensures.value
 
 -- and its lane stands for its part of an interleaving
@@ -29,8 +29,8 @@ own_lane : (c : goal.After-self-1) (setup : RawSetup) (M : List (ℕ × Event)) 
     → LaneStands (link_of setup c.args.who) (lane_of c.index_mut-tester.result.now) (items_of M c.args.who) (own c.self.inside.desk.journal c.args.who)
 own_lane c setup M h =
     let testers = c.self.inside.testers.items in
-    let i = c.from-place.result - 1 in
-    let is : c.args.who ≡ i + 1 = omega (arith, c.from-place.ensures, c.place.ensures.same, c.place.ensures.fits.0) in
+    let i = c.from-index.result - 1 in
+    let is : c.args.who ≡ i + 1 = omega (arith, c.from-index.ensures, c.place.ensures.same, c.place.ensures.fits.0) in
     let lane : LaneState = lane_of c.index_mut-tester.result.now in
     let before : WorldState = record { desk = c.self.inside.desk; lanes = map lane_of testers } in
     let here : slice_get (map lane_of testers) i ≡ Some lane = slice_get-map lane_of testers i ∙ ap (option_map lane_of) (found c) in
@@ -40,13 +40,13 @@ own_lane c setup M h =
 pub take-requires : goal.take-requires
 take-requires c =
     let testers = c.self.inside.testers.items in
-    let i = c.from-place.result - 1 in
+    let i = c.from-index.result - 1 in
     let many = ap (λ w. length w.lanes) c.self.view_is in
-    let within : i < length testers = omega (arith, c.requires.in_setup, many, length-map testers lane_of, c.from-place.ensures, c.place.ensures.same, c.place.ensures.fits.0) in
+    let within : i < length testers = omega (arith, c.requires.in_setup, many, length-map testers lane_of, c.from-index.ensures, c.place.ensures.same, c.place.ensures.fits.0) in
     record { ready = c.self.invariant i _ (slice_get_read testers (length testers) i c.index_mut-tester.result.now refl within c.index_mut-tester.ensures.value) }
 
 pub invariant_of-self : goal.invariant_of-self
-invariant_of-self c = λ j tester at. elim (set_cases c.self.inside.testers.items (c.from-place.result - 1) j c.take.new.self tester at) [
+invariant_of-self c = λ j tester at. elim (set_cases c.self.inside.testers.items (c.from-index.result - 1) j c.take.new.self tester at) [
   | inl p ↦ subst (λ t. IsReady (lane_of t) (length c.take.new.desk.journal)) (sym p.1) c.take.ensures.ready
   | inr p ↦ (let old = c.self.invariant j tester p.1 in record { drained = old.drained; few = omega (arith, old.few, c.take.ensures.longer) })
 ]
@@ -54,10 +54,10 @@ invariant_of-self c = λ j tester at. elim (set_cases c.self.inside.testers.item
 pub returns-clause-ok : goal.returns-clause-ok
 returns-clause-ok c =
     let testers = c.self.inside.testers.items in
-    let i = c.from-place.result - 1 in
+    let i = c.from-index.result - 1 in
     let who = c.args.who in
     let e = c.args.event.now in
-    let is : who ≡ i + 1 = omega (arith, c.from-place.ensures, c.place.ensures.same, c.place.ensures.fits.0) in
+    let is : who ≡ i + 1 = omega (arith, c.from-index.ensures, c.place.ensures.same, c.place.ensures.fits.0) in
     let tester = c.index_mut-tester.result.now in
     let lane : LaneState = lane_of tester in
     let lane' : LaneState = lane_of c.take.new.self in
@@ -76,7 +76,7 @@ returns-clause-ok c =
 pub returns-clause-err : goal.returns-clause-err
 returns-clause-err c =
     let testers = c.self.inside.testers.items in
-    let i = c.from-place.result - 1 in
+    let i = c.from-index.result - 1 in
     let tester = c.index_mut-tester.result.now in
     on_err _ _ c.take.result (λ same.
     let lanes = map-set_same lane_of testers i c.take.new.self tester (same.0 ∙ ap lane_of c.index_mut-tester.ensures.value) in

@@ -12,9 +12,9 @@ use Rattle.diag_world.proofs.world.World.sent.Goals as goal
 pub returns : goal.returns
 returns c = λ setup M h.
     let testers = c.self.inside.testers.items in
-    let i = c.from-place.result - 1 in
+    let i = c.from-index.result - 1 in
     let who = c.args.who in
-    let is : who ≡ i + 1 = omega (arith, c.from-place.ensures, c.place.ensures.same, c.place.ensures.fits.0) in
+    let is : who ≡ i + 1 = omega (arith, c.from-index.ensures, c.place.ensures.same, c.place.ensures.fits.0) in
     let many = ap (λ w. length w.lanes) c.self.view_is in
     let within : i < length testers = omega (arith, c.requires.in_setup, many, length-map testers lane_of, is) in
     let tester = c.index.result.now in
