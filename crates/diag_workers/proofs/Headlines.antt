@@ -1,5 +1,5 @@
 -- A crew at fresh seats of one gate plays the logs: what its records and the closed gate say together.
-use Rattle.std.proofs.Common.{◌≡◌, ◌≢◌, ◌⊎◌, inl, inr, ℕ, zero, suc, ◌+◌, ◌<◌, ◌≤◌, eqb, true, cond, is_some, List, [], ◌∷◌, ◌++◌, length, map, get_or, refl, sym, ap, subst, ◌∙◌, arith, eq-eqb, ne_eqb, Some, None}
+use Rattle.std.proofs.Common.{◌≡◌, ◌≢◌, ◌⊎◌, inl, inr, ℕ, zero, suc, ◌+◌, ◌<◌, ◌≤◌, eqb, true, cond, is_some, List, [], ◌∷◌, ◌++◌, length, map, get_or, refl, sym, add-one, ap, ap₂, subst, ◌∙◌, arith, eq-eqb, ne_eqb, Some, None}
 use Rattle.std.specs.Prelude.{slice_get, if◌then◌else◌, ◌==◌}
 use Rattle.std.proofs.lemmas.Option.{slice_get_within}
 use Rattle.std.proofs.lemmas.List.{length-map}
@@ -11,6 +11,7 @@ use Rattle.diag_can.specs.declared.frame.Event.{Event}
 use Rattle.diag_tp.specs.declared.setup.LinkSetup.{LinkSetup}
 use Rattle.diag_tp.specs.declared.sent.Sent.{Sent}
 use Rattle.diag_tp.specs.Gives.{steps}
+use Rattle.diag_tp.specs.Moments.{counted_from}
 use Rattle.diag_tp.specs.Placing.{drawn}
 use Rattle.diag_setup.specs.declared.raw.RawSetup.{RawSetup}
 use Rattle.diag_setup.specs.Setup.{link_of}
@@ -24,7 +25,7 @@ use Rattle.diag_world.specs.Weaving.{weave, log_at, AsksItsLog, WeavingLaw}
 use Rattle.diag_gate.specs.Views.{owns_from}
 use Rattle.diag_gate.specs.Seats.{SeatView, HostView, of_host, AllHome, Closed}
 use Rattle.diag_workers.specs.declared.working.WorkerRecord.{WorkerRecord}
-use Rattle.diag_workers.specs.Crew.{AllWorked, places_from}
+use Rattle.diag_workers.specs.Crew.{AllWorked}
 use Rattle.diag_workers.specs.Seating.{Out, Back}
 
 -- ---- seats of one gate, of testers in order
@@ -48,9 +49,9 @@ fresh_from z n (s ∷ seats) each =
     let shift : n + suc k ≡ n + 1 + k = omega arith in subst (λ (m : ℕ). IsFresh z m (get_or seats k d)) shift (each (suc k) d within) in
     (here.0, here.1 ∙ same, here.2, fresh_from z (n + 1) seats rest)
 
-pub places_are : (z : TableId) (n : ℕ) (seats : List SeatView) → FreshFrom z n seats → map (λ (s : SeatView). s.who) seats ≡ places_from n (length seats)
+pub places_are : (z : TableId) (n : ℕ) (seats : List SeatView) → FreshFrom z n seats → map (λ (s : SeatView). s.who) seats ≡ counted_from n (length seats)
 places_are z n [] f = refl
-places_are z n (s ∷ seats) f = (λ i. f.1 i ∷ places_are z (n + 1) seats f.3 i)
+places_are z n (s ∷ seats) f = ap₂ (λ (x : ℕ) (xs : List ℕ). x ∷ xs) f.1 (places_are z (n + 1) seats f.3 ∙ ap (λ (m : ℕ). counted_from m (length seats)) (add-one n))
 
 -- ---- the logs of testers in order, and their records
 
@@ -320,10 +321,10 @@ who_map seat (d ∷ ds) = ap (λ l. (seat d).who ∷ l) (who_map seat ds)
 
 -- the doors stand in the testers' order
 pub doors_placed : {D : Type 0} (seat : D → SeatView) (setup : RawSetup) (h h1 : HostView) (n m : ℕ) (seats : List SeatView) (doors : List D) → n ≤ 8 → n ≡ m → Opened setup h → Out h h1 n seats → map seat doors ≡ seats
-    → map (λ d. (seat d).who) doors ≡ places_from 1 m
+    → map (λ d. (seat d).who) doors ≡ counted_from 1 m
 doors_placed seat setup h h1 n m seats doors few same o out doors_are =
     who_map seat doors ∙ (ap (map (λ (s : SeatView). s.who)) doors_are
-    ∙ (places_are h.gate 1 seats (out_is_fresh setup h h1 n seats few o out) ∙ ap (places_from 1) (out.many ∙ same)))
+    ∙ (places_are h.gate 1 seats (out_is_fresh setup h h1 n seats few o out) ∙ ap (counted_from 1) (out.many ∙ same)))
 
 -- a seat that was given out is of the host's gate
 pub seat_gate : (h h1 : HostView) (n : ℕ) (seats : List SeatView) → Out h h1 n seats → (k : ℕ) (s : SeatView) → k < length seats → (get_or seats k s).gate ≡ h.gate

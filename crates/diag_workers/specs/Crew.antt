@@ -1,5 +1,5 @@
 -- What a crew of workers does: for each tester what one worker does.
-use Rattle.std.specs.Prelude.{◌≡◌, ℕ, zero, suc, ◌+◌, List, [], ◌∷◌, ◌++◌, Option}
+use Rattle.std.specs.Prelude.{◌≡◌, ℕ, List, [], ◌∷◌, ◌++◌, Option}
 use Rattle.atomic_table.specs.Seated.{TableId}
 use Rattle.diag_can.specs.declared.frame.Event.{Event}
 use Rattle.diag_tp.specs.declared.setup.LinkSetup.{LinkSetup}
@@ -26,8 +26,3 @@ AllWorked links tester given home [] [] (r ∷ rs) = ⊥
 AllWorked links tester given home [] (door ∷ doors) rs = ⊥
 AllWorked links tester given home (log ∷ logs) [] rs = ⊥
 AllWorked links tester given home (log ∷ logs) (door ∷ doors) [] = ⊥
-
--- the places from one on, so many
-abbrev pub places_from : ℕ → ℕ → List ℕ
-places_from first zero = []
-places_from first (suc n) = first ∷ places_from (first + 1) n

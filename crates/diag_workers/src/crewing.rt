@@ -2,8 +2,9 @@
 ghost use Rattle.std.specs.Prelude.{◌≡◌, ◌<◌, ◌≤◌, ◌∷◌, [], length, map, IfOk, vec_len};
 ghost use Rattle.std.specs.List.{AllByRecursion};
 ghost use Rattle.std.specs.Thread.{IsSync, IsSend};
+ghost use Rattle.diag_tp.specs.Moments.{counted_from};
 ghost use Rattle.diag_setup.specs.Setup.{link_of};
-ghost use Rattle.diag_workers.specs.Crew.{Worked, AllWorked, places_from};
+ghost use Rattle.diag_workers.specs.Crew.{Worked, AllWorked};
 
 use crate::working::{WorkerRecord, work};
 use diag_can::Event;
@@ -26,7 +27,7 @@ pub fn crew<D: Door + Send + Drop, R: Threads + Sync>(
 ) -> Result<Vec<(WorkerRecord, D)>, StepFault>
     requires logs { length logs.now ≡ length setup.now.testers }
     requires limits { AllByRecursion (λ log. vec_len log ≤ 1000000) logs.now }
-    requires doors { map D.tester doors.items ≡ places_from 1 (length setup.now.testers) }
+    requires doors { map D.tester doors.items ≡ counted_from 1 (length setup.now.testers) }
     ensures { IfOk result (λ done. AllWorked (link_of setup.now) D.tester D.given D.home (map (λ log. log.items) logs.now) doors.items done.items) }
 {
     crew_of(rt, alloc, setup, logs, doors)

@@ -1,7 +1,7 @@
 //! Crews of two workers, at doors to no desk.
 
 ghost use Rattle.std.specs.Prelude.{◌≡◌, ◌≤◌, length, map, vec_len, IfOk};
-ghost use Rattle.diag_workers.specs.Crew.{places_from};
+ghost use Rattle.diag_tp.specs.Moments.{counted_from};
 
 use crate::given::setup_of_two;
 use crate::meeting::Meeting;
@@ -76,7 +76,7 @@ fn lone_doors<'a>(
     meeting: &'a Meeting,
     left: [Answers; 2],
 ) -> Result<Vec<LoneDoor<'a>>, Trouble>
-    ensures { IfOk result (λ doors. map (λ d. d.who) doors.items ≡ places_from 1 2) }
+    ensures { IfOk result (λ doors. map (λ d. d.who) doors.items ≡ counted_from 1 2) }
 {
     let (Some(one), Some(two)) = (Who::new(1), Who::new(2)) else {
         return Err(Trouble::Wrong);
