@@ -11,8 +11,9 @@ pub data Fault : Type 0 where
   bad_value : List ℕ → Fault
   refused : SetupFault → Fault
 
+-- the next step, unless there is a fault before it
 infixl 10 ◌>>=◌
-abbrev pub ◌>>=◌ : {A B : Type 0} → Result A Fault → (A → Result B Fault) → Result B Fault
+abbrev pub ◌>>=◌ : {A B E : Type 0} → Result A E → (A → Result B E) → Result B E
 (Ok x) >>= f = f x
 (Err e) >>= f = Err e
 

@@ -1,6 +1,6 @@
 //! Kinds of TOML value, each read in one way.
 
-ghost use Rattle.std.specs.Prelude.{◌≡◌, ℕ, Bool, List, Result, Option, option_map, map, IfOk};
+ghost use Rattle.std.specs.Prelude.{◌≡◌, ℕ, Bool, List, Result, Option, option_map, map};
 ghost use Rattle.toml.specs.Data.{Data, Members, get_member};
 ghost use Rattle.toml.specs.View.{view, table_view};
 ghost use Rattle.diag_config.specs.Key.{Fault, KeyGives};
@@ -9,7 +9,7 @@ ghost use Rattle.diag_config.specs.Setup.{number, truth, text, hex, list, option
 use crate::fault::KeyFault;
 use diag_setup::Items;
 use hex::FromHexError;
-use std::alloc::{AllocError, Global};
+use std::alloc::Global;
 use toml::{Table, Value};
 
 /// What a value of one kind says.
@@ -54,17 +54,6 @@ impl FromValue for bool {
     }
 }
 
-/// These bytes, as a setup keeps them.
-fn kept(alloc: Global, bytes: &[u8]) -> Result<Items<u8>, AllocError>
-    ensures { IfOk result (λ items. items ≡ bytes.now) }
-{
-    let mut items = Items::new(alloc);
-    for byte in bytes {
-        items.push(*byte)?;
-    }
-    Ok(items)
-}
-
 /// The bytes of a text.
 #[derive(Drop)]
 pub struct Text(pub Items<u8>);
@@ -78,7 +67,10 @@ impl FromValue for Text {
 
     fn from_value(alloc: Global, key: &'static str, value: &Value) -> Result<Text, KeyFault> {
         match value {
-            Value::String(s) => Ok(Text(kept(alloc, s.as_bytes())?)),
+            Value::String(s) => {
+                let bytes = Vec::from_slice(alloc, s.as_bytes())?;
+                Ok(Text(Items::from_vec(bytes)))
+            }
             _ => Err(KeyFault::BadValue(key)),
         }
     }
@@ -100,7 +92,7 @@ impl FromValue for Hex {
             return Err(KeyFault::BadValue(key));
         };
         match hex::decode(alloc, s.as_str()) {
-            Ok(bytes) => Ok(Hex(kept(alloc, bytes.as_slice())?)),
+            Ok(bytes) => Ok(Hex(Items::from_vec(bytes))),
             Err(FromHexError::OutOfMemory) => Err(KeyFault::Memory),
             Err(_) => Err(KeyFault::BadValue(key)),
         }
