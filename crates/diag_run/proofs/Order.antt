@@ -2,7 +2,8 @@
 use Rattle.std.proofs.Common.{◌≡◌, ℕ, ◌+◌, false, nat_le, nat_lt, length, List, [], ◌∷◌, Result, Ok, Err, IfErr, refl, arith, inl, inr}
 use Rattle.std.proofs.lemmas.Bool.{cases_Bool}
 use Rattle.std.proofs.lemmas.Bool.Decides.{nat_tests}
-use Rattle.diag_run.specs.Files.{Refusal, config_long, bad_config, wrong_count, file_long, bad_log, ◌>>=◌, is_before, within, files_from}
+use Rattle.diag_config.specs.Key.{◌>>=◌}
+use Rattle.diag_run.specs.Files.{Refusal, config_long, bad_config, wrong_count, file_long, bad_log, is_before, within, files_from}
 use Rattle.diag_run.proofs.Reading.{with_front}
 
 not_below_0 : (m : ℕ) → nat_lt m 0 ≡ false

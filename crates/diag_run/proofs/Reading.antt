@@ -1,8 +1,12 @@
 -- Reading files one after the other, as a loop does.
-use Rattle.std.proofs.Common.{◌≡◌, ℕ, ◌+◌, ◌≤◌, ◌<◌, length, drop, get_or, map, List, [], ◌∷◌, ◌++◌, Option, Some, Result, Ok, Err, refl, sym, ap, ◌∙◌, append_assoc, arith, le-leb, nat_le, false}
-use Rattle.std.proofs.lemmas.List.{append-nil, drop_more, drop-map, drop-drop, length-map}
+use Rattle.std.proofs.Common.{◌≡◌, ℕ, ◌+◌, ◌-◌, ◌≤◌, ◌<◌, length, take, drop, set, get_or, map, List, [], ◌∷◌, ◌++◌, Option, Some, Result, Ok, Err, refl, sym, ap, ◌∙◌, append_assoc, arith, le-leb, nat_le, false}
+use Rattle.std.proofs.lemmas.List.{append-nil, drop_more, drop-set-lt, take-set, drop-map, drop-drop, length-map}
 use Rattle.std.proofs.lemmas.Bool.Decides.{nat_tests}
-use Rattle.diag_run.specs.Files.{Refusal, file_long, ◌>>=◌, AreKnown, files_from}
+use Rattle.std.proofs.lemmas.Grind.{drop_more_same}
+use Rattle.std.specs.Io.KnownBytes.{IsAtEnd}
+use Rattle.std.specs.List.{All}
+use Rattle.diag_config.specs.Key.{◌>>=◌}
+use Rattle.diag_run.specs.Files.{Refusal, file_long, AreKnown, FailsAt, files_from}
 
 -- what was read before, and what is still read
 abbrev pub with_front : {A : Type 0} → List A → Result (List A) Refusal → Result (List A) Refusal
@@ -29,6 +33,18 @@ module _ {R : Type 0} (remaining : R → Option (List ℕ)) where
       let found = head_known (get_or now i d) (drop (i + 1) now) (drop i known) (ap (map remaining) (sym here) ∙ AreKnown-drop readers known i h) in
       let after : drop (i + 1) known ≡ found.1 = sym (drop-drop 1 i known) ∙ ap (drop 1) found.3 in
       (found.0, found.2, found.3 ∙ ap (λ (more : List (List ℕ)). found.0 ∷ more) (sym after))
+
+  -- ---- the reader that fails
+
+  pub fails_at : (old files : List R) (i : ℕ) (reader : R) → i < length files → length files ≡ length old → drop i files ≡ drop i old
+      → All (λ file. IsAtEnd (remaining file)) (take i files) → FailsAt remaining (i + 1) old (set files i reader)
+  fails_at old files i reader lt same rest ended =
+      let before : i + 1 - 1 ≡ i = omega arith in
+      record {
+        within = omega (arith, same);
+        ended = rw (before, take-set files i reader) ended;
+        untouched = drop-set-lt (i + 1) files i reader (omega arith) ∙ drop_more_same files old i rest;
+      }
 
 -- ---- one more file
 

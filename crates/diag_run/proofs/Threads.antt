@@ -12,7 +12,8 @@ use Rattle.diag_desk.specs.Legal.{Run}
 use Rattle.diag_world.specs.Headline.{IsPlay}
 use Rattle.diag_world.specs.Weaving.{weave}
 use Rattle.diag_workers.specs.Play as workers
-use Rattle.diag_run.specs.Files.{Refusal, bad_log, or_bad_log, ◌>>=◌, logs_from}
+use Rattle.diag_config.specs.Key.{◌>>=◌}
+use Rattle.diag_run.specs.Files.{Refusal, bad_log, or_bad_log, logs_from}
 use Rattle.diag_run.specs.Run.{GivesWoven, played_text}
 
 -- a tester's fault as the refusal of a run

@@ -7,6 +7,8 @@ use Rattle.diag_can.specs.declared.fault.LogFault.TheVariants as log
 use Rattle.diag_config.specs.Text.{config_fault_text}
 use Rattle.diag_config.specs.declared.fault.ConfigFault.{ConfigFault}
 use Rattle.diag_config.specs.declared.fault.ConfigFault.TheVariants as config
+use Rattle.diag_desk.specs.declared.desk.StepFault.{StepFault}
+use Rattle.diag_desk.specs.declared.desk.StepFault.TheVariants as step
 use Rattle.diag_workers.specs.declared.playing.PlayFault.{PlayFault}
 use Rattle.diag_workers.specs.declared.playing.PlayFault.TheVariants as play
 use Rattle.diag_run.specs.declared.fault.RunFault.{RunFault}
@@ -18,6 +20,11 @@ run_fault play.Memory = Memory
 run_fault (play.Log who fault) = Log who fault
 run_fault play.JournalFull = JournalFull
 run_fault (play.RecordsDisagree who) = RecordsDisagree who
+
+-- the fault of a play on one thread
+abbrev pub step_fault : StepFault → RunFault
+step_fault step.Memory = Memory
+step_fault step.JournalFull = JournalFull
 
 abbrev pub config_text : ConfigFault → List ℕ
 config_text config.Memory = codes "memory"

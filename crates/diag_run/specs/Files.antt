@@ -1,12 +1,14 @@
 -- What the files of a run say: the first fault in the order in which a run meets them, or what is read.
-use Rattle.std.specs.Prelude.{◌≡◌, ℕ, ◌+◌, ◌==◌, nat_le, nat_lt, Bool, false, IfErr, if◌then◌else◌, List, [], ◌∷◌, length, map, Option, Some, Result, Ok, Err}
+use Rattle.std.specs.Prelude.{◌≡◌, ◌≤◌, ℕ, ◌+◌, ◌-◌, ◌==◌, nat_le, nat_lt, Bool, false, IfErr, if◌then◌else◌, List, [], ◌∷◌, length, map, take, drop, Option, Some, Result, Ok, Err}
+use Rattle.std.specs.Io.KnownBytes.{IsAtEnd}
+use Rattle.std.specs.List.{All}
 use Rattle.diag_can.specs.Log.{events}
 use Rattle.diag_can.specs.declared.fault.LogFault.{LogFault}
 use Rattle.diag_can.specs.declared.frame.Event.{Event}
 use Rattle.diag_can.specs.declared.log.Timing.{Timing}
 use Rattle.diag_setup.specs.declared.raw.RawSetup.{RawSetup}
 use Rattle.diag_setup.specs.Setup.{ids_of}
-use Rattle.diag_config.specs.Key.{Fault, syntax, missing, bad_value, refused}
+use Rattle.diag_config.specs.Key.{Fault, syntax, missing, bad_value, refused, ◌>>=◌}
 use Rattle.diag_config.specs.Setup.{setup_of}
 use Rattle.diag_config.specs.declared.fault.ConfigFault.{ConfigFault}
 use Rattle.diag_config.specs.declared.fault.ConfigFault.TheVariants as config
@@ -20,11 +22,6 @@ pub data Refusal : Type 0 where
   wrong_count : (wanted given : ℕ) → Refusal
   file_long : ℕ → Refusal
   bad_log : ℕ → LogFault → Refusal
-
-infixl 10 ◌>>=◌
-abbrev pub ◌>>=◌ : {A B : Type 0} → Result A Refusal → (A → Result B Refusal) → Result B Refusal
-(Ok x) >>= f = f x
-(Err e) >>= f = Err e
 
 -- ---- a fault that is answered, beside what was read
 
@@ -102,6 +99,12 @@ logs_from timing setup n (text ∷ texts) = do
   first ← log_of timing setup n text
   others ← logs_from timing setup (n + 1) texts
   Ok (first ∷ others)
+
+-- reader n could not be read: those before it were read to their ends, and those behind it were not touched
+pub record FailsAt {R : Type 0} (remaining : R → Option (List ℕ)) (n : ℕ) (old new : List R) : Type 0 where
+  pub within : n ≤ length old
+  pub ended : All (λ file. IsAtEnd (remaining file)) (take (n - 1) new)
+  pub untouched : drop n new ≡ drop n old
 
 -- the readers have exactly these bytes left
 abbrev pub AreKnown : {R : Type 0} → (R → Option (List ℕ)) → List R → List (List ℕ) → Type 0

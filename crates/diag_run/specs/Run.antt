@@ -1,5 +1,5 @@
 -- What a run writes for its config and its files, or the fault that it answers.
-use Rattle.std.specs.Prelude.{◌≡◌, ◌≢◌, ◌<◌, ◌⊎◌, ℕ, Bool, if◌then◌else◌, List, [], ◌∷◌, length, map, Option, Some, Result, Ok, Err, IsOk, IsOkAnd, IfSome}
+use Rattle.std.specs.Prelude.{◌≡◌, ◌≢◌, ◌≤◌, ◌<◌, ◌⊎◌, ℕ, Bool, if◌then◌else◌, List, [], ◌∷◌, length, map, Option, Some, Result, Ok, Err, IsOk, IsOkAnd, IfSome}
 use Rattle.std.specs.Io.KnownBytes.{Appends, Keeps}
 use Rattle.diag_can.specs.declared.frame.Event.{Event}
 use Rattle.diag_can.specs.declared.log.Timing.{Timing}
@@ -14,12 +14,13 @@ use Rattle.diag_desk.specs.Legal.{Run, after}
 use Rattle.diag_desk.specs.Replay.{IsRun, DiffersAt}
 use Rattle.diag_world.specs.Headline.{IsPlay}
 use Rattle.diag_world.specs.Weaving.{steps_of, turns, weave}
+use Rattle.diag_config.specs.Key.{◌>>=◌}
 use Rattle.diag_run.specs.Bytes.{AppendsFront}
 use Rattle.diag_run.specs.Faults.{fault_text, status}
-use Rattle.diag_run.specs.Files.{Refusal, ◌>>=◌, Fails, AreKnown, config_of, counted, files_from, logs_from}
+use Rattle.diag_run.specs.Files.{Refusal, Fails, AreKnown, config_of, counted, files_from, logs_from}
 use Rattle.diag_run.specs.Text.{journal_part, whole_text, replay_text}
 use Rattle.diag_run.specs.declared.fault.RunFault.{RunFault}
-use Rattle.diag_run.specs.declared.fault.RunFault.TheVariants.{JournalLine, Memory, JournalFull, Write, Differs}
+use Rattle.diag_run.specs.declared.fault.RunFault.TheVariants.{JournalLine, Memory, JournalFull, Read, Write, Differs}
 use Rattle.diag_run.specs.declared.whole.Given.{Given}
 use Rattle.diag_run.specs.declared.whole.Outcome.{Outcome}
 use Rattle.diag_run.specs.declared.whole.Outcome.TheVariants as outcome
@@ -156,6 +157,7 @@ AnswersFault job said old new fault = GivesRun job said (Err fault)
 -- the fault is answered by a run of these readers, and before another than that of the writing nothing is written
 pub record IsFaultOf {R : Type 0} (remaining : R → Option (List ℕ)) (job : Job) (config : R) (files : List R) (old new : Option (List ℕ)) (fault : RunFault) : Type 0 where
   pub nothing : fault ≢ Write → Keeps old new
+  pub device : (n : ℕ) → fault ≡ Read n → n ≤ length files
   pub answer : (bytes : List ℕ) (known : List (List ℕ)) → remaining config ≡ Some bytes → AreKnown remaining files known
       → AnswersFault job (read_of job bytes known) old new fault
 

@@ -1,5 +1,5 @@
 -- The texts that a run writes.
-use Rattle.std.specs.Prelude.{ℕ, ◌+◌, ◌/◌, ◌%◌, nat_le, codes, decimal, if◌then◌else◌, List, [], ◌∷◌, ◌++◌, length, Option, Some, None}
+use Rattle.std.specs.Prelude.{ℕ, ◌+◌, nat_le, codes, decimal, if◌then◌else◌, List, [], ◌∷◌, ◌++◌, length, Option, Some, None}
 use Rattle.std.specs.List.{flat_map}
 use Rattle.hex.specs.Hex.{encode_upper}
 use Rattle.diag_can.specs.Reply.{reply_line}
@@ -9,6 +9,7 @@ use Rattle.diag_tp.specs.declared.sent.Sent.{Sent}
 use Rattle.diag_setup.specs.Setup.{name_of}
 use Rattle.diag_setup.specs.declared.raw.RawSetup.{RawSetup}
 use Rattle.diag_store.specs.declared.dtcs.Dtc.{Dtc}
+use Rattle.diag_ecu.specs.Bytes.{bytes_24}
 use Rattle.diag_ecu.specs.State.{State}
 use Rattle.diag_desk.specs.declared.entry.Entry.{Entry}
 use Rattle.diag_desk.specs.Legal.{Run, after}
@@ -45,7 +46,7 @@ holder_lines setup (Some who) = extended_lines setup who
 -- a trouble code in three bytes, and its status
 abbrev pub code_line : ℕ → ℕ → List ℕ
 code_line code status =
-    codes "code " ++ (encode_upper (code / 65536 % 256 ∷ code / 256 % 256 ∷ code % 256 ∷ []) ++ (codes " " ++ (encode_upper (status ∷ []) ++ codes "\n")))
+    codes "code " ++ (encode_upper (bytes_24 code) ++ (codes " " ++ (encode_upper (status ∷ []) ++ codes "\n")))
 
 abbrev pub code_lines : List Dtc → List ℕ
 code_lines dtcs = flat_map (λ dtc. code_line dtc.code dtc.status) dtcs

@@ -1,6 +1,6 @@
 //! What a run writes for what it has read: the text of a play, or of a replay.
 
-ghost use Rattle.std.specs.Prelude.{◌≡◌, length, map, IfOk};
+ghost use Rattle.std.specs.Prelude.{◌≡◌, ◌≢◌, ℕ, length, map, IfOk, Err};
 ghost use Rattle.std.specs.List.{concat};
 ghost use Rattle.diag_run.specs.Files.{logs_from};
 ghost use Rattle.diag_run.specs.Run.{GivesPlayed, GivesWoven, GivesReplayed, played_text, answered};
@@ -9,7 +9,7 @@ use crate::fault::RunFault;
 use crate::logs::read_logs;
 use crate::text::{journal_part, one_part, play_parts, play_text, replay_text};
 use diag_can::Timing;
-use diag_desk::{JournalFault, ReplayFault, StepFault, read_journal, replay};
+use diag_desk::{JournalFault, ReplayFault, read_journal, replay};
 use diag_setup::Setup;
 use diag_workers::{NoWatch, play};
 use diag_world::{Played, serial};
@@ -26,17 +26,15 @@ pub(crate) fn played_text(
     timing: Timing,
 ) -> Result<Vec<Vec<u8>>, RunFault>
     requires { length texts.now ≡ length setup.now.testers }
-    ensures { GivesPlayed only_journal timing setup.now (logs_from timing setup.now 1 (map (λ text. text.items) texts.now)) (answered (λ parts. concat (map (λ part. part.items) parts.items)) result) }
+    ensures gives { GivesPlayed only_journal timing setup.now (logs_from timing setup.now 1 (map (λ text. text.items) texts.now)) (answered (λ parts. concat (map (λ part. part.items) parts.items)) result) }
+    ensures device { (n : ℕ) → result ≢ Err (RunFault.Read n) }
 {
     let logs = match read_logs(alloc, setup, timing, texts) {
         Ok(logs) => logs,
         Err(fault) => return Err(fault),
     };
-    match serial(alloc, setup, logs.as_slice()) {
-        Ok(played) => Ok(in_one(alloc, setup, &played, only_journal, timing)?),
-        Err(StepFault::Memory) => Err(RunFault::Memory),
-        Err(StepFault::JournalFull) => Err(RunFault::JournalFull),
-    }
+    let played = serial(alloc, setup, logs.as_slice())?;
+    Ok(in_one(alloc, setup, &played, only_journal, timing)?)
 }
 
 /// Plays the logs, a thread for each tester, and says what the play writes.
@@ -50,7 +48,8 @@ pub(crate) fn woven_text<R: Threads + Wait + Sync>(
     timing: Timing,
 ) -> Result<Vec<Vec<u8>>, RunFault>
     requires { length texts.now ≡ length setup.now.testers }
-    ensures { GivesWoven only_journal timing setup.now (logs_from timing setup.now 1 (map (λ text. text.items) texts.now)) (answered (λ parts. concat (map (λ part. part.items) parts.items)) result) }
+    ensures gives { GivesWoven only_journal timing setup.now (logs_from timing setup.now 1 (map (λ text. text.items) texts.now)) (answered (λ parts. concat (map (λ part. part.items) parts.items)) result) }
+    ensures device { (n : ℕ) → result ≢ Err (RunFault.Read n) }
 {
     let played = play(rt, alloc, setup, texts, &NoWatch, timing)?;
     Ok(in_parts(rt, alloc, setup, &played, only_journal, timing)?)
@@ -100,7 +99,8 @@ pub(crate) fn replayed_text(
     setup: &Setup,
     bytes: &[u8],
 ) -> Result<Vec<Vec<u8>>, RunFault>
-    ensures { GivesReplayed setup.now bytes.now (answered (λ parts. concat (map (λ part. part.items) parts.items)) result) }
+    ensures gives { GivesReplayed setup.now bytes.now (answered (λ parts. concat (map (λ part. part.items) parts.items)) result) }
+    ensures device { (n : ℕ) → result ≢ Err (RunFault.Read n) }
 {
     let journal = match read_journal(alloc, bytes) {
         Ok(journal) => journal,

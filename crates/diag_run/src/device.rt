@@ -1,25 +1,31 @@
 //! Reading a whole file and writing a whole text, by loops of their own.
 
 ghost use Rattle.std.specs.Prelude.{◌≡◌, ◌+◌, ◌<◌, ◌^◌, ◌≤◌, ℕ, List, length, map, take, IfOk, IfSome, OnOk, OnErr, Err, Some};
-ghost use Rattle.std.specs.Io.KnownBytes.{Appends, Keeps};
+ghost use Rattle.std.specs.Io.KnownBytes.{Appends, IsAtEnd, Keeps};
 ghost use Rattle.std.specs.List.{concat};
 ghost use Rattle.diag_run.specs.Bytes.{AppendsFront};
 
 use std::alloc::{AllocError, Global};
 use std::io::{Read, Write};
+use thiserror::Error;
 
 /// Why a file was not read whole.
-#[derive(Clone, Copy, Debug, PartialEq, Eq)]
+#[derive(Clone, Copy, Debug, PartialEq, Eq, Error)]
 pub enum ReadFault {
     /// A read failed.
+    #[error("cannot read")]
     Device,
     /// The file is longer than its limit.
+    #[error("too long")]
     Long,
+    /// There was no memory.
+    #[error("memory")]
     Memory,
 }
 
 /// A write or a flush failed, or a write took no byte.
-#[derive(Clone, Copy, Debug, PartialEq, Eq)]
+#[derive(Clone, Copy, Debug, PartialEq, Eq, Error)]
+#[error("cannot write")]
 pub struct WriteFault;
 
 /// All that a reader has left, in at most limit + 1 reads.
@@ -31,6 +37,7 @@ pub fn read_whole<R: Read>(
     requires { limit < 2 ^ 32 }
     ensures whole { IfOk result (λ v. IfSome (R.remaining reader.old) (λ bytes. v.items ≡ bytes)) }
     ensures within { IfOk result (λ v. length v.items ≤ limit) }
+    ensures end { OnOk result (IsAtEnd (R.remaining reader.new)) }
     ensures long { result ≡ Err ReadFault.Long → IfSome (R.remaining reader.old) (λ bytes. limit < length bytes) }
 {
     let mut bytes = Vec::new(alloc);

@@ -1,11 +1,12 @@
 //! Why a run could not be done, how it is told, and the status that the program ends with.
 
 ghost use Rattle.std.specs.Prelude.{◌≡◌, ◌++◌, codes, IfOk, Some};
-ghost use Rattle.diag_run.specs.Faults.{run_fault, run_fault_text, fault_text, status};
+ghost use Rattle.diag_run.specs.Faults.{run_fault, step_fault, run_fault_text, fault_text, status};
 ghost use Rattle.diag_run.specs.declared.fault.RunFault.TheVariants.{Memory};
 
 use diag_can::LogFault;
 use diag_config::ConfigFault;
+use diag_desk::StepFault;
 use diag_setup::Who;
 use diag_workers::PlayFault;
 use std::alloc::{AllocError, AllocFailed, Global};
@@ -67,6 +68,17 @@ impl From<PlayFault> for RunFault {
             PlayFault::Log(who, fault) => RunFault::Log(who, fault),
             PlayFault::JournalFull => RunFault::JournalFull,
             PlayFault::RecordsDisagree(who) => RunFault::RecordsDisagree(who),
+        }
+    }
+}
+
+impl From<StepFault> for RunFault {
+    ghost from_gives = { λ fault e. e ≡ step_fault fault };
+
+    fn from(fault: StepFault) -> RunFault {
+        match fault {
+            StepFault::Memory => RunFault::Memory,
+            StepFault::JournalFull => RunFault::JournalFull,
         }
     }
 }

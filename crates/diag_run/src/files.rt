@@ -1,7 +1,8 @@
 //! Reading the files of a run, in order.
 
-ghost use Rattle.std.specs.Prelude.{◌≡◌, ℕ, ◌<◌, ◌^◌, List, map, length, IfOk, IfSome};
-ghost use Rattle.diag_run.specs.Files.{AreKnown, Gives, config_of, files_from};
+ghost use Rattle.std.specs.Prelude.{◌≡◌, ◌≤◌, ℕ, ◌<◌, ◌^◌, List, map, length, IfOk, IfSome};
+ghost use Rattle.std.specs.Io.KnownBytes.{IsAtEnd};
+ghost use Rattle.diag_run.specs.Files.{AreKnown, FailsAt, Gives, config_of, files_from};
 
 use crate::device::{ReadFault, read_whole};
 use crate::fault::RunFault;
@@ -17,6 +18,7 @@ const CONFIG_LIMIT: usize = 1_048_576;
 pub fn read_config<R: Read>(alloc: Global, config: &mut R) -> Result<Setup, RunFault>
     ensures read { IfSome (R.remaining config.old) (λ bytes. Gives (λ setup. setup) result (config_of bytes)) }
     ensures device { (n : ℕ) → result ≡ Err (RunFault.Read n) → n ≡ 0 }
+    ensures end { IfOk result (λ _. IsAtEnd (R.remaining config.new)) }
 {
     let text = match read_whole(alloc, config, CONFIG_LIMIT) {
         Ok(text) => text,
@@ -41,6 +43,7 @@ pub fn read_files<R: Read>(
     ensures count { IfOk result (λ v. length v.items ≡ length files.old) }
     ensures read { (known : List (List ℕ)) → AreKnown R.remaining files.old known
         → Gives (λ v. map (λ bytes. bytes.items) v.items) result (files_from limit 1 known) }
+    ensures device { (n : ℕ) → result ≡ Err (RunFault.Read n) → (1 ≤ n) × FailsAt R.remaining n files.old files.new }
 {
     let mut texts = Vec::new(alloc);
     for (index, file) in files.iter_mut().enumerate() {

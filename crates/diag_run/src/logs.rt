@@ -1,6 +1,6 @@
 //! What the logs of a run say.
 
-ghost use Rattle.std.specs.Prelude.{◌≡◌, map, length, IfOk};
+ghost use Rattle.std.specs.Prelude.{◌≡◌, ◌≢◌, ℕ, map, length, IfOk, Err};
 ghost use Rattle.diag_run.specs.Files.{Gives, logs_from};
 
 use crate::fault::RunFault;
@@ -18,6 +18,7 @@ pub fn read_logs(
     requires { length texts.now ≡ length setup.now.testers }
     ensures count { IfOk result (λ v. length v.items ≡ length texts.now) }
     ensures read { Gives (λ v. map (λ log. log.items) v.items) result (logs_from timing setup.now 1 (map (λ text. text.items) texts.now)) }
+    ensures device { (n : ℕ) → result ≢ Err (RunFault.Read n) }
 {
     let mut logs = Vec::new(alloc);
     for (place, text) in texts.iter().enumerate() {

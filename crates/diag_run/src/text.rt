@@ -7,7 +7,7 @@ ghost use Rattle.hex.specs.Hex.{encode_upper};
 ghost use Rattle.diag_store.specs.Dtcs.{row_pair};
 ghost use Rattle.diag_run.specs.Text.{lines_of, lines_from, journal_part, holder_name, extended_session, extended_lines, holder_lines, code_line, code_lines, end_text, whole_text, replay_text};
 
-use diag_can::{Timing, write_line};
+use diag_can::{Timing, write_hex, write_line};
 use diag_desk::{Desk, Journal, journal_text, journal_text_at};
 use diag_ecu::Ecu;
 use diag_setup::{Setup, Who};
@@ -171,14 +171,14 @@ fn tester_lines(alloc: Global, name: &[u8], sent: &[Sent]) -> Result<Vec<u8>, Al
 {
     let room = sent
         .len()
-        .saturating_mul(name.len().saturating_add(LINE_ROOM));
+        .saturating_mul(name.len().saturating_add(USUAL_LINE));
     let mut text = Vec::with_capacity(alloc, room)?;
     add_lines(&mut text, name, sent)?;
     Ok(text)
 }
 
-/// What a line has beside its name, where its time is below 10,000,000,000 seconds.
-const LINE_ROOM: usize = 42;
+/// What a line of eight bytes has beside its name, where its time is below 10,000,000,000 seconds.
+const USUAL_LINE: usize = 42;
 
 /// The reply lines, tester by tester.
 fn reply_lines(alloc: Global, setup: &Setup, sent: &[Vec<Sent>]) -> Result<Vec<u8>, AllocError>
@@ -289,16 +289,11 @@ fn add_codes(text: &mut Vec<u8>, codes: &DtcMemory) -> Result<(), AllocError>
 fn add_code(text: &mut Vec<u8>, code: u32, status: u8) -> Result<(), AllocError>
     ensures { OnOk result (text.new.items ≡ text.old.items ++ code_line code status) }
 {
-    let alloc = *text.allocator();
-    let bytes = [
-        (code / 0x1_0000 % 0x100) as u8,
-        (code / 0x100 % 0x100) as u8,
-        (code % 0x100) as u8,
-    ];
+    let [_, high, middle, low] = code.to_be_bytes();
     text.extend_from_slice(b"code ")?;
-    text.extend_from_slice(hex::encode_upper(alloc, &bytes)?.as_bytes())?;
+    write_hex(text, &[high, middle, low])?;
     text.extend_from_slice(b" ")?;
-    text.extend_from_slice(hex::encode_upper(alloc, &[status])?.as_bytes())?;
+    write_hex(text, &[status])?;
     text.extend_from_slice(b"\n")
 }
 

@@ -1,9 +1,9 @@
 //! A whole run: the config and the files in, one text out.
 
-ghost use Rattle.std.specs.Prelude.{◌≡◌, ◌≢◌, ◌<◌, ◌^◌, ℕ, List, length, map, IfOk, IfErr, OnOk, Some, Err};
-ghost use Rattle.std.specs.Io.KnownBytes.{Keeps};
+ghost use Rattle.std.specs.Prelude.{◌≡◌, ◌≢◌, ◌≤◌, ◌<◌, ◌^◌, ℕ, List, length, map, IfOk, IfErr, OnOk, Some, Err};
+ghost use Rattle.std.specs.Io.KnownBytes.{IsAtEnd, Keeps};
 ghost use Rattle.std.specs.List.{concat};
-ghost use Rattle.diag_run.specs.Files.{AreKnown, Gives};
+ghost use Rattle.diag_run.specs.Files.{AreKnown, FailsAt, Gives};
 ghost use Rattle.diag_run.specs.Run.{wanted, limit, read_of, GivesText, GivesRun, Wrote, WroteFront, IsFaultOf, TellsOf, inputs_of, answered};
 
 use crate::answer::{played_text, replayed_text, woven_text};
@@ -68,6 +68,8 @@ fn read_all<R: Read>(
 ) -> Result<Given, RunFault>
     ensures read { (bytes : List ℕ) (known : List (List ℕ)) → R.remaining config.old ≡ Some bytes → AreKnown R.remaining files.old known
         → Gives inputs_of result (read_of job bytes known) }
+    ensures device { (n : ℕ) → result ≡ Err (RunFault.Read n) → FailsAt R.remaining n files.old files.new }
+    ensures config { (n : ℕ) → result ≡ Err (RunFault.Read n) → 1 ≤ n → IsAtEnd (R.remaining config.new) }
     ensures wanted { IfOk result (λ given. length given.texts.items ≡ wanted job given.setup) }
 {
     let setup = match read_config(alloc, config) {
@@ -93,7 +95,8 @@ fn text_for<R: Threads + Wait + Sync>(
     given: &Given,
 ) -> Result<Vec<Vec<u8>>, RunFault>
     requires { length given.now.texts.items ≡ wanted job given.now.setup }
-    ensures { GivesText job (inputs_of given.now) (answered (λ parts. concat (map (λ part. part.items) parts.items)) result) }
+    ensures gives { GivesText job (inputs_of given.now) (answered (λ parts. concat (map (λ part. part.items) parts.items)) result) }
+    ensures device { (n : ℕ) → result ≢ Err (RunFault.Read n) }
 {
     let texts = given.texts.as_slice();
     match job {
@@ -119,6 +122,8 @@ fn whole_text<T: Threads + Wait + Sync, R: Read>(
 ) -> Result<Vec<Vec<u8>>, RunFault>
     ensures answer { (bytes : List ℕ) (known : List (List ℕ)) → R.remaining config.old ≡ Some bytes → AreKnown R.remaining files.old known
         → GivesRun job (read_of job bytes known) (answered (λ parts. concat (map (λ part. part.items) parts.items)) result) }
+    ensures device { (n : ℕ) → result ≡ Err (RunFault.Read n) → FailsAt R.remaining n files.old files.new }
+    ensures config { (n : ℕ) → result ≡ Err (RunFault.Read n) → 1 ≤ n → IsAtEnd (R.remaining config.new) }
 {
     match read_all(alloc, job, config, files) {
         Ok(given) => text_for(rt, alloc, job, &given),
@@ -144,6 +149,7 @@ pub fn run<T: Threads + Wait + Sync, R: Read + Drop, W: Write>(
         → Wrote job (read_of job bytes known) (W.contents out.old) (W.contents out.new)) }
     ensures fault { IfErr result (λ e. e ≢ RunFault.Write → (bytes : List ℕ) (known : List (List ℕ)) → R.remaining config ≡ Some bytes → AreKnown R.remaining files.items known
         → GivesRun job (read_of job bytes known) (Err e)) }
+    ensures device { (n : ℕ) → result ≡ Err (RunFault.Read n) → n ≤ length files.items }
     ensures nothing { IfErr result (λ e. e ≢ RunFault.Write → Keeps (W.contents out.old) (W.contents out.new)) }
     ensures front { result ≡ Err RunFault.Write → (bytes : List ℕ) (known : List (List ℕ)) → R.remaining config ≡ Some bytes → AreKnown R.remaining files.items known
         → WroteFront job (read_of job bytes known) (W.contents out.old) (W.contents out.new) }

@@ -1,7 +1,7 @@
 use Rattle.diag_run.proofs.answer.replayed_text.Goals as goal
 
-pub returns-in-Err-Differs : goal.returns-in-Err-Differs
-returns-in-Err-Differs c = record {
+pub returns-in-Err-Differs-clause-gives : goal.returns-in-Err-Differs-clause-gives
+returns-in-Err-Differs-clause-gives c = record {
   entries = c.in-Ok.journal.entries;
   journal = c.in-Ok.ensures.ok.0;
   read = c.in-Ok.ensures.ok.1;

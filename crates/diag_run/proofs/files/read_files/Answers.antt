@@ -1,9 +1,11 @@
-use Rattle.std.proofs.Common.{◌≡◌, ◌+◌, ◌≤◌, ◌<◌, List, ℕ, ◌∷◌, ◌++◌, [], length, drop, map, ◌∙◌, ap, arith, rules}
-use Rattle.std.proofs.lemmas.List.{map_push, drop-set-lt, drop_all, length-append, length-set}
+use Rattle.std.proofs.Common.{subst, set, ◌≡◌, ◌+◌, ◌≤◌, ◌<◌, List, ℕ, ◌∷◌, ◌++◌, [], length, take, drop, map, ◌∙◌, ap, arith, rules}
+use Rattle.std.proofs.lemmas.List.Elements.{All-push}
+use Rattle.std.proofs.lemmas.List.{take_more_set, map_push, drop-set-lt, drop_all, length-append, length-set}
 use Rattle.std.proofs.lemmas.Grind.{drop_more_same}
-use Rattle.diag_run.specs.Files.{files_from}
+use Rattle.std.specs.Io.KnownBytes.{IsAtEnd}
+use Rattle.diag_run.specs.Files.{FailsAt, files_from}
 use Rattle.diag_run.proofs.Order.{AllLater-front, AllLater-files}
-use Rattle.diag_run.proofs.Reading.{AreKnown-length, known_at, goes_on, too_long, is_done}
+use Rattle.diag_run.proofs.Reading.{AreKnown-length, known_at, fails_at, goes_on, too_long, is_done}
 use Rattle.diag_run.proofs.files.read_files.Goals as goal
 
 pub loop-index-preserved : goal.loop-index-preserved
@@ -11,6 +13,10 @@ loop-index-preserved g c = record {
   count = ap length c.in_ok-push.ensures.items ∙ (length-append c.loop-index.texts.items (c.in-Ok.text ∷ []) ∙ ap (λ n. n + 1) c.loop-index.invariant.count);
   same = length-set _ c.loop-index.index _ ∙ c.loop-index.invariant.same;
   rest = drop-set-lt (c.loop-index.index + 1) c.loop-index.files c.loop-index.index _ (omega arith) ∙ drop_more_same _ _ c.loop-index.index c.loop-index.invariant.rest;
+  ended =
+      let lt : c.loop-index.index < length c.loop-index.files = omega (arith, c.loop-index.invariant.same) in
+      rw (take_more_set c.loop-index.files c.loop-index.index _ lt)
+      (All-push (λ file. IsAtEnd (g.R.Read.remaining file)) (take c.loop-index.index c.loop-index.files) _ c.loop-index.invariant.ended c.in-Ok.ensures.end);
   so_far = λ known h.
       let at = known_at g.R.Read.remaining c.args.files.now c.loop-index.files known c.loop-index.index c.index-files-index.result h c.loop-index.invariant.rest (omega arith) in
       let same : c.in-Ok.text.items ≡ at.0 = rw at.1 at c.in-Ok.ensures.whole in
@@ -37,3 +43,12 @@ returns-in-Err-Device-clause-read g c known h =
     let so_far = c.loop-index.invariant.so_far known h in
     rw (← so_far) (AllLater-front (c.loop-index.index + 1) _ (files_from c.args.limit (c.loop-index.index + 1) (drop c.loop-index.index known))
     (AllLater-files c.args.limit (c.loop-index.index + 1) (drop c.loop-index.index known)))
+
+pub returns-in-Err-Device-clause-device : goal.returns-in-Err-Device-clause-device
+returns-in-Err-Device-clause-device g c n is =
+    let here : c.loop-index.index + 1 ≡ n = cc in (
+      omega (arith, here),
+      subst (λ m. FailsAt g.R.Read.remaining m c.args.files.now (set c.loop-index.files c.loop-index.index c.read_whole.new.reader)) here
+          (fails_at g.R.Read.remaining c.args.files.now c.loop-index.files c.loop-index.index c.read_whole.new.reader
+          (omega (arith, c.loop-index.invariant.same)) c.loop-index.invariant.same c.loop-index.invariant.rest c.loop-index.invariant.ended),
+    )

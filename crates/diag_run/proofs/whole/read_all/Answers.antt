@@ -1,5 +1,6 @@
-use Rattle.std.proofs.Common.{◌≡◌, length, Ok, arith}
+use Rattle.std.proofs.Common.{◌≡◌, length, Ok, Err, ap, arith}
 use Rattle.diag_run.specs.Files.{config_of}
+use Rattle.diag_run.specs.declared.fault.RunFault.TheVariants.{Read}
 use Rattle.diag_run.specs.Run.{wanted}
 use Rattle.diag_run.proofs.Inputs.{miscounted, read_whole, read_fails}
 use Rattle.diag_run.proofs.Reading.{AreKnown-length}
@@ -27,3 +28,8 @@ returns-in-Err-read_files-clause-read g c bytes known config_is files_are =
     let told = c.wanted-wanted.ensures in
     let same : wanted c.args.job c.in-Ok.setup ≡ length known = omega (arith, told, count, c.if-wanted-given.false) in
     read_fails c.args.job bytes known c.in-Ok.setup config same c.in-Err-read_files.fault (rw c.limit.ensures.is at (c.in-Err-read_files.ensures.read known files_are))
+
+pub returns-in-Err-read_files-clause-device : goal.returns-in-Err-read_files-clause-device
+returns-in-Err-read_files-clause-device g c n is =
+    let same : c.in-Err-read_files.fault ≡ Read n = cc in
+    (c.in-Err-read_files.ensures.device n (ap (λ f. Err f) same)).1

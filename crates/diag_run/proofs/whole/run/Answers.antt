@@ -1,6 +1,7 @@
-use Rattle.std.proofs.Common.{map, arith, rules}
+use Rattle.std.proofs.Common.{◌≡◌, Err, ap, map, arith, rules}
 use Rattle.std.specs.List.{concat}
 use Rattle.std.proofs.KnownBytes.{Keeps-refl}
+use Rattle.diag_run.specs.declared.fault.RunFault.TheVariants.{Read}
 use Rattle.diag_run.proofs.Inputs.{no_write}
 use Rattle.diag_run.proofs.whole.run.Goals as goal
 
@@ -23,3 +24,9 @@ returns-clause-front g c _ bytes known config_is files_are = record {
   gives = search rules;
   appends = rw c.as_slice.ensures.value at c.in-Err-write_whole.ensures.front;
 }
+
+pub returns-in-Err-clause-device : goal.returns-in-Err-clause-device
+returns-in-Err-clause-device g c n is =
+    let same : c.in-Err.fault ≡ Read n = cc in
+    let failed = c.in-Err.ensures.device n (ap (λ f. Err f) same) in
+    omega (arith, failed.within, c.as_mut_slice.ensures.len)
