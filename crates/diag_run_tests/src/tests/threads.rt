@@ -32,6 +32,7 @@ diag-journal 1
 1 P 1003 5003003201F4
 session extended
 holder A
+code 012345 2F
 ";
     let serial = text_of(&rt, SERIAL, log, b"")?;
     assert!(rt; serial.as_slice() == want.as_slice());
