@@ -91,9 +91,6 @@ if [ "$status" = 0 ] && cmp -s "$room/out" "$room/want"; then good "the journal 
 ran . serial --stamps demo/setup.toml demo/workshop.log demo/end_of_line.log
 if [ "$status" = 0 ] && cmp -s "$room/out" demo/output.txt; then good "the demo"; else bad "the demo: status $status"; fi
 
-ran "$room" --help
-if [ "$status" = 0 ] && [ -s "$room/out" ] && [ ! -s "$room/err" ]; then good "--help"; else bad "--help: status $status"; fi
-
 ran "$room" serial "$(printf '\377')" "$empty"
 ends "a word that isn't UTF-8" 1 "$usage"
 

@@ -9,6 +9,9 @@ use diag_can::Timing;
 use diag_run::Job;
 use std::alloc::{AllocError, Global};
 
+/// What `--version` prints behind the program's name.
+const VERSION: &str = "0.1.0";
+
 /// What the words ask for.
 #[derive(Debug, Drop)]
 pub struct Request<'a> {
@@ -34,26 +37,31 @@ impl From<AllocError> for Refusal {
     }
 }
 
-/// A command with a config and files; a play has flags beside.
+/// A command with a config and files.
 fn job_command<'a>(
     alloc: Global,
     name: &'a str,
     about: &'a str,
-    is_play: bool,
+    files: Arg<'a>,
 ) -> Result<Command<'a>, AllocError> {
     let config = Arg::new(alloc, "CONFIG")
+        .help("The setup of the ECU and its testers, in TOML")
         .required(true)
         .action(ArgAction::Set);
-    let files = Arg::new(alloc, "FILE")
-        .num_args(0..)
-        .action(ArgAction::Append);
-    let command = Command::new(alloc, name)
+    let files = files.num_args(0..).action(ArgAction::Append);
+    Command::new(alloc, name)
         .about(about)
         .arg(config)?
-        .arg(files)?;
-    if !is_play {
-        return Ok(command);
-    }
+        .arg(files)
+}
+
+/// A command that plays a log of each tester, with its flags.
+fn play_command<'a>(
+    alloc: Global,
+    name: &'a str,
+    about: &'a str,
+) -> Result<Command<'a>, AllocError> {
+    let logs = Arg::new(alloc, "FILE").help("A log of each tester, in the order of the setup");
     let journal = Arg::new(alloc, "journal")
         .long("journal")
         .help("Print the journal alone")
@@ -62,27 +70,36 @@ fn job_command<'a>(
         .long("stamps")
         .help("Take the time from the stamps of the log lines")
         .action(ArgAction::SetTrue);
-    command.arg(journal)?.arg(stamps)
+    job_command(alloc, name, about, logs)?
+        .arg(journal)?
+        .arg(stamps)
+}
+
+/// The command that replays a journal.
+fn replay_command<'a>(alloc: Global) -> Result<Command<'a>, AllocError> {
+    let journal = Arg::new(alloc, "FILE")
+        .value_name("JOURNAL")
+        .help("The journal of a play");
+    job_command(alloc, "replay", "Replay a journal", journal)
 }
 
 fn whole_command<'a>(alloc: Global) -> Result<Command<'a>, AllocError> {
     Command::new(alloc, "uds_play")
+        .version(VERSION)
         .about("The diagnostic server of an ECU, played over the logs of its testers")
         .disable_help_subcommand(true)
         .subcommand_required(true)
-        .subcommand(job_command(
+        .subcommand(play_command(
             alloc,
             "serial",
             "Play one log a tester, one event of each in turn",
-            true,
         )?)?
-        .subcommand(job_command(
+        .subcommand(play_command(
             alloc,
             "play",
             "Play one log a tester, each in a thread of its own",
-            true,
         )?)?
-        .subcommand(job_command(alloc, "replay", "Replay a journal", false)?)
+        .subcommand(replay_command(alloc)?)
 }
 
 fn refusal_of(alloc: Global, error: &Error) -> Refusal {
