@@ -72,7 +72,8 @@ def run_file():
         files = [text(parts, "keys") + SETUP, a, log(parts.get("b", []))]
         for job in ("serial",) if "b" in parts else ("serial", "play"):
             words = [job, *parts.get("flags", [])]
-            check(parts["name"], words, files, text(parts, "prints"))
+            tells = "".join(parts.get("tells", []))
+            check(parts["name"], words, files, text(parts, "prints"), tells, int("".join(parts.get("status", "0"))))
 
 
 def consecutives(count):
@@ -163,6 +164,9 @@ def log_faults():
         plays(f"a log's line {line}", log(["tick", line]), tells=f"log 1 line 2: {fault}", status=3)
     for line in ["(0.00000) can0 7E0#00", "(0000000000000.000000) can0 7E0#00", "(0.000000) 7E0#00", b"\xff"]:
         plays("a log's whole line", line, tells="log 1 line 1: bad line", status=3)
+    apart = "(0.000000) can0 7E0#023E00\n(59999880.001000) can0 7E0#023E00\n"
+    for job in ("serial", "play"):
+        check("stamps too far apart", [job, "--stamps"], [SETUP, apart, ""], tells="log 1: too many events", status=3)
     plays("no line feed", f"{STAMP}7E0#023E00", f"(0000000000.000000) A 7E8#027E00CCCCCCCCCC\ndiag-journal 1\n1 P 3E00 7E00\n{DEFAULT}")
     plays("a carriage return", "tick\r\n", f"diag-journal 1\n1 T 1\n{DEFAULT}")
 

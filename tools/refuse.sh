@@ -2,11 +2,12 @@
 # Refuses each request for memory in turn, in the executables that `rt ci`, `rt test` or `rt run` left in out/: the
 # program and, with the word `tests`, the executables of the tests, a test at a time. Usage: tools/refuse.sh [tests]
 # The program must answer want of memory (status 4, nothing on standard output) or, where it had no more need of the
-# memory, what it answers without a refusal. A test must end with the error of a refused allocation, or pass where it
-# had no more need of the memory.
+# memory, what it answers without a refusal; where there was no memory for its line on standard error, that is empty.
+# A test must end with the error of a refused allocation, or pass where it had no more need of the memory.
 # A request may fall in any thread; how many there are may then be another from run to run.
 # A test that makes many requests, or that takes long, has 200 of them refused, evenly chosen, or as many as fit in
-# REFUSE_TEST_SECONDS (default 3). REFUSE_SECONDS (default 600) bounds the whole; what was not reached is said. The last line is 'N passed, M failed'.
+# REFUSE_TEST_SECONDS (default 3). REFUSE_SECONDS (default 600) bounds the whole; what was not reached has failed. The
+# last line is 'N passed, M failed'.
 set -uo pipefail
 cd "$(dirname "$0")/.." || exit 2
 room=$(mktemp -d)
@@ -38,6 +39,9 @@ is_whole() {
   if [ "${any_order:-0}" = 1 ]; then sort "$1" | cmp -s - <(sort "$room/out"); else cmp -s "$room/out" "$1"; fi
 }
 
+# tells LINE: whether the program told this line, or nothing, where there was no memory for a line
+tells() { [ ! -s "$room/err" ] || { [ -n "$1" ] && printf '%s\n' "$1" | cmp -s - "$room/err"; }; }
+
 # sweep_run NAME STATUS OUT ERR PROGRAM WORD..: a run that, where nothing is refused, ends with STATUS, writes what the
 # file OUT has, and the line ERR on standard error
 sweep_run() {
@@ -54,9 +58,12 @@ sweep_run() {
     [ "$n" -gt "$asked" ] && break
     if [ "$status" = 4 ]; then
       [ -s "$room/out" ] && { bad "$name: request $n: something was written"; return; }
+      tells 'uds_play: memory' || { bad "$name: request $n: another line on standard error"; return; }
     elif [ "$status" != "$wanted" ] || ! is_whole "$whole"; then
       bad "$name: request $n: status $status"
       return
+    else
+      tells "$told" || { bad "$name: request $n: another line on standard error"; return; }
     fi
     n=$((n + 1))
   done
@@ -75,7 +82,7 @@ sweep_test() {
   [ "$most" -gt 200 ] && most=200
   [ "$total" -gt "$most" ] && step=$((total / most + 1))
   while [ "$n" -le "$total" ]; do
-    if late; then echo "refused: $name: no time after $((n - 1)) requests"; return; fi
+    if late; then bad "$name: no time after $((n - 1)) requests"; return; fi
     refused "$n" "$program" "$name"
     if [ "$status" != 0 ] && ! grep -Eq '[Ee]rror: .*(Memory|Alloc(Error|Failed))' "$room/err"; then bad "$name: request $n: status $status"; return; fi
     n=$((n + step))
