@@ -1,6 +1,7 @@
 #!/usr/bin/env bash
 # Refuses each request for memory in turn, in the executables that `rt ci`, `rt test` or `rt run` left in out/: the
-# program and, with the word `tests`, the executables of the tests, a test at a time. Usage: tools/refuse.sh [tests]
+# program and, with the word `tests`, the executables of the tests, a test at a time; with `suite FILE` that one executable.
+# Usage: tools/refuse.sh [tests | suite FILE]
 # The program must answer want of memory (status 4, nothing on standard output) or, where it had no more need of the
 # memory, what it answers without a refusal; where there was no memory for its line on standard error, that is empty.
 # A test must end with the error of a refused allocation, or pass where it had no more need of the memory.
@@ -90,42 +91,66 @@ sweep_test() {
   good "$name: $total requests, one of each $step"
 }
 
-program=crates/uds_play/out/uds_play
-if [ -x "$program" ]; then
-  : > "$room/nothing"
-  printf '[[tester]]\nname = "A"\nrequest = 0x7E0\nresponse = 0x7E8\n' > "$room/config"
-  printf '(0000000010.000000) can0 7E0#021003\n(0000000012.500999) can0 7E0#023E00\n' > "$room/log"
-  {
-    echo '(0000000000.000000) A 7E8#065003003201F4CC'
-    echo '(0000000002.500000) A 7E8#027E00CCCCCCCCCC'
-    printf 'diag-journal 2\n0 1 P 1003 5003003201F4\n2500 1 T 2500\n2500 1 P 3E00 7E00\n'
-    printf 'session extended\nholder A\n'
-  } > "$room/played"
-  printf 'diag-journal 1\n1 P 1083 -\n' > "$room/journal"
-  printf 'entries 1\nsession extended\nholder A\n' > "$room/replayed"
-  printf 'diag-journal 1\n1 P 1003 5003003201F5\n' > "$room/other"
-  printf 'x' > "$room/bad"
-  usage='uds_play: usage: uds_play [serial|play|replay] [--journal] [--stamps] CONFIG FILE..'
-  sweep_run "the stored run" 0 crates/uds_play/stdout '' "$program"
-  sweep_run "serial" 0 "$room/played" '' "$program" serial --stamps "$room/config" "$room/log"
-  sweep_run "play" 0 "$room/played" '' "$program" play --stamps "$room/config" "$room/log"
-  any_order=1 sweep_run "play of two testers" 0 runs/threaded_play/lines '' \
-    "$program" play runs/setup.toml runs/threaded_play/a.log runs/threaded_play/b.log
-  sweep_run "replay" 0 "$room/replayed" '' "$program" replay "$room/config" "$room/journal"
-  sweep_run "a usage fault" 1 "$room/nothing" "$usage" "$program" replay --journal "$room/config" "$room/journal"
-  sweep_run "a config at fault" 2 "$room/nothing" 'uds_play: config: syntax' "$program" serial "$room/bad" "$room/log"
-  sweep_run "a log at fault" 3 "$room/nothing" 'uds_play: log 1 line 1: bad line' "$program" serial "$room/config" "$room/bad"
-  sweep_run "a log at fault, by play" 3 "$room/nothing" 'uds_play: log 1 line 1: bad line' "$program" play "$room/config" "$room/bad"
-  sweep_run "a file that is not there" 7 "$room/nothing" 'uds_play: cannot read file 1' "$program" serial "$room/config" "$room/none"
-  sweep_run "a replay that differs" 8 "$room/nothing" 'uds_play: entry 1 differs' "$program" replay "$room/config" "$room/other"
-else
-  bad "$program isn't built"
-fi
-[ "${1:-}" = tests ] && for tests in crates/*/out/*_tests; do
-  [ -x "$tests" ] && [ -f "$tests" ] || continue
-  while read -r name; do
-    [ -n "$name" ] && sweep_test "$tests" "$name"
-  done < <("$tests" --list 2> /dev/null | sed -n 's/: test$//p')
-done
+# sweep_program: the runs of the program
+sweep_program() {
+  local program=crates/uds_play/out/uds_play usage
+  if [ -x "$program" ]; then
+    : > "$room/nothing"
+    printf '[[tester]]\nname = "A"\nrequest = 0x7E0\nresponse = 0x7E8\n' > "$room/config"
+    printf '(0000000010.000000) can0 7E0#021003\n(0000000012.500999) can0 7E0#023E00\n' > "$room/log"
+    {
+      echo '(0000000000.000000) A 7E8#065003003201F4CC'
+      echo '(0000000002.500000) A 7E8#027E00CCCCCCCCCC'
+      printf 'diag-journal 2\n0 1 P 1003 5003003201F4\n2500 1 T 2500\n2500 1 P 3E00 7E00\n'
+      printf 'session extended\nholder A\n'
+    } > "$room/played"
+    printf 'diag-journal 1\n1 P 1083 -\n' > "$room/journal"
+    printf 'entries 1\nsession extended\nholder A\n' > "$room/replayed"
+    printf 'diag-journal 1\n1 P 1003 5003003201F5\n' > "$room/other"
+    printf 'x' > "$room/bad"
+    usage='uds_play: usage: uds_play [serial|play|replay] [--journal] [--stamps] CONFIG FILE..'
+    sweep_run "the stored run" 0 crates/uds_play/stdout '' "$program"
+    sweep_run "serial" 0 "$room/played" '' "$program" serial --stamps "$room/config" "$room/log"
+    sweep_run "play" 0 "$room/played" '' "$program" play --stamps "$room/config" "$room/log"
+    any_order=1 sweep_run "play of two testers" 0 runs/threaded_play/lines '' \
+      "$program" play runs/setup.toml runs/threaded_play/a.log runs/threaded_play/b.log
+    sweep_run "replay" 0 "$room/replayed" '' "$program" replay "$room/config" "$room/journal"
+    sweep_run "a usage fault" 1 "$room/nothing" "$usage" "$program" replay --journal "$room/config" "$room/journal"
+    sweep_run "a config at fault" 2 "$room/nothing" 'uds_play: config: syntax' "$program" serial "$room/bad" "$room/log"
+    sweep_run "a log at fault" 3 "$room/nothing" 'uds_play: log 1 line 1: bad line' "$program" serial "$room/config" "$room/bad"
+    sweep_run "a log at fault, by play" 3 "$room/nothing" 'uds_play: log 1 line 1: bad line' "$program" play "$room/config" "$room/bad"
+    sweep_run "a file that is not there" 7 "$room/nothing" 'uds_play: cannot read file 1' "$program" serial "$room/config" "$room/none"
+    sweep_run "a replay that differs" 8 "$room/nothing" 'uds_play: entry 1 differs' "$program" replay "$room/config" "$room/other"
+  else
+    bad "$program isn't built"
+  fi
+}
+
+# sweep_suites: each suite in a process of its own, as many at a time as there are processors
+sweep_suites() {
+  local suites counts
+  suites=$(find crates/*/out -maxdepth 1 -name '*_tests' -type f -perm -u+x | sort)
+  if [ -z "$suites" ]; then return; fi
+  # shellcheck disable=SC2086 # a path a word
+  printf '%s\n' $suites | xargs -P "$(nproc)" -n 1 tools/refuse.sh suite > "$room/suites"
+  grep -vE '^[0-9]+ passed, [0-9]+ failed$' "$room/suites"
+  counts=$(grep -E '^[0-9]+ passed, [0-9]+ failed$' "$room/suites")
+  passed=$((passed + $(awk '{ n += $1 } END { print n + 0 }' <<< "$counts")))
+  failed=$((failed + $(awk '{ n += $3 } END { print n + 0 }' <<< "$counts")))
+  if [ "$(grep -c . <<< "$counts")" != "$(grep -c . <<< "$suites")" ]; then : > "$room/err"; bad "a suite has no count"; fi
+}
+
+case "${1:-}" in
+  tests)
+    sweep_program
+    sweep_suites
+    ;;
+  suite)
+    while read -r name; do
+      sweep_test "$2" "$name"
+    done < <("$2" --list 2> /dev/null | sed -n 's/: test$//p')
+    ;;
+  *) sweep_program ;;
+esac
 echo "$passed passed, $failed failed"
 [ "$failed" = 0 ]
