@@ -29,7 +29,7 @@ pub enum RunFault {
     JournalLine(usize),
     /// A log is longer than 67,108,864 bytes, or a journal than 268,435,456.
     FileLong(usize),
-    /// Memory, or the start of a thread, was refused.
+    /// Memory was refused.
     Memory,
     /// The journal has no room for another entry.
     JournalFull,

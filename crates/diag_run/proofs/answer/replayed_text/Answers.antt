@@ -7,3 +7,6 @@ returns-in-Err-Differs-clause-gives c = record {
   read = c.in-Ok.ensures.ok.1;
   at = rw c.in-Err-Differs.n-is (c.in-Err-Differs.ensures.differs c.in-Err-Differs.n c.in-Err-Differs.field-0-is);
 }
+
+pub returns-in-Err-Line-clause-gives : goal.returns-in-Err-Line-clause-gives
+returns-in-Err-Line-clause-gives c = rw c.in-Err-Line.n-is (c.in-Err-Line.ensures.line c.in-Err-Line.n c.in-Err-Line.field-0-is)
