@@ -1,5 +1,5 @@
 -- The logs as a threaded play reads them are those that a run reads, and so is what it gives for them.
-use Rattle.std.proofs.Common.{◌≡◌, ℕ, suc, ◌+◌, Bool, length, map, List, [], ◌∷◌, Result, Ok, Err, IfOk, IsOk, refl, sym, ap, ◌∙◌}
+use Rattle.std.proofs.Common.{◌≡◌, ℕ, suc, ◌+◌, Bool, length, map, List, [], ◌∷◌, Result, Ok, Err, IfOk, IfErr, IsOk, refl, sym, ap, ◌∙◌}
 use Rattle.std.proofs.lemmas.List.{length-map}
 use Rattle.diag_can.specs.Log.{events}
 use Rattle.diag_can.specs.declared.fault.LogFault.{LogFault}
@@ -14,7 +14,9 @@ use Rattle.diag_world.specs.Weaving.{weave}
 use Rattle.diag_workers.specs.Play as workers
 use Rattle.diag_config.specs.Key.{◌>>=◌}
 use Rattle.diag_run.specs.Files.{Refusal, bad_log, or_bad_log, logs_from}
-use Rattle.diag_run.specs.Run.{GivesWoven, played_text}
+use Rattle.diag_run.specs.Run.{GivesWoven, answered, played_text}
+use Rattle.diag_run.specs.declared.fault.RunFault.{RunFault}
+use Rattle.diag_run.specs.declared.fault.RunFault.TheVariants.{Memory}
 
 -- a tester's fault as the refusal of a run
 refused : {A : Type 0} → Result A (ℕ × LogFault) → Result A Refusal
@@ -66,6 +68,13 @@ module _ (timing : Timing) (setup : RawSetup) where
     pub gives_woven : (only_journal : Bool) (desk : Run) (sent : List (List Sent)) (text : List ℕ) → IsPlay setup (weave (link_of setup) desk.journal logs) logs desk sent
         → text ≡ played_text only_journal timing setup desk sent → GivesWoven only_journal timing setup (logs_from timing setup 1 texts) (Ok text)
     gives_woven only_journal desk sent text play is = rw (logs_well texts logs well) (record { desk = desk; sent = sent; play = play; is = is })
+
+    -- what is answered for its parts is its text, or that memory was refused
+    pub answers_woven : {A : Type 0} (bytes : A → List ℕ) (only_journal : Bool) (desk : Run) (sent : List (List Sent)) (r : Result A RunFault)
+        → IsPlay setup (weave (link_of setup) desk.journal logs) logs desk sent → IfOk r (λ parts. bytes parts ≡ played_text only_journal timing setup desk sent)
+        → IfErr r (λ fault. fault ≡ Memory) → GivesWoven only_journal timing setup (logs_from timing setup 1 texts) (answered bytes r)
+    answers_woven bytes only_journal desk sent (Ok parts) play is refused = gives_woven only_journal desk sent (bytes parts) play is
+    answers_woven bytes only_journal desk sent (Err fault) play is refused = rw refused tt
 
     pub full_where_well : IsOk (logs_from timing setup 1 texts)
     full_where_well = rw (logs_well texts logs well) refl

@@ -1,6 +1,6 @@
 //! What a run writes for what it has read: the text of a play, or of a replay.
 
-ghost use Rattle.std.specs.Prelude.{◌≡◌, ◌≢◌, ℕ, length, map, IfOk, Err};
+ghost use Rattle.std.specs.Prelude.{◌≡◌, ◌≢◌, ℕ, length, map, IfOk, IfErr, Err};
 ghost use Rattle.std.specs.List.{concat};
 ghost use Rattle.diag_run.specs.Files.{logs_from};
 ghost use Rattle.diag_run.specs.Run.{GivesPlayed, GivesWoven, GivesReplayed, played_text, answered};
@@ -13,7 +13,7 @@ use diag_desk::{JournalFault, ReplayFault, read_journal, replay};
 use diag_setup::Setup;
 use diag_workers::{NoWatch, play};
 use diag_world::{Played, serial};
-use std::alloc::{AllocError, Global};
+use std::alloc::Global;
 use std::sync::Wait;
 use std::thread::Threads;
 
@@ -34,7 +34,7 @@ pub(crate) fn played_text(
         Err(fault) => return Err(fault),
     };
     let played = serial(alloc, setup, logs.as_slice())?;
-    Ok(in_one(alloc, setup, &played, only_journal, timing)?)
+    in_one(alloc, setup, &played, only_journal, timing)
 }
 
 /// Plays the logs, a thread for each tester, and says what the play writes.
@@ -52,7 +52,7 @@ pub(crate) fn woven_text<R: Threads + Wait + Sync>(
     ensures device { (n : ℕ) → result ≢ Err (RunFault.Read n) }
 {
     let played = play(rt, alloc, setup, texts, &NoWatch, timing)?;
-    Ok(in_parts(rt, alloc, setup, &played, only_journal, timing)?)
+    in_parts(rt, alloc, setup, &played, only_journal, timing)
 }
 
 /// What is written of a play, in parts that are made beside each other: the journal alone where that is asked for.
@@ -63,15 +63,17 @@ fn in_parts<R: Threads + Sync>(
     played: &Played,
     only_journal: bool,
     timing: Timing,
-) -> Result<Vec<Vec<u8>>, AllocError>
+) -> Result<Vec<Vec<u8>>, RunFault>
     requires { length played.now.sent.items ≡ length setup.now.testers }
-    ensures { IfOk result (λ parts. concat (map (λ part. part.items) parts.items) ≡ played_text only_journal timing setup.now played.now.desk (map (λ sent. sent.items) played.now.sent.items)) }
+    ensures ok { IfOk result (λ parts. concat (map (λ part. part.items) parts.items) ≡ played_text only_journal timing setup.now played.now.desk (map (λ sent. sent.items) played.now.sent.items)) }
+    ensures err { IfErr result (λ fault. fault ≡ RunFault.Memory) }
 {
-    if only_journal {
-        one_part(alloc, journal_part(alloc, timing, played.desk.journal())?)
+    let parts = if only_journal {
+        one_part(alloc, journal_part(alloc, timing, played.desk.journal())?)?
     } else {
-        play_parts(rt, alloc, setup, played, timing)
-    }
+        play_parts(rt, alloc, setup, played, timing)?
+    };
+    Ok(parts)
 }
 
 /// The same in one part.
@@ -81,16 +83,17 @@ fn in_one(
     played: &Played,
     only_journal: bool,
     timing: Timing,
-) -> Result<Vec<Vec<u8>>, AllocError>
+) -> Result<Vec<Vec<u8>>, RunFault>
     requires { length played.now.sent.items ≡ length setup.now.testers }
-    ensures { IfOk result (λ parts. concat (map (λ part. part.items) parts.items) ≡ played_text only_journal timing setup.now played.now.desk (map (λ sent. sent.items) played.now.sent.items)) }
+    ensures ok { IfOk result (λ parts. concat (map (λ part. part.items) parts.items) ≡ played_text only_journal timing setup.now played.now.desk (map (λ sent. sent.items) played.now.sent.items)) }
+    ensures err { IfErr result (λ fault. fault ≡ RunFault.Memory) }
 {
     let text = if only_journal {
         journal_part(alloc, timing, played.desk.journal())?
     } else {
         play_text(alloc, setup, played, timing)?
     };
-    one_part(alloc, text)
+    Ok(one_part(alloc, text)?)
 }
 
 /// Replays the journal that these bytes say, and says what the replay writes.
