@@ -35,14 +35,14 @@ fn tick(gate: &Gate, seat: &mut Seat) -> Result<(), Trouble>
     }
 }
 
-/// Has a seat take the desk and then step, while another seat is kept from its own step.
+/// Has a seat take the desk and then step, while another seat is kept from its own step. Whether the step is silent.
 fn step_held(
     alloc: Global,
     gate: &Gate,
     seat: Seat,
     other: &mut Seat,
     step: &Step,
-) -> Result<(Seat, Result<Option<Message>, StepFault>), Trouble>
+) -> Result<(Seat, Result<bool, StepFault>), Trouble>
     requires seat { seat.gate ≡ gate.now }
     requires other { other.old.gate ≡ gate.now }
     ensures seat { IfOk result (λ r. r.0.gate ≡ gate.now) }
@@ -54,9 +54,17 @@ fn step_held(
     let busy = is_busy(alloc, gate, other, &[0x10, 0x03]);
     let (seat, answer) = held.step(step);
     if busy? {
-        Ok((seat, answer))
+        Ok((seat, is_silent(answer)))
     } else {
         Err(Trouble::Wrong)
+    }
+}
+
+/// Whether an answer has no reply.
+fn is_silent(answer: Result<Option<Message>, StepFault>) -> Result<bool, StepFault> {
+    match answer {
+        Ok(reply) => Ok(reply.is_none()),
+        Err(fault) => Err(fault),
     }
 }
 
@@ -83,13 +91,14 @@ fn once_more(right: bool) -> Outcome {
     }
 }
 
-/// The same, once more where memory was refused: the desk was then not kept from a third seat. It has to be silent.
+/// The same, once more where memory was refused: the desk was then not kept from a third seat.
 fn step_held_again(
     alloc: Global,
     gate: &Gate,
     seat: Seat,
     other: &mut Seat,
     third: &mut Seat,
+    step: &Step,
 ) -> Result<(Seat, Outcome), Trouble>
     requires seat { seat.gate ≡ gate.now }
     requires other { other.old.gate ≡ gate.now }
@@ -98,19 +107,34 @@ fn step_held_again(
     ensures other { other.new.gate ≡ other.old.gate }
     ensures third { third.new.gate ≡ third.old.gate }
 {
-    let quiet = request(alloc, &[0x10, 0x83])?;
-    let (seat, answer) = step_held(alloc, gate, seat, other, &quiet)?;
-    match answer {
+    let (seat, silent) = step_held(alloc, gate, seat, other, step)?;
+    match silent {
+        Ok(silent) => Ok((seat, at_once(silent))),
         Err(StepFault::Memory) => {
             tick(gate, third)?;
-            let (seat, answer) = step_held(alloc, gate, seat, other, &quiet)?;
-            Ok((seat, once_more(answer?.is_none())))
+            let (seat, silent) = step_held(alloc, gate, seat, other, step)?;
+            Ok((seat, once_more(silent?)))
         }
-        answer => Ok((seat, at_once(answer?.is_none()))),
+        Err(fault) => Err(fault.into()),
     }
 }
 
-/// Has a seat try a step, once more where memory was refused: the desk was then not kept from a third seat.
+/// Whether a seat that tries a request is answered so.
+fn tries(
+    alloc: Global,
+    gate: &Gate,
+    seat: &mut Seat,
+    bytes: &[u8],
+    wanted: &[u8],
+) -> Result<bool, Trouble>
+    requires { seat.old.gate ≡ gate.now }
+    ensures { seat.new.gate ≡ seat.old.gate }
+{
+    let reply = gate.try_step(seat, request(alloc, bytes)?)?;
+    Ok(says(&reply, wanted))
+}
+
+/// The same, once more where memory was refused: the desk was then not kept from a third seat.
 fn try_again(
     alloc: Global,
     gate: &Gate,
@@ -124,24 +148,38 @@ fn try_again(
     ensures seat { seat.new.gate ≡ seat.old.gate }
     ensures third { third.new.gate ≡ third.old.gate }
 {
-    match gate.try_step(seat, request(alloc, bytes)?) {
-        Err(TryFault::Memory) => {
+    match tries(alloc, gate, seat, bytes, wanted) {
+        Ok(right) => Ok(at_once(right)),
+        Err(Trouble::Memory) => {
             tick(gate, third)?;
-            let reply = gate.try_step(seat, request(alloc, bytes)?)?;
-            Ok(once_more(says(&reply, wanted)))
+            Ok(once_more(tries(alloc, gate, seat, bytes, wanted)?))
         }
-        answer => Ok(at_once(says(&answer?, wanted))),
+        Err(trouble) => Err(trouble),
     }
 }
 
-/// A step that waits, once more where memory was refused: the desk was then not kept from a third seat.
+/// Whether a seat that waits for its step is answered so.
+fn waits<R: Wait>(
+    rt: &R,
+    gate: &Gate,
+    seat: &mut Seat,
+    step: &Step,
+    wanted: &[u8],
+) -> Result<bool, Trouble>
+    requires { seat.old.gate ≡ gate.now }
+    ensures { seat.new.gate ≡ seat.old.gate }
+{
+    let reply = gate.step(rt, seat, step)?;
+    Ok(says(&reply, wanted))
+}
+
+/// The same, once more where memory was refused: the desk was then not kept from a third seat.
 fn wait_again<R: Wait>(
     rt: &R,
-    alloc: Global,
     gate: &Gate,
     seat: &mut Seat,
     third: &mut Seat,
-    bytes: &[u8],
+    step: &Step,
     wanted: &[u8],
 ) -> Result<Outcome, Trouble>
     requires seat { seat.old.gate ≡ gate.now }
@@ -149,13 +187,13 @@ fn wait_again<R: Wait>(
     ensures seat { seat.new.gate ≡ seat.old.gate }
     ensures third { third.new.gate ≡ third.old.gate }
 {
-    let asked = request(alloc, bytes)?;
-    match gate.step(rt, seat, &asked) {
-        Err(StepFault::Memory) => {
+    match waits(rt, gate, seat, step, wanted) {
+        Ok(right) => Ok(at_once(right)),
+        Err(Trouble::Memory) => {
             tick(gate, third)?;
-            Ok(once_more(says(&gate.step(rt, seat, &asked)?, wanted)))
+            Ok(once_more(waits(rt, gate, seat, step, wanted)?))
         }
-        answer => Ok(at_once(says(&answer?, wanted))),
+        Err(trouble) => Err(trouble),
     }
 }
 
@@ -214,37 +252,88 @@ fn has_requests(journal: &Journal, wanted: &[Wanted]) -> bool {
     next == wanted.len()
 }
 
-/// Three seats step one after another, and come home.
+/// What steps came to one after another.
+fn all(first: Outcome, second: Outcome, last: Outcome) -> Outcome {
+    Outcome {
+        right: first.right && second.right && last.right,
+        refused: first.refused || second.refused || last.refused,
+    }
+}
+
+/// The requests that a seat takes the desk for, and waits for.
+#[derive(Drop)]
+struct Requests {
+    silent: Step,
+    value: Step,
+}
+
+fn both_requests(alloc: Global) -> Result<Requests, Trouble> {
+    Ok(Requests {
+        silent: request(alloc, &[0x10, 0x83])?,
+        value: request(alloc, &[0x22, 0xF1, 0x90])?,
+    })
+}
+
+/// Three seats step one after another, the first comes home.
+fn first_steps<R: Wait>(
+    rt: &R,
+    alloc: Global,
+    gate: &Gate,
+    host: &mut Host,
+    second: &mut Seat,
+    third: &mut Seat,
+    requests: &Requests,
+) -> Result<Outcome, Trouble>
+    requires host { host.old.gate ≡ gate.now }
+    requires second { second.old.gate ≡ gate.now }
+    requires third { third.old.gate ≡ gate.now }
+    ensures host { host.new.gate ≡ host.old.gate }
+    ensures second { second.new.gate ≡ second.old.gate }
+    ensures third { third.new.gate ≡ third.old.gate }
+{
+    let seat = seat_of(gate, host, 1)?;
+    let (mut seat, silent) = step_held_again(alloc, gate, seat, second, third, &requests.silent)?;
+    let taken = try_again(alloc, gate, second, third, &[0x10, 0x03], &BUSY);
+    let value = wait_again(rt, gate, &mut seat, third, &requests.value, VALUE);
+    bring_home(gate, host, seat);
+    Ok(all(silent, taken?, value?))
+}
+
+/// The second seat steps among them and comes home.
+fn second_steps<R: Wait>(
+    rt: &R,
+    alloc: Global,
+    gate: &Gate,
+    host: &mut Host,
+    third: &mut Seat,
+    requests: &Requests,
+) -> Result<Outcome, Trouble>
+    requires host { host.old.gate ≡ gate.now }
+    requires third { third.old.gate ≡ gate.now }
+    ensures host { host.new.gate ≡ host.old.gate }
+    ensures third { third.new.gate ≡ third.old.gate }
+{
+    let mut seat = seat_of(gate, host, 2)?;
+    let outcome = first_steps(rt, alloc, gate, host, &mut seat, third, requests);
+    bring_home(gate, host, seat);
+    outcome
+}
+
+/// The third seat ticks where memory was refused, and comes home.
 fn all_step<R: Wait>(
     rt: &R,
     alloc: Global,
     gate: &Gate,
     host: &mut Host,
+    requests: &Requests,
 ) -> Result<Outcome, Trouble>
     requires { host.old.gate ≡ gate.now }
     ensures { host.new.gate ≡ host.old.gate }
 {
-    let a = seat_of(gate, host, 1)?;
-    let mut b = seat_of(gate, host, 2)?;
-    let mut third = seat_of(gate, host, 8)?;
-    let (mut a, silent) = step_held_again(alloc, gate, a, &mut b, &mut third)?;
-    let taken = try_again(alloc, gate, &mut b, &mut third, &[0x10, 0x03], &BUSY)?;
-    let value = wait_again(
-        rt,
-        alloc,
-        gate,
-        &mut a,
-        &mut third,
-        &[0x22, 0xF1, 0x90],
-        VALUE,
-    )?;
-    bring_home(gate, host, a);
-    bring_home(gate, host, b);
-    bring_home(gate, host, third);
-    Ok(Outcome {
-        right: silent.right && taken.right && value.right,
-        refused: silent.refused || taken.refused || value.refused,
-    })
+    let mut seat = seat_of(gate, host, 8)?;
+    let outcome = second_steps(rt, alloc, gate, host, &mut seat, requests);
+    bring_home(gate, host, seat);
+    outcome
 }
 
 /// Whether the desk of a gate whose seats are home has all entries.
@@ -256,15 +345,20 @@ fn has_entries(gate: Gate, host: Host) -> Result<bool, Trouble>
 }
 
 /// The calls go on to their end where memory was refused on the way, which is then the error.
-fn gate_calls_hold<R: Wait>(rt: &R, alloc: Global) -> Result<bool, Trouble> {
+fn calls_hold<R: Wait>(rt: &R, alloc: Global, requests: &Requests) -> Result<bool, Trouble> {
     let (gate, mut host) = gate_of_two(alloc)?;
-    let steps = all_step(rt, alloc, &gate, &mut host)?;
+    let steps = all_step(rt, alloc, &gate, &mut host, requests)?;
     let is_out = is_out(&gate, &mut host, 1);
     let is_right = has_entries(gate, host)? && is_out && steps.right;
     if is_right && steps.refused {
         return Err(Trouble::Memory);
     }
     Ok(is_right)
+}
+
+fn gate_calls_hold<R: Wait>(rt: &R, alloc: Global) -> Result<bool, Trouble> {
+    let requests = both_requests(alloc)?;
+    calls_hold(rt, alloc, &requests)
 }
 
 #[test]
