@@ -1,11 +1,13 @@
 //! Readers and writers that fail at one call, for each call.
 
-use super::given::{CONFIG, Dribble, PLAY, SERIAL, Source, ended, two};
+use super::given::{
+    CONFIG, Dribble, End, PLAY, Run, SERIAL, Source, Trouble, WELL, ends, ends_unwritten, holds,
+    holds_at,
+};
 use diag_run::{Job, ReadFault, read_whole};
-use std::alloc::AllocError;
-use std::process::Abort;
+use std::alloc::{AllocError, Global};
+use std::io::Write;
 use std::sync::Wait;
-use std::test::Fail;
 use std::thread::Threads;
 
 /// The files of a job and the text of its run, of which so many bytes at the front are the same in each run; the lines
@@ -17,14 +19,6 @@ struct Given<'a> {
     second: Option<&'a [u8]>,
     text: &'a [u8],
     fixed: usize,
-}
-
-/// How a run ended: what was written, the line that was told of a fault, and the status.
-#[derive(Drop)]
-struct Ended {
-    written: Vec<u8>,
-    told: Vec<u8>,
-    status: u8,
 }
 
 const READ_A: &[u8] = b"(0000000000.000000) can0 7E0#021003
@@ -128,186 +122,255 @@ fn has_line(text: &[u8], line: &[u8]) -> bool {
     false
 }
 
-/// What was written is the text of the run.
-fn is_text(rt: &impl Abort, given: Given<'_>, written: &[u8]) {
-    assert_eq!(rt; written.len(), given.text.len());
-    let fixed = given.fixed.min(given.text.len());
-    assert!(rt; written.get(..fixed) == given.text.get(..fixed));
-    for line in given.text.split(|byte| *byte == b'\n') {
-        assert!(rt; has_line(written, line));
+/// Whether each line of the text stands in what was written.
+fn has_lines(written: &[u8], text: &[u8]) -> bool {
+    for line in text.split(|byte| *byte == b'\n') {
+        if !has_line(written, line) {
+            return false;
+        }
+    }
+    true
+}
+
+/// Whether the bytes at the front of what was written are those of the text, as far as these are the same in each run.
+fn is_front(given: &Given<'_>, written: &[u8]) -> bool {
+    let same = given.fixed.min(written.len());
+    written.get(..same) == given.text.get(..same)
+}
+
+/// Whether what was written is the text of the run.
+fn is_text(given: &Given<'_>, written: &[u8]) -> bool {
+    written.len() == given.text.len() && is_front(given, written) && has_lines(written, given.text)
+}
+
+/// How the config and the files are read.
+#[derive(Clone, Copy)]
+enum Reading {
+    Whole,
+    /// One byte at a time. The call at `fails_at` of the reader of this file, 0 for the config, fails.
+    Failing { file: usize, fails_at: usize },
+}
+
+/// The reader of a file.
+fn source(reading: Reading, number: usize, bytes: &[u8]) -> Source<'_> {
+    match reading {
+        Reading::Whole => Source::whole(bytes),
+        Reading::Failing { file, fails_at } if file == number => Source::failing(bytes, fails_at),
+        Reading::Failing { .. } => Source::failing(bytes, 0),
     }
 }
 
-/// What a writer that takes one byte at a time took, whose call at `fails_at` fails, and how the run ended.
-fn written<T: Threads + Wait + Sync + AllocGlobal>(
+/// Whether the run ends so.
+fn given_ends<T: Threads + Wait + Sync + AllocGlobal, W: Write>(
     rt: &T,
-    given: Given<'_>,
-    fails_at: usize,
-    takes_none: bool,
-) -> Result<Ended, Fail> {
-    let mut out = Dribble {
-        taken: Vec::with_capacity(rt.alloc(), 4096)?,
-        calls: 0,
-        fails_at,
-        takes_none,
+    given: &Given<'_>,
+    reading: Reading,
+    out: &mut W,
+    end: End<'_>,
+) -> Result<bool, AllocError> {
+    let first = source(reading, 1, given.first);
+    match given.second {
+        Some(second) => {
+            let files = [first, source(reading, 2, second)];
+            files_end(rt, given.job, reading, &files, out, end)
+        }
+        None => files_end(rt, given.job, reading, &[first], out, end),
+    }
+}
+
+fn files_end<T: Threads + Wait + Sync + AllocGlobal, W: Write>(
+    rt: &T,
+    job: Job,
+    reading: Reading,
+    files: &[Source<'_>],
+    out: &mut W,
+    end: End<'_>,
+) -> Result<bool, AllocError> {
+    let run = Run {
+        job,
+        config: source(reading, 0, CONFIG),
+        files,
     };
-    let mut files = Vec::new(rt.alloc());
-    files.push(Source::whole(given.first))?;
-    if let Some(second) = given.second {
-        files.push(Source::whole(second))?;
-    }
-    let (told, status) = ended(rt, given.job, Source::whole(CONFIG), files, &mut out)?;
-    let Dribble { taken, .. } = out;
-    Ok(Ended {
-        written: taken,
-        told,
-        status,
-    })
+    ends(rt, run, out, end)
 }
 
-/// After a write that fails, or takes no byte, a front of the text went out.
-fn write_fails<T: Threads + Wait + Sync + AllocGlobal + Abort>(
+/// Whether a run writes its text to a writer that takes one byte at a time.
+fn writes_text<T: Threads + Wait + Sync + AllocGlobal>(
     rt: &T,
-    given: Given<'_>,
+    given: &Given<'_>,
+) -> Result<bool, AllocError> {
+    let mut out = Dribble::failing(rt.alloc(), 0, false)?;
+    let well = given_ends(rt, given, Reading::Whole, &mut out, WELL);
+    Ok(well? && is_text(given, out.taken.as_slice()))
+}
+
+const CANNOT_WRITE: End<'static> = End {
+    line: b"uds_play: cannot write\n",
+    status: 7,
+};
+
+/// Whether a run whose write at this call, from 1, fails, or takes no byte, tells of it, and a front of the text went
+/// out.
+fn write_fails<T: Threads + Wait + Sync + AllocGlobal>(
+    rt: &T,
+    given: &Given<'_>,
     at: usize,
     takes_none: bool,
-) -> Result<(), Fail> {
-    let end = written(rt, given, at, takes_none)?;
-    assert_eq!(rt; end.status, 7, "call {at}");
-    assert!(rt;
-        end.told.as_slice() == b"uds_play: cannot write\n".as_slice(),
-        "call {at}"
-    );
-    assert_eq!(rt; end.written.len(), at.saturating_sub(1), "call {at}");
-    let same = given.fixed.min(end.written.len());
-    assert!(rt;
-        end.written.as_slice().get(..same) == given.text.get(..same),
-        "call {at}"
-    );
-    Ok(())
+) -> Result<bool, AllocError> {
+    let mut out = Dribble::failing(rt.alloc(), at, takes_none)?;
+    let told = given_ends(rt, given, Reading::Whole, &mut out, CANNOT_WRITE);
+    Ok(told? && is_front_before(given, out.taken.as_slice(), at))
+}
+
+/// Whether a front of the text went out before this call.
+fn is_front_before(given: &Given<'_>, written: &[u8], at: usize) -> bool {
+    written.len() == at.saturating_sub(1) && is_front(given, written)
 }
 
 /// Each write of a run fails in turn, or takes no byte, and then the flush.
-fn each_write_fails<T: Threads + Wait + Sync + AllocGlobal + Abort>(
+fn each_write_fails<T: Threads + Wait + Sync + AllocGlobal>(
     rt: &T,
-    given: Given<'_>,
-) -> Result<(), Fail> {
-    let whole = written(rt, given, 0, false)?;
-    assert_eq!(rt; whole.status, 0);
-    is_text(rt, given, whole.written.as_slice());
+    given: &Given<'_>,
+) -> Result<(), Trouble> {
+    holds(writes_text(rt, given))?;
     for at in 1..=given.text.len() {
-        write_fails(rt, given, at, false)?;
-        write_fails(rt, given, at, true)?;
+        holds_at(at, write_fails(rt, given, at, false))?;
+        holds_at(at, write_fails(rt, given, at, true))?;
     }
-    write_fails(rt, given, given.text.len().saturating_add(1), false)
+    let flush = given.text.len().saturating_add(1);
+    holds_at(flush, write_fails(rt, given, flush, false))
 }
 
 #[test]
-fn each_write_fails_in_turn(rt: HostRuntime) -> Result<(), Fail> {
-    each_write_fails(&rt, TWO_TESTERS)?;
-    each_write_fails(&rt, THREADED_PLAY)?;
-    each_write_fails(&rt, REPLAYED)
+fn each_write_fails_in_turn(rt: HostRuntime) -> Result<(), Trouble> {
+    each_write_fails(&rt, &TWO_TESTERS)?;
+    each_write_fails(&rt, &THREADED_PLAY)?;
+    each_write_fails(&rt, &REPLAYED)
 }
 
-/// What a reader is told whose file fails at this call, or 0 for another file.
-fn call_of(file: usize, failing: usize, fails_at: usize) -> usize {
-    if file == failing { fails_at } else { 0 }
+/// The end of a run that cannot read this file.
+fn cannot_read(file: usize) -> End<'static> {
+    let line = match file {
+        0 => b"uds_play: cannot read file 0\n",
+        1 => b"uds_play: cannot read file 1\n",
+        _ => b"uds_play: cannot read file 2\n",
+    };
+    End { line, status: 7 }
 }
 
-/// How a run ended whose readers bring one byte at a time, and in which that of this file, 0 for the config, fails at
-/// this call.
-fn read<T: Threads + Wait + Sync + AllocGlobal>(
+/// Whether a run whose read of this file fails at this call, from 1, tells of it, and nothing was written.
+fn read_fails<T: Threads + Wait + Sync + AllocGlobal>(
     rt: &T,
-    given: Given<'_>,
+    given: &Given<'_>,
     file: usize,
     fails_at: usize,
-) -> Result<Ended, Fail> {
-    let config = Source::failing(CONFIG, call_of(0, file, fails_at));
-    let mut files = Vec::new(rt.alloc());
-    files.push(Source::failing(given.first, call_of(1, file, fails_at)))?;
-    if let Some(second) = given.second {
-        files.push(Source::failing(second, call_of(2, file, fails_at)))?;
-    }
+) -> Result<bool, AllocError> {
     let mut written = Vec::new(rt.alloc());
-    let (told, status) = ended(rt, given.job, config, files, &mut written)?;
-    Ok(Ended {
-        written,
-        told,
-        status,
-    })
+    let reading = Reading::Failing { file, fails_at };
+    let told = given_ends(rt, given, reading, &mut written, cannot_read(file));
+    Ok(told? && written.is_empty())
+}
+
+/// Whether a run writes its text that reads one byte at a time, and never comes to the call of this file that would fail.
+fn reads_whole<T: Threads + Wait + Sync + AllocGlobal>(
+    rt: &T,
+    given: &Given<'_>,
+    file: usize,
+    fails_at: usize,
+) -> Result<bool, AllocError> {
+    let mut written = Vec::new(rt.alloc());
+    let reading = Reading::Failing { file, fails_at };
+    let well = given_ends(rt, given, reading, &mut written, WELL);
+    Ok(well? && is_text(given, written.as_slice()))
 }
 
 /// Each read of a file fails in turn, the last of which would find the file's end; one more call is never made.
-fn each_read_fails<T: Threads + Wait + Sync + AllocGlobal + Abort>(
+fn each_read_fails<T: Threads + Wait + Sync + AllocGlobal>(
     rt: &T,
-    given: Given<'_>,
+    given: &Given<'_>,
     file: usize,
     len: usize,
-) -> Result<(), Fail> {
-    let line = format!(in rt.alloc(); "uds_play: cannot read file {file}\n")?;
+) -> Result<(), Trouble> {
     for at in 1..=len.saturating_add(1) {
-        let end = read(rt, given, file, at)?;
-        assert_eq!(rt; end.status, 7, "file {file}, call {at}");
-        assert!(rt;
-            end.told.as_slice() == line.as_bytes(),
-            "file {file}, call {at}"
-        );
-        assert!(rt; end.written.is_empty(), "file {file}, call {at}");
+        holds_at(at, read_fails(rt, given, file, at))?;
     }
-    let end = read(rt, given, file, len.saturating_add(2))?;
-    assert_eq!(rt; end.status, 0, "file {file}");
-    is_text(rt, given, end.written.as_slice());
-    Ok(())
+    holds(reads_whole(rt, given, file, len.saturating_add(2)))
+}
+
+/// The same of the config and of each file.
+fn each_file_fails<T: Threads + Wait + Sync + AllocGlobal>(
+    rt: &T,
+    given: &Given<'_>,
+) -> Result<(), Trouble> {
+    each_read_fails(rt, given, 0, CONFIG.len())?;
+    each_read_fails(rt, given, 1, given.first.len())?;
+    match given.second {
+        Some(second) => each_read_fails(rt, given, 2, second.len()),
+        None => Ok(()),
+    }
 }
 
 #[test]
-fn each_read_fails_in_turn(rt: HostRuntime) -> Result<(), Fail> {
-    for given in [TWO_TESTERS, THREADED_PLAY, REPLAYED] {
-        each_read_fails(&rt, given, 0, CONFIG.len())?;
-        each_read_fails(&rt, given, 1, given.first.len())?;
-        if let Some(second) = given.second {
-            each_read_fails(&rt, given, 2, second.len())?;
-        }
-    }
-    Ok(())
+fn each_read_fails_in_turn(rt: HostRuntime) -> Result<(), Trouble> {
+    each_file_fails(&rt, &TWO_TESTERS)?;
+    each_file_fails(&rt, &THREADED_PLAY)?;
+    each_file_fails(&rt, &REPLAYED)
 }
+
+/// What the most bytes of a config and one more are read from, byte by byte; the next call would fail.
+const LONG: Source<'static> = Source {
+    bytes: b"",
+    feeds: 1_048_577,
+    at_once: 1,
+    calls: 0,
+    fails_at: 1_048_578,
+};
 
 /// A config that is one byte past its limit, byte by byte, and whose next read would fail.
 #[test]
-fn a_config_past_its_limit(rt: HostRuntime) -> Result<(), Fail> {
-    let mut config = Source::line_feeds(1_048_577);
-    config.at_once = 1;
-    config.fails_at = 1_048_578;
-    let mut out = Vec::new(rt.alloc());
-    let (told, status) = ended(&rt, SERIAL, config, two(rt.alloc(), b"", b"")?, &mut out)?;
-    assert!(rt; told.as_slice() == b"uds_play: config: too long\n".as_slice());
-    assert_eq!(rt; status, 2);
-    Ok(())
+fn a_config_past_its_limit(rt: HostRuntime) -> Result<(), Trouble> {
+    let files = [Source::whole(b""), Source::whole(b"")];
+    let run = Run {
+        job: SERIAL,
+        config: LONG,
+        files: &files,
+    };
+    let end = End {
+        line: b"uds_play: config: too long\n",
+        status: 2,
+    };
+    holds(ends_unwritten(&rt, run, end))
+}
+
+/// Whether the reader is found too long.
+fn is_long(alloc: Global, reader: &mut Source<'_>) -> Result<bool, AllocError> {
+    match read_whole(alloc, reader, 1_048_576) {
+        Err(ReadFault::Memory) => Err(AllocError),
+        Err(fault) => Ok(fault == ReadFault::Long),
+        Ok(_read) => Ok(false),
+    }
 }
 
 /// A file that is one byte past its limit is read by one call more than its limit has bytes.
 #[test]
-fn reads_of_a_long_file(rt: HostRuntime) -> Result<(), Fail> {
-    let mut reader = Source::line_feeds(1_048_577);
-    reader.at_once = 1;
-    let read = read_whole(rt.alloc(), &mut reader, 1_048_576);
-    if matches!(read, Err(ReadFault::Memory)) {
-        Err(AllocError)?;
-    }
-    assert!(rt; matches!(read, Err(ReadFault::Long)));
-    assert_eq!(rt; reader.calls, 1_048_577);
-    Ok(())
+fn reads_of_a_long_file(rt: HostRuntime) -> Result<(), Trouble> {
+    let mut reader = LONG;
+    holds(is_long(rt.alloc(), &mut reader))?;
+    holds(Ok(reader.calls == 1_048_577))
 }
 
 /// A second log that is one byte past its limit.
 #[test]
-fn a_log_past_its_limit(rt: HostRuntime) -> Result<(), Fail> {
-    let mut files = Vec::new(rt.alloc());
-    files.push(Source::whole(b""))?;
-    files.push(Source::line_feeds(67_108_865))?;
-    let mut out = Vec::new(rt.alloc());
-    let (told, status) = ended(&rt, PLAY, Source::whole(CONFIG), files, &mut out)?;
-    assert!(rt; told.as_slice() == b"uds_play: file 2: too long\n".as_slice());
-    assert_eq!(rt; status, 3);
-    Ok(())
+fn a_log_past_its_limit(rt: HostRuntime) -> Result<(), Trouble> {
+    let files = [Source::whole(b""), Source::line_feeds(67_108_865)];
+    let run = Run {
+        job: PLAY,
+        config: Source::whole(CONFIG),
+        files: &files,
+    };
+    let end = End {
+        line: b"uds_play: file 2: too long\n",
+        status: 3,
+    };
+    holds(ends_unwritten(&rt, run, end))
 }

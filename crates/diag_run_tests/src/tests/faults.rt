@@ -1,150 +1,215 @@
 //! Faults of a run: the text and the status of each, and which one is answered.
 
-use super::given::{CONFIG, PLAY, SERIAL, Source, ended};
+use super::given::{
+    CONFIG, End, PLAY, Run, SERIAL, Source, Trouble, ends_unwritten, holds, holds_at,
+};
 use diag_can::{LineFault, LogFault};
 use diag_config::ConfigFault;
 use diag_run::{Job, RunFault, fault_text, status};
 use diag_setup::{SetupFault, Who};
-use std::process::Abort;
+use std::alloc::{AllocError, Global};
 use std::sync::Wait;
-use std::test::Fail;
 use std::thread::Threads;
 
-/// The fault's line on standard error, and the status.
-fn tells(
-    rt: &(impl Abort + AllocGlobal),
-    fault: &RunFault,
-    line: &[u8],
-    number: u8,
-) -> Result<(), Fail> {
-    let text = fault_text(rt.alloc(), fault)?;
-    assert!(rt; text.as_slice() == line);
-    assert_eq!(rt; status(fault), number);
+/// A fault, its line on standard error, and the status.
+#[derive(Clone, Copy)]
+struct Told(RunFault, &'static [u8], u8);
+
+/// Whether the fault has this line and this status.
+fn is_told(alloc: Global, told: &Told) -> Result<bool, AllocError> {
+    let Told(fault, line, number) = told;
+    let text = fault_text(alloc, fault)?;
+    Ok(text.as_slice() == *line && status(fault) == *number)
+}
+
+fn are_told(alloc: Global, faults: &[Told]) -> Result<(), Trouble> {
+    for (place, told) in faults.iter().enumerate() {
+        holds_at(place, is_told(alloc, told))?;
+    }
     Ok(())
 }
 
-#[test]
-fn faults_of_the_config(rt: HostRuntime) -> Result<(), Fail> {
-    let files = RunFault::Files {
-        wanted: 2,
-        given: 1,
-    };
-    tells(&rt, &files, b"uds_play: 2 files wanted, 1 given\n", 1)?;
-    let missing = RunFault::Config(ConfigFault::Missing("tester.response"));
-    tells(
-        &rt,
-        &missing,
+const OF_THE_CONFIG: [Told; 4] = [
+    Told(
+        RunFault::Files {
+            wanted: 2,
+            given: 1,
+        },
+        b"uds_play: 2 files wanted, 1 given\n",
+        1,
+    ),
+    Told(
+        RunFault::Config(ConfigFault::Missing("tester.response")),
         b"uds_play: config: missing tester.response\n",
         2,
-    )?;
-    let bad = RunFault::Config(ConfigFault::BadValue("s3_ms"));
-    tells(&rt, &bad, b"uds_play: config: bad value s3_ms\n", 2)?;
-    tells(
-        &rt,
-        &RunFault::ConfigLong,
-        b"uds_play: config: too long\n",
+    ),
+    Told(
+        RunFault::Config(ConfigFault::BadValue("s3_ms")),
+        b"uds_play: config: bad value s3_ms\n",
         2,
-    )?;
-    Ok(())
+    ),
+    Told(RunFault::ConfigLong, b"uds_play: config: too long\n", 2),
+];
+
+#[test]
+fn faults_of_the_config(rt: HostRuntime) -> Result<(), Trouble> {
+    are_told(rt.alloc(), &OF_THE_CONFIG)
+}
+
+/// A fault of a setup, of status 2.
+const fn setup_fault(fault: SetupFault, line: &'static [u8]) -> Told {
+    Told(RunFault::Config(ConfigFault::Setup(fault)), line, 2)
 }
 
 #[test]
-fn faults_of_the_setup(rt: HostRuntime) -> Result<(), Fail> {
-    let range = RunFault::Config(ConfigFault::Setup(SetupFault::Range));
-    tells(&rt, &range, b"uds_play: config: range\n", 2)?;
-    let duplicate = RunFault::Config(ConfigFault::Setup(SetupFault::DuplicateId));
-    tells(&rt, &duplicate, b"uds_play: config: duplicate\n", 2)?;
-    let code = RunFault::Config(ConfigFault::Setup(SetupFault::UnknownCode));
-    tells(&rt, &code, b"uds_play: config: unknown code\n", 2)?;
-    let empty = RunFault::Config(ConfigFault::Setup(SetupFault::Empty));
-    tells(&rt, &empty, b"uds_play: config: empty\n", 2)?;
-    let level = RunFault::Config(ConfigFault::Setup(SetupFault::UnknownLevel));
-    tells(&rt, &level, b"uds_play: config: unknown level\n", 2)
+fn faults_of_the_setup(rt: HostRuntime) -> Result<(), Trouble> {
+    let faults = [
+        setup_fault(SetupFault::Range, b"uds_play: config: range\n"),
+        setup_fault(SetupFault::DuplicateId, b"uds_play: config: duplicate\n"),
+        setup_fault(SetupFault::UnknownCode, b"uds_play: config: unknown code\n"),
+        setup_fault(SetupFault::Empty, b"uds_play: config: empty\n"),
+        setup_fault(
+            SetupFault::UnknownLevel,
+            b"uds_play: config: unknown level\n",
+        ),
+    ];
+    are_told(rt.alloc(), &faults)
+}
+
+/// A fault of the log of a tester.
+fn log_fault(who: Who, fault: LogFault, line: &'static [u8]) -> Told {
+    Told(RunFault::Log(who, fault), line, 3)
+}
+
+/// A fault of line 7 of the log of a tester.
+fn line_fault(who: Who, fault: LineFault, line: &'static [u8]) -> Told {
+    log_fault(who, LogFault::Line(7, fault), line)
+}
+
+/// The faults of the log of tester 2, and that its records disagree.
+fn of_the_second(who: Who) -> [Told; 8] {
+    [
+        line_fault(
+            who,
+            LineFault::BadLine,
+            b"uds_play: log 2 line 7: bad line\n",
+        ),
+        line_fault(
+            who,
+            LineFault::BadTick,
+            b"uds_play: log 2 line 7: bad tick\n",
+        ),
+        line_fault(
+            who,
+            LineFault::TooManyBytes,
+            b"uds_play: log 2 line 7: too many bytes\n",
+        ),
+        log_fault(
+            who,
+            LogFault::TooManyLines,
+            b"uds_play: log 2: too many lines\n",
+        ),
+        log_fault(
+            who,
+            LogFault::TooManyEvents,
+            b"uds_play: log 2: too many events\n",
+        ),
+        Told(
+            RunFault::Config(ConfigFault::Memory),
+            b"uds_play: memory\n",
+            4,
+        ),
+        Told(
+            RunFault::Log(who, LogFault::Memory),
+            b"uds_play: memory\n",
+            4,
+        ),
+        Told(
+            RunFault::RecordsDisagree(who),
+            b"uds_play: records of 2 disagree\n",
+            6,
+        ),
+    ]
 }
 
 #[test]
-fn faults_of_logs(rt: HostRuntime) -> Result<(), Fail> {
-    let Some(who) = Who::new(2) else {
-        return Ok(());
-    };
-    let line = RunFault::Log(who, LogFault::Line(7, LineFault::BadLine));
-    tells(&rt, &line, b"uds_play: log 2 line 7: bad line\n", 3)?;
-    let tick = RunFault::Log(who, LogFault::Line(7, LineFault::BadTick));
-    tells(&rt, &tick, b"uds_play: log 2 line 7: bad tick\n", 3)?;
-    let bytes = RunFault::Log(who, LogFault::Line(7, LineFault::TooManyBytes));
-    tells(&rt, &bytes, b"uds_play: log 2 line 7: too many bytes\n", 3)?;
-    let lines = RunFault::Log(who, LogFault::TooManyLines);
-    tells(&rt, &lines, b"uds_play: log 2: too many lines\n", 3)?;
-    let events = RunFault::Log(who, LogFault::TooManyEvents);
-    tells(&rt, &events, b"uds_play: log 2: too many events\n", 3)?;
-    let memory = RunFault::Config(ConfigFault::Memory);
-    tells(&rt, &memory, b"uds_play: memory\n", 4)?;
-    let memory = RunFault::Log(who, LogFault::Memory);
-    tells(&rt, &memory, b"uds_play: memory\n", 4)?;
-    let records = RunFault::RecordsDisagree(who);
-    tells(&rt, &records, b"uds_play: records of 2 disagree\n", 6)
+fn faults_of_logs(rt: HostRuntime) -> Result<(), Trouble> {
+    match Who::new(2) {
+        Some(who) => are_told(rt.alloc(), &of_the_second(who)),
+        None => Err(Trouble::Wrong),
+    }
 }
+
+const OTHERS: [Told; 8] = [
+    Told(
+        RunFault::Config(ConfigFault::Syntax),
+        b"uds_play: config: syntax\n",
+        2,
+    ),
+    Told(RunFault::JournalLine(3), b"uds_play: journal line 3\n", 3),
+    Told(RunFault::FileLong(1), b"uds_play: file 1: too long\n", 3),
+    Told(RunFault::Memory, b"uds_play: memory\n", 4),
+    Told(RunFault::JournalFull, b"uds_play: journal full\n", 5),
+    Told(RunFault::Read(1), b"uds_play: cannot read file 1\n", 7),
+    Told(RunFault::Write, b"uds_play: cannot write\n", 7),
+    Told(RunFault::Differs(4), b"uds_play: entry 4 differs\n", 8),
+];
 
 #[test]
-fn other_faults(rt: HostRuntime) -> Result<(), Fail> {
-    let syntax = RunFault::Config(ConfigFault::Syntax);
-    tells(&rt, &syntax, b"uds_play: config: syntax\n", 2)?;
-    tells(
-        &rt,
-        &RunFault::JournalLine(3),
-        b"uds_play: journal line 3\n",
-        3,
-    )?;
-    tells(
-        &rt,
-        &RunFault::FileLong(1),
-        b"uds_play: file 1: too long\n",
-        3,
-    )?;
-    tells(&rt, &RunFault::Memory, b"uds_play: memory\n", 4)?;
-    tells(&rt, &RunFault::JournalFull, b"uds_play: journal full\n", 5)?;
-    tells(
-        &rt,
-        &RunFault::Read(1),
-        b"uds_play: cannot read file 1\n",
-        7,
-    )?;
-    tells(&rt, &RunFault::Write, b"uds_play: cannot write\n", 7)?;
-    tells(
-        &rt,
-        &RunFault::Differs(4),
-        b"uds_play: entry 4 differs\n",
-        8,
-    )
+fn other_faults(rt: HostRuntime) -> Result<(), Trouble> {
+    are_told(rt.alloc(), &OTHERS)
 }
 
-/// What a run tells whose last file can't be read, and whose first log, where there are two, is at fault.
-fn is_told<T: Threads + Wait + Sync + AllocGlobal + Abort>(
+/// A file that can't be read.
+const UNREAD: Source<'static> = Source {
+    bytes: b"",
+    feeds: 0,
+    at_once: 1,
+    calls: 0,
+    fails_at: 1,
+};
+
+/// A run tells this, and writes nothing.
+fn tells<T: Threads + Wait + Sync + AllocGlobal>(
     rt: &T,
     job: Job,
     config: &[u8],
-    logs: usize,
-    line: &[u8],
-) -> Result<(), Fail> {
-    let mut files = Vec::new(rt.alloc());
-    if logs == 2 {
-        files.push(Source::whole(b"7E0"))?;
-    }
-    files.push(Source::failing(b"", 1))?;
-    let mut out = Vec::new(rt.alloc());
-    let (told, _status) = ended(rt, job, Source::whole(config), files, &mut out)?;
-    assert!(rt; told.as_slice() == line);
-    assert!(rt; out.is_empty());
-    Ok(())
+    files: &[Source<'_>],
+    end: End<'_>,
+) -> Result<(), Trouble> {
+    let run = Run {
+        job,
+        config: Source::whole(config),
+        files,
+    };
+    holds(ends_unwritten(rt, run, end))
+}
+
+const SYNTAX: End<'static> = End {
+    line: b"uds_play: config: syntax\n",
+    status: 2,
+};
+
+const ONE_FILE: End<'static> = End {
+    line: b"uds_play: 2 files wanted, 1 given\n",
+    status: 1,
+};
+
+const FILE_2: End<'static> = End {
+    line: b"uds_play: cannot read file 2\n",
+    status: 7,
+};
+
+/// A play whose last file can't be read, and whose first log, where there are two, is at fault.
+fn tells_first<T: Threads + Wait + Sync + AllocGlobal>(rt: &T, job: Job) -> Result<(), Trouble> {
+    tells(rt, job, b"s3_ms =", &[UNREAD], SYNTAX)?;
+    tells(rt, job, CONFIG, &[UNREAD], ONE_FILE)?;
+    tells(rt, job, CONFIG, &[Source::whole(b"7E0"), UNREAD], FILE_2)
 }
 
 /// The order in which faults are met: the config, the number of files, each file read, and what they say.
 #[test]
-fn the_first_fault_counts(rt: HostRuntime) -> Result<(), Fail> {
-    for job in [SERIAL, PLAY] {
-        is_told(&rt, job, b"s3_ms =", 1, b"uds_play: config: syntax\n")?;
-        is_told(&rt, job, CONFIG, 1, b"uds_play: 2 files wanted, 1 given\n")?;
-        is_told(&rt, job, CONFIG, 2, b"uds_play: cannot read file 2\n")?;
-    }
-    Ok(())
+fn the_first_fault_counts(rt: HostRuntime) -> Result<(), Trouble> {
+    tells_first(&rt, SERIAL)?;
+    tells_first(&rt, PLAY)
 }

@@ -62,7 +62,7 @@ pub const PLAY: Job = Job::Play {
 
 /// A reader of these bytes, and then of so many line feeds, that brings at most so many bytes at a time. Its call at
 /// `fails_at`, from 1, fails.
-#[derive(Drop)]
+#[derive(Clone, Copy)]
 pub struct Source<'a> {
     pub bytes: &'a [u8],
     pub feeds: usize,
@@ -136,6 +136,20 @@ pub struct Dribble {
 }
 
 impl Dribble {
+    /// A writer with room for a run's text.
+    pub fn failing(
+        alloc: Global,
+        fails_at: usize,
+        takes_none: bool,
+    ) -> Result<Dribble, AllocError> {
+        Ok(Dribble {
+            taken: Vec::with_capacity(alloc, 4096)?,
+            calls: 0,
+            fails_at,
+            takes_none,
+        })
+    }
+
     fn fails_now(&mut self) -> bool {
         self.calls = self.calls.saturating_add(1);
         self.calls == self.fails_at
@@ -166,30 +180,90 @@ impl Write for Dribble {
     }
 }
 
-/// How a run ended: the line that it tells of a fault, and its status. Want of memory ends the test.
-pub fn ended<T: Threads + Wait + Sync + AllocGlobal, W: Write>(
+/// A run of the program: what it does, its config, and its files.
+#[derive(Clone, Copy)]
+pub struct Run<'a> {
+    pub job: Job,
+    pub config: Source<'a>,
+    pub files: &'a [Source<'a>],
+}
+
+/// How a run ends: the line that it tells of a fault, and its status.
+#[derive(Clone, Copy)]
+pub struct End<'a> {
+    pub line: &'a [u8],
+    pub status: u8,
+}
+
+/// The end of a run with no fault.
+pub const WELL: End<'static> = End {
+    line: b"",
+    status: 0,
+};
+
+/// Whether the run ends so. Want of memory ends the test.
+pub fn ends<T: Threads + Wait + Sync + AllocGlobal, W: Write>(
     rt: &T,
-    job: Job,
-    config: Source<'_>,
-    files: Vec<Source<'_>>,
+    run: Run<'_>,
     out: &mut W,
-) -> Result<(Vec<u8>, u8), AllocError> {
-    match run_and_tell(rt, rt.alloc(), job, config, files, out) {
-        Outcome::Done => Ok((Vec::new(rt.alloc()), 0)),
-        Outcome::Fault { told, status } => {
-            let told = told.ok_or(AllocError)?;
-            if status == 4 {
-                return Err(AllocError);
-            }
-            Ok((told, status))
-        }
+    end: End<'_>,
+) -> Result<bool, AllocError> {
+    let mut files = Vec::new(rt.alloc());
+    files.extend_from_slice(run.files)?;
+    let outcome = run_and_tell(rt, rt.alloc(), run.job, run.config, files, out);
+    is_end(&outcome, end)
+}
+
+fn is_end(outcome: &Outcome, end: End<'_>) -> Result<bool, AllocError> {
+    match outcome {
+        Outcome::Done => Ok(end.status == 0),
+        Outcome::Fault { told, status } => is_fault(told, *status, end),
     }
 }
 
-/// Two files that never fail.
-pub fn two<'a>(alloc: Global, a: &'a [u8], b: &'a [u8]) -> Result<Vec<Source<'a>>, AllocError> {
-    let mut files = Vec::new(alloc);
-    files.push(Source::whole(a))?;
-    files.push(Source::whole(b))?;
-    Ok(files)
+fn is_fault(told: &Option<Vec<u8>>, status: u8, end: End<'_>) -> Result<bool, AllocError> {
+    match told {
+        Some(line) if status != 4 => Ok(status == end.status && line.as_slice() == end.line),
+        _ => Err(AllocError),
+    }
+}
+
+/// Whether the run ends so, and nothing was written.
+pub fn ends_unwritten<T: Threads + Wait + Sync + AllocGlobal>(
+    rt: &T,
+    run: Run<'_>,
+    end: End<'_>,
+) -> Result<bool, AllocError> {
+    let mut out = Vec::new(rt.alloc());
+    let told = ends(rt, run, &mut out, end);
+    Ok(told? && out.is_empty())
+}
+
+/// Why a test did not come to its end: memory was refused, or a run did what it must not.
+#[derive(Clone, Copy, Debug)]
+pub enum Trouble {
+    Memory,
+    Wrong,
+    /// What is wrong is at this call of a device, from 1, or at this place of a table, from 0.
+    WrongAt(usize),
+}
+
+impl From<AllocError> for Trouble {
+    fn from(_refused: AllocError) -> Trouble {
+        Trouble::Memory
+    }
+}
+
+/// What was tried came to its end and holds.
+pub fn holds(tried: Result<bool, AllocError>) -> Result<(), Trouble> {
+    if tried? { Ok(()) } else { Err(Trouble::Wrong) }
+}
+
+/// The same of a call of a device, or of a place in a table.
+pub fn holds_at(at: usize, tried: Result<bool, AllocError>) -> Result<(), Trouble> {
+    if tried? {
+        Ok(())
+    } else {
+        Err(Trouble::WrongAt(at))
+    }
 }

@@ -1,44 +1,55 @@
 //! Runs with a thread for each tester.
 
-use super::given::{CONFIG, PLAY, SERIAL, Source, ended, two};
+use super::given::{CONFIG, PLAY, Run, SERIAL, Source, Trouble, WELL, ends, holds};
 use diag_can::Timing;
 use diag_run::Job;
 use std::alloc::{AllocError, Global};
-use std::process::Abort;
 use std::sync::Wait;
-use std::test::Fail;
 use std::thread::Threads;
 
-/// What a run of two logs writes, which must end well.
-fn text_of<T: Threads + Wait + Sync + AllocGlobal + Abort>(
+/// Whether a run of two logs ends well.
+fn plays<T: Threads + Wait + Sync + AllocGlobal>(
     rt: &T,
     job: Job,
     a: &[u8],
     b: &[u8],
-) -> Result<Vec<u8>, AllocError> {
-    let mut out = Vec::with_capacity(rt.alloc(), 262_144)?;
-    let files = two(rt.alloc(), a, b)?;
-    let (_told, status) = ended(rt, job, Source::whole(CONFIG), files, &mut out)?;
-    assert_eq!(rt; status, 0);
-    Ok(out)
+    out: &mut Vec<u8>,
+) -> Result<bool, AllocError> {
+    let files = [Source::whole(a), Source::whole(b)];
+    let run = Run {
+        job,
+        config: Source::whole(CONFIG),
+        files: &files,
+    };
+    ends(rt, run, out, WELL)
 }
 
-/// Tester A alone: the text is the same on one thread and on two.
-#[test]
-fn first_reply(rt: HostRuntime) -> Result<(), Fail> {
-    let log = b"(0000000000.000000) can0 7E0#021003\n";
-    let want = b"(0000000000.000000) A 7E8#065003003201F4CC
+/// A first reply.
+const LOG: &[u8] = b"(0000000000.000000) can0 7E0#021003\n";
+
+const TEXT: &[u8] = b"(0000000000.000000) A 7E8#065003003201F4CC
 diag-journal 1
 1 P 1003 5003003201F4
 session extended
 holder A
 code 012345 2F
 ";
-    let serial = text_of(&rt, SERIAL, log, b"")?;
-    assert!(rt; serial.as_slice() == want.as_slice());
-    let threads = text_of(&rt, PLAY, log, b"")?;
-    assert!(rt; threads.as_slice() == want.as_slice());
-    Ok(())
+
+/// Whether a run of tester A alone writes its text.
+fn writes_reply<T: Threads + Wait + Sync + AllocGlobal>(
+    rt: &T,
+    job: Job,
+) -> Result<bool, AllocError> {
+    let mut out = Vec::new(rt.alloc());
+    let well = plays(rt, job, LOG, b"", &mut out);
+    Ok(well? && out.as_slice() == TEXT)
+}
+
+/// Tester A alone: the text is the same on one thread and on two.
+#[test]
+fn first_reply(rt: HostRuntime) -> Result<(), Trouble> {
+    holds(writes_reply(&rt, SERIAL))?;
+    holds(writes_reply(&rt, PLAY))
 }
 
 /// A log of so many ticks.
@@ -65,21 +76,31 @@ fn changes(journal: &[u8]) -> usize {
     count
 }
 
-/// In one of a hundred plays of 20,000 ticks each the testers mix: neither turn by turn, nor one wholly before the other.
-#[test]
-fn play_mixes(rt: HostRuntime) -> Result<(), Fail> {
-    let job = Job::Play {
-        only_journal: true,
-        timing: Timing::Lines,
-    };
-    let log = ticks(rt.alloc(), 20_000)?;
+const ONLY_JOURNAL: Job = Job::Play {
+    only_journal: true,
+    timing: Timing::Lines,
+};
+
+/// Whether the testers mix in a play of this log by both: neither turn by turn, nor one wholly before the other.
+fn mixes<T: Threads + Wait + Sync + AllocGlobal>(rt: &T, log: &[u8]) -> Result<bool, Trouble> {
+    let mut out = Vec::with_capacity(rt.alloc(), 262_144)?;
+    holds(plays(rt, ONLY_JOURNAL, log, log, &mut out))?;
+    let changes = changes(out.as_slice());
+    Ok(2 < changes && changes < 40_000)
+}
+
+fn one_mixes<T: Threads + Wait + Sync + AllocGlobal>(rt: &T, log: &[u8]) -> Result<(), Trouble> {
     for _ in 0..100 {
-        let journal = text_of(&rt, job, log.as_slice(), log.as_slice())?;
-        let changes = changes(journal.as_slice());
-        if 2 < changes && changes < 40_000 {
+        if mixes(rt, log)? {
             return Ok(());
         }
     }
-    assert!(rt; false, "the testers never mix");
-    Ok(())
+    Err(Trouble::Wrong)
+}
+
+/// In one of a hundred plays of 20,000 ticks each the testers mix.
+#[test]
+fn play_mixes(rt: HostRuntime) -> Result<(), Trouble> {
+    let log = ticks(rt.alloc(), 20_000)?;
+    one_mixes(&rt, log.as_slice())
 }
