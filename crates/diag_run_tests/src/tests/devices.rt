@@ -278,7 +278,7 @@ fn reads_whole<T: Threads + Wait + Sync + AllocGlobal>(
     file: usize,
     fails_at: usize,
 ) -> Result<bool, AllocError> {
-    let mut written = Vec::new(rt.alloc());
+    let mut written = Vec::with_capacity(rt.alloc(), 4096)?;
     let reading = Reading::Failing { file, fails_at };
     let well = given_ends(rt, given, reading, &mut written, WELL);
     Ok(well? && is_text(given, written.as_slice()))

@@ -40,7 +40,7 @@ fn writes_reply<T: Threads + Wait + Sync + AllocGlobal>(
     rt: &T,
     job: Job,
 ) -> Result<bool, AllocError> {
-    let mut out = Vec::new(rt.alloc());
+    let mut out = Vec::with_capacity(rt.alloc(), 4096)?;
     let well = plays(rt, job, LOG, b"", &mut out);
     Ok(well? && out.as_slice() == TEXT)
 }
