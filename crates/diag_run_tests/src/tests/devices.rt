@@ -1,12 +1,11 @@
 //! Readers and writers that fail at one call, for each call.
 
 use super::given::{
-    CONFIG, Dribble, End, PLAY, Run, SERIAL, Source, Trouble, WELL, ends, ends_unwritten, holds,
+    Dribble, End, PLAY, Run, SERIAL, Source, Trouble, WELL, config, ends, ends_unwritten, holds,
     holds_at,
 };
 use diag_run::{Job, ReadFault, read_whole};
 use std::alloc::{AllocError, Global};
-use std::io::Write;
 use std::sync::Wait;
 use std::thread::Threads;
 
@@ -138,70 +137,85 @@ fn is_front(given: &Given<'_>, written: &[u8]) -> bool {
     written.get(..same) == given.text.get(..same)
 }
 
-/// Whether what was written is the text of the run.
-fn is_text(given: &Given<'_>, written: &[u8]) -> bool {
-    written.len() == given.text.len() && is_front(given, written) && has_lines(written, given.text)
+/// Whether so many bytes of the text were written, and where these are all, each of its lines.
+fn is_written(given: &Given<'_>, written: &[u8], count: usize) -> bool {
+    written.len() == count
+        && is_front(given, written)
+        && (count < given.text.len() || has_lines(written, given.text))
 }
 
-/// How the config and the files are read.
+/// The devices of a run. The writer takes one byte at a time.
 #[derive(Clone, Copy)]
-enum Reading {
-    Whole,
-    /// One byte at a time. The call at `fails_at` of the reader of this file, 0 for the config, fails.
-    Failing { file: usize, fails_at: usize },
+enum Devices {
+    /// The write at this call, from 1, fails, or takes no byte; 0 for none.
+    Writing { fails_at: usize, takes_none: bool },
+    /// Each reader brings one byte at a time. The read at `fails_at` of this file, 0 for the config, fails.
+    Reading { file: usize, fails_at: usize },
 }
 
 /// The reader of a file.
-fn source(reading: Reading, number: usize, bytes: &[u8]) -> Source<'_> {
-    match reading {
-        Reading::Whole => Source::whole(bytes),
-        Reading::Failing { file, fails_at } if file == number => Source::failing(bytes, fails_at),
-        Reading::Failing { .. } => Source::failing(bytes, 0),
+fn source(devices: Devices, number: usize, bytes: &[u8]) -> Source<'_> {
+    match devices {
+        Devices::Writing { .. } => Source::whole(bytes),
+        Devices::Reading { file, fails_at } if file == number => Source::failing(bytes, fails_at),
+        Devices::Reading { .. } => Source::failing(bytes, 0),
     }
 }
 
-/// Whether the run ends so.
-fn given_ends<T: Threads + Wait + Sync + AllocGlobal, W: Write>(
+fn writer(alloc: Global, devices: Devices) -> Result<Dribble, AllocError> {
+    match devices {
+        Devices::Writing {
+            fails_at,
+            takes_none,
+        } => Dribble::failing(alloc, fails_at, takes_none),
+        Devices::Reading { .. } => Dribble::failing(alloc, 0, false),
+    }
+}
+
+/// Whether a run ends so, and so many bytes of its text were written.
+fn writes<T: Threads + Wait + Sync + AllocGlobal>(
     rt: &T,
     given: &Given<'_>,
-    reading: Reading,
-    out: &mut W,
+    devices: Devices,
+    end: End<'_>,
+    count: usize,
+) -> Result<bool, AllocError> {
+    let mut out = writer(rt.alloc(), devices)?;
+    let ended = given_ends(rt, given, devices, &mut out, end);
+    Ok(ended? && is_written(given, out.taken.as_slice(), count))
+}
+
+fn given_ends<T: Threads + Wait + Sync + AllocGlobal>(
+    rt: &T,
+    given: &Given<'_>,
+    devices: Devices,
+    out: &mut Dribble,
     end: End<'_>,
 ) -> Result<bool, AllocError> {
-    let first = source(reading, 1, given.first);
+    let first = source(devices, 1, given.first);
     match given.second {
         Some(second) => {
-            let files = [first, source(reading, 2, second)];
-            files_end(rt, given.job, reading, &files, out, end)
+            let files = [first, source(devices, 2, second)];
+            files_end(rt, given.job, devices, &files, out, end)
         }
-        None => files_end(rt, given.job, reading, &[first], out, end),
+        None => files_end(rt, given.job, devices, &[first], out, end),
     }
 }
 
-fn files_end<T: Threads + Wait + Sync + AllocGlobal, W: Write>(
+fn files_end<T: Threads + Wait + Sync + AllocGlobal>(
     rt: &T,
     job: Job,
-    reading: Reading,
+    devices: Devices,
     files: &[Source<'_>],
-    out: &mut W,
+    out: &mut Dribble,
     end: End<'_>,
 ) -> Result<bool, AllocError> {
     let run = Run {
         job,
-        config: source(reading, 0, CONFIG),
+        config: source(devices, 0, config()),
         files,
     };
     ends(rt, run, out, end)
-}
-
-/// Whether a run writes its text to a writer that takes one byte at a time.
-fn writes_text<T: Threads + Wait + Sync + AllocGlobal>(
-    rt: &T,
-    given: &Given<'_>,
-) -> Result<bool, AllocError> {
-    let mut out = Dribble::failing(rt.alloc(), 0, false)?;
-    let well = given_ends(rt, given, Reading::Whole, &mut out, WELL);
-    Ok(well? && is_text(given, out.taken.as_slice()))
 }
 
 const CANNOT_WRITE: End<'static> = End {
@@ -209,22 +223,19 @@ const CANNOT_WRITE: End<'static> = End {
     status: 7,
 };
 
-/// Whether a run whose write at this call, from 1, fails, or takes no byte, tells of it, and a front of the text went
-/// out.
+/// Whether a run whose write at this call fails, or takes no byte, tells of it, and a front of the text went out.
 fn write_fails<T: Threads + Wait + Sync + AllocGlobal>(
     rt: &T,
     given: &Given<'_>,
-    at: usize,
+    fails_at: usize,
     takes_none: bool,
 ) -> Result<bool, AllocError> {
-    let mut out = Dribble::failing(rt.alloc(), at, takes_none)?;
-    let told = given_ends(rt, given, Reading::Whole, &mut out, CANNOT_WRITE);
-    Ok(told? && is_front_before(given, out.taken.as_slice(), at))
-}
-
-/// Whether a front of the text went out before this call.
-fn is_front_before(given: &Given<'_>, written: &[u8], at: usize) -> bool {
-    written.len() == at.saturating_sub(1) && is_front(given, written)
+    let devices = Devices::Writing {
+        fails_at,
+        takes_none,
+    };
+    let count = fails_at.saturating_sub(1);
+    writes(rt, given, devices, CANNOT_WRITE, count)
 }
 
 /// Each write of a run fails in turn, or takes no byte, and then the flush.
@@ -232,20 +243,31 @@ fn each_write_fails<T: Threads + Wait + Sync + AllocGlobal>(
     rt: &T,
     given: &Given<'_>,
 ) -> Result<(), Trouble> {
-    holds(writes_text(rt, given))?;
-    for at in 1..=given.text.len() {
+    let len = given.text.len();
+    let devices = Devices::Writing {
+        fails_at: 0,
+        takes_none: false,
+    };
+    holds(writes(rt, given, devices, WELL, len))?;
+    for at in 1..=len {
         holds_at(at, write_fails(rt, given, at, false))?;
         holds_at(at, write_fails(rt, given, at, true))?;
     }
-    let flush = given.text.len().saturating_add(1);
+    let flush = len.saturating_add(1);
     holds_at(flush, write_fails(rt, given, flush, false))
+}
+
+/// The runs that are tried.
+fn all_given() -> [Given<'static>; 3] {
+    [TWO_TESTERS, THREADED_PLAY, REPLAYED]
 }
 
 #[test]
 fn each_write_fails_in_turn(rt: HostRuntime) -> Result<(), Trouble> {
-    each_write_fails(&rt, &TWO_TESTERS)?;
-    each_write_fails(&rt, &THREADED_PLAY)?;
-    each_write_fails(&rt, &REPLAYED)
+    for given in &all_given() {
+        each_write_fails(&rt, given)?;
+    }
+    Ok(())
 }
 
 /// The end of a run that cannot read this file.
@@ -258,32 +280,6 @@ fn cannot_read(file: usize) -> End<'static> {
     End { line, status: 7 }
 }
 
-/// Whether a run whose read of this file fails at this call, from 1, tells of it, and nothing was written.
-fn read_fails<T: Threads + Wait + Sync + AllocGlobal>(
-    rt: &T,
-    given: &Given<'_>,
-    file: usize,
-    fails_at: usize,
-) -> Result<bool, AllocError> {
-    let mut written = Vec::new(rt.alloc());
-    let reading = Reading::Failing { file, fails_at };
-    let told = given_ends(rt, given, reading, &mut written, cannot_read(file));
-    Ok(told? && written.is_empty())
-}
-
-/// Whether a run writes its text that reads one byte at a time, and never comes to the call of this file that would fail.
-fn reads_whole<T: Threads + Wait + Sync + AllocGlobal>(
-    rt: &T,
-    given: &Given<'_>,
-    file: usize,
-    fails_at: usize,
-) -> Result<bool, AllocError> {
-    let mut written = Vec::with_capacity(rt.alloc(), 4096)?;
-    let reading = Reading::Failing { file, fails_at };
-    let well = given_ends(rt, given, reading, &mut written, WELL);
-    Ok(well? && is_text(given, written.as_slice()))
-}
-
 /// Each read of a file fails in turn, the last of which would find the file's end; one more call is never made.
 fn each_read_fails<T: Threads + Wait + Sync + AllocGlobal>(
     rt: &T,
@@ -291,10 +287,15 @@ fn each_read_fails<T: Threads + Wait + Sync + AllocGlobal>(
     file: usize,
     len: usize,
 ) -> Result<(), Trouble> {
-    for at in 1..=len.saturating_add(1) {
-        holds_at(at, read_fails(rt, given, file, at))?;
+    for fails_at in 1..=len.saturating_add(1) {
+        let devices = Devices::Reading { file, fails_at };
+        holds_at(fails_at, writes(rt, given, devices, cannot_read(file), 0))?;
     }
-    holds(reads_whole(rt, given, file, len.saturating_add(2)))
+    let devices = Devices::Reading {
+        file,
+        fails_at: len.saturating_add(2),
+    };
+    holds(writes(rt, given, devices, WELL, given.text.len()))
 }
 
 /// The same of the config and of each file.
@@ -302,7 +303,7 @@ fn each_file_fails<T: Threads + Wait + Sync + AllocGlobal>(
     rt: &T,
     given: &Given<'_>,
 ) -> Result<(), Trouble> {
-    each_read_fails(rt, given, 0, CONFIG.len())?;
+    each_read_fails(rt, given, 0, config().len())?;
     each_read_fails(rt, given, 1, given.first.len())?;
     match given.second {
         Some(second) => each_read_fails(rt, given, 2, second.len()),
@@ -312,9 +313,10 @@ fn each_file_fails<T: Threads + Wait + Sync + AllocGlobal>(
 
 #[test]
 fn each_read_fails_in_turn(rt: HostRuntime) -> Result<(), Trouble> {
-    each_file_fails(&rt, &TWO_TESTERS)?;
-    each_file_fails(&rt, &THREADED_PLAY)?;
-    each_file_fails(&rt, &REPLAYED)
+    for given in &all_given() {
+        each_file_fails(&rt, given)?;
+    }
+    Ok(())
 }
 
 /// What the most bytes of a config and one more are read from, byte by byte; the next call would fail.
@@ -365,7 +367,7 @@ fn a_log_past_its_limit(rt: HostRuntime) -> Result<(), Trouble> {
     let files = [Source::whole(b""), Source::line_feeds(67_108_865)];
     let run = Run {
         job: PLAY,
-        config: Source::whole(CONFIG),
+        config: Source::whole(config()),
         files: &files,
     };
     let end = End {

@@ -1,7 +1,7 @@
 //! Faults of a run: the text and the status of each, and which one is answered.
 
 use super::given::{
-    CONFIG, End, PLAY, Run, SERIAL, Source, Trouble, ends_unwritten, holds, holds_at,
+    End, PLAY, Run, SERIAL, Source, Trouble, config, ends_unwritten, holds, holds_at,
 };
 use diag_can::{LineFault, LogFault};
 use diag_config::ConfigFault;
@@ -203,8 +203,8 @@ const FILE_2: End<'static> = End {
 /// A play whose last file can't be read, and whose first log, where there are two, is at fault.
 fn tells_first<T: Threads + Wait + Sync + AllocGlobal>(rt: &T, job: Job) -> Result<(), Trouble> {
     tells(rt, job, b"s3_ms =", &[UNREAD], SYNTAX)?;
-    tells(rt, job, CONFIG, &[UNREAD], ONE_FILE)?;
-    tells(rt, job, CONFIG, &[Source::whole(b"7E0"), UNREAD], FILE_2)
+    tells(rt, job, config(), &[UNREAD], ONE_FILE)?;
+    tells(rt, job, config(), &[Source::whole(b"7E0"), UNREAD], FILE_2)
 }
 
 /// The order in which faults are met: the config, the number of files, each file read, and what they say.

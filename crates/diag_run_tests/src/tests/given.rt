@@ -8,7 +8,7 @@ use std::io::{Error, ErrorKind, Read, Write};
 use std::sync::Wait;
 use std::thread::Threads;
 
-pub const CONFIG: &[u8] = b"delay_ms = 2000
+const CONFIG: &[u8] = b"delay_ms = 2000
 
 [[tester]]
 name = \"A\"
@@ -48,6 +48,11 @@ key = \"AABBCCDD\"
 seed = \"55667788\"
 key = \"01020304\"
 ";
+
+/// The config of two testers.
+pub fn config() -> &'static [u8] {
+    CONFIG
+}
 
 /// A play on one thread, and one on a thread for each tester; time goes by the tick lines alone.
 pub const SERIAL: Job = Job::Serial {

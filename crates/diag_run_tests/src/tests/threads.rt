@@ -1,6 +1,6 @@
 //! Runs with a thread for each tester.
 
-use super::given::{CONFIG, PLAY, Run, SERIAL, Source, Trouble, WELL, ends, holds};
+use super::given::{PLAY, Run, SERIAL, Source, Trouble, WELL, config, ends, holds};
 use diag_can::Timing;
 use diag_run::Job;
 use std::alloc::{AllocError, Global};
@@ -18,7 +18,7 @@ fn plays<T: Threads + Wait + Sync + AllocGlobal>(
     let files = [Source::whole(a), Source::whole(b)];
     let run = Run {
         job,
-        config: Source::whole(CONFIG),
+        config: Source::whole(config()),
         files: &files,
     };
     ends(rt, run, out, WELL)
