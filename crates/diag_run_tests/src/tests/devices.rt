@@ -162,6 +162,7 @@ fn source(devices: Devices, number: usize, bytes: &[u8]) -> Source<'_> {
     }
 }
 
+/// The writer of a run.
 fn writer(alloc: Global, devices: Devices) -> Result<Dribble, AllocError> {
     match devices {
         Devices::Writing {
@@ -185,6 +186,7 @@ fn writes<T: Threads + Wait + Sync + AllocGlobal>(
     Ok(ended? && is_written(given, out.taken.as_slice(), count))
 }
 
+/// Whether a run on these devices ends so.
 fn given_ends<T: Threads + Wait + Sync + AllocGlobal>(
     rt: &T,
     given: &Given<'_>,
@@ -202,6 +204,7 @@ fn given_ends<T: Threads + Wait + Sync + AllocGlobal>(
     }
 }
 
+/// The same of a run on these files.
 fn files_end<T: Threads + Wait + Sync + AllocGlobal>(
     rt: &T,
     job: Job,

@@ -22,6 +22,7 @@ fn is_told(alloc: Global, told: &Told) -> Result<bool, AllocError> {
     Ok(text.as_slice() == *line && status(fault) == *number)
 }
 
+/// Each fault has its line and its status.
 fn are_told(alloc: Global, faults: &[Told]) -> Result<(), Trouble> {
     for (place, told) in faults.iter().enumerate() {
         holds_at(place, is_told(alloc, told))?;

@@ -219,6 +219,7 @@ pub fn ends<T: Threads + Wait + Sync + AllocGlobal, W: Write>(
     is_end(&outcome, end)
 }
 
+/// Whether this is the end of a run.
 fn is_end(outcome: &Outcome, end: End<'_>) -> Result<bool, AllocError> {
     match outcome {
         Outcome::Done => Ok(end.status == 0),
@@ -226,6 +227,7 @@ fn is_end(outcome: &Outcome, end: End<'_>) -> Result<bool, AllocError> {
     }
 }
 
+/// Whether a fault of this line and this status ends it. A line that had no memory, or told want of memory, is an error.
 fn is_fault(told: &Option<Vec<u8>>, status: u8, end: End<'_>) -> Result<bool, AllocError> {
     match told {
         Some(line) if status != 4 => Ok(status == end.status && line.as_slice() == end.line),

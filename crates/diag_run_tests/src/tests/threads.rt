@@ -24,7 +24,7 @@ fn plays<T: Threads + Wait + Sync + AllocGlobal>(
     ends(rt, run, out, WELL)
 }
 
-/// A first reply.
+/// A log of one request, and the text of its run.
 const LOG: &[u8] = b"(0000000000.000000) can0 7E0#021003\n";
 
 const TEXT: &[u8] = b"(0000000000.000000) A 7E8#065003003201F4CC
@@ -89,6 +89,7 @@ fn mixes<T: Threads + Wait + Sync + AllocGlobal>(rt: &T, log: &[u8]) -> Result<b
     Ok(2 < changes && changes < 40_000)
 }
 
+/// One of a hundred plays mixes.
 fn one_mixes<T: Threads + Wait + Sync + AllocGlobal>(rt: &T, log: &[u8]) -> Result<(), Trouble> {
     for _ in 0..100 {
         if mixes(rt, log)? {
