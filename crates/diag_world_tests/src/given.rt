@@ -3,11 +3,12 @@
 ghost use Rattle.std.specs.Prelude.{◌≡◌, ◌≤◌, length};
 
 use crate::play::{Logs, add_end, add_frames, holds, is_text, logs_of};
-use crate::sessions::{TWO_TESTERS, WRITTEN_AND_READ};
+use crate::sessions::{HELD_BY_A, TWO_TESTERS};
 use crate::text::Times;
 use crate::unit::{Stop, Unit, setup_of};
 use diag_can::{Event, Timing};
 use diag_setup::{Setup, Who};
+use diag_stored::PLAYED;
 use diag_world::{StepFault, World};
 use std::alloc::Global;
 use std::test::Fail;
@@ -123,7 +124,11 @@ fn add_left(text: &mut Vec<u8>, world: &World, setup: &Setup) -> Result<(), Stop
     Ok(add_end(text, world.desk(), Timing::Lines)?)
 }
 
-const ALL_TAKEN: [Times; 2] = [Times(13, "taken\n"), Times(1, WRITTEN_AND_READ)];
+const ALL_TAKEN: [Times; 3] = [
+    Times(13, "taken\n"),
+    Times(1, PLAYED),
+    Times(1, HELD_BY_A),
+];
 
 #[test]
 fn refused_event_again(rt: HostRuntime) -> Result<(), Fail> {

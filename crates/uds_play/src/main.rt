@@ -3,11 +3,11 @@
 
 mod command;
 mod source;
-mod stored;
 
 use command::{Refusal, Request, read_words};
 use diag_can::Timing;
 use diag_run::{Job, Outcome, run_and_tell};
+use diag_stored::{CONFIG, LOG_A, LOG_B};
 use source::Source;
 use std::alloc::{AllocError, Global};
 use std::io::{ErrorKind, Read};
@@ -73,7 +73,7 @@ fn run_stored<R: Print + Eprint + Files + AllocGlobal + Threads + Wait + Sync>(r
         timing: Timing::Lines,
     };
     match stored_files::<R::File>(rt.alloc()) {
-        Ok(files) => run_job(rt, job, Source::Stored(stored::CONFIG), files),
+        Ok(files) => run_job(rt, job, Source::Stored(CONFIG.as_bytes()), files),
         Err(AllocError) => refuse(rt, &Refusal::Memory),
     }
 }
@@ -84,8 +84,8 @@ where
     F: Drop,
 {
     let mut files = Vec::new(alloc);
-    files.push(Source::Stored(stored::LOG_A))?;
-    files.push(Source::Stored(stored::LOG_B))?;
+    files.push(Source::Stored(LOG_A.as_bytes()))?;
+    files.push(Source::Stored(LOG_B.as_bytes()))?;
     Ok(files)
 }
 

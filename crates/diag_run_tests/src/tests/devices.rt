@@ -5,19 +5,29 @@ use super::given::{
     holds_at,
 };
 use diag_run::{Job, ReadFault, read_whole};
+use diag_stored::{END, LOG_A, LOG_B, PLAYED};
 use std::alloc::{AllocError, Global};
 use std::sync::Wait;
 use std::thread::Threads;
 
-/// The files of a job and the text of its run, of which so many bytes at the front are the same in each run; the lines
-/// behind them may stand in another order.
+/// The files of a job, and the text of its run.
 #[derive(Clone, Copy)]
 struct Given<'a> {
     job: Job,
     first: &'a [u8],
     second: Option<&'a [u8]>,
-    text: &'a [u8],
-    fixed: usize,
+    front: &'a [u8],
+    /// What stands behind the front.
+    rest: &'a [u8],
+    /// Whether the lines of the rest may stand in another order, as the testers' threads go.
+    mixes: bool,
+}
+
+impl Given<'_> {
+    /// How many bytes the text has.
+    fn len(&self) -> usize {
+        self.front.len().saturating_add(self.rest.len())
+    }
 }
 
 const READ_A: &[u8] = b"(0000000000.000000) can0 7E0#021003
@@ -30,18 +40,19 @@ tick 10
 (0000000000.000000) can0 7E1#0322F190
 ";
 
-/// Six reply lines of 43 bytes come before the journal, whose order may be another in each run.
 const THREADED_PLAY: Given<'static> = Given {
     job: PLAY,
     first: READ_A,
     second: Some(READ_B),
-    text: b"(0000000000.000000) A 7E8#065003003201F4CC
+    front: b"(0000000000.000000) A 7E8#065003003201F4CC
 (0000000000.000000) A 7E8#101462F190544553
 (0000000000.000000) A 7E8#215456494E303132
 (0000000000.000000) A 7E8#2233343536373839
 (0000000000.000000) B 7E9#075902FF0123452F
 (0000000000.010000) B 7E9#101462F190544553
 diag-journal 1
+",
+    rest: b"\
 1 P 1003 5003003201F4
 1 P 22F190 62F1905445535456494E30313233343536373839
 2 P 1902FF 5902FF0123452F
@@ -51,65 +62,29 @@ session extended
 holder A
 code 012345 2F
 ",
-    fixed: 6 * 43,
-};
-
-const WRITE_A: &[u8] = b"(0000000000.000000) can0 7E0#021003
-(0000000000.000000) can0 7E0#022701
-(0000000000.000000) can0 7E0#062702AABBCCDD
-(0000000000.000000) can0 7E0#10142EF190414243
-(0000000000.000000) can0 7E0#214445464748494A
-(0000000000.000000) can0 7E0#224B4C4D4E4F5051
-";
-
-const WRITE_B: &[u8] = b"tick
-tick
-tick
-(0000000000.000000) can0 7E1#0322F190
-(0000000000.000000) can0 7E1#300000
-(0000000000.000000) can0 7E1#0322F190
-(0000000000.000000) can0 7E1#300000
-";
-
-const TWO_TESTERS: Given<'static> = Given {
-    job: SERIAL,
-    first: WRITE_A,
-    second: Some(WRITE_B),
-    text: b"(0000000000.000000) A 7E8#065003003201F4CC
-(0000000000.000000) A 7E8#06670111223344CC
-(0000000000.000000) A 7E8#026702CCCCCCCCCC
-(0000000000.000000) A 7E8#300000CCCCCCCCCC
-(0000000000.000000) A 7E8#036EF190CCCCCCCC
-(0000000000.003000) B 7E9#101462F190544553
-(0000000000.003000) B 7E9#215456494E303132
-(0000000000.003000) B 7E9#2233343536373839
-(0000000000.003000) B 7E9#101462F190414243
-(0000000000.003000) B 7E9#214445464748494A
-(0000000000.003000) B 7E9#224B4C4D4E4F5051
-diag-journal 1
-1 P 1003 5003003201F4
-2 T 1
-1 P 2701 670111223344
-2 T 1
-1 P 2702AABBCCDD 6702
-2 T 1
-2 P 22F190 62F1905445535456494E30313233343536373839
-1 P 2EF1904142434445464748494A4B4C4D4E4F5051 6EF190
-2 P 22F190 62F1904142434445464748494A4B4C4D4E4F5051
-session extended
-holder A
-code 012345 2F
-",
-    fixed: usize::MAX,
+    mixes: true,
 };
 
 const REPLAYED: Given<'static> = Given {
     job: Job::Replay,
     first: b"diag-journal 1\n1 P 1083 -\n",
     second: None,
-    text: b"entries 1\nsession extended\nholder A\ncode 012345 2F\n",
-    fixed: usize::MAX,
+    front: b"entries 1\nsession extended\nholder A\ncode 012345 2F\n",
+    rest: b"",
+    mixes: false,
 };
+
+/// The program's own run.
+fn two_testers() -> Given<'static> {
+    Given {
+        job: SERIAL,
+        first: LOG_A.as_bytes(),
+        second: Some(LOG_B.as_bytes()),
+        front: PLAYED.as_bytes(),
+        rest: END.as_bytes(),
+        mixes: false,
+    }
+}
 
 /// Whether a line stands in the text.
 fn has_line(text: &[u8], line: &[u8]) -> bool {
@@ -131,17 +106,20 @@ fn has_lines(written: &[u8], text: &[u8]) -> bool {
     true
 }
 
-/// Whether the bytes at the front of what was written are those of the text, as far as these are the same in each run.
-fn is_front(given: &Given<'_>, written: &[u8]) -> bool {
-    let same = given.fixed.min(written.len());
-    written.get(..same) == given.text.get(..same)
+/// Whether these bytes stand behind the front of the text, as far as they go. Where its lines mix, they are compared
+/// when all are there.
+fn is_rest(given: &Given<'_>, written: &[u8]) -> bool {
+    if given.mixes {
+        written.len() < given.rest.len() || has_lines(written, given.rest)
+    } else {
+        given.rest.starts_with(written)
+    }
 }
 
-/// Whether so many bytes of the text were written, and where these are all, each of its lines.
+/// Whether so many bytes of the text were written.
 fn is_written(given: &Given<'_>, written: &[u8], count: usize) -> bool {
-    written.len() == count
-        && is_front(given, written)
-        && (count < given.text.len() || has_lines(written, given.text))
+    let (front, rest) = written.split_at(written.len().min(given.front.len()));
+    written.len() == count && given.front.starts_with(front) && is_rest(given, rest)
 }
 
 /// The devices of a run. The writer takes one byte at a time.
@@ -246,7 +224,7 @@ fn each_write_fails<T: Threads + Wait + Sync + AllocGlobal>(
     rt: &T,
     given: &Given<'_>,
 ) -> Result<(), Trouble> {
-    let len = given.text.len();
+    let len = given.len();
     let devices = Devices::Writing {
         fails_at: 0,
         takes_none: false,
@@ -262,7 +240,7 @@ fn each_write_fails<T: Threads + Wait + Sync + AllocGlobal>(
 
 /// The runs that are tried.
 fn all_given() -> [Given<'static>; 3] {
-    [TWO_TESTERS, THREADED_PLAY, REPLAYED]
+    [two_testers(), THREADED_PLAY, REPLAYED]
 }
 
 #[test]
@@ -298,7 +276,7 @@ fn each_read_fails<T: Threads + Wait + Sync + AllocGlobal>(
         file,
         fails_at: len.saturating_add(2),
     };
-    holds(writes(rt, given, devices, WELL, given.text.len()))
+    holds(writes(rt, given, devices, WELL, given.len()))
 }
 
 /// The same of the config and of each file.

@@ -2,56 +2,16 @@
 
 use diag_can::Timing;
 use diag_run::{Job, Outcome, run_and_tell};
+use diag_stored::CONFIG;
 use std::alloc::{AllocError, Global};
 use std::io;
 use std::io::{Error, ErrorKind, Read, Write};
 use std::sync::Wait;
 use std::thread::Threads;
 
-const CONFIG: &[u8] = b"delay_ms = 2000
-
-[[tester]]
-name = \"A\"
-request = 0x7E0
-response = 0x7E8
-
-[[tester]]
-name = \"B\"
-request = 0x7E1
-response = 0x7E9
-
-[[did]]
-id = 0xF190
-value = \"5445535456494E30313233343536373839\"
-write = true
-write_level = 1
-
-[[code]]
-code = 0x012345
-status = 0x2F
-
-[[routine]]
-id = 0x0203
-time_ms = 100
-result = \"01\"
-code = 0x012345
-status = 0x2F
-
-[[level]]
-sub = 1
-
-[[level.row]]
-seed = \"11223344\"
-key = \"AABBCCDD\"
-
-[[level.row]]
-seed = \"55667788\"
-key = \"01020304\"
-";
-
 /// The config of two testers.
 pub fn config() -> &'static [u8] {
-    CONFIG
+    CONFIG.as_bytes()
 }
 
 /// A play on one thread, and one on a thread for each tester; time goes by the tick lines alone.
