@@ -37,22 +37,38 @@ impl From<AllocError> for Refusal {
     }
 }
 
-/// A command with a config and files.
+/// The config, which comes first.
+fn config_arg<'a>(alloc: Global) -> Arg<'a> {
+    Arg::new(alloc, "CONFIG")
+        .help("The setup of the ECU and its testers, in TOML")
+        .required(true)
+        .action(ArgAction::Set)
+}
+
+/// The files behind the config, any number of them.
+fn files_arg<'a>(alloc: Global, help: &'a str) -> Arg<'a> {
+    Arg::new(alloc, "FILE")
+        .help(help)
+        .num_args(0..)
+        .action(ArgAction::Append)
+}
+
+fn flag<'a>(alloc: Global, name: &'a str, help: &'a str) -> Arg<'a> {
+    Arg::new(alloc, name)
+        .long(name)
+        .help(help)
+        .action(ArgAction::SetTrue)
+}
+
+/// A command with a config.
 fn job_command<'a>(
     alloc: Global,
     name: &'a str,
     about: &'a str,
-    files: Arg<'a>,
 ) -> Result<Command<'a>, AllocError> {
-    let config = Arg::new(alloc, "CONFIG")
-        .help("The setup of the ECU and its testers, in TOML")
-        .required(true)
-        .action(ArgAction::Set);
-    let files = files.num_args(0..).action(ArgAction::Append);
     Command::new(alloc, name)
         .about(about)
-        .arg(config)?
-        .arg(files)
+        .arg(config_arg(alloc))
 }
 
 /// A command that plays a log of each tester, with its flags.
@@ -61,26 +77,20 @@ fn play_command<'a>(
     name: &'a str,
     about: &'a str,
 ) -> Result<Command<'a>, AllocError> {
-    let logs = Arg::new(alloc, "FILE").help("A log of each tester, in the order of the setup");
-    let journal = Arg::new(alloc, "journal")
-        .long("journal")
-        .help("Print the journal alone")
-        .action(ArgAction::SetTrue);
-    let stamps = Arg::new(alloc, "stamps")
-        .long("stamps")
-        .help("Take the time from the stamps of the log lines")
-        .action(ArgAction::SetTrue);
-    job_command(alloc, name, about, logs)?
-        .arg(journal)?
-        .arg(stamps)
+    let logs = "A log of each tester, in the order of the setup";
+    let stamps = "Take the time from the stamps of the log lines";
+    job_command(alloc, name, about)?
+        .arg(files_arg(alloc, logs))?
+        .arg(flag(alloc, "journal", "Print the journal alone"))?
+        .arg(flag(alloc, "stamps", stamps))
 }
 
 /// The command that replays a journal.
 fn replay_command<'a>(alloc: Global) -> Result<Command<'a>, AllocError> {
-    let journal = Arg::new(alloc, "FILE")
-        .value_name("JOURNAL")
-        .help("The journal of a play");
-    job_command(alloc, "replay", "Replay a journal", journal)
+    let help = "The journal of a play";
+    job_command(alloc, "replay", "Replay a journal")?.arg(files_arg(alloc, help).value_name(
+        "JOURNAL",
+    ))
 }
 
 fn whole_command<'a>(alloc: Global) -> Result<Command<'a>, AllocError> {
