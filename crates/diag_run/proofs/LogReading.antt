@@ -7,26 +7,31 @@ use Rattle.diag_can.specs.declared.frame.Event.{Event}
 use Rattle.diag_can.specs.declared.log.Timing.{Timing}
 use Rattle.diag_setup.specs.Setup.{ids_of}
 use Rattle.diag_setup.specs.declared.raw.RawSetup.{RawSetup}
-use Rattle.diag_run.specs.Files.{Refusal, bad_log, logs_from}
+use Rattle.diag_workers.specs.Play.{before_rest, logs_from}
+use Rattle.diag_config.specs.Key.{◌>>=◌}
+use Rattle.diag_run.specs.Files.{Refusal, bad_log, or_bad_log}
 use Rattle.diag_run.proofs.Reading.{with_front, regroup}
 
+-- a log is read before those behind it
+one_before : (n : ℕ) (log : List Event) (rest : Result (List (List Event)) (ℕ × LogFault))
+    → or_bad_log (before_rest n (Ok log) rest) ≡ (or_bad_log rest >>= λ others. Ok (log ∷ others))
+one_before n log (Ok logs) = refl
+one_before n log (Err first) = refl
+
 module _ (timing : Timing) (setup : RawSetup) (front : List (List Event)) (n : ℕ) (text : List ℕ) (texts : List (List ℕ)) (total : Result (List (List Event)) Refusal) where
-  pub log_goes_on : (log : List Event) → events text (ids_of setup n) timing ≡ Ok log → with_front front (logs_from timing setup n (text ∷ texts)) ≡ total
-      → with_front (front ++ log ∷ []) (logs_from timing setup (n + 1) texts) ≡ total
-  unfolding logs_from
+  pub log_goes_on : (log : List Event) → events text (ids_of setup n) timing ≡ Ok log → with_front front (or_bad_log (logs_from n setup timing (text ∷ texts))) ≡ total
+      → with_front (front ++ log ∷ []) (or_bad_log (logs_from (n + 1) setup timing texts)) ≡ total
   log_goes_on log e so_far =
-      let one : with_front front (logs_from timing setup n (text ∷ texts)) ≡ with_front (front ++ log ∷ []) (logs_from timing setup (n + 1) texts) =
-      rw e (regroup front log (logs_from timing setup (n + 1) texts)) in
+      let rest = logs_from (n + 1) setup timing texts in
+      let one : with_front front (or_bad_log (logs_from n setup timing (text ∷ texts))) ≡ with_front (front ++ log ∷ []) (or_bad_log rest) =
+      rw e (ap (with_front front) (one_before n log rest) ∙ regroup front log (or_bad_log rest)) in
       sym one ∙ so_far
 
-  pub log_stops : (fault : LogFault) → events text (ids_of setup n) timing ≡ Err fault → with_front front (logs_from timing setup n (text ∷ texts)) ≡ total
+  pub log_stops : (fault : LogFault) → events text (ids_of setup n) timing ≡ Err fault → with_front front (or_bad_log (logs_from n setup timing (text ∷ texts))) ≡ total
       → total ≡ Err (bad_log n fault)
-  unfolding logs_from
   log_stops fault e so_far =
-      let one : with_front front (logs_from timing setup n (text ∷ texts)) ≡ Err (bad_log n fault) = rw e refl in
+      let one : with_front front (or_bad_log (logs_from n setup timing (text ∷ texts))) ≡ Err (bad_log n fault) = rw e refl in
       sym so_far ∙ one
 
-pub logs_done : (timing : Timing) (setup : RawSetup) (front : List (List Event)) (n : ℕ) (total : Result (List (List Event)) Refusal)
-    → with_front front (logs_from timing setup n []) ≡ total → total ≡ Ok front
-unfolding logs_from
-logs_done timing setup front n total so_far = sym so_far ∙ ap (λ (xs : List (List Event)). Ok xs) (append-nil front)
+pub logs_done : (front : List (List Event)) (total : Result (List (List Event)) Refusal) → with_front front (Ok []) ≡ total → total ≡ Ok front
+logs_done front total so_far = sym so_far ∙ ap (λ (xs : List (List Event)). Ok xs) (append-nil front)

@@ -1,4 +1,4 @@
--- The logs as a threaded play reads them are those that a run reads, and so is what it gives for them.
+-- What a threaded play gives for its logs is what a run wants for them.
 use Rattle.std.proofs.Common.{◌≡◌, ℕ, suc, ◌+◌, Bool, length, map, List, [], ◌∷◌, Result, Ok, Err, IfOk, IfErr, IsOk, refl, sym, ap, ◌∙◌}
 use Rattle.std.proofs.lemmas.List.{length-map}
 use Rattle.diag_can.specs.Log.{events}
@@ -12,24 +12,12 @@ use Rattle.diag_desk.specs.Legal.{Run}
 use Rattle.diag_world.specs.Headline.{IsPlay}
 use Rattle.diag_world.specs.Weaving.{weave}
 use Rattle.diag_workers.specs.Play as workers
-use Rattle.diag_config.specs.Key.{◌>>=◌}
-use Rattle.diag_run.specs.Files.{Refusal, bad_log, or_bad_log, logs_from}
+use Rattle.diag_run.specs.Files.{bad_log, or_bad_log, logs_of}
 use Rattle.diag_run.specs.Run.{GivesWoven, answered, played_text}
 use Rattle.diag_run.specs.declared.fault.RunFault.{RunFault}
 use Rattle.diag_run.specs.declared.fault.RunFault.TheVariants.{Memory}
 
--- a tester's fault as the refusal of a run
-refused : {A : Type 0} → Result A (ℕ × LogFault) → Result A Refusal
-refused (Ok x) = Ok x
-refused (Err e) = Err (bad_log e.0 e.1)
-
-before : (n : ℕ) (log : Result (List Event) LogFault) (rest : Result (List (List Event)) (ℕ × LogFault))
-    → (or_bad_log n log >>= λ first. refused rest >>= λ others. Ok (first ∷ others)) ≡ refused (workers.before_rest n log rest)
-unfolding refused
-before n (Err fault) rest = refl
-before n (Ok log) (Ok logs) = refl
-before n (Ok log) (Err e) = refl
-
+-- there are as many logs as texts
 count_more : (n : ℕ) (log : Result (List Event) LogFault) (rest : Result (List (List Event)) (ℕ × LogFault)) (k : ℕ)
     → IfOk rest (λ logs. length logs ≡ k) → IfOk (workers.before_rest n log rest) (λ logs. length logs ≡ suc k)
 count_more n (Err fault) rest k h = tt
@@ -37,24 +25,18 @@ count_more n (Ok log) (Ok logs) k h = ap suc h
 count_more n (Ok log) (Err e) k h = tt
 
 module _ (timing : Timing) (setup : RawSetup) where
-  same_logs : (n : ℕ) (texts : List (List ℕ)) → logs_from timing setup n texts ≡ refused (workers.logs_from n setup timing texts)
-  unfolding logs_from refused
-  same_logs n [] = refl
-  same_logs n (text ∷ texts) =
-      rw (same_logs (n + 1) texts) (before n (events text (ids_of setup n) timing) (workers.logs_from (n + 1) setup timing texts))
-
   count : (n : ℕ) (texts : List (List ℕ)) → IfOk (workers.logs_from n setup timing texts) (λ logs. length logs ≡ length texts)
   count n [] = refl
   count n (text ∷ texts) =
       count_more n (events text (ids_of setup n) timing) (workers.logs_from (n + 1) setup timing texts) (length texts) (count (n + 1) texts)
 
-  pub logs_well : (texts : List (List ℕ)) (logs : List (List Event)) → workers.logs_of setup timing texts ≡ Ok logs → logs_from timing setup 1 texts ≡ Ok logs
-  unfolding refused
-  logs_well texts logs h = same_logs 1 texts ∙ ap refused h
+  pub logs_well : (texts : List (List ℕ)) (logs : List (List Event)) → workers.logs_of setup timing texts ≡ Ok logs → logs_of timing setup texts ≡ Ok logs
+  unfolding logs_of
+  logs_well texts logs h = ap or_bad_log h
 
-  pub log_ill : (texts : List (List ℕ)) (who : ℕ) (fault : LogFault) → workers.logs_of setup timing texts ≡ Err (who, fault) → logs_from timing setup 1 texts ≡ Err (bad_log who fault)
-  unfolding refused
-  log_ill texts who fault h = same_logs 1 texts ∙ ap refused h
+  pub log_ill : (texts : List (List ℕ)) (who : ℕ) (fault : LogFault) → workers.logs_of setup timing texts ≡ Err (who, fault) → logs_of timing setup texts ≡ Err (bad_log who fault)
+  unfolding logs_of
+  log_ill texts who fault h = ap or_bad_log h
 
   pub as_many_logs : (texts : List (List ℕ)) (logs : List (List Event)) → workers.logs_of setup timing texts ≡ Ok logs → length logs ≡ length texts
   as_many_logs texts logs h = rw h at (count 1 texts)
@@ -66,15 +48,15 @@ module _ (timing : Timing) (setup : RawSetup) where
     as_many_frames frames sent M desk play same = sym (length-map sent frames) ∙ (play.testers ∙ (as_many_logs texts logs well ∙ same))
 
     pub gives_woven : (only_journal : Bool) (desk : Run) (sent : List (List Sent)) (text : List ℕ) → IsPlay setup (weave (link_of setup) desk.journal logs) logs desk sent
-        → text ≡ played_text only_journal timing setup desk sent → GivesWoven only_journal timing setup (logs_from timing setup 1 texts) (Ok text)
+        → text ≡ played_text only_journal timing setup desk sent → GivesWoven only_journal timing setup (logs_of timing setup texts) (Ok text)
     gives_woven only_journal desk sent text play is = rw (logs_well texts logs well) (record { desk = desk; sent = sent; play = play; is = is })
 
     -- what is answered for its parts is its text, or that memory was refused
     pub answers_woven : {A : Type 0} (bytes : A → List ℕ) (only_journal : Bool) (desk : Run) (sent : List (List Sent)) (r : Result A RunFault)
         → IsPlay setup (weave (link_of setup) desk.journal logs) logs desk sent → IfOk r (λ parts. bytes parts ≡ played_text only_journal timing setup desk sent)
-        → IfErr r (λ fault. fault ≡ Memory) → GivesWoven only_journal timing setup (logs_from timing setup 1 texts) (answered bytes r)
+        → IfErr r (λ fault. fault ≡ Memory) → GivesWoven only_journal timing setup (logs_of timing setup texts) (answered bytes r)
     answers_woven bytes only_journal desk sent (Ok parts) play is refused = gives_woven only_journal desk sent (bytes parts) play is
     answers_woven bytes only_journal desk sent (Err fault) play is refused = rw refused tt
 
-    pub full_where_well : IsOk (logs_from timing setup 1 texts)
+    pub full_where_well : IsOk (logs_of timing setup texts)
     full_where_well = rw (logs_well texts logs well) refl

@@ -2,12 +2,11 @@
 use Rattle.std.specs.Prelude.{◌≡◌, ◌≤◌, ℕ, ◌+◌, ◌-◌, ◌==◌, nat_le, nat_lt, Bool, false, IfErr, if◌then◌else◌, List, [], ◌∷◌, length, map, take, drop, Option, Some, Result, Ok, Err}
 use Rattle.std.specs.Io.KnownBytes.{IsAtEnd}
 use Rattle.std.specs.List.{All}
-use Rattle.diag_can.specs.Log.{events}
 use Rattle.diag_can.specs.declared.fault.LogFault.{LogFault}
 use Rattle.diag_can.specs.declared.frame.Event.{Event}
 use Rattle.diag_can.specs.declared.log.Timing.{Timing}
 use Rattle.diag_setup.specs.declared.raw.RawSetup.{RawSetup}
-use Rattle.diag_setup.specs.Setup.{ids_of}
+use Rattle.diag_workers.specs.Play as workers
 use Rattle.diag_config.specs.Key.{Fault, syntax, missing, bad_value, refused, ◌>>=◌}
 use Rattle.diag_config.specs.Setup.{setup_of}
 use Rattle.diag_config.specs.declared.fault.ConfigFault.{ConfigFault}
@@ -84,21 +83,13 @@ files_from limit n (f ∷ fs) = do
   others ← files_from limit (n + 1) fs
   Ok (first ∷ others)
 
-abbrev pub or_bad_log : {A : Type 0} → ℕ → Result A LogFault → Result A Refusal
-or_bad_log who (Ok log) = Ok log
-or_bad_log who (Err fault) = Err (bad_log who fault)
+abbrev pub or_bad_log : {A : Type 0} → Result A (ℕ × LogFault) → Result A Refusal
+or_bad_log (Ok logs) = Ok logs
+or_bad_log (Err first) = Err (bad_log first.0 first.1)
 
--- the events of a tester's log
-abbrev pub log_of : Timing → RawSetup → ℕ → List ℕ → Result (List Event) Refusal
-log_of timing setup who text = or_bad_log who (events text (ids_of setup who) timing)
-
--- the logs from tester n on, one after the other
-unfoldable pub logs_from : Timing → RawSetup → ℕ → List (List ℕ) → Result (List (List Event)) Refusal
-logs_from timing setup n [] = Ok []
-logs_from timing setup n (text ∷ texts) = do
-  first ← log_of timing setup n text
-  others ← logs_from timing setup (n + 1) texts
-  Ok (first ∷ others)
+-- the events of each tester's log, or the first that is at fault
+unfoldable pub logs_of : Timing → RawSetup → List (List ℕ) → Result (List (List Event)) Refusal
+logs_of timing setup texts = or_bad_log (workers.logs_of setup timing texts)
 
 -- reader n could not be read: those before it were read to their ends, and those behind it were not touched
 pub record FailsAt {R : Type 0} (remaining : R → Option (List ℕ)) (n : ℕ) (old new : List R) : Type 0 where

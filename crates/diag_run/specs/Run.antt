@@ -17,7 +17,7 @@ use Rattle.diag_world.specs.Weaving.{steps_of, turns, weave}
 use Rattle.diag_config.specs.Key.{◌>>=◌}
 use Rattle.diag_run.specs.Bytes.{AppendsFront}
 use Rattle.diag_run.specs.Faults.{fault_text, status}
-use Rattle.diag_run.specs.Files.{Refusal, Fails, AreKnown, config_of, counted, files_from, logs_from}
+use Rattle.diag_run.specs.Files.{Refusal, Fails, AreKnown, config_of, counted, files_from, logs_of}
 use Rattle.diag_run.specs.Text.{journal_part, whole_text, replay_text}
 use Rattle.diag_run.specs.declared.fault.RunFault.{RunFault}
 use Rattle.diag_run.specs.declared.fault.RunFault.TheVariants.{JournalLine, Memory, JournalFull, Read, Write, Differs}
@@ -124,8 +124,8 @@ first_text (text ∷ texts) = text
 
 -- what is answered for what was read
 abbrev pub GivesText : Job → Inputs → Result (List ℕ) RunFault → Type 0
-GivesText (Serial only_journal timing) i answer = GivesPlayed only_journal timing i.setup (logs_from timing i.setup 1 i.texts) answer
-GivesText (Play only_journal timing) i answer = GivesWoven only_journal timing i.setup (logs_from timing i.setup 1 i.texts) answer
+GivesText (Serial only_journal timing) i answer = GivesPlayed only_journal timing i.setup (logs_of timing i.setup i.texts) answer
+GivesText (Play only_journal timing) i answer = GivesWoven only_journal timing i.setup (logs_of timing i.setup i.texts) answer
 GivesText Replay i answer = GivesReplayed i.setup (first_text i.texts) answer
 
 -- a text for what was read; a fault of the reading, or of what was read

@@ -2,7 +2,7 @@
 
 ghost use Rattle.std.specs.Prelude.{◌≡◌, ◌≢◌, ℕ, length, map, IfOk, IfErr, Err};
 ghost use Rattle.std.specs.List.{concat};
-ghost use Rattle.diag_run.specs.Files.{logs_from};
+ghost use Rattle.diag_run.specs.Files.{logs_of};
 ghost use Rattle.diag_run.specs.Run.{GivesPlayed, GivesWoven, GivesReplayed, played_text, answered};
 
 use crate::fault::RunFault;
@@ -26,7 +26,7 @@ pub(crate) fn played_text(
     timing: Timing,
 ) -> Result<Vec<Vec<u8>>, RunFault>
     requires { length texts.now ≡ length setup.now.testers }
-    ensures gives { GivesPlayed only_journal timing setup.now (logs_from timing setup.now 1 (map (λ text. text.items) texts.now)) (answered (λ parts. concat (map (λ part. part.items) parts.items)) result) }
+    ensures gives { GivesPlayed only_journal timing setup.now (logs_of timing setup.now (map (λ text. text.items) texts.now)) (answered (λ parts. concat (map (λ part. part.items) parts.items)) result) }
     ensures device { (n : ℕ) → result ≢ Err (RunFault.Read n) }
 {
     let logs = match read_logs(alloc, setup, timing, texts) {
@@ -48,7 +48,7 @@ pub(crate) fn woven_text<R: Threads + Wait + Sync>(
     timing: Timing,
 ) -> Result<Vec<Vec<u8>>, RunFault>
     requires { length texts.now ≡ length setup.now.testers }
-    ensures gives { GivesWoven only_journal timing setup.now (logs_from timing setup.now 1 (map (λ text. text.items) texts.now)) (answered (λ parts. concat (map (λ part. part.items) parts.items)) result) }
+    ensures gives { GivesWoven only_journal timing setup.now (logs_of timing setup.now (map (λ text. text.items) texts.now)) (answered (λ parts. concat (map (λ part. part.items) parts.items)) result) }
     ensures device { (n : ℕ) → result ≢ Err (RunFault.Read n) }
 {
     let played = play(rt, alloc, setup, texts, &NoWatch, timing)?;

@@ -1,7 +1,7 @@
 //! What the logs of a run say.
 
 ghost use Rattle.std.specs.Prelude.{◌≡◌, ◌≢◌, ℕ, map, length, IfOk, Err};
-ghost use Rattle.diag_run.specs.Files.{Gives, logs_from};
+ghost use Rattle.diag_run.specs.Files.{Gives, logs_of};
 
 use crate::fault::RunFault;
 use diag_can::{Event, LogFault, Timing, read_log};
@@ -17,7 +17,7 @@ pub fn read_logs(
 ) -> Result<Vec<Vec<Event>>, RunFault>
     requires { length texts.now ≡ length setup.now.testers }
     ensures count { IfOk result (λ v. length v.items ≡ length texts.now) }
-    ensures read { Gives (λ v. map (λ log. log.items) v.items) result (logs_from timing setup.now 1 (map (λ text. text.items) texts.now)) }
+    ensures read { Gives (λ v. map (λ log. log.items) v.items) result (logs_of timing setup.now (map (λ text. text.items) texts.now)) }
     ensures device { (n : ℕ) → result ≢ Err (RunFault.Read n) }
 {
     let mut logs = Vec::new(alloc);

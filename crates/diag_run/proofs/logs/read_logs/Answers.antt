@@ -2,6 +2,7 @@ use Rattle.std.proofs.Common.{◌≡◌, ◌+◌, length, [], ◌∷◌, ◌++�
 use Rattle.std.proofs.lemmas.List.{map_push, drop_all, length-append, length-map}
 use Rattle.diag_can.specs.Log.{events}
 use Rattle.diag_setup.specs.Setup.{ids_of}
+use Rattle.diag_run.specs.Files.{logs_of}
 use Rattle.diag_run.proofs.LogReading.{log_goes_on, log_stops, logs_done}
 use Rattle.diag_run.proofs.Testers.{seen_at, who_found}
 use Rattle.diag_run.proofs.logs.read_logs.Goals as goal
@@ -23,6 +24,7 @@ loop-place-preserved c =
     }
 
 pub returns-in-Err-clause-read : goal.returns-in-Err-clause-read
+unfolding logs_of
 returns-in-Err-clause-read c =
     let place = c.loop-place.place in
     let text = c.index-texts-place.result in
@@ -33,7 +35,8 @@ returns-in-Err-clause-read c =
     rw who (log_stops c.args.timing c.args.setup.now _ (place + 1) text.items _ _ c.in-Err.fault read (rw here at c.loop-place.invariant.so_far))
 
 pub returns-clause-read : goal.returns-clause-read
+unfolding logs_of
 returns-clause-read c =
     let texts = map (λ text. text.items) c.args.texts.now in
     let none : drop c.loop-place.place texts ≡ [] = drop_all c.loop-place.place texts (simp length-map (omega arith)) in
-    logs_done c.args.timing c.args.setup.now _ (c.loop-place.place + 1) _ (rw none at c.loop-place.invariant.so_far)
+    logs_done _ _ (rw none at c.loop-place.invariant.so_far)

@@ -1,5 +1,6 @@
 use Rattle.std.proofs.Common.{◌≡◌, ◌+◌, length, map, drop}
-use Rattle.diag_run.specs.Files.{logs_from}
+use Rattle.diag_workers.specs.Play.{logs_from}
+use Rattle.diag_run.specs.Files.{or_bad_log}
 use Rattle.diag_run.proofs.Reading.{with_front}
 use Rattle.diag_run.proofs.logs.read_logs.Given as goal
 
@@ -8,5 +9,5 @@ invariant-loop-place l =
     let texts = map (λ text. text.items) l.texts in
     record {
       count : length l.logs.items ≡ l.place;
-      so_far : with_front (map (λ log. log.items) l.logs.items) (logs_from l.timing l.setup (l.place + 1) (drop l.place texts)) ≡ logs_from l.timing l.setup 1 texts;
+      so_far : with_front (map (λ log. log.items) l.logs.items) (or_bad_log (logs_from (l.place + 1) l.setup l.timing (drop l.place texts))) ≡ or_bad_log (logs_from 1 l.setup l.timing texts);
     }
