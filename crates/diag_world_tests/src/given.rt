@@ -124,11 +124,7 @@ fn add_left(text: &mut Vec<u8>, world: &World, setup: &Setup) -> Result<(), Stop
     Ok(add_end(text, world.desk(), Timing::Lines)?)
 }
 
-const ALL_TAKEN: [Times; 3] = [
-    Times(13, "taken\n"),
-    Times(1, PLAYED),
-    Times(1, HELD_BY_A),
-];
+const ALL_TAKEN: [Times; 3] = [Times(13, "taken\n"), Times(1, PLAYED), Times(1, HELD_BY_A)];
 
 #[test]
 fn refused_event_again(rt: HostRuntime) -> Result<(), Fail> {

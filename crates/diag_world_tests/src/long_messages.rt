@@ -66,45 +66,51 @@ diag-journal 1
     ],
 };
 
-const FIRST_OF_4096: Play = Play {
-    unit: Unit::TakesLong,
-    timing: Timing::Lines,
-    logs: [&[Times(1, "(0.000000) can0 7E0#1000000010000102\n")], &[]],
-    leaves: &[Times(
-        1,
-        "\
+const FIRST_OF_4096: [Times; 1] = [Times(1, "(0.000000) can0 7E0#1000000010000102\n")];
+
+const GRANTED: [Times; 1] = [Times(
+    1,
+    "\
 (0000000000.000000) A 7E8#300000CCCCCCCCCC
 diag-journal 1
 ",
-    )],
-};
+)];
 
-const FIRST_OF_65536: Play = Play {
-    unit: Unit::TakesLong,
-    timing: Timing::Lines,
-    logs: [&[Times(1, "(0.000000) can0 7E0#1000000100000102\n")], &[]],
-    leaves: &[Times(
-        1,
-        "\
+const FIRST_OF_65536: [Times; 1] = [Times(1, "(0.000000) can0 7E0#1000000100000102\n")];
+
+const OVERFLOW: [Times; 1] = [Times(
+    1,
+    "\
 (0000000000.000000) A 7E8#320000CCCCCCCCCC
 diag-journal 1
 ",
-    )],
-};
+)];
 
-const LONG_FORM_OF_4095: Play = Play {
-    unit: Unit::TakesLong,
-    timing: Timing::Lines,
-    logs: [&[Times(1, "(0.000000) can0 7E0#100000000FFF0102\n")], &[]],
-    leaves: &[Times(1, "diag-journal 1\n")],
-};
+const LONG_FORM_OF_4095: [Times; 1] = [Times(1, "(0.000000) can0 7E0#100000000FFF0102\n")];
+
+const IGNORED: [Times; 1] = [Times(1, "diag-journal 1\n")];
+
+/// Whether A's First leaves this text of the unit that takes long requests.
+fn first_leaves(
+    alloc: Global,
+    first: &'static [Times],
+    text: &'static [Times],
+) -> Result<bool, AllocError> {
+    let play = Play {
+        unit: Unit::TakesLong,
+        timing: Timing::Lines,
+        logs: [first, &[]],
+        leaves: text,
+    };
+    leaves(alloc, &play)
+}
 
 #[test]
 fn long_message_request(rt: HostRuntime) -> Result<(), Fail> {
     assert!(rt; leaves(rt.alloc(), &REQUEST_OF_5001)?);
-    assert!(rt; leaves(rt.alloc(), &FIRST_OF_4096)?);
-    assert!(rt; leaves(rt.alloc(), &FIRST_OF_65536)?);
-    assert!(rt; leaves(rt.alloc(), &LONG_FORM_OF_4095)?);
+    assert!(rt; first_leaves(rt.alloc(), &FIRST_OF_4096, &GRANTED)?);
+    assert!(rt; first_leaves(rt.alloc(), &FIRST_OF_65536, &OVERFLOW)?);
+    assert!(rt; first_leaves(rt.alloc(), &LONG_FORM_OF_4095, &IGNORED)?);
     Ok(())
 }
 

@@ -12,6 +12,7 @@ use std::alloc::{AllocError, Global};
 pub(crate) type Logs = [&'static [Times]; 2];
 
 /// Logs that are played in turns, and the text that they leave.
+#[derive(Drop)]
 pub(crate) struct Play {
     pub(crate) unit: Unit,
     pub(crate) timing: Timing,
