@@ -105,6 +105,25 @@ const STAMPS: &[u8] = b"(0000000010.000000) can0 7E0#021003
 (0000000012.501000) can0 7E0#023E00
 ";
 
+/// Logs whose second line is at fault, and its fault.
+const ILL_LOGS: [(&[u8], LineFault); 6] = [
+    (
+        b"tick\n(0000000000.000000) can0 7E0#023\n",
+        LineFault::BadLine,
+    ),
+    (
+        b"tick\n(0000000000.000000) can0 7E0#021003000000000000\n",
+        LineFault::TooManyBytes,
+    ),
+    (b"tick\ntick 0\n", LineFault::BadTick),
+    (b"tick\ntick 60001\n", LineFault::BadTick),
+    (b"tick\ntick 01\n", LineFault::BadTick),
+    (
+        b"tick\n(0000000000.000000) can0 800#00\n",
+        LineFault::BadLine,
+    ),
+];
+
 #[test]
 fn candump_forms(rt: HostRuntime) -> Result<(), Fail> {
     let ids = ids().ok_or("identifiers")?;
@@ -121,84 +140,75 @@ fn candump_forms(rt: HostRuntime) -> Result<(), Fail> {
         )?
     );
     assert!(rt; gives(alloc, b"", &ids, Timing::Lines, &[])?);
-    let bad_line = LogFault::Line(2, LineFault::BadLine);
-    let bad_tick = LogFault::Line(2, LineFault::BadTick);
-    let too_many = LogFault::Line(2, LineFault::TooManyBytes);
-    let faults: [(&[u8], LogFault); 6] = [
-        (b"tick\n(0000000000.000000) can0 7E0#023\n", bad_line),
-        (
-            b"tick\n(0000000000.000000) can0 7E0#021003000000000000\n",
-            too_many,
-        ),
-        (b"tick\ntick 0\n", bad_tick),
-        (b"tick\ntick 60001\n", bad_tick),
-        (b"tick\ntick 01\n", bad_tick),
-        (b"tick\n(0000000000.000000) can0 800#00\n", bad_line),
-    ];
-    for (text, fault) in &faults {
+    for (text, fault) in &ILL_LOGS {
         assert!(rt;
-            fails(alloc, text, &ids, Timing::Lines, *fault)?,
+            fails(alloc, text, &ids, Timing::Lines, LogFault::Line(2, *fault))?,
             "{fault:?}"
         );
     }
     Ok(())
 }
 
+/// Logs and their events.
+const LOGS: [(&[u8], &[Wanted]); 7] = [
+    (
+        b"(0000000000.000000) can0 7E0#023E00",
+        &[Wanted::Physical(&[0x02, 0x3E, 0x00])],
+    ),
+    (
+        b"(0000000000.000000) can0 7E0#023E\n",
+        &[Wanted::Physical(&[0x02, 0x3E])],
+    ),
+    (
+        b"(0000000000.000000) can0 7df#023E80\r\n",
+        &[Wanted::Functional(&[0x02, 0x3E, 0x80])],
+    ),
+    (b"(0000000000.000000) can0 00000000#zz\n", &[]),
+    (b"(0000000000.000000) can0 7E0#RX\n", &[]),
+    (b"(0000000000.000000) can0 7E0##\n", &[]),
+    (
+        b"tick\r\n\ntick 60000",
+        &[Wanted::Ticks(1), Wanted::Ticks(60000)],
+    ),
+];
+
+/// Lines and their faults.
+const ILL_LINES: [(&[u8], LineFault); 14] = [
+    (b"(0000000000.000000) can0 7E0#023E0", LineFault::BadLine),
+    (b"(0000000000.000000) can0 7E0#02G", LineFault::BadLine),
+    (b"(0000000000.000000) can0 07E0#00", LineFault::BadLine),
+    (b"(0000000000.000000) can0 7E0#021003_9", LineFault::BadLine),
+    (
+        b"(0000000000.000000) can0 7E0#023E00AAAAAAAAAA_",
+        LineFault::BadLine,
+    ),
+    (b"(0000000000.000000) can0 FFF#R", LineFault::BadLine),
+    (b"(0.00000) can0 7E0#00", LineFault::BadLine),
+    (b"(0000000000000.000000) can0 7E0#00", LineFault::BadLine),
+    (b"(0.000000) 7E0#00", LineFault::BadLine),
+    (b"\xFF", LineFault::BadLine),
+    (b"tick  5", LineFault::BadTick),
+    (b"tickle", LineFault::BadTick),
+    (b"tick 5 ", LineFault::BadTick),
+    (b"tick\r", LineFault::BadTick),
+];
+
+/// Whether a line has this fault.
+fn is_ill(line: &[u8], ids: &Ids, fault: LineFault) -> bool {
+    matches!(read_line(line, ids), Err(found) if found == fault)
+}
+
 #[test]
 fn log_line_forms(rt: HostRuntime) -> Result<(), Fail> {
     let ids = ids().ok_or("identifiers")?;
-    let alloc = rt.alloc();
-    let rows: [(&[u8], &[Wanted]); 7] = [
-        (
-            b"(0000000000.000000) can0 7E0#023E00",
-            &[Wanted::Physical(&[0x02, 0x3E, 0x00])],
-        ),
-        (
-            b"(0000000000.000000) can0 7E0#023E\n",
-            &[Wanted::Physical(&[0x02, 0x3E])],
-        ),
-        (
-            b"(0000000000.000000) can0 7df#023E80\r\n",
-            &[Wanted::Functional(&[0x02, 0x3E, 0x80])],
-        ),
-        (b"(0000000000.000000) can0 00000000#zz\n", &[]),
-        (b"(0000000000.000000) can0 7E0#RX\n", &[]),
-        (b"(0000000000.000000) can0 7E0##\n", &[]),
-        (
-            b"tick\r\n\ntick 60000",
-            &[Wanted::Ticks(1), Wanted::Ticks(60000)],
-        ),
-    ];
-    for (text, wanted) in &rows {
+    for (text, wanted) in &LOGS {
         assert!(rt;
-            gives(alloc, text, &ids, Timing::Lines, wanted)?,
+            gives(rt.alloc(), text, &ids, Timing::Lines, wanted)?,
             "{text:?}"
         );
     }
-    let lines: [(&[u8], LineFault); 14] = [
-        (b"(0000000000.000000) can0 7E0#023E0", LineFault::BadLine),
-        (b"(0000000000.000000) can0 7E0#02G", LineFault::BadLine),
-        (b"(0000000000.000000) can0 07E0#00", LineFault::BadLine),
-        (b"(0000000000.000000) can0 7E0#021003_9", LineFault::BadLine),
-        (
-            b"(0000000000.000000) can0 7E0#023E00AAAAAAAAAA_",
-            LineFault::BadLine,
-        ),
-        (b"(0000000000.000000) can0 FFF#R", LineFault::BadLine),
-        (b"(0.00000) can0 7E0#00", LineFault::BadLine),
-        (b"(0000000000000.000000) can0 7E0#00", LineFault::BadLine),
-        (b"(0.000000) 7E0#00", LineFault::BadLine),
-        (b"\xFF", LineFault::BadLine),
-        (b"tick  5", LineFault::BadTick),
-        (b"tickle", LineFault::BadTick),
-        (b"tick 5 ", LineFault::BadTick),
-        (b"tick\r", LineFault::BadTick),
-    ];
-    for (line, fault) in &lines {
-        assert!(rt;
-            matches!(read_line(line, &ids), Err(found) if found == *fault),
-            "{line:?}"
-        );
+    for (line, fault) in &ILL_LINES {
+        assert!(rt; is_ill(line, &ids, *fault), "{line:?}");
     }
     assert!(rt; matches!(read_line(b"", &ids), Ok(None)));
     Ok(())
