@@ -21,8 +21,8 @@ pub fn read_logs(
     ensures device { (n : ℕ) → result ≢ Err (RunFault.Read n) }
 {
     let mut logs = Vec::new(alloc);
-    for (place, text) in texts.iter().enumerate() {
-        let Some(who) = setup.who(place) else {
+    for (index, text) in texts.iter().enumerate() {
+        let Some(who) = setup.who(index) else {
             unreachable!()
         };
         match read_log(alloc, text.as_slice(), &setup.ids(who), timing) {

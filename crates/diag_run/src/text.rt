@@ -70,22 +70,22 @@ pub(crate) fn play_parts<R: Threads + Sync>(
     Ok(parts)
 }
 
-/// The reply lines of the testers from this place on, which are counted from 0, in parts that are made beside each other.
+/// The reply lines of the testers from this index on, in parts that are made beside each other.
 fn lines_beside<R: Threads + Sync>(
     rt: &R,
     alloc: Global,
     setup: &Setup,
-    place: usize,
+    index: usize,
     sent: &[Vec<Sent>],
 ) -> Result<Vec<Vec<u8>>, AllocError>
-    requires place { place + length sent.now ≡ length setup.now.testers }
+    requires index { index + length sent.now ≡ length setup.now.testers }
     requires few { length setup.now.testers ≤ 8 }
-    ensures { IfOk result (λ parts. concat (map (λ part. part.items) parts.items) ≡ lines_from setup.now (place + 1) (map (λ frames. frames.items) sent.now)) }
+    ensures { IfOk result (λ parts. concat (map (λ part. part.items) parts.items) ≡ lines_from setup.now (index + 1) (map (λ frames. frames.items) sent.now)) }
 {
     let Some((frames, rest)) = sent.split_first() else {
         return Ok(Vec::new(alloc));
     };
-    let Some(who) = setup.who(place) else {
+    let Some(who) = setup.who(index) else {
         unreachable!()
     };
     let name = setup.name(who);
@@ -97,9 +97,9 @@ fn lines_beside<R: Threads + Sync>(
             ensures { IfOk result (λ parts. concat (map (λ part. part.items) parts.items) ≡ lines_of name.entry.now frames.entry.now) }
         { lines_halved(rt, alloc, name, frames, MOST_PARTS) },
         move || -> Result<Vec<Vec<u8>>, AllocError>
-            requires { IsSync R.row × (place + 1 + length rest.now ≡ length setup.now.testers) × (length setup.now.testers ≤ 8) }
-            ensures { IfOk result (λ parts. concat (map (λ part. part.items) parts.items) ≡ lines_from setup.entry.now (place + 1 + 1) (map (λ frames. frames.items) rest.entry.now)) }
-        { lines_beside(rt, alloc, setup, place + 1, rest) },
+            requires { IsSync R.row × (index + 1 + length rest.now ≡ length setup.now.testers) × (length setup.now.testers ≤ 8) }
+            ensures { IfOk result (λ parts. concat (map (λ part. part.items) parts.items) ≡ lines_from setup.entry.now (index + 1 + 1) (map (λ frames. frames.items) rest.entry.now)) }
+        { lines_beside(rt, alloc, setup, index + 1, rest) },
     );
     both(own?, others?)
 }
@@ -186,8 +186,8 @@ fn reply_lines(alloc: Global, setup: &Setup, sent: &[Vec<Sent>]) -> Result<Vec<u
     ensures { IfOk result (λ text. text.items ≡ lines_from setup.now 1 (map (λ frames. frames.items) sent.now)) }
 {
     let mut text = Vec::new(alloc);
-    for (place, frames) in sent.iter().enumerate() {
-        let Some(who) = setup.who(place) else {
+    for (index, frames) in sent.iter().enumerate() {
+        let Some(who) = setup.who(index) else {
             unreachable!()
         };
         add_lines(&mut text, setup.name(who), frames.as_slice())?;

@@ -4,10 +4,10 @@ use Rattle.diag_run.specs.Files.{or_bad_log}
 use Rattle.diag_run.proofs.Reading.{with_front}
 use Rattle.diag_run.proofs.logs.read_logs.Given as goal
 
-abbrev pub invariant-loop-place : goal.invariant-loop-place
-invariant-loop-place l =
+abbrev pub invariant-loop-index : goal.invariant-loop-index
+invariant-loop-index l =
     let texts = map (λ text. text.items) l.texts in
     record {
-      count : length l.logs.items ≡ l.place;
-      so_far : with_front (map (λ log. log.items) l.logs.items) (or_bad_log (logs_from (l.place + 1) l.setup l.timing (drop l.place texts))) ≡ or_bad_log (logs_from 1 l.setup l.timing texts);
+      count : length l.logs.items ≡ l.index;
+      so_far : with_front (map (λ log. log.items) l.logs.items) (or_bad_log (logs_from (l.index + 1) l.setup l.timing (drop l.index texts))) ≡ or_bad_log (logs_from 1 l.setup l.timing texts);
     }
