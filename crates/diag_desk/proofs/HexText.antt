@@ -1,33 +1,17 @@
 -- Upper-case hex has one spelling: what decodes from upper-case digits is written back as it was.
-use Rattle.std.proofs.Common.{◌≡◌, ℕ, zero, suc, ◌+◌, ◌*◌, ◌/◌, ◌%◌, ◌<◌, ◌==◌, Bool, true, not, ◌&&◌, ◌||◌, inl, inr, List, [], ◌∷◌, length, slice_index, Option, Some, None, unwrap_or, Result, Ok, Err, refl, sym, ap, ◌∙◌, arith}
+use Rattle.std.proofs.Common.{◌≡◌, ℕ, suc, ◌+◌, ◌*◌, ◌/◌, ◌%◌, ◌<◌, ◌==◌, Bool, true, not, ◌&&◌, ◌||◌, List, [], ◌∷◌, length, slice_index, Option, Some, None, unwrap_or, Result, Ok, Err, refl, sym, ap, ◌∙◌, arith}
 use Rattle.std.specs.List.{list_all}
 use Rattle.std.specs.Result.{result_unwrap_or}
-use Rattle.std.proofs.lemmas.Bool.{and_parts, cases_lt, eqb-true}
+use Rattle.std.proofs.lemmas.Bool.{agree_below_at, and_parts, eqb-true}
 use Rattle.hex.specs.Hex.{IsBytes, decode_of, decode_pairs, decode_sized, digit_or_error, encode_upper, encode_with, hex_digit_value, pair_value, upper_digits, value_at, ◌>>=◌}
 use Rattle.hex.specs.declared.error.FromHexError.{FromHexError}
 use Rattle.hex.proofs.HexLemmas.{decode_of-encode_upper, decode_of-ok, decode_sized-ok, decode_sized-twice, length-encode_with, decode_of-even}
 use Rattle.diag_desk.specs.Entry.{IsMessage}
 use Rattle.diag_desk.specs.Text.{is_upper_digit}
 
--- a test of every number below a bound
-abbrev all_below : (ℕ → Bool) → ℕ → Bool
-all_below test zero = true
-all_below test (suc n) = test n && all_below test n
-
-all_below-at : (test : ℕ → Bool) (n k : ℕ) → all_below test n ≡ true → k < n → test k ≡ true
-all_below-at test zero k h lt = absurd (omega arith)
-all_below-at test (suc n) k h lt =
-    let parts = and_parts (test n) (all_below test n) h in
-    elim (cases_lt k n) [
-      | inl below ↦ all_below-at test n k parts.1 below
-      | inr top ↦
-          let e : k ≡ n = omega arith in
-          rw e parts.0
-    ]
-
 -- each digit that is written is an upper-case one
 digit_is_upper : (d : ℕ) → d < 16 → is_upper_digit (slice_index upper_digits d) ≡ true
-digit_is_upper d below = all_below-at (λ d. is_upper_digit (slice_index upper_digits d)) 16 d refl below
+digit_is_upper d below = agree_below_at (λ d. is_upper_digit (slice_index upper_digits d)) (λ _. true) 16 d refl below
 
 -- an upper-case digit is the one that its value is written as
 abbrev is_spelled : ℕ → Bool
@@ -38,7 +22,7 @@ upper_below c h = grind arith
 
 spelled : (c v : ℕ) → is_upper_digit c ≡ true → hex_digit_value c ≡ Some v → slice_index upper_digits v ≡ c
 spelled c v upper value =
-    let test : is_spelled c ≡ true = all_below-at is_spelled 71 c refl (upper_below c upper) in
+    let test : is_spelled c ≡ true = agree_below_at is_spelled (λ _. true) 71 c refl (upper_below c upper) in
     let same : (slice_index upper_digits (unwrap_or (hex_digit_value c) 0) == c) ≡ true = rw upper at test in
     let w : unwrap_or (hex_digit_value c) 0 ≡ v = ap (λ o. unwrap_or o 0) value in
     rw (← w) (eqb-true _ _ same)
