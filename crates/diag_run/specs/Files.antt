@@ -83,6 +83,7 @@ files_from limit n (f ∷ fs) = do
   others ← files_from limit (n + 1) fs
   Ok (first ∷ others)
 
+-- the first tester whose log is at fault, as the refusal of a run
 abbrev pub or_bad_log : {A : Type 0} → Result A (ℕ × LogFault) → Result A Refusal
 or_bad_log (Ok logs) = Ok logs
 or_bad_log (Err first) = Err (bad_log first.0 first.1)

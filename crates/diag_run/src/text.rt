@@ -70,7 +70,7 @@ pub(crate) fn play_parts<R: Threads + Sync>(
     Ok(parts)
 }
 
-/// The reply lines of the testers from this index on, in parts that are made beside each other.
+/// The reply lines of the testers from this index on, 0 for all, in parts that are made beside each other.
 fn lines_beside<R: Threads + Sync>(
     rt: &R,
     alloc: Global,
