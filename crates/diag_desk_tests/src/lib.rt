@@ -1,14 +1,14 @@
-//! Tests of the desk over its public calls: worked examples as journals that steps make and that are read back, the
-//! forms of the journal's lines, replay, and the journal's limit.
+//! Tests of the sequential server over its public calls: the setup and the tables, the ECU, and the desk with its
+//! journal.
 #![tactic(auto)]
 
 #[cfg(test)]
-mod journals;
+mod desk;
 #[cfg(test)]
-mod limits;
+mod ecu;
 #[cfg(test)]
-mod lines;
+mod given;
 #[cfg(test)]
-mod replaying;
+mod store;
 #[cfg(test)]
-mod script;
+mod trouble;

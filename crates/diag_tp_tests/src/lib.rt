@@ -1,5 +1,8 @@
-//! Tests of the transport: the worked examples through the public calls, and each link beside its slow twin.
+//! Tests of the lines of a log and of the links that take their frames, over public calls: the worked examples, every
+//! form of a line, and each link beside its slow twin.
 #![tactic(auto)]
 
 #[cfg(test)]
-mod tests;
+mod lines;
+#[cfg(test)]
+mod links;

@@ -1,20 +1,14 @@
-//! Tests of the workers and of plays over their public calls.
+//! Tests of testers together, over public calls: the world on one thread, the gate with its doors, and the workers.
 //!
 //! Where memory is refused, a test ends with that as its error: so each allocation can be refused in turn, and with memory enough such an
 //! answer fails the test.
 #![tactic(auto)]
 
 #[cfg(test)]
-mod agreeing;
-#[cfg(test)]
-mod crews;
-#[cfg(test)]
-mod given;
-#[cfg(test)]
-mod meeting;
-#[cfg(test)]
-mod plays;
+mod gate;
 #[cfg(test)]
 mod trouble;
 #[cfg(test)]
 mod workers;
+#[cfg(test)]
+mod world;

@@ -1,7 +1,9 @@
 //! What ends a test early.
 
 use diag_can::LogFault;
-use diag_desk::{JournalFault, StepFault};
+use diag_desk::{JournalFault, ReplayFault, StepFault};
+use diag_gate::TryFault;
+use diag_tp::MessageFault;
 use diag_workers::PlayFault;
 use std::alloc::{AllocError, AllocFailed, Global};
 
@@ -35,6 +37,25 @@ impl From<StepFault> for Trouble {
     }
 }
 
+impl From<MessageFault> for Trouble {
+    fn from(fault: MessageFault) -> Trouble {
+        match fault {
+            MessageFault::Memory => Trouble::Memory,
+            MessageFault::Length => Trouble::Wrong,
+        }
+    }
+}
+
+impl From<TryFault> for Trouble {
+    fn from(fault: TryFault) -> Trouble {
+        match fault {
+            TryFault::Memory => Trouble::Memory,
+            TryFault::JournalFull => Trouble::Full,
+            TryFault::Busy(_) => Trouble::Wrong,
+        }
+    }
+}
+
 impl From<LogFault> for Trouble {
     fn from(fault: LogFault) -> Trouble {
         match fault {
@@ -53,6 +74,15 @@ impl From<JournalFault> for Trouble {
     }
 }
 
+impl From<ReplayFault> for Trouble {
+    fn from(fault: ReplayFault) -> Trouble {
+        match fault {
+            ReplayFault::Memory => Trouble::Memory,
+            ReplayFault::Differs(_) => Trouble::Wrong,
+        }
+    }
+}
+
 impl From<PlayFault> for Trouble {
     fn from(fault: PlayFault) -> Trouble {
         match fault {
@@ -67,4 +97,16 @@ impl From<PlayFault> for Trouble {
 /// What was tried came to its end and holds.
 pub(crate) fn holds(tried: Result<bool, Trouble>) -> Result<(), Trouble> {
     if tried? { Ok(()) } else { Err(Trouble::Wrong) }
+}
+
+/// Whether what was tried was refused so.
+pub(crate) fn is_refused<T: Drop>(
+    tried: Result<T, Trouble>,
+    wanted: Trouble,
+) -> Result<bool, Trouble> {
+    match tried {
+        Ok(_) => Ok(false),
+        Err(Trouble::Memory) => Err(Trouble::Memory),
+        Err(trouble) => Ok(trouble == wanted),
+    }
 }

@@ -1,0 +1,4 @@
+//! The setup and the tables.
+
+mod setups;
+mod tables;

@@ -1,6 +1,0 @@
-mod identifiers;
-mod refusals;
-mod routines;
-mod script;
-mod sessions;
-mod unlocking;

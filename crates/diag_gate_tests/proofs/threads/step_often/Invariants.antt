@@ -1,5 +1,0 @@
-use Rattle.std.proofs.Common.{◌≡◌}
-use Rattle.diag_gate_tests.proofs.threads.step_often.Given as goal
-
-abbrev pub invariant-loop : goal.invariant-loop
-invariant-loop g l = g.D.Door.home l.door ≡ g.D.Door.home l.initial.door

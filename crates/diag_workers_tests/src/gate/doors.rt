@@ -1,0 +1,79 @@
+//! Doors over a gate and over a lock.
+
+ghost use Rattle.std.specs.Prelude.{◌≡◌};
+
+use crate::gate::given::{and, desk_of_two, is_told, request, says, tester};
+use crate::gate::seating::{gate_of_two, seat_of, tries};
+use crate::trouble::{Trouble, holds};
+use diag_desk::Desk;
+use diag_gate::{Door, Gate, GateDoor, Host, LockDoor};
+use std::alloc::Global;
+use std::sync::{Mutex, Wait};
+
+/// Whether a door answers a request so.
+fn answers<D: Door>(
+    alloc: Global,
+    door: &mut D,
+    bytes: &[u8],
+    wanted: &[u8],
+) -> Result<bool, Trouble> {
+    let asked = request(alloc, bytes)?;
+    let reply = door.step(&asked)?;
+    Ok(says(&reply, wanted))
+}
+
+fn another_steps<R: Wait>(
+    rt: &R,
+    alloc: Global,
+    gate: &Gate,
+    host: &mut Host,
+) -> Result<bool, Trouble>
+    requires { host.old.gate ≡ gate.now }
+    ensures { host.new.gate ≡ host.old.gate }
+{
+    let mut b = seat_of(gate, host, 8)?;
+    let a = seat_of(gate, host, 1)?;
+    let mut door = GateDoor::new(rt, gate, a);
+    let first = answers(alloc, &mut door, &[0x3E, 0x00], &[0x7E, 0x00]);
+    let second = tries(alloc, gate, &mut b, &[0x01], &[0x7F, 0x01, 0x11]);
+    and(first, second)
+}
+
+fn lets_go<R: Wait>(rt: &R, alloc: Global) -> Result<bool, Trouble> {
+    let (gate, mut host) = gate_of_two(alloc)?;
+    another_steps(rt, alloc, &gate, &mut host)
+}
+
+/// After its step a door has let the desk go, so another seat's step is taken at once.
+#[test]
+fn door_lets_go(rt: HostRuntime) -> Result<(), Trouble> {
+    holds(lets_go(&rt, rt.alloc()))
+}
+
+fn are_answered<R: Wait>(rt: &R, alloc: Global, desk: &Mutex<Desk>) -> Result<bool, Trouble> {
+    let (one, two) = (tester(1)?, tester(2)?);
+    let mut a = LockDoor::new(rt, alloc, desk, one);
+    let mut b = LockDoor::new(rt, alloc, desk, two);
+    let is_placed = a.who().place() == 1 && b.who().place() == 2;
+    let taken = answers(
+        alloc,
+        &mut a,
+        &[0x10, 0x03],
+        &[0x50, 0x03, 0x00, 0x32, 0x01, 0xF4],
+    );
+    let refused = answers(alloc, &mut b, &[0x10, 0x03], &[0x7F, 0x10, 0x21]);
+    and(and(taken, refused), Ok(is_placed))
+}
+
+const TOLD: &[u8] = b"diag-journal 1\n1 P 1003 5003003201F4\n2 P 1003 7F1021\n";
+
+fn locked_steps<R: Wait>(rt: &R, alloc: Global) -> Result<bool, Trouble> {
+    let desk = Mutex::new(desk_of_two(alloc)?);
+    let answered = are_answered(rt, alloc, &desk);
+    and(answered, is_told(alloc, &desk.into_inner(), TOLD))
+}
+
+#[test]
+fn doors_over_a_lock(rt: HostRuntime) -> Result<(), Trouble> {
+    holds(locked_steps(&rt, rt.alloc()))
+}

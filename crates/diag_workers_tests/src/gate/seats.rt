@@ -1,0 +1,398 @@
+//! Seats that step one after another.
+
+ghost use Rattle.std.specs.Prelude.{◌≡◌, IfOk};
+
+use crate::gate::given::{request, says};
+use crate::gate::seating::{bring_home, closed, gate_of_two, is_out, seat_of, tries};
+use crate::trouble::{Trouble, holds};
+use diag_can::TickCount;
+use diag_desk::{Journal, Step, StepFault, StepRef};
+use diag_gate::{Gate, Host, Seat, TryFault};
+use diag_tp::Message;
+use std::alloc::Global;
+use std::sync::Wait;
+
+/// Whether a request is refused, since another seat has the desk, and comes back as it was.
+fn is_busy(alloc: Global, gate: &Gate, seat: &mut Seat, bytes: &[u8]) -> Result<bool, Trouble>
+    requires { seat.old.gate ≡ gate.now }
+    ensures { seat.new.gate ≡ seat.old.gate }
+{
+    match gate.try_step(seat, request(alloc, bytes)?) {
+        Err(TryFault::Busy(Step::Request { message, .. })) => Ok(message.bytes() == bytes),
+        _ => Err(Trouble::Wrong),
+    }
+}
+
+/// Has a seat try a tick, which no other seat keeps it from.
+fn tick(gate: &Gate, seat: &mut Seat) -> Result<(), Trouble>
+    requires { seat.old.gate ≡ gate.now }
+    ensures { seat.new.gate ≡ seat.old.gate }
+{
+    let count = TickCount::new(1).ok_or(Trouble::Wrong)?;
+    match gate.try_step(seat, Step::Ticks(count)) {
+        Ok(None) => Ok(()),
+        Ok(Some(_)) => Err(Trouble::Wrong),
+        Err(fault) => Err(fault.into()),
+    }
+}
+
+/// Has a seat take the desk and then step, while another seat is kept from its own step. Whether the step is silent.
+fn step_held(
+    alloc: Global,
+    gate: &Gate,
+    seat: Seat,
+    other: &mut Seat,
+    step: &Step,
+) -> Result<(Seat, Result<bool, StepFault>), Trouble>
+    requires seat { seat.gate ≡ gate.now }
+    requires other { other.old.gate ≡ gate.now }
+    ensures seat { IfOk result (λ r. r.0.gate ≡ gate.now) }
+    ensures other { other.new.gate ≡ other.old.gate }
+{
+    let Ok(held) = gate.try_take(seat) else {
+        return Err(Trouble::Wrong);
+    };
+    let busy = is_busy(alloc, gate, other, &[0x10, 0x03]);
+    let (seat, answer) = held.step(step);
+    if busy? {
+        Ok((seat, is_silent(answer)))
+    } else {
+        Err(Trouble::Wrong)
+    }
+}
+
+/// Whether an answer has no reply.
+fn is_silent(answer: Result<Option<Message>, StepFault>) -> Result<bool, StepFault> {
+    match answer {
+        Ok(reply) => Ok(reply.is_none()),
+        Err(fault) => Err(fault),
+    }
+}
+
+/// What a step came to that is taken once more where memory was refused.
+#[derive(Clone, Copy)]
+struct Outcome {
+    right: bool,
+    refused: bool,
+}
+
+/// A step that was answered at once.
+fn at_once(right: bool) -> Outcome {
+    Outcome {
+        right,
+        refused: false,
+    }
+}
+
+/// A step that was answered when it was taken once more.
+fn once_more(right: bool) -> Outcome {
+    Outcome {
+        right,
+        refused: true,
+    }
+}
+
+/// The same, once more where memory was refused: the desk was then not kept from a third seat.
+fn step_held_again(
+    alloc: Global,
+    gate: &Gate,
+    seat: Seat,
+    other: &mut Seat,
+    third: &mut Seat,
+    step: &Step,
+) -> Result<(Seat, Outcome), Trouble>
+    requires seat { seat.gate ≡ gate.now }
+    requires other { other.old.gate ≡ gate.now }
+    requires third { third.old.gate ≡ gate.now }
+    ensures seat { IfOk result (λ r. r.0.gate ≡ gate.now) }
+    ensures other { other.new.gate ≡ other.old.gate }
+    ensures third { third.new.gate ≡ third.old.gate }
+{
+    let (seat, silent) = step_held(alloc, gate, seat, other, step)?;
+    match silent {
+        Ok(silent) => Ok((seat, at_once(silent))),
+        Err(StepFault::Memory) => {
+            tick(gate, third)?;
+            let (seat, silent) = step_held(alloc, gate, seat, other, step)?;
+            Ok((seat, once_more(silent?)))
+        }
+        Err(fault) => Err(fault.into()),
+    }
+}
+
+/// Whether a seat that tries a request is answered so, once more where memory was refused: the desk was then not kept from
+/// a third seat.
+fn try_again(
+    alloc: Global,
+    gate: &Gate,
+    seat: &mut Seat,
+    third: &mut Seat,
+    bytes: &[u8],
+    wanted: &[u8],
+) -> Result<Outcome, Trouble>
+    requires seat { seat.old.gate ≡ gate.now }
+    requires third { third.old.gate ≡ gate.now }
+    ensures seat { seat.new.gate ≡ seat.old.gate }
+    ensures third { third.new.gate ≡ third.old.gate }
+{
+    match tries(alloc, gate, seat, bytes, wanted) {
+        Ok(right) => Ok(at_once(right)),
+        Err(Trouble::Memory) => {
+            tick(gate, third)?;
+            Ok(once_more(tries(alloc, gate, seat, bytes, wanted)?))
+        }
+        Err(trouble) => Err(trouble),
+    }
+}
+
+/// Whether a seat that waits for its step is answered so.
+fn waits<R: Wait>(
+    rt: &R,
+    gate: &Gate,
+    seat: &mut Seat,
+    step: &Step,
+    wanted: &[u8],
+) -> Result<bool, Trouble>
+    requires { seat.old.gate ≡ gate.now }
+    ensures { seat.new.gate ≡ seat.old.gate }
+{
+    let reply = gate.step(rt, seat, step)?;
+    Ok(says(&reply, wanted))
+}
+
+/// The same, once more where memory was refused: the desk was then not kept from a third seat.
+fn wait_again<R: Wait>(
+    rt: &R,
+    gate: &Gate,
+    seat: &mut Seat,
+    third: &mut Seat,
+    step: &Step,
+    wanted: &[u8],
+) -> Result<Outcome, Trouble>
+    requires seat { seat.old.gate ≡ gate.now }
+    requires third { third.old.gate ≡ gate.now }
+    ensures seat { seat.new.gate ≡ seat.old.gate }
+    ensures third { third.new.gate ≡ third.old.gate }
+{
+    match waits(rt, gate, seat, step, wanted) {
+        Ok(right) => Ok(at_once(right)),
+        Err(Trouble::Memory) => {
+            tick(gate, third)?;
+            Ok(once_more(waits(rt, gate, seat, step, wanted)?))
+        }
+        Err(trouble) => Err(trouble),
+    }
+}
+
+/// An entry of a physical request: its tester's place, its bytes and the bytes of its reply.
+struct Wanted {
+    place: u8,
+    request: &'static [u8],
+    reply: Option<&'static [u8]>,
+}
+
+/// The session is another tester's.
+const BUSY: [u8; 3] = [0x7F, 0x10, 0x21];
+
+/// The reply with the value of F190.
+const VALUE: &[u8] = b"\x62\xF1\x90TESTVIN0123456789";
+
+const WANTED: [Wanted; 3] = [
+    Wanted {
+        place: 1,
+        request: &[0x10, 0x83],
+        reply: None,
+    },
+    Wanted {
+        place: 2,
+        request: &[0x10, 0x03],
+        reply: Some(&BUSY),
+    },
+    Wanted {
+        place: 1,
+        request: &[0x22, 0xF1, 0x90],
+        reply: Some(VALUE),
+    },
+];
+
+/// Whether the journal's entries that are no ticks are these, in this order.
+fn has_requests(journal: &Journal, wanted: &[Wanted]) -> bool {
+    let mut next = 0;
+    for index in 0..journal.len() {
+        let Some(entry) = journal.get(index) else {
+            return false;
+        };
+        if let StepRef::Request { functional, bytes } = entry.step {
+            let Some(want) = wanted.get(next) else {
+                return false;
+            };
+            if functional
+                || entry.who.place() != want.place
+                || bytes != want.request
+                || entry.reply != want.reply
+            {
+                return false;
+            }
+            next += 1;
+        }
+    }
+    next == wanted.len()
+}
+
+/// What steps came to one after another.
+fn all(first: Outcome, second: Outcome, last: Outcome) -> Outcome {
+    Outcome {
+        right: first.right && second.right && last.right,
+        refused: first.refused || second.refused || last.refused,
+    }
+}
+
+/// The requests that a seat takes the desk for, and waits for.
+#[derive(Drop)]
+struct Requests {
+    silent: Step,
+    value: Step,
+}
+
+fn both_requests(alloc: Global) -> Result<Requests, Trouble> {
+    Ok(Requests {
+        silent: request(alloc, &[0x10, 0x83])?,
+        value: request(alloc, &[0x22, 0xF1, 0x90])?,
+    })
+}
+
+/// Three seats step one after another, the first comes home.
+fn first_steps<R: Wait>(
+    rt: &R,
+    alloc: Global,
+    gate: &Gate,
+    host: &mut Host,
+    second: &mut Seat,
+    third: &mut Seat,
+    requests: &Requests,
+) -> Result<Outcome, Trouble>
+    requires host { host.old.gate ≡ gate.now }
+    requires second { second.old.gate ≡ gate.now }
+    requires third { third.old.gate ≡ gate.now }
+    ensures host { host.new.gate ≡ host.old.gate }
+    ensures second { second.new.gate ≡ second.old.gate }
+    ensures third { third.new.gate ≡ third.old.gate }
+{
+    let seat = seat_of(gate, host, 1)?;
+    let (mut seat, silent) = step_held_again(alloc, gate, seat, second, third, &requests.silent)?;
+    let taken = try_again(alloc, gate, second, third, &[0x10, 0x03], &BUSY);
+    let value = wait_again(rt, gate, &mut seat, third, &requests.value, VALUE);
+    bring_home(gate, host, seat);
+    Ok(all(silent, taken?, value?))
+}
+
+/// The second seat steps among them and comes home.
+fn second_steps<R: Wait>(
+    rt: &R,
+    alloc: Global,
+    gate: &Gate,
+    host: &mut Host,
+    third: &mut Seat,
+    requests: &Requests,
+) -> Result<Outcome, Trouble>
+    requires host { host.old.gate ≡ gate.now }
+    requires third { third.old.gate ≡ gate.now }
+    ensures host { host.new.gate ≡ host.old.gate }
+    ensures third { third.new.gate ≡ third.old.gate }
+{
+    let mut seat = seat_of(gate, host, 2)?;
+    let outcome = first_steps(rt, alloc, gate, host, &mut seat, third, requests);
+    bring_home(gate, host, seat);
+    outcome
+}
+
+/// The third seat ticks where memory was refused, and comes home.
+fn all_step<R: Wait>(
+    rt: &R,
+    alloc: Global,
+    gate: &Gate,
+    host: &mut Host,
+    requests: &Requests,
+) -> Result<Outcome, Trouble>
+    requires { host.old.gate ≡ gate.now }
+    ensures { host.new.gate ≡ host.old.gate }
+{
+    let mut seat = seat_of(gate, host, 8)?;
+    let outcome = second_steps(rt, alloc, gate, host, &mut seat, requests);
+    bring_home(gate, host, seat);
+    outcome
+}
+
+/// Whether the desk of a gate whose seats are home has all entries.
+fn has_entries(gate: Gate, host: Host) -> Result<bool, Trouble>
+    requires { host.gate ≡ gate }
+{
+    let desk = closed(gate, host)?;
+    Ok(has_requests(desk.journal(), &WANTED))
+}
+
+/// The calls go on to their end where memory was refused on the way, which is then the error.
+fn calls_hold<R: Wait>(rt: &R, alloc: Global, requests: &Requests) -> Result<bool, Trouble> {
+    let (gate, mut host) = gate_of_two(alloc)?;
+    let steps = all_step(rt, alloc, &gate, &mut host, requests)?;
+    let is_out = is_out(&gate, &mut host, 1);
+    let is_right = has_entries(gate, host)? && is_out && steps.right;
+    if is_right && steps.refused {
+        return Err(Trouble::Memory);
+    }
+    Ok(is_right)
+}
+
+fn gate_calls_hold<R: Wait>(rt: &R, alloc: Global) -> Result<bool, Trouble> {
+    let requests = both_requests(alloc)?;
+    calls_hold(rt, alloc, &requests)
+}
+
+#[test]
+fn gate_calls(rt: HostRuntime) -> Result<(), Trouble> {
+    holds(gate_calls_hold(&rt, rt.alloc()))
+}
+
+/// Whether a seat is given the desk; it puts the desk back.
+fn takes(gate: &Gate, seat: Seat) -> (Seat, bool)
+    requires { seat.gate ≡ gate.now }
+    ensures { result.0.gate ≡ gate.now }
+{
+    match gate.try_take(seat) {
+        Ok(held) => (held.put_back(), true),
+        Err(seat) => (seat, false),
+    }
+}
+
+/// Whether a seat that takes the desk keeps another seat from it, until the desk is put back.
+fn keeps_from(gate: &Gate, seat: Seat, other: Seat) -> bool
+    requires seat { seat.gate ≡ gate.now }
+    requires other { other.gate ≡ gate.now }
+{
+    let Ok(held) = gate.try_take(seat) else {
+        return false;
+    };
+    let (other, early) = takes(gate, other);
+    let seat = held.put_back();
+    let (other, late) = takes(gate, other);
+    !early && late && seat.who().place() == 1 && other.who().place() == 2
+}
+
+fn one_keeps(gate: &Gate, host: &mut Host) -> Result<bool, Trouble>
+    requires { host.old.gate ≡ gate.now }
+{
+    let a = seat_of(gate, host, 1)?;
+    let b = seat_of(gate, host, 2)?;
+    Ok(keeps_from(gate, a, b))
+}
+
+fn one_takes(alloc: Global) -> Result<bool, Trouble> {
+    let (gate, mut host) = gate_of_two(alloc)?;
+    one_keeps(&gate, &mut host)
+}
+
+/// One seat at a time has the desk, and the others get their seat back.
+#[test]
+fn one_takes_at_a_time(rt: HostRuntime) -> Result<(), Trouble> {
+    holds(one_takes(rt.alloc()))
+}

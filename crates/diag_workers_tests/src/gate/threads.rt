@@ -1,0 +1,129 @@
+//! Two threads, each with a seat of its own.
+
+ghost use Rattle.std.specs.Prelude.{◌≡◌, IfOk};
+
+use crate::gate::given::request;
+use crate::gate::seating::{bring_home, closed, opened, seat_of};
+use crate::trouble::{Trouble, holds};
+use diag_desk::{Desk, Step, StepFault, replay};
+use diag_fixtures::two_testers;
+use diag_gate::{Door, Gate, GateDoor, Host, Seat};
+use diag_store::Setup;
+use std::alloc::Global;
+use std::sync::Wait;
+use std::thread::{Threads, join};
+
+/// Has a door take one step 1,000 times, and hands it back.
+fn step_often<D: Door>(door: D, step: &Step) -> (D, Result<(), StepFault>)
+    ensures { D.home result.0 ≡ D.home door }
+{
+    let mut door = door;
+    for _ in 0..1000u32 {
+        match door.step(step) {
+            Ok(_reply) => {}
+            Err(fault) => return (door, Err(fault)),
+        }
+    }
+    (door, Ok(()))
+}
+
+/// Two doors in threads of their own.
+fn both_step<D: Door + Send + Drop, R: Threads + Sync>(
+    rt: &R,
+    one: D,
+    two: D,
+    step: &Step,
+) -> ((D, Result<(), StepFault>), (D, Result<(), StepFault>))
+    ensures { (D.home result.0.0 ≡ D.home one) × (D.home result.1.0 ≡ D.home two) }
+{
+    join(
+        rt,
+        move || step_often(one, step),
+        move || step_often(two, step),
+    )
+}
+
+/// Two seats step in threads of their own, and come back.
+fn seats_step<R: Threads + Wait + Sync>(
+    rt: &R,
+    gate: &Gate,
+    a: Seat,
+    b: Seat,
+    step: &Step,
+) -> Result<(Seat, Seat), Trouble>
+    requires a { a.gate ≡ gate.now }
+    requires b { b.gate ≡ gate.now }
+    ensures { IfOk result (λ r. (r.0.gate ≡ gate.now) × (r.1.gate ≡ gate.now)) }
+{
+    let one = GateDoor::new(rt, gate, a);
+    let two = GateDoor::new(rt, gate, b);
+    let ((one, first), (two, second)) = both_step(rt, one, two, step);
+    first?;
+    second?;
+    Ok((one.into_seat(), two.into_seat()))
+}
+
+/// Whether a replay of the desk's journal of 2,000 entries leaves the same holder.
+fn has_replay(alloc: Global, setup: &Setup, desk: &Desk) -> Result<bool, Trouble> {
+    let ecu = replay(alloc, setup, desk.journal())?;
+    Ok(desk.journal().len() == 2000 && ecu.holder() == desk.ecu().holder())
+}
+
+/// Gives out two seats, has both step, and brings them home.
+fn both_enter<R: Threads + Wait + Sync>(
+    rt: &R,
+    alloc: Global,
+    gate: &Gate,
+    host: &mut Host,
+) -> Result<(), Trouble>
+    requires { host.old.gate ≡ gate.now }
+    ensures { host.new.gate ≡ host.old.gate }
+{
+    let a = seat_of(gate, host, 1)?;
+    let b = seat_of(gate, host, 2)?;
+    let step = request(alloc, &[0x10, 0x03])?;
+    let (a, b) = seats_step(rt, gate, a, b, &step)?;
+    bring_home(gate, host, a);
+    bring_home(gate, host, b);
+    Ok(())
+}
+
+/// A gate of a desk of this setup.
+fn gate_of(alloc: Global, setup: &Setup) -> Result<(Gate, Host), Trouble>
+    ensures { IfOk result (λ r. r.1.gate ≡ r.0) }
+{
+    opened(alloc, Desk::new(alloc, setup)?)
+}
+
+/// The desk at which both have stepped.
+fn entered<R: Threads + Wait + Sync>(
+    rt: &R,
+    alloc: Global,
+    setup: &Setup,
+) -> Result<Desk, Trouble> {
+    let (gate, mut host) = gate_of(alloc, setup)?;
+    match both_enter(rt, alloc, &gate, &mut host) {
+        Ok(()) => closed(gate, host),
+        Err(trouble) => Err(trouble),
+    }
+}
+
+/// Whether both step, and a replay agrees.
+fn all_enter<R: Threads + Wait + Sync>(
+    rt: &R,
+    alloc: Global,
+    setup: &Setup,
+) -> Result<bool, Trouble> {
+    let desk = entered(rt, alloc, setup)?;
+    has_replay(alloc, setup, &desk)
+}
+
+fn all_entered<R: Threads + Wait + Sync>(rt: &R, alloc: Global) -> Result<bool, Trouble> {
+    let setup = two_testers(alloc)?;
+    all_enter(rt, alloc, &setup)
+}
+
+#[test]
+fn two_threads(rt: HostRuntime) -> Result<(), Trouble> {
+    holds(all_entered(&rt, rt.alloc()))
+}

@@ -1,0 +1,211 @@
+//! Crews of two workers, at doors to no desk.
+
+ghost use Rattle.std.specs.Prelude.{◌≡◌, ◌≤◌, length, map, vec_len, IfOk};
+ghost use Rattle.diag_tp.specs.Moments.{counted_from};
+
+use crate::trouble::{Trouble, holds};
+use crate::workers::given::setup_of_two;
+use crate::workers::meeting::Meeting;
+use crate::workers::plays::{READERS_PLAY, tried};
+use diag_can::{Event, TickCount};
+use diag_desk::{Journal, Step, StepFault};
+use diag_setup::{Setup, Who};
+use diag_tp::Message;
+use diag_workers::{Door, Watch, crew};
+use std::alloc::Global;
+use std::sync::Wait;
+use std::thread::Threads;
+
+/// How many steps a door answers, and what it refuses the next with.
+#[derive(Clone, Copy, Drop)]
+struct Answers {
+    steps: u32,
+    then: StepFault,
+}
+
+/// A door to no desk. It keeps what it was asked, and tells a meeting of each step.
+#[derive(Drop)]
+struct LoneDoor<'a> {
+    who: Who,
+    given: Journal,
+    meeting: &'a Meeting,
+    left: Answers,
+}
+
+impl<'a> Door for LoneDoor<'a> {
+    ghost use Rattle.std.specs.Prelude.{None};
+
+    ghost given = { λ d. d.given.entries };
+
+    ghost tester = { λ d. d.who };
+
+    ghost home = { λ _. None };
+
+    fn who(&self) -> Who {
+        self.who
+    }
+
+    fn step(&mut self, step: &Step) -> Result<Option<Message>, StepFault> {
+        self.meeting.called(self.who);
+        if self.left.steps == 0 {
+            return Err(self.left.then);
+        }
+        self.left.steps -= 1;
+        match self.given.push(self.who, step, None) {
+            Ok(()) => Ok(None),
+            Err(_refused) => Err(StepFault::Memory),
+        }
+    }
+}
+
+fn lone_door<'a>(alloc: Global, meeting: &'a Meeting, who: Who, left: Answers) -> LoneDoor<'a>
+    ensures { result.who ≡ who }
+{
+    let given = Journal::new(alloc);
+    LoneDoor {
+        who,
+        given,
+        meeting,
+        left,
+    }
+}
+
+/// The doors of the two testers.
+fn lone_doors<'a>(
+    alloc: Global,
+    meeting: &'a Meeting,
+    left: [Answers; 2],
+) -> Result<Vec<LoneDoor<'a>>, Trouble>
+    ensures { IfOk result (λ doors. map (λ d. d.who) doors.items ≡ counted_from 1 2) }
+{
+    let (Some(one), Some(two)) = (Who::new(1), Who::new(2)) else {
+        return Err(Trouble::Wrong);
+    };
+    let first = lone_door(alloc, meeting, one, left[0]);
+    let second = lone_door(alloc, meeting, two, left[1]);
+    Ok(Vec::from_array(alloc, [first, second])?)
+}
+
+/// A log of two ticks.
+fn two_ticks(alloc: Global) -> Result<Vec<Event>, Trouble>
+    ensures { IfOk result (λ log. vec_len log ≤ 1000000) }
+{
+    let count = TickCount::new(1).ok_or(Trouble::Wrong)?;
+    Ok(Vec::from_array(alloc, [Event::Ticks(count), Event::Ticks(count)])?)
+}
+
+/// What refuses a crew that plays two ticks each, if anything does.
+fn refusal<R: Threads + Sync>(
+    rt: &R,
+    alloc: Global,
+    setup: &Setup,
+    meeting: &Meeting,
+    left: [Answers; 2],
+) -> Result<Option<StepFault>, Trouble>
+    requires { length setup.now.testers ≡ 2 }
+{
+    let logs = [two_ticks(alloc)?, two_ticks(alloc)?];
+    let doors = lone_doors(alloc, meeting, left)?;
+    match crew(rt, alloc, setup, &logs, doors) {
+        Ok(_done) => Ok(None),
+        Err(fault) => Ok(Some(fault)),
+    }
+}
+
+fn refused<R: Threads + Sync>(
+    rt: &R,
+    alloc: Global,
+    meeting: &Meeting,
+    left: [Answers; 2],
+) -> Result<Option<StepFault>, Trouble> {
+    let setup = setup_of_two(alloc)?;
+    refusal(rt, alloc, &setup, meeting, left)
+}
+
+/// Answers every step of its log.
+const WELL: Answers = Answers {
+    steps: 2,
+    then: StepFault::JournalFull,
+};
+
+/// Whether the two workers of a crew meet, and each door was asked for each of its steps once.
+fn crew_meets<R: Threads + Sync>(rt: &R, alloc: Global) -> Result<bool, Trouble> {
+    let meeting = Meeting::new();
+    match refused(rt, alloc, &meeting, [WELL, WELL])? {
+        None => Ok(meeting.is_met(2, 2)),
+        Some(StepFault::Memory) => Err(Trouble::Memory),
+        Some(StepFault::JournalFull) => Ok(false),
+    }
+}
+
+/// Whether the two workers of a play meet, and the watch is told of each of their steps once.
+fn play_meets<R: Threads + Wait + Sync>(rt: &R, alloc: Global) -> Result<bool, Trouble> {
+    let meeting = Meeting::new();
+    let played = tried(rt, alloc, &READERS_PLAY, &meeting)?;
+    Ok(played && meeting.is_met(2, 3))
+}
+
+/// Each tester's first step is held until the other tester was called.
+///
+/// A thread that finds no memory at its start leaves its work to its caller's thread, so what did not meet is tried once more.
+#[test]
+fn two_workers_meet(rt: HostRuntime) -> Result<(), Trouble> {
+    if !crew_meets(&rt, rt.alloc())? {
+        holds(crew_meets(&rt, rt.alloc()))?;
+    }
+    if !play_meets(&rt, rt.alloc())? {
+        holds(play_meets(&rt, rt.alloc()))?;
+    }
+    Ok(())
+}
+
+/// Refuses its second step.
+const FULL_LATE: Answers = Answers {
+    steps: 1,
+    then: StepFault::JournalFull,
+};
+
+const FULL_AT_ONCE: Answers = Answers {
+    steps: 0,
+    then: StepFault::JournalFull,
+};
+
+const NO_MEMORY_LATE: Answers = Answers {
+    steps: 1,
+    then: StepFault::Memory,
+};
+
+const NO_MEMORY_AT_ONCE: Answers = Answers {
+    steps: 0,
+    then: StepFault::Memory,
+};
+
+/// Whether a crew with these doors is refused so.
+fn is_refused<R: Threads + Sync>(
+    rt: &R,
+    alloc: Global,
+    left: [Answers; 2],
+    wanted: StepFault,
+) -> Result<bool, Trouble> {
+    let meeting = Meeting::new();
+    match refused(rt, alloc, &meeting, left)? {
+        Some(StepFault::Memory) if wanted != StepFault::Memory => Err(Trouble::Memory),
+        Some(fault) => Ok(fault == wanted),
+        None => Ok(false),
+    }
+}
+
+fn first_counts<R: Threads + Sync>(rt: &R, alloc: Global) -> Result<bool, Trouble> {
+    let (full, memory) = (StepFault::JournalFull, StepFault::Memory);
+    Ok(
+        is_refused(rt, alloc, [FULL_LATE, NO_MEMORY_AT_ONCE], full)?
+            && is_refused(rt, alloc, [NO_MEMORY_LATE, FULL_AT_ONCE], memory)?
+            && is_refused(rt, alloc, [WELL, FULL_LATE], full)?,
+    )
+}
+
+/// A refusal is that of the first tester, in order, that was refused.
+#[test]
+fn the_first_refusal_counts(rt: HostRuntime) -> Result<(), Trouble> {
+    holds(first_counts(&rt, rt.alloc()))
+}
