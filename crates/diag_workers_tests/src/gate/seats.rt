@@ -120,65 +120,93 @@ fn step_held_again(
     }
 }
 
-/// Whether a seat that tries a request is answered so, once more where memory was refused: the desk was then not kept from
-/// a third seat.
-fn try_again(
-    alloc: Global,
-    gate: &Gate,
-    seat: &mut Seat,
-    third: &mut Seat,
-    bytes: &[u8],
-    wanted: &[u8],
-) -> Result<Outcome, Trouble>
-    requires seat { seat.old.gate ≡ gate.now }
-    requires third { third.old.gate ≡ gate.now }
-    ensures seat { seat.new.gate ≡ seat.old.gate }
-    ensures third { third.new.gate ≡ third.old.gate }
-{
-    match tries(alloc, gate, seat, bytes, wanted) {
-        Ok(right) => Ok(at_once(right)),
-        Err(Trouble::Memory) => {
-            tick(gate, third)?;
-            Ok(once_more(tries(alloc, gate, seat, bytes, wanted)?))
-        }
-        Err(trouble) => Err(trouble),
-    }
+/// The session is another tester's.
+const BUSY: [u8; 3] = [0x7F, 0x10, 0x21];
+
+/// The reply with the value of F190.
+const VALUE: &[u8] = b"\x62\xF1\x90TESTVIN0123456789";
+
+/// How a seat comes to its step.
+#[derive(Clone, Copy)]
+enum Way {
+    Tries,
+    Waits,
 }
+
+/// A physical request of a seat, and the bytes of its reply.
+struct Asked {
+    way: Way,
+    request: &'static [u8],
+    reply: &'static [u8],
+}
+
+/// The extended session, which another tester holds.
+const SESSION: Asked = Asked {
+    way: Way::Tries,
+    request: &[0x10, 0x03],
+    reply: &BUSY,
+};
+
+/// A read of F190.
+const READ: Asked = Asked {
+    way: Way::Waits,
+    request: &[0x22, 0xF1, 0x90],
+    reply: VALUE,
+};
 
 /// Whether a seat that waits for its step is answered so.
 fn waits<R: Wait>(
     rt: &R,
+    alloc: Global,
     gate: &Gate,
     seat: &mut Seat,
-    step: &Step,
+    bytes: &[u8],
     wanted: &[u8],
 ) -> Result<bool, Trouble>
     requires { seat.old.gate ≡ gate.now }
     ensures { seat.new.gate ≡ seat.old.gate }
 {
-    let reply = gate.step(rt, seat, step)?;
+    let step = request(alloc, bytes)?;
+    let reply = gate.step(rt, seat, &step)?;
     Ok(says(&reply, wanted))
 }
 
-/// The same, once more where memory was refused: the desk was then not kept from a third seat.
-fn wait_again<R: Wait>(
+/// Whether a seat is answered as it must be.
+fn asks<R: Wait>(
     rt: &R,
+    alloc: Global,
+    gate: &Gate,
+    seat: &mut Seat,
+    asked: &Asked,
+) -> Result<bool, Trouble>
+    requires { seat.old.gate ≡ gate.now }
+    ensures { seat.new.gate ≡ seat.old.gate }
+{
+    match asked.way {
+        Way::Tries => tries(alloc, gate, seat, asked.request, asked.reply),
+        Way::Waits => waits(rt, alloc, gate, seat, asked.request, asked.reply),
+    }
+}
+
+/// The same, once more where memory was refused: the desk was then not kept from a third seat.
+fn asks_again<R: Wait>(
+    rt: &R,
+    alloc: Global,
     gate: &Gate,
     seat: &mut Seat,
     third: &mut Seat,
-    step: &Step,
-    wanted: &[u8],
+    asked: &Asked,
 ) -> Result<Outcome, Trouble>
     requires seat { seat.old.gate ≡ gate.now }
     requires third { third.old.gate ≡ gate.now }
     ensures seat { seat.new.gate ≡ seat.old.gate }
     ensures third { third.new.gate ≡ third.old.gate }
 {
-    match waits(rt, gate, seat, step, wanted) {
+    match asks(rt, alloc, gate, seat, asked) {
         Ok(right) => Ok(at_once(right)),
         Err(Trouble::Memory) => {
             tick(gate, third)?;
-            Ok(once_more(waits(rt, gate, seat, step, wanted)?))
+            Ok(once_more(asks(rt, alloc, gate, seat, asked)?))
         }
         Err(trouble) => Err(trouble),
     }
@@ -190,12 +218,6 @@ struct Wanted {
     request: &'static [u8],
     reply: Option<&'static [u8]>,
 }
-
-/// The session is another tester's.
-const BUSY: [u8; 3] = [0x7F, 0x10, 0x21];
-
-/// The reply with the value of F190.
-const VALUE: &[u8] = b"\x62\xF1\x90TESTVIN0123456789";
 
 const WANTED: [Wanted; 3] = [
     Wanted {
@@ -247,20 +269,6 @@ fn all(first: Outcome, second: Outcome, last: Outcome) -> Outcome {
     }
 }
 
-/// The requests that a seat takes the desk for, and waits for.
-#[derive(Drop)]
-struct Requests {
-    silent: Step,
-    value: Step,
-}
-
-fn both_requests(alloc: Global) -> Result<Requests, Trouble> {
-    Ok(Requests {
-        silent: request(alloc, &[0x10, 0x83])?,
-        value: request(alloc, &[0x22, 0xF1, 0x90])?,
-    })
-}
-
 /// Three seats step one after another, the first comes home.
 fn first_steps<R: Wait>(
     rt: &R,
@@ -269,7 +277,7 @@ fn first_steps<R: Wait>(
     host: &mut Host,
     second: &mut Seat,
     third: &mut Seat,
-    requests: &Requests,
+    silent: &Step,
 ) -> Result<Outcome, Trouble>
     requires host { host.old.gate ≡ gate.now }
     requires second { second.old.gate ≡ gate.now }
@@ -279,11 +287,11 @@ fn first_steps<R: Wait>(
     ensures third { third.new.gate ≡ third.old.gate }
 {
     let seat = seat_of(gate, host, 1)?;
-    let (mut seat, silent) = step_held_again(alloc, gate, seat, second, third, &requests.silent)?;
-    let taken = try_again(alloc, gate, second, third, &[0x10, 0x03], &BUSY);
-    let value = wait_again(rt, gate, &mut seat, third, &requests.value, VALUE);
+    let (mut seat, held) = step_held_again(alloc, gate, seat, second, third, silent)?;
+    let session = asks_again(rt, alloc, gate, second, third, &SESSION);
+    let value = asks_again(rt, alloc, gate, &mut seat, third, &READ);
     bring_home(gate, host, seat);
-    Ok(all(silent, taken?, value?))
+    Ok(all(held, session?, value?))
 }
 
 /// The second seat steps among them and comes home.
@@ -293,7 +301,7 @@ fn second_steps<R: Wait>(
     gate: &Gate,
     host: &mut Host,
     third: &mut Seat,
-    requests: &Requests,
+    silent: &Step,
 ) -> Result<Outcome, Trouble>
     requires host { host.old.gate ≡ gate.now }
     requires third { third.old.gate ≡ gate.now }
@@ -301,7 +309,7 @@ fn second_steps<R: Wait>(
     ensures third { third.new.gate ≡ third.old.gate }
 {
     let mut seat = seat_of(gate, host, 2)?;
-    let outcome = first_steps(rt, alloc, gate, host, &mut seat, third, requests);
+    let outcome = first_steps(rt, alloc, gate, host, &mut seat, third, silent);
     bring_home(gate, host, seat);
     outcome
 }
@@ -312,13 +320,13 @@ fn all_step<R: Wait>(
     alloc: Global,
     gate: &Gate,
     host: &mut Host,
-    requests: &Requests,
+    silent: &Step,
 ) -> Result<Outcome, Trouble>
     requires { host.old.gate ≡ gate.now }
     ensures { host.new.gate ≡ host.old.gate }
 {
     let mut seat = seat_of(gate, host, 8)?;
-    let outcome = second_steps(rt, alloc, gate, host, &mut seat, requests);
+    let outcome = second_steps(rt, alloc, gate, host, &mut seat, silent);
     bring_home(gate, host, seat);
     outcome
 }
@@ -332,9 +340,9 @@ fn has_entries(gate: Gate, host: Host) -> Result<bool, Trouble>
 }
 
 /// The calls go on to their end where memory was refused on the way, which is then the error.
-fn calls_hold<R: Wait>(rt: &R, alloc: Global, requests: &Requests) -> Result<bool, Trouble> {
+fn calls_hold<R: Wait>(rt: &R, alloc: Global, silent: &Step) -> Result<bool, Trouble> {
     let (gate, mut host) = gate_of_two(alloc)?;
-    let steps = all_step(rt, alloc, &gate, &mut host, requests)?;
+    let steps = all_step(rt, alloc, &gate, &mut host, silent)?;
     let is_out = is_out(&gate, &mut host, 1);
     let is_right = has_entries(gate, host)? && is_out && steps.right;
     if is_right && steps.refused {
@@ -344,8 +352,8 @@ fn calls_hold<R: Wait>(rt: &R, alloc: Global, requests: &Requests) -> Result<boo
 }
 
 fn gate_calls_hold<R: Wait>(rt: &R, alloc: Global) -> Result<bool, Trouble> {
-    let requests = both_requests(alloc)?;
-    calls_hold(rt, alloc, &requests)
+    let silent = request(alloc, &[0x10, 0x83])?;
+    calls_hold(rt, alloc, &silent)
 }
 
 #[test]
