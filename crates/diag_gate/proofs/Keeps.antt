@@ -1,5 +1,6 @@
 -- Each step of the gate keeps its rule.
-use Rattle.std.proofs.Common.{◌≡◌, ◌≢◌, ◌⊎◌, inl, inr, ⊎_elim, ℕ, zero, suc, ◌+◌, ◌<◌, eqb, Bool, true, false, cond, List, [], ◌∷◌, ◌++◌, length, get_or, set, refl, sym, ap, ◌∙◌, subst, arith, append-nil, length-set, get_or-set_same, eq-eqb, ne_eqb, Option, Some, None}
+use Rattle.std.proofs.Common.{◌≡◌, ◌≢◌, ◌⊎◌, inl, inr, ⊎_elim, ℕ, zero, suc, ◌+◌, ◌<◌, eqb, Bool, true, false, cond, List, [], ◌∷◌, ◌++◌, length, get_or, set, refl, sym, ap, ◌∙◌, subst, arith, append-nil, length-set, get_or-set_same, get_or-set_other, eq-eqb, ne_eqb, Option, Some, None}
+use Rattle.std.proofs.lemmas.Grind.{get_or-set_at}
 use mathlib.Core.Logic.{dite}
 use mathlib.Core.Option.{some, none, some-injective, some-ne-none}
 use native.Mathlib.Decide.{ℕ_discrete}
@@ -14,9 +15,9 @@ use Rattle.diag_desk.specs.declared.entry.Entry.{Entry}
 use Rattle.diag_gate.proofs.Owned.{owned}
 use Rattle.diag_gate.specs.declared.view.View.{View}
 use Rattle.diag_gate.specs.Views.{IsLegal, own_if, own_of, starting, holding, missing, letting_go, naming, listed, host_without, new_seat, host_with, spent}
-use Rattle.diag_gate.specs.Rule.{run, Knows, AtHome, Out, Kept}
+use Rattle.diag_gate.specs.Rule.{run, Knows, AtHome, Out, Placed, Kept}
 use Rattle.diag_gate.specs.Plays.{took, released, named, learned}
-use Rattle.diag_gate.proofs.Begins.{set_there, read_set, begins_whole, begins_more, begins_shorter, longer_begins, shorter_begins, own-append, owns_read}
+use Rattle.diag_gate.proofs.Begins.{set_there, read_set, begins_whole, begins_more, begins_shorter, longer_begins, shorter_begins, own-append, owns_read, owns_there}
 
 -- Of all views after one was written
 
@@ -55,15 +56,27 @@ out_set journal views id v w at was off h =
       there = set_else views id h.holder w other ∙ h.there;
       holds = h.holds;
       seen = h.seen;
+      seat = h.seat;
       tester = h.tester;
       only = holds_set views id w (λ j. j ≡ h.holder) h.only (λ on. absurd (apart off on));
     }
 
+-- the view that was written has each tester that was there
+placed_set : (place : ℕ → ℕ) (views : List View) (id : ℕ) (v w : View) (t : ℕ) → get_elem? views id ≡ some v
+    → ((l : List Entry) → own_of v t ≡ Some l → (m : List Entry) × (own_of w t ≡ Some m)) → Placed place views t → Placed place (set views id w) t
+placed_set place views id v w t at like h = dite (ℕ_discrete (place t) id)
+    (λ is.
+    let same : h.view ≡ v = some-injective h.view v (sym h.there ∙ ap (λ j. get_elem? views j) is ∙ at) in
+    let has = like h.own (ap (λ (x : View). own_of x t) (sym same) ∙ h.has) in
+    record { view = w; own = has.0; there = ap (λ j. get_elem? (set views id w) j) is ∙ set_there views id w v at; has = has.1 })
+    (λ not. record { view = h.view; own = h.own; there = set_else views id (place t) w not ∙ h.there; has = h.has })
+
 -- a step of a view that does not hold the slot, which leaves the word and the slots
 pub stays : (s : Board (Option Run) View) (k : Kept s) (id : ℕ) (v w : View) → get_elem? s.views id ≡ some v → v.holds ≡ false → w.holds ≡ false
     → ((o : State) (journal : List Entry) (place : ℕ → ℕ) → Knows o journal place id v → Knows o journal place id w)
+    → ((t : ℕ) (l : List Entry) → own_of v t ≡ Some l → own_of w t ≡ Some l)
     → (n : ℕ) → n ≡ get_or s.words 0 0 → Kept record { words = set s.words 0 n; homes = s.homes; views = set s.views id w }
-stays s k id v w at was off like n is =
+stays s k id v w at was off like has n is =
     let same : get_or (set s.words 0 n) 0 0 ≡ get_or s.words 0 0 = word_set s.words n k.one_word ∙ is in record {
       opening = k.opening;
       journal = k.journal;
@@ -71,6 +84,7 @@ stays s k id v w at was off like n is =
       one_word = length-set s.words 0 n ∙ k.one_word;
       legal = k.legal;
       knows = knows_set k.opening k.journal k.place s.views id w (λ j u _ e. k.knows j u e) (like k.opening k.journal k.place (k.knows id v at));
+      placed = λ t small. placed_set k.place s.views id v w t at (λ l e. (l, has t l e)) (k.placed t small);
       home = λ z. home_set k.opening k.journal s.homes s.views id w off (k.home (sym same ∙ z));
       out = λ nz. out_set k.journal s.views id v w at was off (k.out (λ z. nz (same ∙ z)));
     }
@@ -85,6 +99,7 @@ begins r legal = record {
   one_word = refl;
   legal = legal;
   knows = one;
+  placed = λ t small. record { view = starting r; own = owned (0 + t) r.journal; there = refl; has = owns_there 0 9 t r.journal small };
   home = λ _. record { desk = refl; free = none_holds };
   out = λ nz. absurd (nz refl);
 }
@@ -104,9 +119,9 @@ begins r legal = record {
 unchanged : (x old new : ℕ) → x ≢ old → either (eqb x old) new x ≡ x
 unchanged x old new miss = ap (λ b. either b new x) (ne_eqb x old miss)
 
-pub takes_or_misses : (slots id : ℕ) (m : Me (Option Run) View) → m.0.live ≡ true → m.0.holds ≡ false → m.1 ≡ [] → ((t : ℕ) × (l : List Entry) × (t < 9) × (own_of m.0 t ≡ Some l))
+pub takes_or_misses : (slots id : ℕ) (m : Me (Option Run) View) → m.0.live ≡ true → m.0.holds ≡ false → m.1 ≡ [] → m.0.is_seat ≡ true → m.0.who < 9
     → Allows Kept slots id m 0 (λ x. either (eqb x 0) 1 x) (took (step slots 0 0 1 none) m)
-takes_or_misses slots id m live off empty tester s k wide at small =
+takes_or_misses slots id m live off empty seat tester s k wide at small =
     let x : ℕ = get_or s.words 0 0 in dite (ℕ_discrete x 0)
     (λ is.
     let h = k.home is in
@@ -125,6 +140,7 @@ takes_or_misses slots id m live off empty tester s k wide at small =
       legal = k.legal;
       knows = knows_set k.opening k.journal k.place s.views id w (λ j u _ e. k.knows j u e)
           record { opened = known.opened; seen = begins_whole k.journal; told = known.told; owns = known.owns };
+      placed = λ t small. placed_set k.place s.views id m.0 w t at (λ l e. (l, e)) (k.placed t small);
       home = λ z. absurd (omega arith);
       out = λ _. record {
         holder = id;
@@ -132,6 +148,7 @@ takes_or_misses slots id m live off empty tester s k wide at small =
         there = set_there s.views id w m.0 at;
         holds = refl;
         seen = refl;
+        seat = seat;
         tester = tester;
         only = holds_set s.views id w (λ j. j ≡ id) (λ j u e on. absurd (h.free j u e on)) (λ _. refl);
       };
@@ -155,9 +172,12 @@ takes_or_misses slots id m live off empty tester s k wide at small =
       missing m.0,
       keeps,
       tt,
-      stays s k id m.0 (missing m.0) at off off (λ o journal place known. record { opened = known.opened; seen = known.seen; told = known.told; owns = known.owns }) (either (eqb x 0) 1 x) (unchanged x 0 1 busy),
+      stays s k id m.0 (missing m.0) at off off (λ o journal place known. record { opened = known.opened; seen = known.seen; told = known.told; owns = known.owns }) (λ t l e. e) (either (eqb x 0) 1 x) (unchanged x 0 1 busy),
       ((λ is. absurd (busy is)), λ _. refl),
     ))
+
+own_of_host : (v : View) (t : ℕ) → v.is_seat ≡ false → own_of v t ≡ get_or v.owns t None
+own_of_host v t host = ap (λ b. own_if b v.who v.own v.owns t) host
 
 pub names_next : (slots id t : ℕ) (m : Me (Option Run) View) → m.0.is_seat ≡ false → m.0.holds ≡ false
     → Allows Kept slots id m 0 (λ x. either (eqb x t) t x) (named (step slots 0 t t none) m)
@@ -175,6 +195,7 @@ names_next slots id t m host off s k wide at small =
             told = known.told;
             owns = λ u l e. known.owns u l (ap (λ b. own_if b v.who v.own v.owns u) host ∙ sym (ap (λ b. own_if b t v.own v.owns u) host) ∙ e);
           })
+          (λ u l e. own_of_host (naming v t) u host ∙ sym (own_of_host v u host) ∙ e)
           (either (eqb x t) t x) same,
       refl,
     )
@@ -182,7 +203,7 @@ names_next slots id t m host off s k wide at small =
 pub learns : (slots id : ℕ) (m : Me (Option Run) View) → m.0.holds ≡ false → Allows Kept slots id m 0 (λ x. x) (learned (step slots 0 0 0 none) m)
 learns slots id m off s k wide at small =
     let known = k.knows id m.0 at in
-    (m.0, keeps, tt, stays s k id m.0 m.0 at off off (λ o journal place h. h) (get_or s.words 0 0) refl, (refl, λ le. begins_shorter k.journal m.0.told m.0.seen known.told known.seen le))
+    (m.0, keeps, tt, stays s k id m.0 m.0 at off off (λ o journal place h. h) (λ t l e. e) (get_or s.words 0 0) refl, (refl, λ le. begins_shorter k.journal m.0.told m.0.seen known.told known.seen le))
 
 -- the entries that a step adds are the seat's alone
 own_kept : (t : ℕ) (journal next more : List Entry) → next ≡ journal ++ more → owned t more ≡ [] → owned t next ≡ owned t journal
@@ -253,6 +274,8 @@ module _ (id : ℕ) (v : View) (d : Run) (more : List Entry) (seat : v.is_seat �
           one_word = length-set s.words 0 0 ∙ k.one_word;
           legal = subst (λ z. Legal z d.journal) o legal;
           knows = knows_set k.opening d.journal k.place s.views id w others w_knows;
+          placed = λ t small. placed_set k.place s.views id v w t at
+              (λ l f. (w.own, ap (λ (u : ℕ). own_of w u) (own_of_mine v t l seat f).0 ∙ own_of_seat w seat)) (k.placed t small);
           home = λ _. record {
             desk = set_here s.homes 0 (some (Some d)) deep ∙ ap (λ z. some (some (Some (run z d.journal)))) o;
             free = λ j u e h. ⊎_elim
@@ -297,13 +320,14 @@ knows_moved o journal place who to by u away h = record {
   owns = λ t l f. let g = h.owns t l f in (moved_else place who to t (λ e. away (sym (ap place e) ∙ g.0)) ∙ g.0, g.1);
 }
 
-own_of_host : (v : View) (t : ℕ) → v.is_seat ≡ false → own_of v t ≡ get_or v.owns t None
-own_of_host v t host = ap (λ b. own_if b v.who v.own v.owns t) host
-
 none_read : (owns : List (Option (List Entry))) (i : ℕ) (x : List Entry) → get_or (set owns i None) i None ≡ Some x → ⊥
 none_read [] i x e = absurd (cc)
 none_read (y ∷ ys) zero x e = absurd (cc)
 none_read (y ∷ ys) (suc i) x e = none_read ys i x e
+
+last_there : {A : Type 0} → (views : List A) (r : A) → get_elem? (views ++ r ∷ []) (length views) ≡ some r
+last_there [] r = refl
+last_there (x ∷ xs) r = last_there xs r
 
 -- the last of all views: its place is the number of the others
 place_snoc : {A : Type 0} → (views : List A) (r u : A) (j : ℕ) → get_elem? (views ++ r ∷ []) j ≡ some u → (get_elem? views j ≡ some u) ⊎ ((j ≡ length views) × (r ≡ u))
@@ -359,6 +383,19 @@ gives_seat id v l host off live has s k at =
       one_word = k.one_word;
       legal = k.legal;
       knows = λ j u e. snoc_knows k.opening k.journal place views r new long first right_knows j u e;
+      placed = λ t small. dite (ℕ_discrete t v.who)
+          (λ is. record {
+            view = r;
+            own = r.own;
+            there = ap (λ j. get_elem? (views ++ r ∷ []) j) (moved_here k.place v.who new t is ∙ sym long) ∙ last_there views r;
+            has = ap (λ (u : ℕ). own_of r u) is ∙ own_of_seat r refl;
+          })
+          (λ not. let h = placed_set k.place s.views id v w t at (λ l e. (l, own_of_host w t host ∙ get_or-set_other v.owns v.who t None None not ∙ sym (own_of_host v t host) ∙ e)) (k.placed t small) in record {
+            view = h.view;
+            own = h.own;
+            there = ap (λ j. get_elem? (views ++ r ∷ []) j) (moved_else k.place v.who new t not) ∙ at_longer views (r ∷ []) (k.place t) h.view h.there;
+            has = h.has;
+          });
       home = λ z. let h = home_set k.opening k.journal s.homes s.views id w off (k.home z) in record {
         desk = h.desk;
         free = λ j u e on. ⊎_elim (λ (y : get_elem? views j ≡ some u). h.free j u y on) (λ (y : r ≡ u). apart refl (ap (λ (z : View). z.holds) y ∙ on)) (at_snoc views r u j e);
@@ -369,13 +406,14 @@ gives_seat id v l host off live has s k at =
         there = at_longer views (r ∷ []) h.holder h.view h.there;
         holds = h.holds;
         seen = h.seen;
+        seat = h.seat;
         tester = h.tester;
         only = λ j u e on. ⊎_elim (λ (y : get_elem? views j ≡ some u). h.only j u y on) (λ (y : r ≡ u). absurd (apart refl (ap (λ (z : View). z.holds) y ∙ on))) (at_snoc views r u j e);
       };
     }
 
-pub takes_seat_in : (id : ℕ) (v : View) (other : ℕ) (w : View) → v.is_seat ≡ false → v.holds ≡ false → w.is_seat ≡ true → w.holds ≡ false → Joins Kept id v other w (host_with v w) spent
-takes_seat_in id v other w host off seat w_off s k at distinct there =
+pub takes_seat_in : (id : ℕ) (v : View) (other : ℕ) (w : View) → v.is_seat ≡ false → v.holds ≡ false → w.is_seat ≡ true → w.holds ≡ false → w.who < length v.owns → Joins Kept id v other w (host_with v w) spent
+takes_seat_in id v other w host off seat w_off deep s k at distinct there =
     let b = host_with v w in
     let views = set s.views id b in
     let w_at = sym (set_else s.views id other b distinct) ∙ there in
@@ -410,6 +448,21 @@ takes_seat_in id v other w host off seat w_off s k at distinct there =
           (λ (y : (j ≢ id) × (get_elem? s.views j ≡ some u)). knows_moved k.opening k.journal k.place w.who id j u (λ z. not_other (sym z ∙ mine.0)) (k.knows j u y.1))
           (at_set s.views id j b u e))
           spent_knows;
+      placed = λ t small. dite (ℕ_discrete t w.who)
+          (λ is. record {
+            view = b;
+            own = w.own;
+            there = ap (λ j. get_elem? (set views other spent) j) (moved_here k.place w.who id t is)
+                ∙ set_else views other id spent (λ e. distinct (sym e)) ∙ set_there s.views id b v at;
+            has = own_of_host b t host ∙ get_or-set_at v.owns w.who t (Some w.own) None is deep;
+          })
+          (λ not. let h = placed_set k.place s.views id v b t at (λ l e. (l, own_of_host b t host ∙ get_or-set_other v.owns w.who t (Some w.own) None not ∙ sym (own_of_host v t host) ∙ e)) (k.placed t small) in
+          let h2 = placed_set k.place views other w spent t there (λ l e. absurd (not (own_of_mine w t l seat e).0)) h in record {
+            view = h2.view;
+            own = h2.own;
+            there = ap (λ j. get_elem? (set views other spent) j) (moved_else k.place w.who id t not) ∙ h2.there;
+            has = h2.has;
+          });
       home = λ z. home_set k.opening k.journal s.homes views other spent refl (home_set k.opening k.journal s.homes s.views id b off (k.home z));
       out = λ nz. out_set k.journal views other w spent there w_off refl (out_set k.journal s.views id v b at off off (k.out nz));
     }
@@ -428,9 +481,9 @@ closes id v s seen live off all =
     let known = k.knows id v seen.1 in
     let same : v.opening ≡ k.opening = known.opened live in
     let home = dite (ℕ_discrete (get_or s.words 0 0) 0) k.home
-    (λ nz. let out = k.out nz in let t = out.tester.0 in
-    let here = (known.owns t (all t out.tester.2).0 (all t out.tester.2).1).0 in
-    let there = ((k.knows out.holder out.view out.there).owns t out.tester.1 out.tester.3).0 in
+    (λ nz. let out = k.out nz in let t = out.view.who in
+    let here = (known.owns t (all t out.tester).0 (all t out.tester).1).0 in
+    let there = ((k.knows out.holder out.view out.there).owns t out.view.own (own_of_seat out.view out.seat)).0 in
     let one : out.holder ≡ id = sym there ∙ here in
     absurd (apart off (ap (λ (x : View). x.holds) (some-injective v out.view (sym seen.1 ∙ ap (λ j. get_elem? s.views j) (sym one) ∙ out.there)) ∙ out.holds))) in record {
       journal = k.journal;

@@ -33,8 +33,16 @@ pub record Out (journal : List Entry) (views : List View) : Type 0 where
   pub there : get_elem? views holder ≡ some view
   pub holds : view.holds ≡ true
   pub seen : view.seen ≡ journal
-  pub tester : (t : ℕ) × (l : List Entry) × (t < 9) × (own_of view t ≡ Some l)
+  pub seat : view.is_seat ≡ true
+  pub tester : view.who < 9
   pub only : (by : ℕ) (v : View) → get_elem? views by ≡ some v → v.holds ≡ true → by ≡ holder
+
+-- a view has the tester, the one at the tester's place
+pub record Placed (place : ℕ → ℕ) (views : List View) (t : ℕ) : Type 0 where
+  pub view : View
+  pub own : List Entry
+  pub there : get_elem? views (place t) ≡ some view
+  pub has : own_of view t ≡ Some own
 
 -- there is one legal journal from one opening, of which every view is right, and the desk stands for it
 pub record Kept (s : Board (Option Run) View) : Type 0 where
@@ -44,5 +52,6 @@ pub record Kept (s : Board (Option Run) View) : Type 0 where
   pub one_word : length s.words ≡ 1
   pub legal : Legal opening journal
   pub knows : (by : ℕ) (v : View) → get_elem? s.views by ≡ some v → Knows opening journal place by v
+  pub placed : (t : ℕ) → t < 9 → Placed place s.views t
   pub home : slice_index s.words 0 ≡ 0 → AtHome opening journal s.homes s.views
   pub out : slice_index s.words 0 ≢ 0 → Out journal s.views

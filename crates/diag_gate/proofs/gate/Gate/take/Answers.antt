@@ -4,7 +4,7 @@ use Rattle.diag_desk.specs.Legal.{Run}
 use Rattle.diag_gate.specs.Seats.{seat_as, misses, IsSeat, IsHeld, Finds}
 use Rattle.diag_gate.specs.Rule.{run}
 use Rattle.diag_gate.proofs.Keeps.{takes_or_misses}
-use Rattle.diag_gate.proofs.Steps.{Sat, seat_has, held_is, finds_is, run_is}
+use Rattle.diag_gate.proofs.Steps.{Sat, held_is, finds_is, run_is}
 use Rattle.diag_gate.proofs.gate.Gate.take.Goals as goal
 
 pub compare_exchange-requires : goal.compare_exchange-requires
@@ -13,7 +13,7 @@ compare_exchange-requires c =
     let is = seat.is in (
       c.requires.gate ∙ sym c.self.view_is,
       (let w = c.self.invariant.0 in omega arith),
-      takes_or_misses _ _ _ (ap (λ (m : Sat). m.0.live) is) (ap (λ (m : Sat). m.0.holds) is) (ap (λ (m : Sat). m.1) is) (c.args.who, _, seat.place, seat_has _ _ seat),
+      takes_or_misses _ _ _ (ap (λ (m : Sat). m.0.live) is) (ap (λ (m : Sat). m.0.holds) is) (ap (λ (m : Sat). m.1) is) (ap (λ (m : Sat). m.0.is_seat) is) (let who = ap (λ (m : Sat). m.0.who) is in let place = seat.place in omega arith),
     )
 
 pub exchange-requires : goal.exchange-requires
