@@ -39,8 +39,8 @@ struct Reading {
 /// stamp is later than the latest stamp of a frame before, as Ticks of 60000 and last the rest.
 ///
 /// # Errors
-/// The first of these in the order of the lines: `Line`, the line's number from 1 and its fault; `TooManyEvents`, where a
-/// line makes more than 1,000,000 events; `TooManyLines`, where a line follows the 1,000,000th. `Memory` where memory is refused.
+/// The first of these in the order of the lines: `Line`, the line's number from 1 and its fault; `TooManyEvents`, at a
+/// line with whose events there are more than 1,000,000; `TooManyLines`, where a line follows the 1,000,000th. `Memory` where memory is refused.
 pub fn read_log(
     alloc: Global,
     text: &[u8],

@@ -50,7 +50,7 @@ impl<'a, R: Wait> Door for LockDoor<'a, R> {
     }
 
     /// Its own journal has room before it locks, and a full one is looked at first. The answer is the desk's, so that it is lawful behind some
-    /// legal journal; which desk it was, its type alone says.
+    /// legal journal; which desk gave it, the contract doesn't say.
     fn step(&mut self, step: &Step) -> Result<Option<Message>, StepFault>
         ensures lawful { IfOk result (λ reply. (desk : Run) × Legal desk.opening (desk.journal ++ entry self.old.who step.now reply ∷ [])) }
         ensures full { length self.old.given.entries ≡ 1000000 → result ≡ Err StepFault.JournalFull }

@@ -153,7 +153,7 @@ impl Setup {
         &self.raw.testers.as_slice()[who.index()]
     }
 
-    /// The setup as it was read, whose numbers fit.
+    /// The setup that was checked, its tables in rising order; its numbers fit.
     #[tactic(auto, using(crate::proofs::FitLemmas::numbers_fit))]
     pub fn numbers(&self) -> &RawSetup
         ensures same { result.now ≡ self.now }

@@ -51,7 +51,7 @@ impl Model for DtcMemory {
 }
 
 /// groupOfDTC of all codes (ISO 14229-1:2013, D.1).
-pub const ALL_GROUPS: u32 = 0xFF_FFFF;
+const ALL_GROUPS: u32 = 0xFF_FFFF;
 
 /// statusOfDTC after clearing: bits 4 and 6, testNotCompletedSinceLastClear and testNotCompletedThisOperationCycle (D.2).
 const CLEARED_STATUS: u8 = 0x50;

@@ -119,7 +119,7 @@ impl Routines {
         Some(row.result.as_slice())
     }
 
-    /// Starts a routine.
+    /// Starts a routine that the table has.
     pub fn start(&mut self, id: u16)
         requires { IsTrue (is_some (routine_of self.old id)) }
         ensures { self.new ≡ started self.old id }
@@ -127,7 +127,7 @@ impl Routines {
         run(&mut self.rows, id);
     }
 
-    /// Makes a routine idle.
+    /// Makes a routine that the table has idle.
     pub fn stop(&mut self, id: u16)
         requires { IsTrue (is_some (routine_of self.old id)) }
         ensures { self.new ≡ stopped self.old id }
@@ -146,7 +146,8 @@ impl Routines {
         tick_all(&mut self.rows);
     }
 
-    /// How many ticks pass at least before one ends a routine: all but the last of the one that ends first.
+    /// How many ticks pass at least before one ends a routine: all but the last of the one that ends first; `u32::MAX` where
+    /// none runs.
     pub fn quiet_ticks(&self) -> u32
         ensures { result ≡ quiet_ticks self.now }
     {

@@ -11,7 +11,7 @@ use diag_setup::{Setup, Who};
 use std::alloc::{AllocError, Global};
 use std::marker::Model;
 
-/// The seed that a tester was given last.
+/// The seed that is outstanding: the one that a tester was given last. The zeros of an unlocked level are none.
 #[derive(Clone, Copy, PartialEq, Eq, Debug, Drop)]
 pub struct Outstanding {
     /// The odd sub-function of its level.

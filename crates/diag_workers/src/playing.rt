@@ -44,7 +44,11 @@ pub enum PlayFault {
 ///
 /// The journal is a legal run of the sequential server from the setup's opening, and the run of a named interleaving of the logs;
 /// each tester's frames are what its flow control draws from the replies to it. The watch is told of each step before it is
-/// taken. The logs are read first, at the same time too, and the first that refuses, in order, decides.
+/// taken. The logs are read first, at the same time too.
+///
+/// # Errors
+/// `Log` for the first log that is at fault, in order; `JournalFull` at the step that the journal has no room for; `Memory`
+/// where memory is refused.
 pub fn play<W: Watch + Sync, R: Threads + Wait + Sync>(
     rt: &R,
     alloc: Global,

@@ -28,7 +28,11 @@ pub struct WorkerRecord {
 
 /// Takes one tester's events, and asks its door for each step that they give.
 ///
-/// All growths for an event are made before the door is asked. A refusal leaves the door with the first of the steps.
+/// All growths for an event are made before the door is asked.
+///
+/// # Errors
+/// `Memory` where memory is refused, here or at the door; `JournalFull` where the door's desk has a full journal. The door is left
+/// with the first of the steps.
 pub fn work<D: Door>(
     alloc: Global,
     setup: &Setup,

@@ -86,6 +86,9 @@ impl Gate {
     }
 
     /// One step, where the word was found to be 0.
+    ///
+    /// # Errors
+    /// `Busy`, with the step, where the word was found to be 1; else as the desk's step. The desk is then as it was.
     pub fn try_step(&self, seat: &mut Seat, step: Step) -> Result<Option<Message>, TryFault>
         requires { seat.old.gate ≡ self.now }
         ensures made { MatchResult result (λ r. Answered seat.old seat.new step r) (λ e. NotMade seat.old seat.new step e) }
@@ -100,6 +103,9 @@ impl Gate {
     }
 
     /// One step. It waits until the word is found to be 0.
+    ///
+    /// # Errors
+    /// As the desk's step, which is then as it was: `JournalFull` where the journal is full, `Memory` where memory is refused.
     pub fn step<R: Wait>(
         &self,
         rt: &R,
@@ -145,6 +151,9 @@ fn tried(answer: Result<Option<Message>, StepFault>) -> Result<Option<Message>, 
 
 impl Held<'_> {
     /// One step at the desk, which then goes back.
+    ///
+    /// # Errors
+    /// As the desk's step: the desk goes back as it was.
     pub fn step(self, step: &Step) -> (Seat, Result<Option<Message>, StepFault>)
         ensures made { MatchResult result.1 (λ r. Answered self.entry result.0 step.now r) (λ e. (result.0 ≡ self.entry) × IsFull self.entry e) }
         ensures quiet { IfOk result.1 (λ r. HasNoReply step.now r) }
