@@ -16,6 +16,7 @@ use Rattle.diag_setup.specs.Setup.{checked}
 use Rattle.diag_config.specs.declared.rows.Times.{Times}
 use Rattle.diag_config.specs.declared.rows.LinkValues.{LinkValues}
 use Rattle.diag_config.specs.declared.rows.ServerValues.{ServerValues}
+use Rattle.diag_config.specs.declared.rows.Lists.{Lists}
 use Rattle.diag_config.specs.Key.{Fault, syntax, missing, bad_value, refused, ◌>>=◌}
 
 -- ---- kinds of value: what a value of the kind says, or that the key holds a bad value
@@ -147,7 +148,7 @@ level_at ms = do
   rows ← with_default (list (row row_at)) ms (codes "row") (codes "level.row") []
   Ok (record { sub = sub; rows = rows })
 
--- ---- the keys at the top, in three groups
+-- ---- the keys at the top, in four groups
 
 unfoldable pub timing_at : Members → Result Times Fault
 timing_at ms = do
@@ -175,17 +176,22 @@ server_at ms = do
   delay_ms ← with_default number ms (codes "delay_ms") (codes "delay_ms") 10000
   Ok (record { availability = availability; functional = functional; attempts = attempts; delay_ms = delay_ms })
 
+unfoldable pub tables_at : Members → Result Lists Fault
+tables_at ms = do
+  testers ← with_default (list (row tester_at)) ms (codes "tester") (codes "tester") []
+  dids ← with_default (list (row did_at)) ms (codes "did") (codes "did") []
+  trouble_codes ← with_default (list (row code_at)) ms (codes "code") (codes "code") []
+  routines ← with_default (list (row routine_at)) ms (codes "routine") (codes "routine") []
+  levels ← with_default (list (row level_at)) ms (codes "level") (codes "level") []
+  Ok (record { testers = testers; dids = dids; codes = trouble_codes; routines = routines; levels = levels })
+
 -- all keys, in the order of the table
 unfoldable pub setup_at : Members → Result RawSetup Fault
 setup_at ms = do
   timing ← timing_at ms
   transport ← transport_at ms
   server ← server_at ms
-  testers ← with_default (list (row tester_at)) ms (codes "tester") (codes "tester") []
-  dids ← with_default (list (row did_at)) ms (codes "did") (codes "did") []
-  trouble_codes ← with_default (list (row code_at)) ms (codes "code") (codes "code") []
-  routines ← with_default (list (row routine_at)) ms (codes "routine") (codes "routine") []
-  levels ← with_default (list (row level_at)) ms (codes "level") (codes "level") []
+  lists ← tables_at ms
   Ok (record {
     p2_ms = timing.p2_ms;
     p2_star_10ms = timing.p2_star_10ms;
@@ -201,11 +207,11 @@ setup_at ms = do
     functional = server.functional;
     attempts = server.attempts;
     delay_ms = server.delay_ms;
-    testers = testers;
-    dids = dids;
-    codes = trouble_codes;
-    routines = routines;
-    levels = levels;
+    testers = lists.testers;
+    dids = lists.dids;
+    codes = lists.codes;
+    routines = lists.routines;
+    levels = lists.levels;
   })
 
 -- ---- a whole text

@@ -9,7 +9,7 @@ ghost use Rattle.diag_setup.specs.declared.raw.RawRoutine.{RawRoutine as ARoutin
 ghost use Rattle.diag_setup.specs.declared.raw.RawKeyRow.{RawKeyRow as ARow};
 ghost use Rattle.diag_setup.specs.declared.raw.RawLevel.{RawLevel as ALevel};
 ghost use Rattle.diag_config.specs.Key.{KeyGives};
-ghost use Rattle.diag_config.specs.Setup.{row, tester_at, did_at, code_at, done_at, routine_at, row_at, level_at, timing_at, transport_at, server_at, setup_at};
+ghost use Rattle.diag_config.specs.Setup.{row, tester_at, did_at, code_at, done_at, routine_at, row_at, level_at, timing_at, transport_at, server_at, tables_at, setup_at};
 
 use crate::fault::KeyFault;
 use crate::table::{optional, required, with_default};
@@ -45,6 +45,16 @@ struct ServerValues {
     functional: u32,
     attempts: u32,
     delay_ms: u32,
+}
+
+/// The lists of a setup, each of tables of one kind.
+#[derive(Drop)]
+struct Lists {
+    testers: Items<RawTester>,
+    dids: Items<RawDid>,
+    codes: Items<RawCode>,
+    routines: Items<RawRoutine>,
+    levels: Items<RawLevel>,
 }
 
 #[tactic(auto, unfolding(crate::specs::Setup::tester_at))]
@@ -200,13 +210,10 @@ fn server(alloc: Global, table: &Table) -> Result<ServerValues, KeyFault>
     })
 }
 
-#[tactic(auto, unfolding(crate::specs::Setup::setup_at))]
-pub fn setup(alloc: Global, table: &Table) -> Result<RawSetup, KeyFault>
-    ensures { KeyGives (λ x. x) result (setup_at (table_view table.now)) }
+#[tactic(auto, unfolding(crate::specs::Setup::tables_at))]
+fn tables(alloc: Global, table: &Table) -> Result<Lists, KeyFault>
+    ensures { KeyGives (λ x. x) result (tables_at (table_view table.now)) }
 {
-    let timing = timing(alloc, table)?;
-    let transport = transport(alloc, table)?;
-    let server = server(alloc, table)?;
     let testers = with_default(
         alloc,
         table,
@@ -230,6 +237,23 @@ pub fn setup(alloc: Global, table: &Table) -> Result<RawSetup, KeyFault>
         "level",
         Items::<RawLevel>::new(alloc),
     )?;
+    Ok(Lists {
+        testers,
+        dids,
+        codes,
+        routines,
+        levels,
+    })
+}
+
+#[tactic(auto, unfolding(crate::specs::Setup::setup_at))]
+pub fn setup(alloc: Global, table: &Table) -> Result<RawSetup, KeyFault>
+    ensures { KeyGives (λ x. x) result (setup_at (table_view table.now)) }
+{
+    let timing = timing(alloc, table)?;
+    let transport = transport(alloc, table)?;
+    let server = server(alloc, table)?;
+    let lists = tables(alloc, table)?;
     Ok(RawSetup {
         p2_ms: timing.p2_ms,
         p2_star_10ms: timing.p2_star_10ms,
@@ -245,11 +269,11 @@ pub fn setup(alloc: Global, table: &Table) -> Result<RawSetup, KeyFault>
         functional: server.functional,
         attempts: server.attempts,
         delay_ms: server.delay_ms,
-        testers,
-        dids,
-        codes,
-        routines,
-        levels,
+        testers: lists.testers,
+        dids: lists.dids,
+        codes: lists.codes,
+        routines: lists.routines,
+        levels: lists.levels,
     })
 }
 
