@@ -4,7 +4,8 @@
 # of a few comparisons.
 set -euo pipefail
 top=$(cd "$(dirname "${BASH_SOURCE[0]}")/.." && pwd)
-work=$top/bench/out/check_setup
+# outside the repository, every folder of which `rt ci` reads; kept, so that another run proves only what has changed
+work=${TMPDIR:-/tmp}/uds_play_bench$top/check_setup
 mkdir -p "$work/crates/check_setup/src"
 : > "$work/crates.txt"
 for crate in diag_can diag_tp diag_setup diag_store diag_fixtures; do

@@ -3,7 +3,8 @@
 # Every second frame is the tester's, with a tick count before it. A benchmark and no test: the time of a line should stay the same as the log grows.
 set -euo pipefail
 top=$(cd "$(dirname "${BASH_SOURCE[0]}")/.." && pwd)
-work=$top/bench/out/read_log
+# outside the repository, every folder of which `rt ci` reads; kept, so that another run proves only what has changed
+work=${TMPDIR:-/tmp}/uds_play_bench$top/read_log
 mkdir -p "$work/crates/read_log/src"
 mkdir -p "$work/crates/diag_can"
 cp -rpu "$top/crates/diag_can/src" "$top/crates/diag_can/specs" "$top/crates/diag_can/proofs" "$work/crates/diag_can/"

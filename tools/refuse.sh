@@ -7,8 +7,8 @@
 # A test must end with the error of a refused allocation, or pass where it had no more need of the memory.
 # A request may fall in any thread; how many there are may then be another from run to run.
 # A test that makes many requests, or that takes long, has 200 of them refused, evenly chosen, or as many as fit in
-# REFUSE_TEST_SECONDS (default 3). REFUSE_SECONDS (default 600) bounds the whole; what was not reached has failed. The
-# last line is 'N passed, M failed'.
+# REFUSE_TEST_SECONDS (default 3). REFUSE_SECONDS (default 600) bounds the runs of the program, and each suite anew; what
+# was not reached has failed. The last line is 'N passed, M failed'.
 set -uo pipefail
 cd "$(dirname "$0")/.." || exit 2
 room=$(mktemp -d)
@@ -130,7 +130,7 @@ sweep_program() {
 sweep_suites() {
   local suites counts
   suites=$(find crates/*/out -maxdepth 1 -name '*_tests' -type f -perm -u+x | sort)
-  if [ -z "$suites" ]; then return; fi
+  if [ -z "$suites" ]; then : > "$room/err"; bad "no suite of tests is built"; return; fi
   # shellcheck disable=SC2086 # a path a word
   printf '%s\n' $suites | xargs -P "$(nproc)" -n 1 tools/refuse.sh suite > "$room/suites"
   grep -vE '^[0-9]+ passed, [0-9]+ failed$' "$room/suites"
@@ -149,6 +149,7 @@ case "${1:-}" in
     while read -r name; do
       sweep_test "$2" "$name"
     done < <("$2" --list 2> /dev/null | sed -n 's/: test$//p')
+    [ $((passed + failed)) -gt 0 ] || bad "$2: it lists no test"
     ;;
   *) sweep_program ;;
 esac
