@@ -39,10 +39,12 @@ is_right() {
 }
 
 for folder in "$PWD"/runs/*/; do
+  before=$((passed + failed))
   while read -r -a words; do
     ran "$folder" "${words[@]}"
     if is_right "$folder"; then good "$(basename "$folder"): ${words[*]}"; else bad "$(basename "$folder"): ${words[*]}: status $status"; fi
   done < "${folder}commands"
+  [ $((passed + failed)) -gt $before ] || bad "$(basename "$folder"): it has no command"
 done
 
 # ends NAME STATUS TOLD: the last run ended so, wrote nothing, and told this line of a fault
