@@ -40,7 +40,8 @@ struct Reading {
 ///
 /// # Errors
 /// The first of these in the order of the lines: `Line`, the line's number from 1 and its fault; `TooManyEvents`, at a
-/// line with whose events there are more than 1,000,000; `TooManyLines`, where a line follows the 1,000,000th. `Memory` where memory is refused.
+/// line with whose events there are more than 1,000,000; `TooManyLines`, where a line follows the 1,000,000th. `Memory`
+/// where memory is refused.
 pub fn read_log(
     alloc: Global,
     text: &[u8],

@@ -16,7 +16,7 @@ use Rattle.diag_setup.specs.Setup.{checked}
 use Rattle.diag_config.specs.declared.rows.Times.{Times}
 use Rattle.diag_config.specs.declared.rows.LinkValues.{LinkValues}
 use Rattle.diag_config.specs.declared.rows.ServerValues.{ServerValues}
-use Rattle.diag_config.specs.declared.rows.Lists.{Lists}
+use Rattle.diag_config.specs.declared.rows.SetupTables.{SetupTables}
 use Rattle.diag_config.specs.Key.{Fault, syntax, missing, bad_value, refused, ◌>>=◌}
 
 -- ---- kinds of value: what a value of the kind says, or that the key holds a bad value
@@ -176,7 +176,7 @@ server_at ms = do
   delay_ms ← with_default number ms (codes "delay_ms") (codes "delay_ms") 10000
   Ok (record { availability = availability; functional = functional; attempts = attempts; delay_ms = delay_ms })
 
-unfoldable pub tables_at : Members → Result Lists Fault
+unfoldable pub tables_at : Members → Result SetupTables Fault
 tables_at ms = do
   testers ← with_default (list (row tester_at)) ms (codes "tester") (codes "tester") []
   dids ← with_default (list (row did_at)) ms (codes "did") (codes "did") []
@@ -191,7 +191,7 @@ setup_at ms = do
   timing ← timing_at ms
   transport ← transport_at ms
   server ← server_at ms
-  lists ← tables_at ms
+  tables ← tables_at ms
   Ok (record {
     p2_ms = timing.p2_ms;
     p2_star_10ms = timing.p2_star_10ms;
@@ -207,11 +207,11 @@ setup_at ms = do
     functional = server.functional;
     attempts = server.attempts;
     delay_ms = server.delay_ms;
-    testers = lists.testers;
-    dids = lists.dids;
-    codes = lists.codes;
-    routines = lists.routines;
-    levels = lists.levels;
+    testers = tables.testers;
+    dids = tables.dids;
+    codes = tables.codes;
+    routines = tables.routines;
+    levels = tables.levels;
   })
 
 -- ---- a whole text

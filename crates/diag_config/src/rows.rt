@@ -47,9 +47,9 @@ struct ServerValues {
     delay_ms: u32,
 }
 
-/// The lists of a setup, each of tables of one kind.
+/// The tables of a setup, a list for each kind.
 #[derive(Drop)]
-struct Lists {
+struct SetupTables {
     testers: Items<RawTester>,
     dids: Items<RawDid>,
     codes: Items<RawCode>,
@@ -211,7 +211,7 @@ fn server(alloc: Global, table: &Table) -> Result<ServerValues, KeyFault>
 }
 
 #[tactic(auto, unfolding(crate::specs::Setup::tables_at))]
-fn tables(alloc: Global, table: &Table) -> Result<Lists, KeyFault>
+fn tables(alloc: Global, table: &Table) -> Result<SetupTables, KeyFault>
     ensures { KeyGives (λ x. x) result (tables_at (table_view table.now)) }
 {
     let testers = with_default(
@@ -237,7 +237,7 @@ fn tables(alloc: Global, table: &Table) -> Result<Lists, KeyFault>
         "level",
         Items::<RawLevel>::new(alloc),
     )?;
-    Ok(Lists {
+    Ok(SetupTables {
         testers,
         dids,
         codes,
@@ -253,7 +253,7 @@ pub fn setup(alloc: Global, table: &Table) -> Result<RawSetup, KeyFault>
     let timing = timing(alloc, table)?;
     let transport = transport(alloc, table)?;
     let server = server(alloc, table)?;
-    let lists = tables(alloc, table)?;
+    let tables = tables(alloc, table)?;
     Ok(RawSetup {
         p2_ms: timing.p2_ms,
         p2_star_10ms: timing.p2_star_10ms,
@@ -269,11 +269,11 @@ pub fn setup(alloc: Global, table: &Table) -> Result<RawSetup, KeyFault>
         functional: server.functional,
         attempts: server.attempts,
         delay_ms: server.delay_ms,
-        testers: lists.testers,
-        dids: lists.dids,
-        codes: lists.codes,
-        routines: lists.routines,
-        levels: lists.levels,
+        testers: tables.testers,
+        dids: tables.dids,
+        codes: tables.codes,
+        routines: tables.routines,
+        levels: tables.levels,
     })
 }
 

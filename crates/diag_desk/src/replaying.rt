@@ -28,7 +28,8 @@ pub enum ReplayFault {
 /// The ECU of a setup after all entries, where each tester is in the setup and each reply is the ECU's.
 ///
 /// Otherwise the first entry that differs. Memory can be refused at any entry: where an entry before it differs, that has
-/// already decided. So the journal of a desk of this setup, whose testers are the setup's, is replayed to its end where memory is not refused.
+/// already decided. So the journal of a desk of this setup, whose testers are the setup's, is replayed to its end
+/// where memory is not refused.
 pub fn replay(alloc: Global, setup: &Setup, journal: &Journal) -> Result<Ecu, ReplayFault>
     ensures run { IfOk result (λ _. IsRun setup.now journal.now.entries) }
     ensures ecu { IfOk result (λ ecu. ecu ≡ after (opening setup.now) journal.now.entries) }

@@ -193,7 +193,7 @@ names_next slots id t m host off s k wide at small =
             opened = known.opened;
             seen = known.seen;
             told = known.told;
-            owns = λ u l e. known.owns u l (ap (λ b. own_if b v.who v.own v.owns u) host ∙ sym (ap (λ b. own_if b t v.own v.owns u) host) ∙ e);
+            owns = λ u l e. known.owns u l (own_of_host v u host ∙ sym (own_of_host (naming v t) u host) ∙ e);
           })
           (λ u l e. own_of_host (naming v t) u host ∙ sym (own_of_host v u host) ∙ e)
           (either (eqb x t) t x) same,
@@ -311,6 +311,14 @@ moved_else : (place : ℕ → ℕ) (who to t : ℕ) → t ≢ who → moved plac
 unfolding moved
 moved_else place who to t not = ap (λ b. cond b to (place t)) (ne_eqb t who not)
 
+placed_moved : (place : ℕ → ℕ) (who to t : ℕ) (views : List View) → t ≢ who → Placed place views t → Placed (moved place who to) views t
+placed_moved place who to t views not h =
+    record { view = h.view; own = h.own; there = ap (λ j. get_elem? views j) (moved_else place who to t not) ∙ h.there; has = h.has }
+
+-- a host has each tester as before but the one that was given or taken in
+own_else : (v : View) (who t : ℕ) (x : Option (List Entry)) → v.is_seat ≡ false → t ≢ who → own_if v.is_seat v.who v.own (set v.owns who x) t ≡ own_of v t
+own_else v who t x host not = ap (λ b. own_if b v.who v.own (set v.owns who x) t) host ∙ get_or-set_other v.owns who t x None not ∙ sym (own_of_host v t host)
+
 -- a view that has not the tester whose place is changed
 knows_moved : (o : State) (journal : List Entry) (place : ℕ → ℕ) (who to by : ℕ) (u : View) → place who ≢ by → Knows o journal place by u → Knows o journal (moved place who to) by u
 knows_moved o journal place who to by u away h = record {
@@ -390,10 +398,11 @@ gives_seat id v l host off live has s k at =
             there = ap (λ j. get_elem? (views ++ r ∷ []) j) (moved_here k.place v.who new t is ∙ sym long) ∙ last_there views r;
             has = ap (λ (u : ℕ). own_of r u) is ∙ own_of_seat r refl;
           })
-          (λ not. let h = placed_set k.place s.views id v w t at (λ l e. (l, own_of_host w t host ∙ get_or-set_other v.owns v.who t None None not ∙ sym (own_of_host v t host) ∙ e)) (k.placed t small) in record {
+          (λ not. let h = placed_set k.place s.views id v w t at (λ l e. (l, own_else v v.who t None host not ∙ e)) (k.placed t small) in
+          placed_moved k.place v.who new t (views ++ r ∷ []) not record {
             view = h.view;
             own = h.own;
-            there = ap (λ j. get_elem? (views ++ r ∷ []) j) (moved_else k.place v.who new t not) ∙ at_longer views (r ∷ []) (k.place t) h.view h.there;
+            there = at_longer views (r ∷ []) (k.place t) h.view h.there;
             has = h.has;
           });
       home = λ z. let h = home_set k.opening k.journal s.homes s.views id w off (k.home z) in record {
@@ -456,13 +465,9 @@ takes_seat_in id v other w host off seat w_off deep s k at distinct there =
                 ∙ set_else views other id spent (λ e. distinct (sym e)) ∙ set_there s.views id b v at;
             has = own_of_host b t host ∙ get_or-set_at v.owns w.who t (Some w.own) None is deep;
           })
-          (λ not. let h = placed_set k.place s.views id v b t at (λ l e. (l, own_of_host b t host ∙ get_or-set_other v.owns w.who t (Some w.own) None not ∙ sym (own_of_host v t host) ∙ e)) (k.placed t small) in
-          let h2 = placed_set k.place views other w spent t there (λ l e. absurd (not (own_of_mine w t l seat e).0)) h in record {
-            view = h2.view;
-            own = h2.own;
-            there = ap (λ j. get_elem? (set views other spent) j) (moved_else k.place w.who id t not) ∙ h2.there;
-            has = h2.has;
-          });
+          (λ not. let h = placed_set k.place s.views id v b t at (λ l e. (l, own_else v w.who t (Some w.own) host not ∙ e)) (k.placed t small) in
+          placed_moved k.place w.who id t (set views other spent) not
+          (placed_set k.place views other w spent t there (λ l e. absurd (not (own_of_mine w t l seat e).0)) h));
       home = λ z. home_set k.opening k.journal s.homes views other spent refl (home_set k.opening k.journal s.homes s.views id b off (k.home z));
       out = λ nz. out_set k.journal views other w spent there w_off refl (out_set k.journal s.views id v b at off off (k.out nz));
     }

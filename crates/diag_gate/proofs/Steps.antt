@@ -22,7 +22,7 @@ use Rattle.diag_gate.proofs.Keeps.{own_of_seat}
 abbrev pub Sat : Type 0
 Sat = Me (Option Run) View
 
-pub seat_has : (who : ℕ) (me : Sat) → IsSeat who me → own_of me.0 who ≡ Some me.0.own
+seat_has : (who : ℕ) (me : Sat) → IsSeat who me → own_of me.0 who ≡ Some me.0.own
 seat_has who me is = ap (λ (t : ℕ). own_of me.0 t) (sym (ap (λ (m : Sat). m.0.who) is.is)) ∙ own_of_seat me.0 (ap (λ (m : Sat). m.0.is_seat) is.is)
 
 head_same : (a b : Option Run) (xs ys : List (ℕ × Option Run)) → ◌≡◌ {A = List (ℕ × Option Run)} ((0, a) ∷ xs) ((0, b) ∷ ys) → a ≡ b

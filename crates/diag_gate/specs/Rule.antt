@@ -44,7 +44,7 @@ pub record Placed (place : ℕ → ℕ) (views : List View) (t : ℕ) : Type 0 w
   pub there : get_elem? views (place t) ≡ some view
   pub has : own_of view t ≡ Some own
 
--- there is one legal journal from one opening, of which every view is right, and the desk stands for it
+-- there is one legal journal from one opening, of which every view is right, each tester is in a view, and the desk stands for the journal
 pub record Kept (s : Board (Option Run) View) : Type 0 where
   pub opening : State
   pub journal : List Entry
