@@ -43,7 +43,8 @@ silence _ _ _ = 0
 
 -- that much time: 60000 ticks each, and last the rest
 abbrev pub waited : ℕ → List Event
-waited ms = replicate (ms / 60000) (Ticks 60000) ++ (if ms % 60000 == 0 then [] else Ticks (ms % 60000) ∷ [])
+waited ms = replicate (ms / 60000) (Ticks 60000)
+    ++ (if ms % 60000 == 0 then [] else Ticks (ms % 60000) ∷ [])
 
 -- ---- events
 
@@ -53,12 +54,14 @@ event_list _ = []
 
 -- what a line gives where this is the reference
 abbrev pub line_gives : Timing → Option ℕ → Ids → List ℕ → List Event
-line_gives timing reference ids line = waited (silence timing reference (frame_moment ids line)) ++ event_list (line_event line ids)
+line_gives timing reference ids line =
+    waited (silence timing reference (frame_moment ids line)) ++ event_list (line_event line ids)
 
 -- what the lines give, each after those before it
 abbrev pub events_after : Timing → Ids → List (List ℕ) → List (List ℕ) → List Event
 events_after timing ids past [] = []
-events_after timing ids past (line ∷ lines) = line_gives timing (reference ids past) ids line ++ events_after timing ids (past ++ line ∷ []) lines
+events_after timing ids past (line ∷ lines) = line_gives timing (reference ids past) ids line
+    ++ events_after timing ids (past ++ line ∷ []) lines
 
 -- ---- faults
 
@@ -71,11 +74,13 @@ line_fault number (Ok event) count = if nat_lt 1000000 count then Some TooManyEv
 abbrev pub fault_after : Timing → Ids → List (List ℕ) → List ℕ → Option LogFault
 fault_after timing ids past line =
     if nat_le 1000000 (length past) then Some TooManyLines
-    else line_fault (length past + 1) (line_event line ids) (length (events_after timing ids [] (past ++ line ∷ [])))
+    else line_fault (length past + 1) (line_event line ids)
+    (length (events_after timing ids [] (past ++ line ∷ [])))
 
 abbrev pub first_fault : Timing → Ids → List (List ℕ) → List (List ℕ) → Option LogFault
 first_fault timing ids past [] = None
-first_fault timing ids past (line ∷ lines) = option_or (fault_after timing ids past line) (first_fault timing ids (past ++ line ∷ []) lines)
+first_fault timing ids past (line ∷ lines) =
+    option_or (fault_after timing ids past line) (first_fault timing ids (past ++ line ∷ []) lines)
 
 -- ---- logs
 
@@ -84,7 +89,8 @@ unless_fault events None = Ok events
 unless_fault events (Some fault) = Err fault
 
 abbrev pub log_events : Timing → Ids → List (List ℕ) → Result (List Event) LogFault
-log_events timing ids lines = unless_fault (events_after timing ids [] lines) (first_fault timing ids [] lines)
+log_events timing ids lines =
+    unless_fault (events_after timing ids [] lines) (first_fault timing ids [] lines)
 
 -- the events of a log, or its first fault
 unfoldable pub events : List ℕ → Ids → Timing → Result (List Event) LogFault

@@ -15,4 +15,5 @@ later (Some reference) (Some moment) = Some (max reference moment)
 
 -- what is at fault at the line of this number, where these events stand before it
 abbrev pub fault_with : Timing → Ids → List Event → Option ℕ → ℕ → List ℕ → Option LogFault
-fault_with timing ids events reference number line = line_fault number (line_event line ids) (length (events ++ line_gives timing reference ids line))
+fault_with timing ids events reference number line = line_fault number (line_event line ids)
+    (length (events ++ line_gives timing reference ids line))

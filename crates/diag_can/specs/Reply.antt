@@ -10,7 +10,8 @@ zero_filled width ds = replicate (width - length ds) 48 ++ ds
 
 -- `(SECONDS.MILLISECONDS000)` of a time in milliseconds
 abbrev pub stamp : ℕ → List ℕ
-stamp at = codes "(" ++ zero_filled 10 (decimal (at / 1000)) ++ codes "." ++ zero_filled 3 (decimal (at % 1000)) ++ codes "000)"
+stamp at = codes "(" ++ zero_filled 10 (decimal (at / 1000)) ++ codes "."
+    ++ zero_filled 3 (decimal (at % 1000)) ++ codes "000)"
 
 -- the identifier in three hex digits, and the bytes
 abbrev pub frame_text : Frame → List ℕ
@@ -18,4 +19,5 @@ frame_text frame = zero_filled 3 (digits 16 true frame.id) ++ codes "#" ++ encod
 
 -- a frame that a tester was sent at a time, by the tester's name
 abbrev pub reply_line : List ℕ → ℕ → Frame → List ℕ
-reply_line name at frame = stamp at ++ codes " " ++ name ++ codes " " ++ frame_text frame ++ codes "\n"
+reply_line name at frame =
+    stamp at ++ codes " " ++ name ++ codes " " ++ frame_text frame ++ codes "\n"

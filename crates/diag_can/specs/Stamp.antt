@@ -34,7 +34,9 @@ behind_run p text = if prefix_len p text == 0 then None else Some (drop (prefix_
 abbrev pub digits_of : ℕ → ℕ → List ℕ → Option (List ℕ × List ℕ)
 digits_of least most text =
     let count = prefix_len is_digit text in
-    if nat_le least count && nat_le count most then Some (take count text, drop count text) else None
+    if nat_le least count && nat_le count most
+    then Some (take count text, drop count text)
+    else None
 
 -- the moment of a stamp in milliseconds
 abbrev pub moment_of : List ℕ → List ℕ → ℕ
@@ -49,4 +51,5 @@ stamp_of text =
 
 -- what stands behind spaces, an interface's name and spaces
 abbrev pub behind_name : List ℕ → Option (List ℕ)
-behind_name text = behind_run is_space text >>= λ text. behind_run is_no_space text >>= λ text. behind_run is_space text
+behind_name text = behind_run is_space text
+    >>= λ text. behind_run is_no_space text >>= λ text. behind_run is_space text

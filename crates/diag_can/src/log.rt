@@ -35,8 +35,8 @@ struct Reading {
 }
 
 /// The events of a log (candump's log format): split at LF, one CR at the end of a line dropped, each line read as
-/// `read_line` does, in one pass. With `Timing::Stamps` a line that gives a frame gives before it the milliseconds by which its
-/// stamp is later than the latest stamp of a frame before, as Ticks of 60000 and last the rest.
+/// `read_line` does, in one pass. With `Timing::Stamps` a line that gives a frame gives before it the milliseconds by
+/// which its stamp is later than the latest stamp of a frame before, as Ticks of 60000 and last the rest.
 ///
 /// # Errors
 /// The first of these in the order of the lines: `Line`, the line's number from 1 and its fault; `TooManyEvents`, at a
@@ -49,7 +49,8 @@ pub fn read_log(
     timing: Timing,
 ) -> Result<Vec<Event>, LogFault>
     ensures ok { IfOk result (λ log. events text.now ids.now timing ≡ Ok log.items) }
-    ensures err { IfErr result (λ fault. fault ≢ LogFault.Memory → events text.now ids.now timing ≡ Err fault) }
+    ensures err { IfErr result (λ fault.
+        fault ≢ LogFault.Memory → events text.now ids.now timing ≡ Err fault) }
     ensures few { IfOk result (λ log. length log.items ≤ 1000000) }
 {
     let mut reading = Reading {
@@ -85,7 +86,8 @@ fn without_return(line: &[u8]) -> &[u8]
 
 /// The first line of a text and what follows its LF, or None of an empty text.
 fn next_line(text: &[u8]) -> Option<(&[u8], &[u8])>
-    ensures { MatchOption result (text.now ≡ []) (λ r. lines_of text.now ≡ r.0.now ∷ lines_of r.1.now) }
+    ensures { MatchOption result (text.now ≡ []) (λ r.
+        lines_of text.now ≡ r.0.now ∷ lines_of r.1.now) }
 {
     if text.is_empty() {
         return None;
@@ -121,7 +123,9 @@ fn later(reference: Option<u64>, moment: Option<u64>) -> Option<u64>
 fn push_event(events: &mut Vec<Event>, event: Event) -> Result<(), LogFault>
     ensures ok { OnOk result (events.new.items ≡ events.old.items ++ event ∷ []) }
     ensures room { OnOk result (length events.old.items < 1000000) }
-    ensures err { IfErr result (λ fault. ((fault ≡ LogFault.TooManyEvents) × (1000000 ≤ length events.old.items)) ⊎ (fault ≡ LogFault.Memory)) }
+    ensures err { IfErr result (λ fault.
+        ((fault ≡ LogFault.TooManyEvents) × (1000000 ≤ length events.old.items))
+        ⊎ (fault ≡ LogFault.Memory)) }
 {
     if events.len() >= MAX_EVENTS {
         return Err(LogFault::TooManyEvents);
@@ -137,7 +141,9 @@ fn push_time(events: &mut Vec<Event>, ms: u64) -> Result<(), LogFault>
     requires { length events.old.items ≤ 1000000 }
     ensures ok { OnOk result (events.new.items ≡ events.old.items ++ waited ms) }
     ensures few { OnOk result (length events.new.items ≤ 1000000) }
-    ensures err { IfErr result (λ fault. ((fault ≡ LogFault.TooManyEvents) × (1000000 < length (events.old.items ++ waited ms))) ⊎ (fault ≡ LogFault.Memory)) }
+    ensures err { IfErr result (λ fault.
+        ((fault ≡ LogFault.TooManyEvents) × (1000000 < length (events.old.items ++ waited ms)))
+        ⊎ (fault ≡ LogFault.Memory)) }
 {
     for _ in 0..ms / 60000 {
         push_event(events, Event::Ticks(TickCount::longest()))?;
@@ -158,11 +164,17 @@ impl Reading {
         line: &[u8],
     ) -> Result<(), LogFault>
         requires { length self.old.events.items ≤ 1000000 }
-        ensures events { OnOk result (self.new.events.items ≡ self.old.events.items ++ line_gives timing self.old.reference ids.now line.now) }
-        ensures reference { OnOk result (self.new.reference ≡ later self.old.reference (frame_moment ids.now line.now)) }
+        ensures events { OnOk result (self.new.events.items
+            ≡ self.old.events.items ++ line_gives timing self.old.reference ids.now line.now) }
+        ensures reference { OnOk result
+            (self.new.reference ≡ later self.old.reference (frame_moment ids.now line.now)) }
         ensures few { OnOk result (length self.new.events.items ≤ 1000000) }
-        ensures well { OnOk result (fault_with timing ids.now self.old.events.items self.old.reference number line.now ≡ None) }
-        ensures fault { IfErr result (λ fault. fault ≢ LogFault.Memory → fault_with timing ids.now self.old.events.items self.old.reference number line.now ≡ Some fault) }
+        ensures well { OnOk result
+            (fault_with timing ids.now self.old.events.items self.old.reference number line.now
+            ≡ None) }
+        ensures fault { IfErr result (λ fault. fault ≢ LogFault.Memory
+            → fault_with timing ids.now self.old.events.items self.old.reference number line.now
+            ≡ Some fault) }
     {
         let timed = match timed_event(line, ids) {
             Ok(timed) => timed,

@@ -64,7 +64,9 @@ fn stamped_frame(line: &[u8]) -> Option<(u64, &[u8])>
 /// What a line is to the tester, and the moment of its stamp where it gives a frame.
 #[derive(Drop)]
 pub struct Timed {
+    /// What the line gives the tester's link.
     pub event: Option<Event>,
+    /// The moment of its stamp in milliseconds.
     pub moment: Option<u64>,
 }
 
@@ -109,8 +111,8 @@ pub fn timed_event(line: &[u8], ids: &Ids) -> Result<Timed, LineFault>
 /// an empty line. Stamps are checked for form alone. No memory is taken.
 ///
 /// # Errors
-/// `BadTick` for another line that begins with `tick`, `TooManyBytes` for a frame with more than 16 hex digits, `BadLine` for
-/// any other line.
+/// `BadTick` for another line that begins with `tick`, `TooManyBytes` for a frame with more than 16 hex digits,
+/// `BadLine` for any other line.
 pub fn read_line(line: &[u8], ids: &Ids) -> Result<Option<Event>, LineFault>
     ensures { result ≡ line_event line.now ids.now }
 {

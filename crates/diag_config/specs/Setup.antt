@@ -52,13 +52,15 @@ abbrev pub each : {A : Type 0} → (Data → Result A Fault) → Items → Resul
 each kind no_items = Ok []
 each kind (item d ds) = kind d >>= λ first. each kind ds >>= λ others. Ok (first ∷ others)
 
-abbrev pub list : {A : Type 0} → (List ℕ → Data → Result A Fault) → List ℕ → Data → Result (List A) Fault
+abbrev pub list : {A : Type 0} → (List ℕ → Data → Result A Fault) → List ℕ → Data
+    → Result (List A) Fault
 list kind key (array ds) = each (kind key) ds
 list kind key _ = Err (bad_value key)
 
 -- ---- a key of a table, whose name in the text is the last part of the key
 
-abbrev pub where_given : {A : Type 0} → (Data → Result A Fault) → Option Data → Result (Option A) Fault
+abbrev pub where_given : {A : Type 0} → (Data → Result A Fault) → Option Data
+    → Result (Option A) Fault
 where_given kind None = Ok None
 where_given kind (Some d) = kind d >>= λ x. Ok (Some x)
 
@@ -66,18 +68,22 @@ abbrev pub where_default : {A : Type 0} → (Data → Result A Fault) → A → 
 where_default kind default None = Ok default
 where_default kind default (Some d) = kind d
 
-abbrev pub where_required : {A : Type 0} → (Data → Result A Fault) → Fault → Option Data → Result A Fault
+abbrev pub where_required : {A : Type 0} → (Data → Result A Fault) → Fault → Option Data
+    → Result A Fault
 where_required kind fault None = Err fault
 where_required kind fault (Some d) = kind d
 
-unfoldable pub optional : {A : Type 0} → (List ℕ → Data → Result A Fault) → Members → List ℕ → List ℕ → Result (Option A) Fault
+unfoldable pub optional : {A : Type 0} → (List ℕ → Data → Result A Fault) → Members → List ℕ
+    → List ℕ → Result (Option A) Fault
 optional kind ms name key = where_given (kind key) (get_member name ms)
 
 -- the value of a key that may be left out
-unfoldable pub with_default : {A : Type 0} → (List ℕ → Data → Result A Fault) → Members → List ℕ → List ℕ → A → Result A Fault
+unfoldable pub with_default : {A : Type 0} → (List ℕ → Data → Result A Fault) → Members → List ℕ
+    → List ℕ → A → Result A Fault
 with_default kind ms name key default = where_default (kind key) default (get_member name ms)
 
-unfoldable pub required : {A : Type 0} → (List ℕ → Data → Result A Fault) → Members → List ℕ → List ℕ → Result A Fault
+unfoldable pub required : {A : Type 0} → (List ℕ → Data → Result A Fault) → Members → List ℕ
+    → List ℕ → Result A Fault
 required kind ms name key = where_required (kind key) (missing key) (get_member name ms)
 
 -- ---- the tables of a setup
@@ -114,7 +120,8 @@ code_at ms = do
 abbrev pub done_with : Members → Option ℕ → Result (Option RawCode) Fault
 done_with ms None = Ok None
 done_with ms (Some code) =
-    required number ms (codes "status") (codes "routine.status") >>= λ status. Ok (Some (record { code = code; status = status }))
+    required number ms (codes "status") (codes "routine.status")
+    >>= λ status. Ok (Some (record { code = code; status = status }))
 
 unfoldable pub done_at : Members → Result (Option RawCode) Fault
 done_at ms = do
@@ -157,7 +164,13 @@ timing_at ms = do
   s3_ms ← with_default number ms (codes "s3_ms") (codes "s3_ms") 5000
   n_bs_ms ← with_default number ms (codes "n_bs_ms") (codes "n_bs_ms") 1000
   n_cr_ms ← with_default number ms (codes "n_cr_ms") (codes "n_cr_ms") 1000
-  Ok (record { p2_ms = p2_ms; p2_star_10ms = p2_star_10ms; s3_ms = s3_ms; n_bs_ms = n_bs_ms; n_cr_ms = n_cr_ms })
+  Ok (record {
+    p2_ms = p2_ms;
+    p2_star_10ms = p2_star_10ms;
+    s3_ms = s3_ms;
+    n_bs_ms = n_bs_ms;
+    n_cr_ms = n_cr_ms;
+  })
 
 unfoldable pub transport_at : Members → Result LinkValues Fault
 transport_at ms = do
@@ -166,7 +179,13 @@ transport_at ms = do
   max_request ← with_default number ms (codes "max_request") (codes "max_request") 4095
   pad ← with_default truth ms (codes "pad") (codes "pad") true
   pad_byte ← with_default number ms (codes "pad_byte") (codes "pad_byte") 204
-  Ok (record { block_size = block_size; st_min = st_min; max_request = max_request; pad = pad; pad_byte = pad_byte })
+  Ok (record {
+    block_size = block_size;
+    st_min = st_min;
+    max_request = max_request;
+    pad = pad;
+    pad_byte = pad_byte;
+  })
 
 unfoldable pub server_at : Members → Result ServerValues Fault
 server_at ms = do
@@ -174,7 +193,12 @@ server_at ms = do
   functional ← with_default number ms (codes "functional") (codes "functional") 2015
   attempts ← with_default number ms (codes "attempts") (codes "attempts") 3
   delay_ms ← with_default number ms (codes "delay_ms") (codes "delay_ms") 10000
-  Ok (record { availability = availability; functional = functional; attempts = attempts; delay_ms = delay_ms })
+  Ok (record {
+    availability = availability;
+    functional = functional;
+    attempts = attempts;
+    delay_ms = delay_ms;
+  })
 
 unfoldable pub tables_at : Members → Result SetupTables Fault
 tables_at ms = do
@@ -183,7 +207,13 @@ tables_at ms = do
   trouble_codes ← with_default (list (row code_at)) ms (codes "code") (codes "code") []
   routines ← with_default (list (row routine_at)) ms (codes "routine") (codes "routine") []
   levels ← with_default (list (row level_at)) ms (codes "level") (codes "level") []
-  Ok (record { testers = testers; dids = dids; codes = trouble_codes; routines = routines; levels = levels })
+  Ok (record {
+    testers = testers;
+    dids = dids;
+    codes = trouble_codes;
+    routines = routines;
+    levels = levels;
+  })
 
 -- all keys, in the order of the table
 unfoldable pub setup_at : Members → Result RawSetup Fault

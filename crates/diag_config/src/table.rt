@@ -27,7 +27,8 @@ pub fn optional<K: FromValue>(
     name: &str,
     key: &'static str,
 ) -> Result<Option<K>, KeyFault>
-    ensures { KeyGives (option_map K.said) result (optional K.kind (table_view table.now) name.now key.now) }
+    ensures { KeyGives (option_map K.said) result
+        (optional K.kind (table_view table.now) name.now key.now) }
 {
     match find(table, name) {
         None => Ok(None),
@@ -44,7 +45,8 @@ pub fn with_default<K: FromValue>(
     key: &'static str,
     default: K,
 ) -> Result<K, KeyFault>
-    ensures { KeyGives K.said result (with_default K.kind (table_view table.now) name.now key.now (K.said default)) }
+    ensures { KeyGives K.said result
+        (with_default K.kind (table_view table.now) name.now key.now (K.said default)) }
 {
     match find(table, name) {
         None => Ok(default),
@@ -74,7 +76,8 @@ fn each<K: FromValue>(
     key: &'static str,
     items: &[Value],
 ) -> Result<Items<K>, KeyFault>
-    ensures { KeyGives (λ rows. map K.said rows) result (each (K.kind key.now) (items_view items.now)) }
+    ensures { KeyGives (λ rows. map K.said rows) result
+        (each (K.kind key.now) (items_view items.now)) }
 {
     let mut read = Items::new(alloc);
     for item in items {

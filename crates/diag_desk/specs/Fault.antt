@@ -16,7 +16,8 @@ pub record Begins (text : List ℕ) (n : ℕ) : Type 0 where
   pub lines : length entries + 1 ≡ n
   pub is : text ≡ text_of stamped entries ++ rest
 
--- line n, from 1, is the first at fault: the lines before it are a journal's, with it they are none's, and the text is none's
+-- line n, from 1, is the first at fault: the lines before it are a journal's, with it they are none's, and the text is
+-- none's
 pub record FaultAt (text : List ℕ) (n : ℕ) : Type 0 where
   pub some : 1 ≤ n
   pub before : 1 < n → Begins text (n - 1)
@@ -25,4 +26,9 @@ pub record FaultAt (text : List ℕ) (n : ℕ) : Type 0 where
 
 -- a text is that of one journal
 abbrev pub one_journal_law : Type 0
-one_journal_law = (text : List ℕ) (entries others : List Entry) → IsJournal entries → IsJournal others → IsTextOf text entries → IsTextOf text others → entries ≡ others
+one_journal_law = (text : List ℕ) (entries others : List Entry)
+    → IsJournal entries
+    → IsJournal others
+    → IsTextOf text entries
+    → IsTextOf text others
+    → entries ≡ others

@@ -26,7 +26,8 @@ reply_end end (Some len) = end + len
 
 -- the parts that a head names lie within n bytes, and a request has a byte
 abbrev pub HeadFits : Head → ℕ → Type 0
-HeadFits (Request who functional start request_len reply_len) n = (1 ≤ request_len) × (reply_end (start + request_len) reply_len ≤ n)
+HeadFits (Request who functional start request_len reply_len) n =
+    (1 ≤ request_len) × (reply_end (start + request_len) reply_len ≤ n)
 HeadFits (Ticks who count) n = Unit {0}
 
 abbrev pub HeadsFit : List Head → ℕ → Type 0
@@ -42,4 +43,5 @@ kept_in j = record {
 
 -- the heads fit their bytes, and make the entries of a journal
 abbrev pub FlatFits : Inside → Type 0
-FlatFits j = HeadsFit j.heads.items (length j.bytes.items) × IsJournal (map (entry_of j.bytes.items) j.heads.items)
+FlatFits j = HeadsFit j.heads.items (length j.bytes.items)
+    × IsJournal (map (entry_of j.bytes.items) j.heads.items)

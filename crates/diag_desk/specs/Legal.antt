@@ -30,7 +30,8 @@ after s (e ∷ entries) = after (after_step s e.who e.step) entries
 -- each reply is the server's, in the state that the entries before it make
 abbrev pub Legal : State → List Entry → Type 0
 Legal s [] = Unit {0}
-Legal s (e ∷ entries) = (e.reply ≡ reply_to s e.who e.step) × Legal (after_step s e.who e.step) entries
+Legal s (e ∷ entries) =
+    (e.reply ≡ reply_to s e.who e.step) × Legal (after_step s e.who e.step) entries
 
 -- a desk: the state that it was opened with, and its journal
 pub record Run : Type 0 where
@@ -43,4 +44,7 @@ entered r e = record { opening = r.opening; journal = r.journal ++ e ∷ [] }
 
 -- a prefix of a legal journal is legal
 abbrev pub legal_prefix_law : Type 0
-legal_prefix_law = (s : State) (journal seen : List Entry) → BeginsWith journal seen → Legal s journal → Legal s seen
+legal_prefix_law = (s : State) (journal seen : List Entry)
+    → BeginsWith journal seen
+    → Legal s journal
+    → Legal s seen

@@ -29,7 +29,8 @@ line_reply (Request functional message reply) = option_map decoded (option_copie
 line_reply (Ticks count) = None
 
 abbrev pub line_entry : Line → Entry
-line_entry line = record { who = line.who; step = line_step line.step; reply = line_reply line.step }
+line_entry line =
+    record { who = line.who; step = line_step line.step; reply = line_reply line.step }
 
 abbrev pub IsHexReply : Option (List ℕ) → Type 0
 IsHexReply None = Unit {0}

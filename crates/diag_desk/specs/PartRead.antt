@@ -22,7 +22,8 @@ IsNoNext r text = (e : Entry) → IsEntry e → line_after r.stamped r.entries e
 
 -- the same where no more entries have room
 abbrev pub HasNoNext : PartRead → List ℕ → Type 0
-HasNoNext r text = (e : Entry) → IsEntry e → length r.entries < 1000000 → line_after r.stamped r.entries e ≢ text
+HasNoNext r text =
+    (e : Entry) → IsEntry e → length r.entries < 1000000 → line_after r.stamped r.entries e ≢ text
 
 -- one line more
 pub record Took (r n : PartRead) (text : List ℕ) : Type 0 where

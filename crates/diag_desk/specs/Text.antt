@@ -15,7 +15,8 @@ kind_text functional = if functional then codes " F " else codes " P "
 
 -- what follows a tester's place
 abbrev pub step_text : Step → Option (List ℕ) → List ℕ
-step_text (Request functional message) reply = kind_text functional ++ (encode_upper message ++ (codes " " ++ reply_text reply))
+step_text (Request functional message) reply =
+    kind_text functional ++ (encode_upper message ++ (codes " " ++ reply_text reply))
 step_text (Ticks count) reply = codes " T " ++ decimal count
 
 -- the line of an entry, without its end
@@ -36,14 +37,16 @@ stamped_line stamped at line = if stamped then decimal at ++ (codes " " ++ line)
 
 -- the line of an entry after others; its stamp is the ticks of its tester up to and with it
 abbrev pub line_after : Bool → List Entry → Entry → List ℕ
-line_after stamped past e = stamped_line stamped (ticks_of e.who past + ticks_in e.step) (entry_line e)
+line_after stamped past e =
+    stamped_line stamped (ticks_of e.who past + ticks_in e.step) (entry_line e)
 
 abbrev pub ended : List ℕ → List ℕ
 ended line = line ++ codes "\n"
 
 abbrev pub lines_after : Bool → List Entry → List Entry → List ℕ
 lines_after stamped past [] = []
-lines_after stamped past (e ∷ entries) = ended (line_after stamped past e) ++ lines_after stamped (past ++ e ∷ []) entries
+lines_after stamped past (e ∷ entries) =
+    ended (line_after stamped past e) ++ lines_after stamped (past ++ e ∷ []) entries
 
 abbrev pub header : Bool → List ℕ
 header stamped = if stamped then codes "diag-journal 2" else codes "diag-journal 1"

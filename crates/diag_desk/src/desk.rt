@@ -53,13 +53,16 @@ impl Model for Desk {
 
     ghost view = { λ d. record { opening = d.opening; journal = d.journal.entries } };
 
-    ghost invariant = { λ d. Legal d.opening d.journal.entries × (d.ecu ≡ after d.opening d.journal.entries) × IsJournal d.journal.entries };
+    ghost invariant = { λ d. Legal d.opening d.journal.entries
+        × (d.ecu ≡ after d.opening d.journal.entries)
+        × IsJournal d.journal.entries };
 }
 
 impl Desk {
     /// The desk of a setup, with no entry.
     pub fn new(alloc: Global, setup: &Setup) -> Result<Desk, AllocError>
-        ensures { IfOk result (λ desk. desk ≡ record { opening = opening setup.now; journal = [] }) }
+        ensures { IfOk result (λ desk.
+            desk ≡ record { opening = opening setup.now; journal = [] }) }
     {
         let ecu = Ecu::new(alloc, setup)?;
         Ok(Desk {
@@ -94,7 +97,8 @@ impl Desk {
         ensures quiet { IsTrue (is_ticks step.now) → IfOk result (λ reply. reply ≡ None) }
         ensures err { OnErr result (self.new ≡ self.old) }
         ensures full { (result ≡ Err StepFault.JournalFull) ↔ (length self.old.journal ≡ 1000000) }
-        ensures room { IfErr result (λ fault. fault ≡ StepFault.Memory → length self.old.journal < 1000000) }
+        ensures room { IfErr result (λ fault.
+            fault ≡ StepFault.Memory → length self.old.journal < 1000000) }
         ensures limit { length self.new.journal ≤ 1000000 }
     {
         if self.journal.is_full() {

@@ -99,18 +99,24 @@ pub(crate) fn add_head(heads: &mut Vec<Head>, head: Head)
 
 /// Appends the bytes of an entry, and gives its head.
 pub(crate) fn head_of(bytes: &mut Vec<u8>, who: Who, step: &Step, reply: Option<&[u8]>) -> Head
-    requires room { vec_len bytes.old + (step_len step.now + length (unwrap_or (option_copied reply) [])) ≤ vec_capacity bytes.old }
+    requires room { vec_len bytes.old
+        + (step_len step.now + length (unwrap_or (option_copied reply) []))
+        ≤ vec_capacity bytes.old }
     requires reply { IsReply (option_copied reply) }
     requires fits { length (unwrap_or (option_copied reply) []) ≤ 65535 }
     requires no_reply { HasNoReply step.now (option_copied reply) }
-    ensures items { bytes.new.items ≡ bytes.old.items ++ entry_bytes step.now (option_copied reply.entry) }
+    ensures items { bytes.new.items
+        ≡ bytes.old.items ++ entry_bytes step.now (option_copied reply.entry) }
     ensures fits { HeadFits result (length bytes.new.items) }
-    ensures same { entry_of bytes.new.items result ≡ entry who step.now (option_copied reply.entry) }
+    ensures same { entry_of bytes.new.items result
+        ≡ entry who step.now (option_copied reply.entry) }
     ensures entry { IsEntry (entry who step.now (option_copied reply.entry)) }
 {
+    // (for its contract: a place is at most 8)
     let _place = who.place();
     match step {
         Step::Ticks(count) => {
+            // (for its contract: a count is 1 to 60000)
             let _count = count.get();
             Head::Ticks { who, count: *count }
         }
@@ -143,7 +149,8 @@ pub(crate) fn head_of(bytes: &mut Vec<u8>, who: Who, step: &Step, reply: Option<
 pub(crate) fn head_of_line(bytes: &mut Vec<u8>, line: &Line<'_>) -> Result<Head, AllocError>
     requires hex { HasHex line.now.step }
     requires entry { IsEntry (line_entry line.now) }
-    ensures items { IfOk result (λ _. bytes.new.items ≡ bytes.old.items ++ entry_bytes (line_entry line.now).step (line_entry line.now).reply) }
+    ensures items { IfOk result (λ _. bytes.new.items
+        ≡ bytes.old.items ++ entry_bytes (line_entry line.now).step (line_entry line.now).reply) }
     ensures fits { IfOk result (λ head. HeadFits head (length bytes.new.items)) }
     ensures entry { IfOk result (λ head. entry_of bytes.new.items head ≡ line_entry line.now) }
     ensures err { OnErr result (bytes.new.items ≡ bytes.old.items) }

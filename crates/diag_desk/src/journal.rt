@@ -35,8 +35,8 @@ pub enum JournalPush {
 
 /// The steps of all testers in their order, with the replies: at most 1,000,000 entries.
 ///
-/// The bytes of the messages stand in one list, so an entry takes no more than them and its head of 24 bytes, beside the
-/// room that the two lists have ahead.
+/// The bytes of the messages stand in one list, so an entry takes no more than them and its head of 24 bytes, beside
+/// the room that the two lists have ahead.
 #[derive(Drop)]
 pub struct Journal {
     heads: Vec<Head>,
@@ -108,7 +108,8 @@ impl Journal {
         reply: Option<&Message>,
     ) -> Result<(), JournalPush>
         requires { HasNoReply step.now (option_copied reply) }
-        ensures ok { OnOk result (self.new.entries ≡ self.old.entries ++ entry who step.now (option_copied reply.entry) ∷ []) }
+        ensures ok { OnOk result (self.new.entries
+            ≡ self.old.entries ++ entry who step.now (option_copied reply.entry) ∷ []) }
         ensures journal { IsJournal self.new.entries }
         ensures err { OnErr result (self.new.entries ≡ self.old.entries) }
         ensures full { (result ≡ Err JournalPush.Full) ↔ (length self.old.entries ≡ 1000000) }

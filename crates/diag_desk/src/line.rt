@@ -39,7 +39,8 @@ pub(crate) struct Line<'a> {
 
 /// What stands before and after the first of some byte.
 pub(crate) fn cut(text: &[u8], byte: u8) -> Option<(&[u8], &[u8])>
-    ensures { MatchOption result (cut byte text.now ≡ None) (λ parts. cut byte text.now ≡ Some (parts.0.now, parts.1.now)) }
+    ensures { MatchOption result (cut byte text.now ≡ None) (λ parts.
+        cut byte text.now ≡ Some (parts.0.now, parts.1.now)) }
 {
     for (i, c) in text.iter().enumerate() {
         if *c == byte {
@@ -163,7 +164,8 @@ fn has_upper_digits(text: &[u8]) -> bool
 
 /// The count of ticks of a text in decimal.
 fn count_in(text: &[u8]) -> Option<TickCount>
-    ensures some { IfSome result (λ count. (decimal count ≡ text.now) × (1 ≤ count) × (count ≤ 60000)) }
+    ensures some { IfSome result (λ count.
+        (decimal count ≡ text.now) × (1 ≤ count) × (count ≤ 60000)) }
     ensures none { IfNone result (IsNoCount text.now) }
 {
     let number = number_in(text)?;

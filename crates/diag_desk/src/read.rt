@@ -67,7 +67,8 @@ impl Reader {
     /// The ticks of a line's tester up to and with it.
     fn clock_of(&self, line: &Line<'_>) -> u64
         requires { IsEntry (line_entry line.now) }
-        ensures { result ≡ ticks_of line.now.who self.now.entries + ticks_in (line_entry line.now).step }
+        ensures { result
+            ≡ ticks_of line.now.who self.now.entries + ticks_in (line_entry line.now).step }
     {
         let before = self.clocks.at(line.who);
         match line.step {
@@ -99,7 +100,8 @@ impl Reader {
     /// Takes the line that comes next.
     fn take(&mut self, line: &[u8]) -> Result<(), LineFault>
         ensures ok { OnOk result (Took self.old self.new line.now) }
-        ensures wrong { IfErr result (λ fault. fault ≡ LineFault.Wrong → HasNoNext self.old line.now) }
+        ensures wrong { IfErr result (λ fault.
+            fault ≡ LineFault.Wrong → HasNoNext self.old line.now) }
         ensures journal { IsJournal self.new.entries }
     {
         let Some(entry) = self.next(line) else {
@@ -134,22 +136,30 @@ fn is_stamped(line: &[u8]) -> Option<bool>
 /// The journal of a text of either version, in one pass.
 ///
 /// Each journal has one text of a version: digits of hex in upper case, numbers in decimal without leading zeros, parts
-/// parted by one space, lines ended by LF. Any other line is a fault, named by its number (the header is line 1): also a
-/// last line without LF, a stamp that isn't the ticks of its tester so far, and an entry past the 1,000,000th. So what a
-/// journal was written as is read back as that journal, where memory is not refused.
+/// parted by one space, lines ended by LF. Any other line is a fault, named by its number (the header is line 1): also
+/// a last line without LF, a stamp that isn't the ticks of its tester so far, and an entry past the 1,000,000th. So
+/// what a journal was written as is read back as that journal, where memory is not refused.
 pub fn read_journal(alloc: Global, text: &[u8]) -> Result<Journal, JournalFault>
-    ensures ok { IfOk result (λ journal. IsJournal journal.entries × IsTextOf text.now journal.entries) }
-    ensures line { IfErr result (λ fault. (n : ℕ) → fault ≡ JournalFault.Line n → FaultAt text.now n) }
-    ensures back { (entries : List Entry) → IsJournal entries → IsTextOf text.now entries
-        → MatchResult result (λ journal. journal.entries ≡ entries) (λ fault. fault ≡ JournalFault.Memory) }
+    ensures ok { IfOk result (λ journal.
+        IsJournal journal.entries × IsTextOf text.now journal.entries) }
+    ensures line { IfErr result (λ fault.
+        (n : ℕ) → fault ≡ JournalFault.Line n → FaultAt text.now n) }
+    ensures back { (entries : List Entry)
+        → IsJournal entries
+        → IsTextOf text.now entries
+        → MatchResult result
+        (λ journal. journal.entries ≡ entries)
+        (λ fault. fault ≡ JournalFault.Memory) }
 {
     read_lines(alloc, text)
 }
 
 /// Reads the header, and then line by line.
 fn read_lines(alloc: Global, text: &[u8]) -> Result<Journal, JournalFault>
-    ensures ok { IfOk result (λ journal. IsJournal journal.entries × IsTextOf text.now journal.entries) }
-    ensures line { IfErr result (λ fault. (n : ℕ) → fault ≡ JournalFault.Line n → FaultAt text.now n) }
+    ensures ok { IfOk result (λ journal.
+        IsJournal journal.entries × IsTextOf text.now journal.entries) }
+    ensures line { IfErr result (λ fault.
+        (n : ℕ) → fault ≡ JournalFault.Line n → FaultAt text.now n) }
 {
     let Some((first, mut rest)) = cut(text, b'\n') else {
         return Err(JournalFault::Line(1));

@@ -27,14 +27,16 @@ pub enum ReplayFault {
 
 /// The ECU of a setup after all entries, where each tester is in the setup and each reply is the ECU's.
 ///
-/// Otherwise the first entry that differs. Memory can be refused at any entry: where an entry before it differs, that has
-/// already decided. So the journal of a desk of this setup, whose testers are the setup's, is replayed to its end
+/// Otherwise the first entry that differs. Memory can be refused at any entry: where an entry before it differs, that
+/// has already decided. So the journal of a desk of this setup, whose testers are the setup's, is replayed to its end
 /// where memory is not refused.
 pub fn replay(alloc: Global, setup: &Setup, journal: &Journal) -> Result<Ecu, ReplayFault>
     ensures run { IfOk result (λ _. IsRun setup.now journal.now.entries) }
     ensures ecu { IfOk result (λ ecu. ecu ≡ after (opening setup.now) journal.now.entries) }
-    ensures differs { IfErr result (λ fault. (n : ℕ) → fault ≡ ReplayFault.Differs n → DiffersAt setup.now journal.now.entries n) }
-    ensures again { IsRun setup.now journal.now.entries → IfErr result (λ fault. fault ≡ ReplayFault.Memory) }
+    ensures differs { IfErr result (λ fault.
+        (n : ℕ) → fault ≡ ReplayFault.Differs n → DiffersAt setup.now journal.now.entries n) }
+    ensures again { IsRun setup.now journal.now.entries
+        → IfErr result (λ fault. fault ≡ ReplayFault.Memory) }
 {
     replay_all(alloc, setup, journal)
 }
@@ -43,7 +45,8 @@ pub fn replay(alloc: Global, setup: &Setup, journal: &Journal) -> Result<Ecu, Re
 fn replay_all(alloc: Global, setup: &Setup, journal: &Journal) -> Result<Ecu, ReplayFault>
     ensures run { IfOk result (λ _. IsRun setup.now journal.now.entries) }
     ensures ecu { IfOk result (λ ecu. ecu ≡ after (opening setup.now) journal.now.entries) }
-    ensures differs { IfErr result (λ fault. (n : ℕ) → fault ≡ ReplayFault.Differs n → DiffersAt setup.now journal.now.entries n) }
+    ensures differs { IfErr result (λ fault.
+        (n : ℕ) → fault ≡ ReplayFault.Differs n → DiffersAt setup.now journal.now.entries n) }
 {
     let Ok(mut ecu) = Ecu::new(alloc, setup) else {
         return Err(ReplayFault::Memory);
@@ -67,8 +70,11 @@ fn replay_all(alloc: Global, setup: &Setup, journal: &Journal) -> Result<Ecu, Re
 /// Takes the step of an entry where the ECU's reply is the entry's; whether it is.
 fn play(alloc: Global, ecu: &mut Ecu, entry: &EntryRef<'_>) -> Result<bool, AllocError>
     requires { IsEntry (entry_seen entry.now) }
-    ensures reply { IfOk result (λ same. IsTrue same ↔ (option_copied entry.now.reply ≡ reply_to ecu.old entry.now.who (step_seen entry.now.step))) }
-    ensures state { IfOk result (λ same. OnTrue same (ecu.new ≡ after_step ecu.old entry.now.who (step_seen entry.now.step))) }
+    ensures reply { IfOk result (λ same. IsTrue same
+        ↔ (option_copied entry.now.reply
+        ≡ reply_to ecu.old entry.now.who (step_seen entry.now.step))) }
+    ensures state { IfOk result (λ same.
+        OnTrue same (ecu.new ≡ after_step ecu.old entry.now.who (step_seen entry.now.step))) }
 {
     match entry.step {
         StepRef::Request { functional, bytes } => {

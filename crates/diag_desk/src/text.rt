@@ -74,7 +74,8 @@ fn write_line(
     clock: u64,
     entry: &EntryRef<'_>,
 ) -> Result<(), AllocError>
-    ensures { OnOk result (text.new.items ≡ text.old.items ++ ended (stamped_line stamped clock (entry_line (entry_seen entry.now)))) }
+    ensures { OnOk result (text.new.items ≡ text.old.items
+        ++ ended (stamped_line stamped clock (entry_line (entry_seen entry.now)))) }
 {
     if stamped {
         write_decimal(text, clock)?;
@@ -93,7 +94,8 @@ fn write_decimal(text: &mut Vec<u8>, number: u64) -> Result<(), AllocError>
 
 /// Appends the line of an entry.
 fn write_entry(text: &mut Vec<u8>, entry: &EntryRef<'_>) -> Result<(), AllocError>
-    ensures { OnOk result (text.new.items ≡ text.old.items ++ ended (entry_line (entry_seen entry.now))) }
+    ensures { OnOk result
+        (text.new.items ≡ text.old.items ++ ended (entry_line (entry_seen entry.now))) }
 {
     text.push(b'0' + entry.who.place())?;
     write_step(text, &entry.step, entry.reply)?;
@@ -107,7 +109,8 @@ fn write_step(
     step: &StepRef<'_>,
     reply: Option<&[u8]>,
 ) -> Result<(), AllocError>
-    ensures { OnOk result (text.new.items ≡ text.old.items ++ step_text (step_seen step.now) (option_copied reply.entry)) }
+    ensures { OnOk result (text.new.items
+        ≡ text.old.items ++ step_text (step_seen step.now) (option_copied reply.entry)) }
 {
     match *step {
         StepRef::Request { functional, bytes } => {
@@ -122,7 +125,8 @@ fn write_step(
 }
 
 fn write_request(text: &mut Vec<u8>, functional: bool, bytes: &[u8]) -> Result<(), AllocError>
-    ensures { OnOk result (text.new.items ≡ text.old.items ++ (kind_text functional ++ encode_upper bytes.now)) }
+    ensures { OnOk result
+        (text.new.items ≡ text.old.items ++ (kind_text functional ++ encode_upper bytes.now)) }
 {
     if functional {
         text.extend_from_slice(b" F ")?;
@@ -133,7 +137,8 @@ fn write_request(text: &mut Vec<u8>, functional: bool, bytes: &[u8]) -> Result<(
 }
 
 fn write_reply(text: &mut Vec<u8>, reply: Option<&[u8]>) -> Result<(), AllocError>
-    ensures { OnOk result (text.new.items ≡ text.old.items ++ (codes " " ++ reply_text (option_copied reply.entry))) }
+    ensures { OnOk result
+        (text.new.items ≡ text.old.items ++ (codes " " ++ reply_text (option_copied reply.entry))) }
 {
     text.push(b' ')?;
     match reply {

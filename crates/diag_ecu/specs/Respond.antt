@@ -55,7 +55,8 @@ abbrev pub is_sub_function : State → Service → ℕ → Bool
 is_sub_function s DiagnosticSessionControl n = (n == 0x01) || (n == 0x03)
 is_sub_function s EcuReset n = (n == 0x01) || (n == 0x02) || (n == 0x03)
 is_sub_function s ReadDtcInformation n = (n == 0x01) || (n == 0x02) || (n == 0x0A)
-is_sub_function s SecurityAccess n = is_some (security.level_of s.security n) || is_some (security.level_of s.security (n - 1))
+is_sub_function s SecurityAccess n =
+    is_some (security.level_of s.security n) || is_some (security.level_of s.security (n - 1))
 is_sub_function s RoutineControl n = (n == 0x01) || (n == 0x02) || (n == 0x03)
 is_sub_function s TesterPresent n = n == 0x00
 is_sub_function s ControlDtcSetting n = (n == 0x01) || (n == 0x02)
@@ -76,7 +77,10 @@ has_exact_length s EcuReset p = length p == 2
 has_exact_length s ClearDiagnosticInformation p = length p == 4
 has_exact_length s ReadDtcInformation p = if sub p == 0x0A then length p == 2 else length p == 3
 has_exact_length s ReadDataByIdentifier p = length p % 2 == 1
-has_exact_length s SecurityAccess p = if is_seed_request s p then length p == 2 else security.option_is (security.key_len s.security (key_level p)) (length (drop 2 p))
+has_exact_length s SecurityAccess p =
+    if is_seed_request s p
+    then length p == 2
+    else security.option_is (security.key_len s.security (key_level p)) (length (drop 2 p))
 has_exact_length s WriteDataByIdentifier p = true
 has_exact_length s RoutineControl p = length p == 4
 has_exact_length s TesterPresent p = length p == 2
@@ -94,7 +98,8 @@ mask_of s p = bit_and (slice_index p 2) s.values.availability
 
 -- the codes that have a bit of the mask, and all codes
 abbrev pub counted_reply : State → ℕ → List ℕ
-counted_reply s mask = 0x59 ∷ 0x02 ∷ s.values.availability ∷ flat_map (report s.values.availability) (dtcs.matching s.codes mask)
+counted_reply s mask = 0x59 ∷ 0x02 ∷ s.values.availability
+    ∷ flat_map (report s.values.availability) (dtcs.matching s.codes mask)
 
 abbrev pub all_reply : State → List ℕ
 all_reply s = 0x59 ∷ 0x0A ∷ s.values.availability ∷ flat_map (report s.values.availability) s.codes
@@ -102,7 +107,9 @@ all_reply s = 0x59 ∷ 0x0A ∷ s.values.availability ∷ flat_map (report s.val
 -- 01 reportNumberOfDTCByStatusMask, 02 reportDTCByStatusMask, 0A reportSupportedDTC
 abbrev pub dtc_reply : State → List ℕ → List ℕ
 dtc_reply s p =
-    if sub p == 0x01 then 0x59 ∷ 0x01 ∷ s.values.availability ∷ 0x01 ∷ bytes_16 (length (dtcs.matching s.codes (mask_of s p)))
+    if sub p == 0x01
+    then 0x59 ∷ 0x01 ∷ s.values.availability ∷ 0x01
+    ∷ bytes_16 (length (dtcs.matching s.codes (mask_of s p)))
     else if sub p == 0x02 then counted_reply s (mask_of s p)
     else all_reply s
 
@@ -137,16 +144,19 @@ abbrev pub routine_of : State → List ℕ → Option Routine
 routine_of s p = routines.routine_of s.routines (number_16 p 2)
 
 abbrev pub routine_reply : State → ℕ → ℕ → List ℕ
-routine_reply s n id = 0x71 ∷ n ∷ bytes_16 id ++ (if n == 0x03 then routine_results (routines.routine_of s.routines id) else [])
+routine_reply s n id = 0x71 ∷ n ∷ bytes_16 id
+    ++ (if n == 0x03 then routine_results (routines.routine_of s.routines id) else [])
 
 -- the positive reply of a service, by the state before
 abbrev pub positive_reply : State → Service → List ℕ → List ℕ
-positive_reply s DiagnosticSessionControl p = 0x50 ∷ sub p ∷ bytes_16 s.values.p2_ms ++ bytes_16 s.values.p2_star_10ms
+positive_reply s DiagnosticSessionControl p =
+    0x50 ∷ sub p ∷ bytes_16 s.values.p2_ms ++ bytes_16 s.values.p2_star_10ms
 positive_reply s EcuReset p = 0x51 ∷ sub p ∷ []
 positive_reply s ClearDiagnosticInformation p = 0x54 ∷ []
 positive_reply s ReadDtcInformation p = dtc_reply s p
 positive_reply s ReadDataByIdentifier p = data_reply s p
-positive_reply s SecurityAccess p = 0x67 ∷ sub p ∷ (if is_seed_request s p then security.seed_given s.security (sub p) else [])
+positive_reply s SecurityAccess p =
+    0x67 ∷ sub p ∷ (if is_seed_request s p then security.seed_given s.security (sub p) else [])
 positive_reply s WriteDataByIdentifier p = 0x6E ∷ bytes_16 (number_16 p 1)
 positive_reply s RoutineControl p = routine_reply s (sub p) (number_16 p 2)
 positive_reply s TesterPresent p = 0x7E ∷ 0x00 ∷ []
@@ -189,15 +199,25 @@ write_checks s who p =
     let id = number_16 p 1 in
     (not (is_writable (dids.rule_of s.dids id)), RequestOutOfRange)
     ∷ (not (is_open s who (write_level (dids.rule_of s.dids id))), SecurityAccessDenied)
-    ∷ (not (security.option_is (option_map (λ v. length v) (dids.value_of s.dids id)) (length (drop 3 p))), IncorrectMessageLengthOrInvalidFormat)
+    ∷ (
+      not (security.option_is (option_map (λ v. length v) (dids.value_of s.dids id))
+          (length (drop 3 p))),
+      IncorrectMessageLengthOrInvalidFormat,
+    )
     ∷ []
 
 abbrev pub security_checks : State → ℕ → List ℕ → List Check
 security_checks s who p =
     let is_key = not (is_seed_request s p) in
     (security.is_delayed s.security who, RequiredTimeDelayNotExpired)
-    ∷ (is_key && is_none (security.outstanding_row s.security.outstanding (key_level p)), RequestSequenceError)
-    ∷ (is_key && not (security.is_right_key s.security (key_level p) (drop 2 p)), if security.is_last_attempt s.security who then ExceedNumberOfAttempts else InvalidKey)
+    ∷ (
+      is_key && is_none (security.outstanding_row s.security.outstanding (key_level p)),
+      RequestSequenceError,
+    )
+    ∷ (
+      is_key && not (security.is_right_key s.security (key_level p) (drop 2 p)),
+      if security.is_last_attempt s.security who then ExceedNumberOfAttempts else InvalidKey,
+    )
     ∷ []
 
 abbrev pub state_is_idle : RoutineState → Bool
@@ -268,9 +288,11 @@ routine_effect s id n =
 abbrev pub effect : State → ℕ → Service → List ℕ → State
 effect s who DiagnosticSessionControl p = session_effect s who (sub p)
 effect s who EcuReset p = session_ended s
-effect s who ClearDiagnosticInformation p = record s { codes = dtcs.cleared s.codes (number_24 p 1) }
+effect s who ClearDiagnosticInformation p =
+    record s { codes = dtcs.cleared s.codes (number_24 p 1) }
 effect s who SecurityAccess p = security_effect s who p
-effect s who WriteDataByIdentifier p = record s { dids = dids.with_value s.dids (number_16 p 1) (drop 3 p) }
+effect s who WriteDataByIdentifier p =
+    record s { dids = dids.with_value s.dids (number_16 p 1) (drop 3 p) }
 effect s who RoutineControl p = routine_effect s (number_16 p 2) (sub p)
 effect s who ControlDtcSetting p = record s { status_update = sub p == 0x01 }
 effect s who _ p = s
@@ -278,7 +300,8 @@ effect s who _ p = s
 -- a refused request changes nothing, but for a wrong key
 abbrev pub refused : State → ℕ → Nrc → State
 refused s who InvalidKey = record s { security = security.after_wrong_key s.security who }
-refused s who ExceedNumberOfAttempts = record s { security = security.after_wrong_key s.security who }
+refused s who ExceedNumberOfAttempts =
+    record s { security = security.after_wrong_key s.security who }
 refused s who _ = s
 
 -- ---- the response
@@ -290,11 +313,13 @@ pub record Outcome : Type 0 where
 
 abbrev pub outcome_of : State → ℕ → Service → List ℕ → Option Nrc → Outcome
 outcome_of s who service p (Some nrc) = record { state = refused s who nrc; answer = Err nrc }
-outcome_of s who service p None = record { state = effect s who service p; answer = Ok (positive_reply s service p) }
+outcome_of s who service p None =
+    record { state = effect s who service p; answer = Ok (positive_reply s service p) }
 
 -- the outcome where the checks of every service have passed
 abbrev pub own_outcome : State → ℕ → Service → List ℕ → Outcome
-own_outcome s who service p = outcome_of s who service p (first_holding (own_checks s who service p))
+own_outcome s who service p =
+    outcome_of s who service p (first_holding (own_checks s who service p))
 
 abbrev pub served : State → ℕ → Option Service → List ℕ → Outcome
 served s who None p = record { state = s; answer = Err ServiceNotSupported }
@@ -307,7 +332,8 @@ is_suppressed (Some service) p = has_sub_function service && has_bit_7 (slice_in
 
 -- what is sent where a negative response code is the answer: not each of them on a functional request
 abbrev pub sent_negative : Bool → ℕ → Nrc → Option (List ℕ)
-sent_negative functional sid nrc = if functional && is_silent nrc then None else Some (0x7F ∷ sid ∷ nrc_code nrc ∷ [])
+sent_negative functional sid nrc =
+    if functional && is_silent nrc then None else Some (0x7F ∷ sid ∷ nrc_code nrc ∷ [])
 
 -- what is sent of an answer
 abbrev pub sent : Bool → List ℕ → Result (List ℕ) Nrc → Option (List ℕ)

@@ -26,7 +26,8 @@ is_held_by_another s who = is_some s.holder && not (is_holder s who)
 
 -- a level that a row names: 0 is open, another has to be unlocked for the holder
 abbrev pub is_open : State → ℕ → ℕ → Bool
-is_open s who level = if level == 0 then true else is_holder s who && security.is_unlocked s.security level
+is_open s who level =
+    if level == 0 then true else is_holder s who && security.is_unlocked s.security level
 
 -- no unlocked level and no outstanding seed
 abbrev pub relocked : State → State
@@ -34,7 +35,11 @@ relocked s = record s { security = security.locked s.security }
 
 -- relocked, the setting of status bits is on, and all routines are idle
 abbrev pub cleaned : State → State
-cleaned s = record s { security = security.locked s.security; status_update = true; routines = all_idle s.routines }
+cleaned s = record s {
+  security = security.locked s.security;
+  status_update = true;
+  routines = all_idle s.routines;
+}
 
 -- the session ends with cleaning
 abbrev pub session_ended : State → State

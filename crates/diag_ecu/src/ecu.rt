@@ -143,7 +143,8 @@ impl Ecu {
     fn refusal(&self, who: Who, service: Service, p: &[u8]) -> Option<Nrc>
         requires { 1 ≤ length p.now }
         ensures first { result ≡ first_holding (checks self.now who service p.now) }
-        ensures common { IfNone result (first_holding (common_checks self.now who service p.now) ≡ None) }
+        ensures common { IfNone result
+            (first_holding (common_checks self.now who service p.now) ≡ None) }
         ensures own { IfNone result (first_holding (own_checks self.now who service p.now) ≡ None) }
     {
         match self.common_refusal(who, service, p) {

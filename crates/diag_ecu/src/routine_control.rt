@@ -32,11 +32,13 @@ impl Ecu {
         }
     }
 
-    /// The sub-function and the routine; where its result is asked for, 01 while it runs, and 00 and the result when it is done.
+    /// The sub-function and the routine; where its result is asked for, 01 while it runs, and 00 and the result when it
+    /// is done.
     #[tactic(auto, using(crate::proofs::ServiceLemmas::done_result))]
     pub(crate) fn routine_reply(&self, p: &[u8]) -> Result<Message, AllocError>
         requires { length p.now ≡ 4 }
-        ensures { IfOk result (λ reply. reply ≡ positive_reply self.now Service.RoutineControl p.now) }
+        ensures { IfOk result (λ reply.
+            reply ≡ positive_reply self.now Service.RoutineControl p.now) }
     {
         let id = number_16_at(p, 2);
         let sub = sub_of(p);

@@ -31,7 +31,8 @@ impl Ecu {
     /// The seed, or the word that the key was right.
     pub(crate) fn security_reply(&self, who: Who, p: &[u8]) -> Result<Message, AllocError>
         requires { is_delayed self.now.security who ≡ false }
-        ensures { IfOk result (λ reply. reply ≡ positive_reply self.now Service.SecurityAccess p.now) }
+        ensures { IfOk result (λ reply.
+            reply ≡ positive_reply self.now Service.SecurityAccess p.now) }
     {
         let sub = sub_of(p);
         if self.has_level(sub)

@@ -33,7 +33,8 @@ impl Ecu {
 
     /// The reply to session control: the sub-function, P2 in milliseconds and P2* in units of 10 milliseconds.
     pub(crate) fn session_reply(&self, p: &[u8]) -> Result<Message, AllocError>
-        ensures { IfOk result (λ reply. reply ≡ positive_reply self.now Service.DiagnosticSessionControl p.now) }
+        ensures { IfOk result (λ reply.
+            reply ≡ positive_reply self.now Service.DiagnosticSessionControl p.now) }
     {
         let [p2_high, p2_low] = bytes_16(self.values.p2_ms);
         let [star_high, star_low] = bytes_16(self.values.p2_star_10ms);

@@ -1,4 +1,5 @@
-//! Trouble codes: clearing them, reading them, and the setting of their status bits (ISO 14229-1:2013, 11.2, 11.3 and 9.9).
+//! Trouble codes: clearing them, reading them, and the setting of their status bits (ISO 14229-1:2013, 11.2, 11.3 and
+//! 9.9).
 ghost use Rattle.std.specs.Prelude.{◌<◌, drop, ◌∷◌, [], ◌≡◌, ◌≤◌, ◌+◌, ◌*◌, ◌++◌, ◌==◌, length, flat_map, OnOk, IfOk};
 ghost use Rattle.diag_setup.specs.Setup.{first_holding};
 ghost use Rattle.diag_store.specs.Dtcs.{is_known_group, matching, cleared};
@@ -8,11 +9,9 @@ ghost use Rattle.diag_ecu.specs.Respond.{sub, clear_checks, setting_checks, repo
 use crate::bytes::{bytes_16, bytes_24, number_24, sub_of};
 use crate::ecu::Ecu;
 use crate::service::Nrc;
+use diag_store::ALL_GROUPS;
 use diag_tp::Message;
 use std::alloc::AllocError;
-
-/// The group of all codes.
-const ALL_CODES: u32 = 0xFF_FFFF;
 
 impl Ecu {
     /// Refuses to clear a code that isn't known.
@@ -30,7 +29,8 @@ impl Ecu {
     /// Clears a code, or all codes.
     pub(crate) fn clear(&mut self, p: &[u8])
         requires { 4 ≤ length p.now }
-        ensures { self.new ≡ record self.old { codes = cleared self.old.codes (spec.number_24 p.now 1) } }
+        ensures { self.new
+            ≡ record self.old { codes = cleared self.old.codes (spec.number_24 p.now 1) } }
     {
         self.codes.clear(number_24(p, 1));
     }
@@ -45,7 +45,7 @@ impl Ecu {
     fn knows_group(&self, group: u32) -> bool
         ensures { result ≡ is_known_group self.now.codes group }
     {
-        group == ALL_CODES || self.codes.status(group).is_some()
+        group == ALL_GROUPS || self.codes.status(group).is_some()
     }
 }
 
@@ -53,7 +53,7 @@ impl Ecu {
 pub(crate) fn setting_refusal(p: &[u8]) -> Option<Nrc>
     ensures { result ≡ first_holding (setting_checks p.now) }
 {
-    if p.len() == 5 && number_24(p, 2) != ALL_CODES {
+    if p.len() == 5 && number_24(p, 2) != ALL_GROUPS {
         Some(Nrc::RequestOutOfRange)
     } else {
         None
@@ -104,7 +104,8 @@ impl Ecu {
     /// The start of a report, with room for so many codes.
     fn report_head(&self, sub: u8, codes: usize) -> Result<Vec<u8>, AllocError>
         requires { codes ≤ 65535 }
-        ensures { IfOk result (λ head. head.items ≡ 0x59 ∷ sub ∷ self.now.values.availability ∷ []) }
+        ensures { IfOk result (λ head.
+            head.items ≡ 0x59 ∷ sub ∷ self.now.values.availability ∷ []) }
     {
         let mut head = Vec::with_capacity(self.alloc(), 3 + 4 * codes)?;
         head.extend_from_slice(&[0x59, sub, self.values.availability])?;
@@ -114,7 +115,10 @@ impl Ecu {
     /// Adds the code at a place with its reported status.
     fn report_at(&self, reply: &mut Vec<u8>, i: usize) -> Result<(), AllocError>
         requires place { i < length self.now.codes }
-        ensures text { OnOk result (reply.new.items ++ flat_map (report self.now.values.availability) (drop (i + 1) self.now.codes) ≡ reply.old.items ++ flat_map (report self.now.values.availability) (drop i self.now.codes)) }
+        ensures text { OnOk result (reply.new.items
+            ++ flat_map (report self.now.values.availability) (drop (i + 1) self.now.codes)
+            ≡ reply.old.items
+            ++ flat_map (report self.now.values.availability) (drop i self.now.codes)) }
         ensures len { OnOk result (length reply.new.items ≡ length reply.old.items + 4) }
     {
         match self.codes.at(i) {
@@ -126,7 +130,12 @@ impl Ecu {
     /// The same, where the status has a bit of the mask.
     fn report_if(&self, reply: &mut Vec<u8>, i: usize, mask: u8) -> Result<(), AllocError>
         requires place { i < length self.now.codes }
-        ensures text { OnOk result (reply.new.items ++ flat_map (report self.now.values.availability) (matching (drop (i + 1) self.now.codes) mask) ≡ reply.old.items ++ flat_map (report self.now.values.availability) (matching (drop i self.now.codes) mask)) }
+        ensures text { OnOk result (reply.new.items
+            ++ flat_map (report self.now.values.availability)
+            (matching (drop (i + 1) self.now.codes) mask)
+            ≡ reply.old.items
+            ++ flat_map (report self.now.values.availability)
+            (matching (drop i self.now.codes) mask)) }
         ensures len { OnOk result (length reply.new.items ≤ length reply.old.items + 4) }
         ensures more { OnOk result (length reply.old.items ≤ length reply.new.items) }
     {
@@ -145,7 +154,8 @@ impl Ecu {
 
 /// Adds a code with its reported status.
 fn append_report(reply: &mut Vec<u8>, code: u32, status: u8) -> Result<(), AllocError>
-    ensures text { OnOk result (reply.new.items ≡ reply.old.items ++ (spec.bytes_24 code ++ status ∷ [])) }
+    ensures text { OnOk result
+        (reply.new.items ≡ reply.old.items ++ (spec.bytes_24 code ++ status ∷ [])) }
     ensures len { OnOk result (length reply.new.items ≡ length reply.old.items + 4) }
 {
     let [high, middle, low] = bytes_24(code);

@@ -37,7 +37,8 @@ impl Ecu {
     /// The identifier that was written.
     pub(crate) fn write_reply(&self, p: &[u8]) -> Result<Message, AllocError>
         requires { 4 ≤ length p.now }
-        ensures { IfOk result (λ reply. reply ≡ positive_reply self.now Service.WriteDataByIdentifier p.now) }
+        ensures { IfOk result (λ reply.
+            reply ≡ positive_reply self.now Service.WriteDataByIdentifier p.now) }
     {
         let [high, low] = bytes_16(number_16_at(p, 1));
         self.say(&[0x6E, high, low])
@@ -46,8 +47,11 @@ impl Ecu {
     /// Writes a value of an identifier, of the length of the one that is kept.
     pub(crate) fn write_data(&mut self, p: &[u8])
         requires long { 4 ≤ length p.now }
-        requires fits { option_map length (value_of self.old.dids (number_16 p.now 1)) ≡ Some (length (drop 3 p.now)) }
-        ensures { self.new ≡ record self.old { dids = with_value self.old.dids (number_16 p.now 1) (drop 3 p.now) } }
+        requires fits { option_map length (value_of self.old.dids (number_16 p.now 1))
+            ≡ Some (length (drop 3 p.now)) }
+        ensures { self.new ≡ record self.old {
+          dids = with_value self.old.dids (number_16 p.now 1) (drop 3 p.now);
+        } }
     {
         let _ = self.dids.write(number_16_at(p, 1), &p[3..]);
     }

@@ -11,7 +11,8 @@ use Rattle.diag_gate.specs.Rule.{run}
 abbrev pub Sat : Type 0
 Sat = Me (Option Run) View
 
--- the slot's desk has a legal journal that begins with all that was seen, with the own lists of the view, and it goes to the seat
+-- the slot's desk has a legal journal that begins with all that was seen, with the own lists of the view, and it goes
+-- to the seat
 pub record Taken (v : View) (n : Sat) : Type 0 where
   pub journal : List Entry
   pub after : n ≡ (holding v journal, (0, Some (run v.opening journal)) ∷ [])

@@ -14,15 +14,18 @@ use Rattle.diag_gate.specs.Views.{own_of}
 abbrev pub run : State → List Entry → Run
 run opening journal = record { opening = opening; journal = journal }
 
--- The view is right about the journal: it has the one opening, what it has seen begins the journal, and each own list that it has is that tester's entries, and no other view has it
-pub record Knows (opening : State) (journal : List Entry) (place : ℕ → ℕ) (by : ℕ) (v : View) : Type 0 where
+-- The view is right about the journal: it has the one opening, what it has seen begins the journal, and each own list
+-- that it has is that tester's entries, and no other view has it
+pub record Knows (opening : State) (journal : List Entry) (place : ℕ → ℕ) (by : ℕ) (v : View)
+    : Type 0 where
   pub opened : v.live ≡ true → v.opening ≡ opening
   pub seen : BeginsWith journal v.seen
   pub told : BeginsWith journal v.told
   pub owns : (t : ℕ) (l : List Entry) → own_of v t ≡ Some l → (place t ≡ by) × (own journal t ≡ l)
 
 -- the desk is in its slot, and no view says that it holds it
-pub record AtHome (opening : State) (journal : List Entry) (homes : List (maybe.Option (Option Run))) (views : List View) : Type 0 where
+pub record AtHome (opening : State) (journal : List Entry)
+    (homes : List (maybe.Option (Option Run))) (views : List View) : Type 0 where
   pub desk : get_elem? homes 0 ≡ some (some (Some (run opening journal)))
   pub free : (by : ℕ) (v : View) → get_elem? views by ≡ some v → v.holds ≡ true → ⊥
 
@@ -44,7 +47,8 @@ pub record Placed (place : ℕ → ℕ) (views : List View) (t : ℕ) : Type 0 w
   pub there : get_elem? views (place t) ≡ some view
   pub has : own_of view t ≡ Some own
 
--- there is one legal journal from one opening, of which every view is right, each tester is in a view, and the desk stands for the journal
+-- there is one legal journal from one opening, of which every view is right, each tester is in a view, and the desk
+-- stands for the journal
 pub record Kept (s : Board (Option Run) View) : Type 0 where
   pub opening : State
   pub journal : List Entry

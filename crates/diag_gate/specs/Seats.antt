@@ -24,7 +24,8 @@ pub record SeatView : Type 0 where
   pub seen : List Entry
   pub missed : ℕ
 
--- the host: its gate, the opening, the journal that it has seen, the own entries of each tester that is with it, and the testers that it has given out before
+-- the host: its gate, the opening, the journal that it has seen, the own entries of each tester that is with it, and
+-- the testers that it has given out before
 pub record HostView : Type 0 where
   pub gate : TableId
   pub opening : State
@@ -47,9 +48,11 @@ abbrev pub gave : HostView → ℕ → HostView
 gave h t = record h { owns = slice_set h.owns t None; given = slice_set h.given t true }
 
 abbrev pub fresh : HostView → ℕ → List Entry → SeatView
-fresh h t own = record { gate = h.gate; who = t; opening = h.opening; own = own; seen = h.seen; missed = 0 }
+fresh h t own =
+    record { gate = h.gate; who = t; opening = h.opening; own = own; seen = h.seen; missed = 0 }
 
--- a tester that was not given out before goes to a new seat, which begins with what the host has seen and the tester's entries
+-- a tester that was not given out before goes to a new seat, which begins with what the host has seen and the tester's
+-- entries
 pub record Gave (h n : HostView) (t : ℕ) (s : SeatView) : Type 0 where
   pub mine : List Entry
   pub before : was_given h t ≡ false
@@ -59,7 +62,8 @@ pub record Gave (h n : HostView) (t : ℕ) (s : SeatView) : Type 0 where
 
 -- the host has the seat's own list, and has seen the longer of what the two had seen, which begins with the shorter
 pub record Joined (h n : HostView) (s : SeatView) : Type 0 where
-  pub host : n ≡ record h { owns = slice_set h.owns s.who (Some s.own); seen = longer h.seen s.seen }
+  pub host : n
+      ≡ record h { owns = slice_set h.owns s.who (Some s.own); seen = longer h.seen s.seen }
   pub begins : BeginsWith n.seen (shorter h.seen s.seen)
 
 -- the desk at the end
@@ -120,7 +124,14 @@ as_tried (Err JournalFull) = Err TryFull
 
 -- what a contract sees of a seat's place
 abbrev pub seat_as : TableId → ℕ → Me (Option Run) View → SeatView
-seat_as z who me = record { gate = z; who = who; opening = me.0.opening; own = me.0.own; seen = me.0.seen; missed = me.0.missed }
+seat_as z who me = record {
+  gate = z;
+  who = who;
+  opening = me.0.opening;
+  own = me.0.own;
+  seen = me.0.seen;
+  missed = me.0.missed;
+}
 
 -- a seat's place holds no slot
 pub record IsSeat (who : ℕ) (me : Me (Option Run) View) : Type 0 where
@@ -129,7 +140,8 @@ pub record IsSeat (who : ℕ) (me : Me (Option Run) View) : Type 0 where
 
 -- a seat's place that holds the slot, whose desk was taken out
 pub record IsHeld (who : ℕ) (me : Me (Option Run) View) (d : Run) : Type 0 where
-  pub is : me ≡ (holding (seat_view me.0.opening who me.0.own [] me.0.missed) me.0.seen, (0, None) ∷ [])
+  pub is : me
+      ≡ (holding (seat_view me.0.opening who me.0.own [] me.0.missed) me.0.seen, (0, None) ∷ [])
   pub place : who < 9
   pub desk : d ≡ run me.0.opening me.0.seen
   pub entries : own me.0.seen who ≡ me.0.own
@@ -137,5 +149,10 @@ pub record IsHeld (who : ℕ) (me : Me (Option Run) View) (d : Run) : Type 0 whe
 pub record IsHost (me : Me (Option Run) View) (given home : List Bool) : Type 0 where
   pub is : me ≡ (host_view me.0.opening me.0.seen me.0.owns me.0.told me.0.who, [])
   pub wide : (length me.0.owns ≡ 9) × (length given ≡ 9) × (length home ≡ 9)
-  pub here : (t : ℕ) → t < 9 → slice_index_or home t false ≡ is_some (slice_index_or me.0.owns t None)
-  pub left : (t : ℕ) → t < 9 → slice_index_or given t false ≡ false → slice_index_or home t false ≡ true
+  pub here : (t : ℕ)
+      → t < 9
+      → slice_index_or home t false ≡ is_some (slice_index_or me.0.owns t None)
+  pub left : (t : ℕ)
+      → t < 9
+      → slice_index_or given t false ≡ false
+      → slice_index_or home t false ≡ true

@@ -25,11 +25,33 @@ owns_from k (suc n) journal = Some (own journal k) ∷ owns_from (suc k) n journ
 
 abbrev pub host_view : State → List Entry → List (Option (List Entry)) → List Entry → ℕ → View
 host_view opening seen owns told who =
-    record { live = true; opening = opening; seen = seen; told = told; is_seat = false; who = who; own = []; owns = owns; holds = false; missed = 0 }
+    record {
+      live = true;
+      opening = opening;
+      seen = seen;
+      told = told;
+      is_seat = false;
+      who = who;
+      own = [];
+      owns = owns;
+      holds = false;
+      missed = 0;
+    }
 
 abbrev pub seat_view : State → ℕ → List Entry → List Entry → ℕ → View
 seat_view opening who own seen missed =
-    record { live = true; opening = opening; seen = seen; told = []; is_seat = true; who = who; own = own; owns = []; holds = false; missed = missed }
+    record {
+      live = true;
+      opening = opening;
+      seen = seen;
+      told = [];
+      is_seat = true;
+      who = who;
+      own = own;
+      owns = [];
+      holds = false;
+      missed = missed;
+    }
 
 abbrev pub starting : Run → View
 starting r = host_view r.opening r.journal (owns_from 0 9 r.journal) [] 0
@@ -67,7 +89,22 @@ shorter xs ys = if nat_le (length xs) (length ys) then xs else ys
 
 -- the host takes a seat in
 abbrev pub host_with : View → View → View
-host_with v w = record v { seen = longer v.seen w.seen; told = shorter v.seen w.seen; owns = slice_set v.owns w.who (Some w.own) }
+host_with v w = record v {
+  seen = longer v.seen w.seen;
+  told = shorter v.seen w.seen;
+  owns = slice_set v.owns w.who (Some w.own);
+}
 
 abbrev pub spent : View
-spent = record { live = false; opening = blank; seen = []; told = []; is_seat = false; who = 0; own = []; owns = []; holds = false; missed = 0 }
+spent = record {
+  live = false;
+  opening = blank;
+  seen = [];
+  told = [];
+  is_seat = false;
+  who = 0;
+  own = [];
+  owns = [];
+  holds = false;
+  missed = 0;
+}

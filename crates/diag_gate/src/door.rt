@@ -32,7 +32,10 @@ pub trait Door {
 
     /// Has the desk take a step. A refusal gives nothing; ticks have no reply.
     fn step(&mut self, step: &Step) -> Result<Option<Message>, StepFault>
-        ensures given { MatchResult result (λ reply. given self.new ≡ given self.old ++ entry (tester self.old) step.now reply ∷ []) (λ _. given self.new ≡ given self.old) }
+        ensures given { MatchResult result
+            (λ reply.
+            given self.new ≡ given self.old ++ entry (tester self.old) step.now reply ∷ [])
+            (λ _. given self.new ≡ given self.old) }
         ensures quiet { IfOk result (λ reply. HasNoReply step.now reply) }
         ensures tester { tester self.new ≡ tester self.old }
         ensures home { home self.new ≡ home self.old };
@@ -94,8 +97,13 @@ impl<R: Wait> Door for GateDoor<'_, R> {
 
     /// The gate's step, by its seat. It waits until no other seat has the desk.
     fn step(&mut self, step: &Step) -> Result<Option<Message>, StepFault>
-        ensures made { (missed : ℕ) × MatchResult result (λ reply. Answered (waited self.old missed) self.new step.now reply) (λ fault. Refused (waited self.old missed) self.new fault) }
-        ensures given { MatchResult result (λ reply. self.new.own ≡ self.old.own ++ entry self.old.who step.now reply ∷ []) (λ _. self.new.own ≡ self.old.own) }
+        ensures made { (missed : ℕ)
+            × MatchResult result
+            (λ reply. Answered (waited self.old missed) self.new step.now reply)
+            (λ fault. Refused (waited self.old missed) self.new fault) }
+        ensures given { MatchResult result
+            (λ reply. self.new.own ≡ self.old.own ++ entry self.old.who step.now reply ∷ [])
+            (λ _. self.new.own ≡ self.old.own) }
         ensures quiet { IfOk result (λ reply. HasNoReply step.now reply) }
         ensures tester { self.new.who ≡ self.old.who }
         ensures home { Some self.new.gate ≡ Some self.old.gate }

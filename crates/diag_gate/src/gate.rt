@@ -28,7 +28,8 @@ impl Model for Gate {
 
     ghost view = { λ g. g.table.shared.table_id };
 
-    ghost invariant = { λ g. (g.table.shared.table_id.words ≡ 1) × (g.table.shared.table_id.slots ≡ 1) };
+    ghost invariant = { λ g.
+        (g.table.shared.table_id.words ≡ 1) × (g.table.shared.table_id.slots ≡ 1) };
 }
 
 /// Gives the seats out and takes them back.
@@ -44,7 +45,13 @@ impl Model for Host {
 
     ghost Value = { HostView };
 
-    ghost view = { λ h. record { gate = h.place.table_id; opening = h.place.me.0.opening; seen = h.place.me.0.seen; owns = h.place.me.0.owns; given = h.given } };
+    ghost view = { λ h. record {
+      gate = h.place.table_id;
+      opening = h.place.me.0.opening;
+      seen = h.place.me.0.seen;
+      owns = h.place.me.0.owns;
+      given = h.given;
+    } };
 
     ghost invariant = { λ h. IsHost h.place.me h.given h.home };
 }
@@ -90,7 +97,13 @@ mod steps;
 impl Gate {
     /// A gate over a desk, and the host that gives out its seats. Refused, the desk is dropped.
     pub fn new(alloc: Global, desk: Desk) -> Result<(Gate, Host), AllocError>
-        ensures { IfOk result (λ r. r.1 ≡ record { gate = r.0; opening = desk.opening; seen = desk.journal; owns = owns_from 0 9 desk.journal; given = replicate 9 false }) }
+        ensures { IfOk result (λ r. r.1 ≡ record {
+          gate = r.0;
+          opening = desk.opening;
+          seen = desk.journal;
+          owns = owns_from 0 9 desk.journal;
+          given = replicate 9 false;
+        }) }
     {
         let desk = DeskBox::new(alloc, desk)?;
         desk.lawful();

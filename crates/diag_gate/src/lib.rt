@@ -1,4 +1,5 @@
-//! The ways to one desk: a gate, which hands the whole desk to one tester's seat at a time, and doors over a gate or over a lock.
+//! The ways to one desk: a gate, which hands the whole desk to one tester's seat at a time, and doors over a gate or
+//! over a lock.
 #![tactic(auto)]
 
 mod desk_box;

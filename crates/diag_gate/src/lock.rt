@@ -49,15 +49,21 @@ impl<'a, R: Wait> Door for LockDoor<'a, R> {
         self.who
     }
 
-    /// Its own journal has room before it locks, and a full one is looked at first. The answer is the desk's, so that it is lawful behind some
-    /// legal journal; which desk gave it, the contract doesn't say.
+    /// Its own journal has room before it locks, and a full one is looked at first. The answer is the desk's, so that
+    /// it is lawful behind some legal journal; which desk gave it, the contract doesn't say.
     fn step(&mut self, step: &Step) -> Result<Option<Message>, StepFault>
-        ensures lawful { IfOk result (λ reply. (desk : Run) × Legal desk.opening (desk.journal ++ entry self.old.who step.now reply ∷ [])) }
-        ensures full { length self.old.given.entries ≡ 1000000 → result ≡ Err StepFault.JournalFull }
-        ensures given { MatchResult result (λ reply. self.new.given.entries ≡ self.old.given.entries ++ entry self.old.who step.now reply ∷ []) (λ _. self.new.given.entries ≡ self.old.given.entries) }
+        ensures lawful { IfOk result (λ reply. (desk : Run)
+            × Legal desk.opening (desk.journal ++ entry self.old.who step.now reply ∷ [])) }
+        ensures full { length self.old.given.entries ≡ 1000000
+            → result ≡ Err StepFault.JournalFull }
+        ensures given { MatchResult result
+            (λ reply. self.new.given.entries
+            ≡ self.old.given.entries ++ entry self.old.who step.now reply ∷ [])
+            (λ _. self.new.given.entries ≡ self.old.given.entries) }
         ensures quiet { IfOk result (λ reply. HasNoReply step.now reply) }
         ensures tester { self.new.who ≡ self.old.who }
-        ensures home { ⟦<LockDoor<'a, R> as Door>⟧.home self.new ≡ ⟦<LockDoor<'a, R> as Door>⟧.home self.old }
+        ensures home { ⟦<LockDoor<'a, R> as Door>⟧.home self.new
+            ≡ ⟦<LockDoor<'a, R> as Door>⟧.home self.old }
     {
         if self.given.is_full() {
             return Err(StepFault::JournalFull);
@@ -75,10 +81,12 @@ impl<'a, R: Wait> Door for LockDoor<'a, R> {
 
 /// A desk's step, whose reply is lawful behind the desk's journal.
 fn lawful_step(desk: &mut Desk, who: Who, step: &Step) -> Result<Option<Message>, StepFault>
-    ensures lawful { IfOk result (λ reply. (desk : Run) × Legal desk.opening (desk.journal ++ entry who step.now reply ∷ [])) }
+    ensures lawful { IfOk result (λ reply.
+        (desk : Run) × Legal desk.opening (desk.journal ++ entry who step.now reply ∷ [])) }
     ensures quiet { IfOk result (λ reply. HasNoReply step.now reply) }
 {
     let reply = desk.step(who, step)?;
+    // (for its contract: a desk's journal is legal)
     let _journal = desk.journal();
     Ok(reply)
 }

@@ -32,13 +32,15 @@ config_text fault = codes "config: " ++ config_fault_text fault
 
 -- a tester is told by its place from 1
 abbrev pub log_text : ℕ → LogFault → List ℕ
-log_text who (log.Line n fault) = codes "log " ++ decimal who ++ codes " line " ++ decimal n ++ codes ": " ++ line_fault_text fault
+log_text who (log.Line n fault) = codes "log " ++ decimal who ++ codes " line " ++ decimal n
+    ++ codes ": " ++ line_fault_text fault
 log_text who log.TooManyLines = codes "log " ++ decimal who ++ codes ": too many lines"
 log_text who log.TooManyEvents = codes "log " ++ decimal who ++ codes ": too many events"
 log_text who log.Memory = codes "memory"
 
 abbrev pub run_fault_text : RunFault → List ℕ
-run_fault_text (Files wanted given) = decimal wanted ++ (codes " files wanted, " ++ (decimal given ++ codes " given"))
+run_fault_text (Files wanted given) =
+    decimal wanted ++ (codes " files wanted, " ++ (decimal given ++ codes " given"))
 run_fault_text (Config fault) = config_text fault
 run_fault_text ConfigLong = codes "config: too long"
 run_fault_text (Log who fault) = log_text who fault

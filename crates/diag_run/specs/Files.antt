@@ -93,7 +93,8 @@ unfoldable pub logs_of : Timing → RawSetup → List (List ℕ) → Result (Lis
 logs_of timing setup texts = or_bad_log (workers.logs_of setup timing texts)
 
 -- reader n could not be read: those before it were read to their ends, and those behind it were not touched
-pub record FailsAt {R : Type 0} (remaining : R → Option (List ℕ)) (n : ℕ) (old new : List R) : Type 0 where
+pub record FailsAt {R : Type 0} (remaining : R → Option (List ℕ)) (n : ℕ) (old new : List R)
+    : Type 0 where
   pub within : n ≤ length old
   pub ended : All (λ file. IsAtEnd (remaining file)) (take (n - 1) new)
   pub untouched : drop n new ≡ drop n old

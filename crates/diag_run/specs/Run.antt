@@ -78,21 +78,28 @@ abbrev pub woven : RawSetup → List Entry → List (List Event) → List (ℕ �
 woven setup journal logs = weave (link_of setup) journal logs
 
 -- the text of some play of these logs, which took their events in the order that belongs to its journal
-pub record IsPlayedText (order : List Entry → List (List Event) → List (ℕ × Event)) (only_journal : Bool) (timing : Timing) (setup : RawSetup) (logs : List (List Event)) (text : List ℕ) : Type 0 where
+pub record IsPlayedText (order : List Entry → List (List Event) → List (ℕ × Event))
+    (only_journal : Bool) (timing : Timing) (setup : RawSetup) (logs : List (List Event))
+    (text : List ℕ) : Type 0 where
   pub desk : Run
   pub sent : List (List Sent)
   pub play : IsPlay setup (order desk.journal logs) logs desk sent
   pub is : text ≡ played_text only_journal timing setup desk sent
 
 -- the journal is full only where the logs give more steps than it has room for
-abbrev pub GivesPlayed : Bool → Timing → RawSetup → Result (List (List Event)) Refusal → Result (List ℕ) RunFault → Type 0
-GivesPlayed only_journal timing setup said (Ok text) = IsOkAnd said (λ logs. IsPlayedText in_turn only_journal timing setup logs text)
-GivesPlayed only_journal timing setup said (Err JournalFull) = IsOkAnd said (λ logs. 1000000 < length (steps_of (link_of setup) (turns logs)))
+abbrev pub GivesPlayed : Bool → Timing → RawSetup → Result (List (List Event)) Refusal
+    → Result (List ℕ) RunFault → Type 0
+GivesPlayed only_journal timing setup said (Ok text) =
+    IsOkAnd said (λ logs. IsPlayedText in_turn only_journal timing setup logs text)
+GivesPlayed only_journal timing setup said (Err JournalFull) =
+    IsOkAnd said (λ logs. 1000000 < length (steps_of (link_of setup) (turns logs)))
 GivesPlayed only_journal timing setup said (Err fault) = Fails fault said
 
 -- the same of a play in which each tester has a thread. The journal is full only where the logs are well
-abbrev pub GivesWoven : Bool → Timing → RawSetup → Result (List (List Event)) Refusal → Result (List ℕ) RunFault → Type 0
-GivesWoven only_journal timing setup said (Ok text) = IsOkAnd said (λ logs. IsPlayedText (woven setup) only_journal timing setup logs text)
+abbrev pub GivesWoven : Bool → Timing → RawSetup → Result (List (List Event)) Refusal
+    → Result (List ℕ) RunFault → Type 0
+GivesWoven only_journal timing setup said (Ok text) =
+    IsOkAnd said (λ logs. IsPlayedText (woven setup) only_journal timing setup logs text)
 GivesWoven only_journal timing setup said (Err JournalFull) = IsOk said
 GivesWoven only_journal timing setup said (Err fault) = Fails fault said
 
@@ -124,8 +131,10 @@ first_text (text ∷ texts) = text
 
 -- what is answered for what was read
 abbrev pub GivesText : Job → Inputs → Result (List ℕ) RunFault → Type 0
-GivesText (Serial only_journal timing) i answer = GivesPlayed only_journal timing i.setup (logs_of timing i.setup i.texts) answer
-GivesText (Play only_journal timing) i answer = GivesWoven only_journal timing i.setup (logs_of timing i.setup i.texts) answer
+GivesText (Serial only_journal timing) i answer =
+    GivesPlayed only_journal timing i.setup (logs_of timing i.setup i.texts) answer
+GivesText (Play only_journal timing) i answer =
+    GivesWoven only_journal timing i.setup (logs_of timing i.setup i.texts) answer
 GivesText Replay i answer = GivesReplayed i.setup (first_text i.texts) answer
 
 -- a text for what was read; a fault of the reading, or of what was read
@@ -136,13 +145,15 @@ GivesRun job said (Err fault) = Fails fault said ⊎ IsOkAnd said (λ i. GivesTe
 -- ---- what is written
 
 -- the text of the run went out, and nothing else
-pub record Wrote (job : Job) (said : Result Inputs Refusal) (old new : Option (List ℕ)) : Type 0 where
+pub record Wrote (job : Job) (said : Result Inputs Refusal) (old new : Option (List ℕ))
+    : Type 0 where
   pub text : List ℕ
   pub gives : GivesRun job said (Ok text)
   pub appends : Appends old new text
 
 -- a front of the text of the run went out, and nothing else
-pub record WroteFront (job : Job) (said : Result Inputs Refusal) (old new : Option (List ℕ)) : Type 0 where
+pub record WroteFront (job : Job) (said : Result Inputs Refusal) (old new : Option (List ℕ))
+    : Type 0 where
   pub text : List ℕ
   pub gives : GivesRun job said (Ok text)
   pub appends : AppendsFront old new text
@@ -150,18 +161,25 @@ pub record WroteFront (job : Job) (said : Result Inputs Refusal) (old new : Opti
 -- ---- how it is told
 
 -- the fault of a writing comes after a front of the text, any other is that of what was read
-abbrev pub AnswersFault : Job → Result Inputs Refusal → Option (List ℕ) → Option (List ℕ) → RunFault → Type 0
+abbrev pub AnswersFault : Job → Result Inputs Refusal → Option (List ℕ) → Option (List ℕ) → RunFault
+    → Type 0
 AnswersFault job said old new Write = WroteFront job said old new
 AnswersFault job said old new fault = GivesRun job said (Err fault)
 
 -- the fault is answered by a run of these readers, and before another than that of the writing nothing is written
-pub record IsFaultOf {R : Type 0} (remaining : R → Option (List ℕ)) (job : Job) (config : R) (files : List R) (old new : Option (List ℕ)) (fault : RunFault) : Type 0 where
+pub record IsFaultOf {R : Type 0} (remaining : R → Option (List ℕ)) (job : Job) (config : R)
+    (files : List R) (old new : Option (List ℕ)) (fault : RunFault) : Type 0 where
   pub nothing : fault ≢ Write → Keeps old new
   pub device : (n : ℕ) → fault ≡ Read n → n ≤ length files
-  pub answer : (bytes : List ℕ) (known : List (List ℕ)) → remaining config ≡ Some bytes → AreKnown remaining files known
+  pub answer : (bytes : List ℕ) (known : List (List ℕ))
+      → remaining config ≡ Some bytes
+      → AreKnown remaining files known
       → AnswersFault job (read_of job bytes known) old new fault
 
 -- where it ends with a fault, the line and the status are those of a fault of which P holds
 abbrev pub TellsOf : (RunFault → Type 0) → Outcome → Type 0
 TellsOf P outcome.Done = Unit {0}
-TellsOf P (outcome.Fault told number) = (fault : RunFault) × P fault × IfSome told (λ line. line.items ≡ fault_text fault) × (number ≡ status fault)
+TellsOf P (outcome.Fault told number) = (fault : RunFault)
+    × P fault
+    × IfSome told (λ line. line.items ≡ fault_text fault)
+    × (number ≡ status fault)

@@ -22,7 +22,8 @@ lines_of name sent = flat_map (λ s. reply_line name s.at s.frame) sent
 -- the reply lines of the testers from number n on, tester by tester
 unfoldable pub lines_from : RawSetup → ℕ → List (List Sent) → List ℕ
 lines_from setup n [] = []
-lines_from setup n (sent ∷ others) = lines_of (name_of setup n) sent ++ lines_from setup (n + 1) others
+lines_from setup n (sent ∷ others) =
+    lines_of (name_of setup n) sent ++ lines_from setup (n + 1) others
 
 -- the journal's text: of version 2 where stamps carry time
 abbrev pub journal_part : Timing → List Entry → List ℕ
@@ -31,7 +32,8 @@ journal_part Stamps entries = journal_text_at entries
 
 -- the holder's name; its place, where the setup has no such tester
 abbrev pub holder_name : RawSetup → ℕ → List ℕ
-holder_name setup who = if nat_le who (length setup.testers) then name_of setup who else (48 + who) ∷ []
+holder_name setup who =
+    if nat_le who (length setup.testers) then name_of setup who else (48 + who) ∷ []
 
 unfoldable pub extended_session : List ℕ
 extended_session = codes "session extended\nholder "
@@ -46,7 +48,8 @@ holder_lines setup (Some who) = extended_lines setup who
 -- a trouble code in three bytes, and its status
 abbrev pub code_line : ℕ → ℕ → List ℕ
 code_line code status =
-    codes "code " ++ (encode_upper (bytes_24 code) ++ (codes " " ++ (encode_upper (status ∷ []) ++ codes "\n")))
+    codes "code "
+    ++ (encode_upper (bytes_24 code) ++ (codes " " ++ (encode_upper (status ∷ []) ++ codes "\n")))
 
 abbrev pub code_lines : List Dtc → List ℕ
 code_lines dtcs = flat_map (λ dtc. code_line dtc.code dtc.status) dtcs
@@ -58,7 +61,8 @@ end_text setup s = holder_lines setup s.holder ++ code_lines s.codes
 -- all that a play writes, which left this desk and these frames
 abbrev pub whole_text : Timing → RawSetup → Run → List (List Sent) → List ℕ
 whole_text timing setup desk sent =
-    lines_from setup 1 sent ++ (journal_part timing desk.journal ++ end_text setup (after desk.opening desk.journal))
+    lines_from setup 1 sent
+    ++ (journal_part timing desk.journal ++ end_text setup (after desk.opening desk.journal))
 
 -- what a replay of so many entries writes, which left this state
 abbrev pub replay_text : RawSetup → ℕ → State → List ℕ

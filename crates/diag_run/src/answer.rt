@@ -26,7 +26,9 @@ pub(crate) fn played_text(
     timing: Timing,
 ) -> Result<Vec<Vec<u8>>, RunFault>
     requires { length texts.now ≡ length setup.now.testers }
-    ensures gives { GivesPlayed only_journal timing setup.now (logs_of timing setup.now (map (λ text. text.items) texts.now)) (answered (λ parts. concat (map (λ part. part.items) parts.items)) result) }
+    ensures gives { GivesPlayed only_journal timing setup.now
+        (logs_of timing setup.now (map (λ text. text.items) texts.now))
+        (answered (λ parts. concat (map (λ part. part.items) parts.items)) result) }
     ensures device { (n : ℕ) → result ≢ Err (RunFault.Read n) }
 {
     let logs = match read_logs(alloc, setup, timing, texts) {
@@ -48,7 +50,9 @@ pub(crate) fn woven_text<R: Threads + Wait + Sync>(
     timing: Timing,
 ) -> Result<Vec<Vec<u8>>, RunFault>
     requires { length texts.now ≡ length setup.now.testers }
-    ensures gives { GivesWoven only_journal timing setup.now (logs_of timing setup.now (map (λ text. text.items) texts.now)) (answered (λ parts. concat (map (λ part. part.items) parts.items)) result) }
+    ensures gives { GivesWoven only_journal timing setup.now
+        (logs_of timing setup.now (map (λ text. text.items) texts.now))
+        (answered (λ parts. concat (map (λ part. part.items) parts.items)) result) }
     ensures device { (n : ℕ) → result ≢ Err (RunFault.Read n) }
 {
     let played = play(rt, alloc, setup, texts, &NoWatch, timing)?;
@@ -65,7 +69,10 @@ fn in_parts<R: Threads + Sync>(
     timing: Timing,
 ) -> Result<Vec<Vec<u8>>, RunFault>
     requires { length played.now.sent.items ≡ length setup.now.testers }
-    ensures ok { IfOk result (λ parts. concat (map (λ part. part.items) parts.items) ≡ played_text only_journal timing setup.now played.now.desk (map (λ sent. sent.items) played.now.sent.items)) }
+    ensures ok { IfOk result (λ parts.
+        concat (map (λ part. part.items) parts.items)
+        ≡ played_text only_journal timing setup.now played.now.desk
+        (map (λ sent. sent.items) played.now.sent.items)) }
     ensures err { IfErr result (λ fault. fault ≡ RunFault.Memory) }
 {
     let parts = if only_journal {
@@ -85,7 +92,10 @@ fn in_one(
     timing: Timing,
 ) -> Result<Vec<Vec<u8>>, RunFault>
     requires { length played.now.sent.items ≡ length setup.now.testers }
-    ensures ok { IfOk result (λ parts. concat (map (λ part. part.items) parts.items) ≡ played_text only_journal timing setup.now played.now.desk (map (λ sent. sent.items) played.now.sent.items)) }
+    ensures ok { IfOk result (λ parts.
+        concat (map (λ part. part.items) parts.items)
+        ≡ played_text only_journal timing setup.now played.now.desk
+        (map (λ sent. sent.items) played.now.sent.items)) }
     ensures err { IfErr result (λ fault. fault ≡ RunFault.Memory) }
 {
     let text = if only_journal {
@@ -102,7 +112,8 @@ pub(crate) fn replayed_text(
     setup: &Setup,
     bytes: &[u8],
 ) -> Result<Vec<Vec<u8>>, RunFault>
-    ensures gives { GivesReplayed setup.now bytes.now (answered (λ parts. concat (map (λ part. part.items) parts.items)) result) }
+    ensures gives { GivesReplayed setup.now bytes.now
+        (answered (λ parts. concat (map (λ part. part.items) parts.items)) result) }
     ensures device { (n : ℕ) → result ≢ Err (RunFault.Read n) }
 {
     let journal = match read_journal(alloc, bytes) {

@@ -38,7 +38,8 @@ pub fn read_whole<R: Read>(
     ensures whole { IfOk result (λ v. IfSome (R.remaining reader.old) (λ bytes. v.items ≡ bytes)) }
     ensures within { IfOk result (λ v. length v.items ≤ limit) }
     ensures end { OnOk result (IsAtEnd (R.remaining reader.new)) }
-    ensures long { result ≡ Err ReadFault.Long → IfSome (R.remaining reader.old) (λ bytes. limit < length bytes) }
+    ensures long { result ≡ Err ReadFault.Long
+        → IfSome (R.remaining reader.old) (λ bytes. limit < length bytes) }
 {
     let mut bytes = Vec::new(alloc);
     let mut buffer = [0u8; 65_536];
@@ -61,8 +62,10 @@ pub fn read_whole<R: Read>(
 
 /// Writes the parts of a text, one behind the other, and flushes. After a fault a front of the text went out.
 pub fn write_whole<W: Write>(out: &mut W, parts: &[Vec<u8>]) -> Result<(), WriteFault>
-    ensures whole { OnOk result (Appends (W.contents out.old) (W.contents out.new) (concat (map (λ part. part.items) parts.now))) }
-    ensures front { OnErr result (AppendsFront (W.contents out.old) (W.contents out.new) (concat (map (λ part. part.items) parts.now))) }
+    ensures whole { OnOk result (Appends (W.contents out.old) (W.contents out.new)
+        (concat (map (λ part. part.items) parts.now))) }
+    ensures front { OnErr result (AppendsFront (W.contents out.old) (W.contents out.new)
+        (concat (map (λ part. part.items) parts.now))) }
 {
     for part in parts {
         write_part(out, part.as_slice())?;

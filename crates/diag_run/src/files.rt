@@ -16,7 +16,8 @@ const CONFIG_LIMIT: usize = 1_048_576;
 /// The setup that the config says.
 #[tactic(auto, unfolding(crate::specs::Files::config_of))]
 pub fn read_config<R: Read>(alloc: Global, config: &mut R) -> Result<Setup, RunFault>
-    ensures read { IfSome (R.remaining config.old) (λ bytes. Gives (λ setup. setup) result (config_of bytes)) }
+    ensures read { IfSome (R.remaining config.old) (λ bytes.
+        Gives (λ setup. setup) result (config_of bytes)) }
     ensures device { (n : ℕ) → result ≡ Err (RunFault.Read n) → n ≡ 0 }
     ensures end { IfOk result (λ _. IsAtEnd (R.remaining config.new)) }
 {
@@ -43,7 +44,9 @@ pub fn read_files<R: Read>(
     ensures count { IfOk result (λ v. length v.items ≡ length files.old) }
     ensures read { (known : List (List ℕ)) → AreKnown R.remaining files.old known
         → Gives (λ v. map (λ bytes. bytes.items) v.items) result (files_from limit 1 known) }
-    ensures device { (n : ℕ) → result ≡ Err (RunFault.Read n) → (1 ≤ n) × FailsAt R.remaining n files.old files.new }
+    ensures device { (n : ℕ)
+        → result ≡ Err (RunFault.Read n)
+        → (1 ≤ n) × FailsAt R.remaining n files.old files.new }
 {
     let mut texts = Vec::new(alloc);
     for (index, file) in files.iter_mut().enumerate() {

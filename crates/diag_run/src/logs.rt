@@ -17,7 +17,8 @@ pub fn read_logs(
 ) -> Result<Vec<Vec<Event>>, RunFault>
     requires { length texts.now ≡ length setup.now.testers }
     ensures count { IfOk result (λ v. length v.items ≡ length texts.now) }
-    ensures read { Gives (λ v. map (λ log. log.items) v.items) result (logs_of timing setup.now (map (λ text. text.items) texts.now)) }
+    ensures read { Gives (λ v. map (λ log. log.items) v.items) result
+        (logs_of timing setup.now (map (λ text. text.items) texts.now)) }
     ensures device { (n : ℕ) → result ≢ Err (RunFault.Read n) }
 {
     let mut logs = Vec::new(alloc);

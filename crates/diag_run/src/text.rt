@@ -28,7 +28,8 @@ pub fn play_text(
     timing: Timing,
 ) -> Result<Vec<u8>, AllocError>
     requires { length played.now.sent.items ≡ length setup.now.testers }
-    ensures { IfOk result (λ text. text.items ≡ whole_text timing setup.now played.now.desk (map (λ sent. sent.items) played.now.sent.items)) }
+    ensures { IfOk result (λ text. text.items ≡ whole_text timing setup.now played.now.desk
+        (map (λ sent. sent.items) played.now.sent.items)) }
 {
     let mut text = reply_lines(alloc, setup, played.sent.as_slice())?;
     let journal = journal_part(alloc, timing, played.desk.journal())?;
@@ -47,7 +48,9 @@ pub(crate) fn play_parts<R: Threads + Sync>(
     timing: Timing,
 ) -> Result<Vec<Vec<u8>>, AllocError>
     requires { length played.now.sent.items ≡ length setup.now.testers }
-    ensures { IfOk result (λ parts. concat (map (λ part. part.items) parts.items) ≡ whole_text timing setup.now played.now.desk (map (λ sent. sent.items) played.now.sent.items)) }
+    ensures { IfOk result (λ parts. concat (map (λ part. part.items) parts.items)
+        ≡ whole_text timing setup.now played.now.desk
+        (map (λ sent. sent.items) played.now.sent.items)) }
 {
     let _at_most_8 = setup.testers();
     let sent = played.sent.as_slice();
@@ -55,11 +58,15 @@ pub(crate) fn play_parts<R: Threads + Sync>(
     let (lines, journal) = join(
         rt,
         move || -> Result<Vec<Vec<u8>>, AllocError>
-            requires { IsSync R.row × (length sent.now ≡ length setup.now.testers) × (length setup.now.testers ≤ 8) }
-            ensures { IfOk result (λ parts. concat (map (λ part. part.items) parts.items) ≡ lines_from setup.entry.now 1 (map (λ frames. frames.items) sent.entry.now)) }
+            requires { IsSync R.row
+                × (length sent.now ≡ length setup.now.testers)
+                × (length setup.now.testers ≤ 8) }
+            ensures { IfOk result (λ parts. concat (map (λ part. part.items) parts.items)
+                ≡ lines_from setup.entry.now 1 (map (λ frames. frames.items) sent.entry.now)) }
         { lines_beside(rt, alloc, setup, 0, sent) },
         move || -> Result<Vec<u8>, AllocError>
-            ensures { IfOk result (λ text. text.items ≡ journal_part timing journal.entry.now.entries) }
+            ensures { IfOk result (λ text.
+                text.items ≡ journal_part timing journal.entry.now.entries) }
         { journal_part(alloc, timing, journal) },
     );
     let mut parts = lines?;
@@ -80,7 +87,8 @@ fn lines_beside<R: Threads + Sync>(
 ) -> Result<Vec<Vec<u8>>, AllocError>
     requires index { index + length sent.now ≡ length setup.now.testers }
     requires few { length setup.now.testers ≤ 8 }
-    ensures { IfOk result (λ parts. concat (map (λ part. part.items) parts.items) ≡ lines_from setup.now (index + 1) (map (λ frames. frames.items) sent.now)) }
+    ensures { IfOk result (λ parts. concat (map (λ part. part.items) parts.items)
+        ≡ lines_from setup.now (index + 1) (map (λ frames. frames.items) sent.now)) }
 {
     let Some((frames, rest)) = sent.split_first() else {
         return Ok(Vec::new(alloc));
@@ -94,11 +102,16 @@ fn lines_beside<R: Threads + Sync>(
         rt,
         move || -> Result<Vec<Vec<u8>>, AllocError>
             requires { IsSync R.row }
-            ensures { IfOk result (λ parts. concat (map (λ part. part.items) parts.items) ≡ lines_of name.entry.now frames.entry.now) }
+            ensures { IfOk result (λ parts. concat (map (λ part. part.items) parts.items)
+                ≡ lines_of name.entry.now frames.entry.now) }
         { lines_halved(rt, alloc, name, frames, MOST_PARTS) },
         move || -> Result<Vec<Vec<u8>>, AllocError>
-            requires { IsSync R.row × (index + 1 + length rest.now ≡ length setup.now.testers) × (length setup.now.testers ≤ 8) }
-            ensures { IfOk result (λ parts. concat (map (λ part. part.items) parts.items) ≡ lines_from setup.entry.now (index + 1 + 1) (map (λ frames. frames.items) rest.entry.now)) }
+            requires { IsSync R.row
+                × (index + 1 + length rest.now ≡ length setup.now.testers)
+                × (length setup.now.testers ≤ 8) }
+            ensures { IfOk result (λ parts. concat (map (λ part. part.items) parts.items)
+                ≡ lines_from setup.entry.now (index + 1 + 1)
+                (map (λ frames. frames.items) rest.entry.now)) }
         { lines_beside(rt, alloc, setup, index + 1, rest) },
     );
     both(own?, others?)
@@ -110,7 +123,8 @@ const MOST_PARTS: u8 = 4;
 /// So few lines are not worth a thread.
 const FEW_LINES: usize = 65_536;
 
-/// The reply lines of one tester; where there are many, in halves that are made beside each other, so many parts at most.
+/// The reply lines of one tester; where there are many, in halves that are made beside each other, so many parts at
+/// most.
 fn lines_halved<R: Threads + Sync>(
     rt: &R,
     alloc: Global,
@@ -118,7 +132,8 @@ fn lines_halved<R: Threads + Sync>(
     sent: &[Sent],
     most: u8,
 ) -> Result<Vec<Vec<u8>>, AllocError>
-    ensures { IfOk result (λ parts. concat (map (λ part. part.items) parts.items) ≡ lines_of name.now sent.now) }
+    ensures { IfOk result (λ parts.
+        concat (map (λ part. part.items) parts.items) ≡ lines_of name.now sent.now) }
 {
     if most < 2 || sent.len() <= FEW_LINES {
         let lines = tester_lines(alloc, name, sent)?;
@@ -130,11 +145,13 @@ fn lines_halved<R: Threads + Sync>(
         rt,
         move || -> Result<Vec<Vec<u8>>, AllocError>
             requires { IsSync R.row }
-            ensures { IfOk result (λ parts. concat (map (λ part. part.items) parts.items) ≡ lines_of name.entry.now front.entry.now) }
+            ensures { IfOk result (λ parts. concat (map (λ part. part.items) parts.items)
+                ≡ lines_of name.entry.now front.entry.now) }
         { lines_halved(rt, alloc, name, front, half) },
         move || -> Result<Vec<Vec<u8>>, AllocError>
             requires { IsSync R.row }
-            ensures { IfOk result (λ parts. concat (map (λ part. part.items) parts.items) ≡ lines_of name.entry.now back.entry.now) }
+            ensures { IfOk result (λ parts. concat (map (λ part. part.items) parts.items)
+                ≡ lines_of name.entry.now back.entry.now) }
         { lines_halved(rt, alloc, name, back, half) },
     );
     both(front?, back?)
@@ -142,7 +159,9 @@ fn lines_halved<R: Threads + Sync>(
 
 /// The parts of one text and then those of another.
 fn both(mut parts: Vec<Vec<u8>>, mut others: Vec<Vec<u8>>) -> Result<Vec<Vec<u8>>, AllocError>
-    ensures { IfOk result (λ all. concat (map (λ part. part.items) all.items) ≡ concat (map (λ part. part.items) parts.items) ++ concat (map (λ part. part.items) others.items)) }
+    ensures { IfOk result (λ all. concat (map (λ part. part.items) all.items)
+        ≡ concat (map (λ part. part.items) parts.items)
+        ++ concat (map (λ part. part.items) others.items)) }
 {
     parts.append(&mut others)?;
     Ok(parts)
@@ -150,7 +169,8 @@ fn both(mut parts: Vec<Vec<u8>>, mut others: Vec<Vec<u8>>) -> Result<Vec<Vec<u8>
 
 /// Adds a part.
 fn add_part(parts: &mut Vec<Vec<u8>>, part: Vec<u8>) -> Result<(), AllocError>
-    ensures { OnOk result (concat (map (λ part. part.items) parts.new.items) ≡ concat (map (λ part. part.items) parts.old.items) ++ part.items) }
+    ensures { OnOk result (concat (map (λ part. part.items) parts.new.items)
+        ≡ concat (map (λ part. part.items) parts.old.items) ++ part.items) }
 {
     parts.push(part)?;
     Ok(())
@@ -183,7 +203,8 @@ const USUAL_LINE: usize = 42;
 /// The reply lines, tester by tester.
 fn reply_lines(alloc: Global, setup: &Setup, sent: &[Vec<Sent>]) -> Result<Vec<u8>, AllocError>
     requires { length sent.now ≡ length setup.now.testers }
-    ensures { IfOk result (λ text. text.items ≡ lines_from setup.now 1 (map (λ frames. frames.items) sent.now)) }
+    ensures { IfOk result (λ text.
+        text.items ≡ lines_from setup.now 1 (map (λ frames. frames.items) sent.now)) }
 {
     let mut text = Vec::new(alloc);
     for (index, frames) in sent.iter().enumerate() {
@@ -307,7 +328,8 @@ pub fn replay_text(
     journal: &Journal,
     ecu: &Ecu,
 ) -> Result<Vec<u8>, AllocError>
-    ensures { IfOk result (λ text. text.items ≡ replay_text setup.now (length journal.now.entries) ecu.now) }
+    ensures { IfOk result (λ text.
+        text.items ≡ replay_text setup.now (length journal.now.entries) ecu.now) }
 {
     let count = journal.len();
     let mut text = format!(in alloc; "entries {count}\n")?.into_bytes();

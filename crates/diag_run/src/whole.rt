@@ -66,10 +66,17 @@ fn read_all<R: Read>(
     config: &mut R,
     files: &mut [R],
 ) -> Result<Given, RunFault>
-    ensures read { (bytes : List ℕ) (known : List (List ℕ)) → R.remaining config.old ≡ Some bytes → AreKnown R.remaining files.old known
+    ensures read { (bytes : List ℕ) (known : List (List ℕ))
+        → R.remaining config.old ≡ Some bytes
+        → AreKnown R.remaining files.old known
         → Gives inputs_of result (read_of job bytes known) }
-    ensures device { (n : ℕ) → result ≡ Err (RunFault.Read n) → FailsAt R.remaining n files.old files.new }
-    ensures config { (n : ℕ) → result ≡ Err (RunFault.Read n) → 1 ≤ n → IsAtEnd (R.remaining config.new) }
+    ensures device { (n : ℕ)
+        → result ≡ Err (RunFault.Read n)
+        → FailsAt R.remaining n files.old files.new }
+    ensures config { (n : ℕ)
+        → result ≡ Err (RunFault.Read n)
+        → 1 ≤ n
+        → IsAtEnd (R.remaining config.new) }
     ensures wanted { IfOk result (λ given. length given.texts.items ≡ wanted job given.setup) }
 {
     let setup = match read_config(alloc, config) {
@@ -95,7 +102,8 @@ fn text_for<R: Threads + Wait + Sync>(
     given: &Given,
 ) -> Result<Vec<Vec<u8>>, RunFault>
     requires { length given.now.texts.items ≡ wanted job given.now.setup }
-    ensures gives { GivesText job (inputs_of given.now) (answered (λ parts. concat (map (λ part. part.items) parts.items)) result) }
+    ensures gives { GivesText job (inputs_of given.now)
+        (answered (λ parts. concat (map (λ part. part.items) parts.items)) result) }
     ensures device { (n : ℕ) → result ≢ Err (RunFault.Read n) }
 {
     let texts = given.texts.as_slice();
@@ -120,10 +128,18 @@ fn whole_text<T: Threads + Wait + Sync, R: Read>(
     config: &mut R,
     files: &mut [R],
 ) -> Result<Vec<Vec<u8>>, RunFault>
-    ensures answer { (bytes : List ℕ) (known : List (List ℕ)) → R.remaining config.old ≡ Some bytes → AreKnown R.remaining files.old known
-        → GivesRun job (read_of job bytes known) (answered (λ parts. concat (map (λ part. part.items) parts.items)) result) }
-    ensures device { (n : ℕ) → result ≡ Err (RunFault.Read n) → FailsAt R.remaining n files.old files.new }
-    ensures config { (n : ℕ) → result ≡ Err (RunFault.Read n) → 1 ≤ n → IsAtEnd (R.remaining config.new) }
+    ensures answer { (bytes : List ℕ) (known : List (List ℕ))
+        → R.remaining config.old ≡ Some bytes
+        → AreKnown R.remaining files.old known
+        → GivesRun job (read_of job bytes known)
+        (answered (λ parts. concat (map (λ part. part.items) parts.items)) result) }
+    ensures device { (n : ℕ)
+        → result ≡ Err (RunFault.Read n)
+        → FailsAt R.remaining n files.old files.new }
+    ensures config { (n : ℕ)
+        → result ≡ Err (RunFault.Read n)
+        → 1 ≤ n
+        → IsAtEnd (R.remaining config.new) }
 {
     match read_all(alloc, job, config, files) {
         Ok(given) => text_for(rt, alloc, job, &given),
@@ -145,13 +161,22 @@ pub fn run<T: Threads + Wait + Sync, R: Read + Drop, W: Write>(
     mut files: Vec<R>,
     out: &mut W,
 ) -> Result<(), RunFault>
-    ensures done { OnOk result ((bytes : List ℕ) (known : List (List ℕ)) → R.remaining config ≡ Some bytes → AreKnown R.remaining files.items known
+    ensures done { OnOk result ((bytes : List ℕ) (known : List (List ℕ))
+        → R.remaining config ≡ Some bytes
+        → AreKnown R.remaining files.items known
         → Wrote job (read_of job bytes known) (W.contents out.old) (W.contents out.new)) }
-    ensures fault { IfErr result (λ e. e ≢ RunFault.Write → (bytes : List ℕ) (known : List (List ℕ)) → R.remaining config ≡ Some bytes → AreKnown R.remaining files.items known
+    ensures fault { IfErr result (λ e. e ≢ RunFault.Write
+        → (bytes : List ℕ) (known : List (List ℕ))
+        → R.remaining config ≡ Some bytes
+        → AreKnown R.remaining files.items known
         → GivesRun job (read_of job bytes known) (Err e)) }
     ensures device { (n : ℕ) → result ≡ Err (RunFault.Read n) → n ≤ length files.items }
-    ensures nothing { IfErr result (λ e. e ≢ RunFault.Write → Keeps (W.contents out.old) (W.contents out.new)) }
-    ensures front { result ≡ Err RunFault.Write → (bytes : List ℕ) (known : List (List ℕ)) → R.remaining config ≡ Some bytes → AreKnown R.remaining files.items known
+    ensures nothing { IfErr result (λ e.
+        e ≢ RunFault.Write → Keeps (W.contents out.old) (W.contents out.new)) }
+    ensures front { result ≡ Err RunFault.Write
+        → (bytes : List ℕ) (known : List (List ℕ))
+        → R.remaining config ≡ Some bytes
+        → AreKnown R.remaining files.items known
         → WroteFront job (read_of job bytes known) (W.contents out.old) (W.contents out.new) }
 {
     let parts = match whole_text(rt, alloc, job, &mut config, files.as_mut_slice()) {
@@ -182,9 +207,14 @@ pub fn run_and_tell<T: Threads + Wait + Sync, R: Read + Drop, W: Write>(
     files: Vec<R>,
     out: &mut W,
 ) -> Outcome
-    ensures done { result ≡ Outcome.Done → (bytes : List ℕ) (known : List (List ℕ)) → R.remaining config ≡ Some bytes → AreKnown R.remaining files.items known
+    ensures done { result ≡ Outcome.Done
+        → (bytes : List ℕ) (known : List (List ℕ))
+        → R.remaining config ≡ Some bytes
+        → AreKnown R.remaining files.items known
         → Wrote job (read_of job bytes known) (W.contents out.old) (W.contents out.new) }
-    ensures fault { TellsOf (IsFaultOf R.remaining job config files.items (W.contents out.old) (W.contents out.new)) result }
+    ensures fault { TellsOf
+        (IsFaultOf R.remaining job config files.items (W.contents out.old) (W.contents out.new))
+        result }
 {
     match run(rt, alloc, job, config, files, out) {
         Ok(()) => Outcome::Done,

@@ -29,7 +29,8 @@ has_repeat key (x ∷ xs) = has_key key xs (key x) || has_repeat key xs
 -- a row put where it belongs among rows in rising order
 abbrev pub insert_in_order : {X : Type 0} → (X → ℕ) → X → List X → List X
 insert_in_order key x [] = x ∷ []
-insert_in_order key x (y ∷ ys) = if nat_le (key x) (key y) then x ∷ y ∷ ys else y ∷ insert_in_order key x ys
+insert_in_order key x (y ∷ ys) =
+    if nat_le (key x) (key y) then x ∷ y ∷ ys else y ∷ insert_in_order key x ys
 
 -- the rows in rising order of their keys
 abbrev pub in_order : {X : Type 0} → (X → ℕ) → List X → List X

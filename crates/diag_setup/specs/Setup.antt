@@ -37,7 +37,8 @@ is_can_id id = nat_le id 0x7FF
 
 abbrev pub tester_is_in_range : RawTester → Bool
 tester_is_in_range tester =
-    has_length 1 16 tester.name && list_all is_name_byte tester.name && is_can_id tester.request && is_can_id tester.response
+    has_length 1 16 tester.name && list_all is_name_byte tester.name && is_can_id tester.request
+    && is_can_id tester.response
 
 abbrev pub did_is_in_range : RawDid → Bool
 did_is_in_range did = nat_le did.id 0xFFFF && has_length 1 255 did.value
@@ -52,10 +53,12 @@ on_done_is_in_range (Some row) = nat_le row.status 0xFF
 
 abbrev pub routine_is_in_range : RawRoutine → Bool
 routine_is_in_range routine =
-    nat_le routine.id 0xFFFF && is_between 1 600000 routine.time_ms && nat_le (length routine.result) 32 && on_done_is_in_range routine.on_done
+    nat_le routine.id 0xFFFF && is_between 1 600000 routine.time_ms
+    && nat_le (length routine.result) 32 && on_done_is_in_range routine.on_done
 
 abbrev pub key_row_is_in_range : RawKeyRow → Bool
-key_row_is_in_range row = has_length 1 16 row.seed && list_any (λ b. not (b == 0)) row.seed && has_length 1 16 row.key
+key_row_is_in_range row =
+    has_length 1 16 row.seed && list_any (λ b. not (b == 0)) row.seed && has_length 1 16 row.key
 
 abbrev pub seed_of : RawKeyRow → List ℕ
 seed_of row = row.seed
@@ -66,21 +69,26 @@ key_of row = row.key
 -- in one level all seeds have one length, and all keys have one
 abbrev pub level_is_in_range : RawLevel → Bool
 level_is_in_range level =
-    is_between 1 65 level.sub && level.sub % 2 == 1 && nat_le (length level.rows) 64 && list_all key_row_is_in_range level.rows && have_one_length seed_of level.rows && have_one_length key_of level.rows
+    is_between 1 65 level.sub && level.sub % 2 == 1 && nat_le (length level.rows) 64
+    && list_all key_row_is_in_range level.rows && have_one_length seed_of level.rows
+    && have_one_length key_of level.rows
 
 abbrev pub is_st_min : ℕ → Bool
 is_st_min st = nat_le st 127 || is_between 241 249 st
 
 abbrev pub times_are_in_range : RawSetup → Bool
 times_are_in_range raw =
-    nat_le raw.p2_ms 0xFFFF && nat_le raw.p2_star_10ms 0xFFFF && is_between 1 600000 raw.s3_ms && is_between 1 60000 raw.n_bs_ms && is_between 1 60000 raw.n_cr_ms
+    nat_le raw.p2_ms 0xFFFF && nat_le raw.p2_star_10ms 0xFFFF && is_between 1 600000 raw.s3_ms
+    && is_between 1 60000 raw.n_bs_ms && is_between 1 60000 raw.n_cr_ms
 
 abbrev pub link_is_in_range : RawSetup → Bool
 link_is_in_range raw =
-    nat_le raw.block_size 0xFF && is_st_min raw.st_min && is_between 8 0xFFFF raw.max_request && nat_le raw.pad_byte 0xFF && is_can_id raw.functional
+    nat_le raw.block_size 0xFF && is_st_min raw.st_min && is_between 8 0xFFFF raw.max_request
+    && nat_le raw.pad_byte 0xFF && is_can_id raw.functional
 
 abbrev pub server_is_in_range : RawSetup → Bool
-server_is_in_range raw = nat_le raw.availability 0xFF && is_between 1 0xFF raw.attempts && is_between 1 600000 raw.delay_ms
+server_is_in_range raw = nat_le raw.availability 0xFF && is_between 1 0xFF raw.attempts
+    && is_between 1 600000 raw.delay_ms
 
 abbrev pub testers_are_in_range : List RawTester → Bool
 testers_are_in_range testers = nat_le (length testers) 8 && list_all tester_is_in_range testers
@@ -92,7 +100,8 @@ abbrev pub codes_are_in_range : List RawCode → Bool
 codes_are_in_range codes = nat_le (length codes) 256 && list_all code_is_in_range codes
 
 abbrev pub routines_are_in_range : List RawRoutine → Bool
-routines_are_in_range routines = nat_le (length routines) 16 && list_all routine_is_in_range routines
+routines_are_in_range routines =
+    nat_le (length routines) 16 && list_all routine_is_in_range routines
 
 abbrev pub levels_are_in_range : List RawLevel → Bool
 levels_are_in_range levels = nat_le (length levels) 4 && list_all level_is_in_range levels
@@ -100,7 +109,10 @@ levels_are_in_range levels = nat_le (length levels) 4 && list_all level_is_in_ra
 -- Range: every value and every number of rows is one that the table allows
 abbrev pub is_in_range : RawSetup → Bool
 is_in_range raw =
-    times_are_in_range raw && link_is_in_range raw && server_is_in_range raw && testers_are_in_range raw.testers && dids_are_in_range raw.dids && codes_are_in_range raw.codes && routines_are_in_range raw.routines && levels_are_in_range raw.levels
+    times_are_in_range raw && link_is_in_range raw && server_is_in_range raw
+    && testers_are_in_range raw.testers && dids_are_in_range raw.dids
+    && codes_are_in_range raw.codes && routines_are_in_range raw.routines
+    && levels_are_in_range raw.levels
 
 abbrev pub has_no_rows : RawLevel → Bool
 has_no_rows level = length level.rows == 0
@@ -130,7 +142,9 @@ itself n = n
 -- DuplicateId: two testers of one name, two equal identifiers, or two rows of one key
 abbrev pub has_duplicates : RawSetup → Bool
 has_duplicates raw =
-    has_repeated_name raw.testers || has_repeat itself (can_ids raw.testers raw.functional) || has_repeat did_id raw.dids || has_repeat dtc_code raw.codes || has_repeat routine_id raw.routines || has_repeat level_sub raw.levels
+    has_repeated_name raw.testers || has_repeat itself (can_ids raw.testers raw.functional)
+    || has_repeat did_id raw.dids || has_repeat dtc_code raw.codes
+    || has_repeat routine_id raw.routines || has_repeat level_sub raw.levels
 
 abbrev pub is_known_code : List RawCode → Option RawCode → Bool
 is_known_code codes None = true
@@ -151,12 +165,14 @@ abbrev pub names_unknown_code : RawSetup → Bool
 names_unknown_code raw = not (list_all (done_code_is_known raw.codes) raw.routines)
 
 abbrev pub did_levels_are_known : List RawLevel → RawDid → Bool
-did_levels_are_known levels did = is_known_level levels did.read_level && is_known_level levels did.write_level
+did_levels_are_known levels did =
+    is_known_level levels did.read_level && is_known_level levels did.write_level
 
 -- UnknownLevel: an identifier or a routine names a level that isn't in the list
 abbrev pub names_unknown_level : RawSetup → Bool
 names_unknown_level raw =
-    not (list_all (did_levels_are_known raw.levels) raw.dids && list_all (routine_level_is_known raw.levels) raw.routines)
+    not (list_all (did_levels_are_known raw.levels) raw.dids
+    && list_all (routine_level_is_known raw.levels) raw.routines)
 
 -- what is looked at, in this order, and the fault where it holds
 abbrev pub faults : RawSetup → List (Bool × SetupFault)
@@ -186,7 +202,8 @@ sorted raw = record raw {
 
 -- whether the tables are in rising order, each key once
 abbrev pub tables_rise : RawSetup → Bool
-tables_rise raw = is_rising did_id raw.dids && is_rising dtc_code raw.codes && is_rising routine_id raw.routines && is_rising level_sub raw.levels
+tables_rise raw = is_rising did_id raw.dids && is_rising dtc_code raw.codes
+    && is_rising routine_id raw.routines && is_rising level_sub raw.levels
 
 -- what a setup is: a raw one without a fault, its tables in rising order
 abbrev pub IsSetup : RawSetup → Type 0

@@ -47,13 +47,15 @@ impl Model for DtcMemory {
     ghost use Rattle.diag_setup.specs.Rows.{is_rising};
     ghost use Rattle.diag_store.specs.Dtcs.{code_of};
 
-    ghost invariant = { λ d. (length d.rows.items ≤ 256) × (is_rising code_of d.rows.items ≡ true) };
+    ghost invariant = { λ d.
+        (length d.rows.items ≤ 256) × (is_rising code_of d.rows.items ≡ true) };
 }
 
 /// groupOfDTC of all codes (ISO 14229-1:2013, D.1).
-const ALL_GROUPS: u32 = 0xFF_FFFF;
+pub const ALL_GROUPS: u32 = 0xFF_FFFF;
 
-/// statusOfDTC after clearing: bits 4 and 6, testNotCompletedSinceLastClear and testNotCompletedThisOperationCycle (D.2).
+/// statusOfDTC after clearing: bits 4 and 6, testNotCompletedSinceLastClear and testNotCompletedThisOperationCycle
+/// (D.2).
 const CLEARED_STATUS: u8 = 0x50;
 
 impl DtcMemory {

@@ -114,7 +114,8 @@ impl Levels {
 
     /// A row of a level.
     pub(crate) fn row_at(&self, sub: u8, row: u8) -> Option<&KeyRow>
-        ensures { option_copied result ≡ option_and_then (λ level. slice_get level.rows row) (find (has_sub sub) self.now) }
+        ensures { option_copied result
+            ≡ option_and_then (λ level. slice_get level.rows row) (find (has_sub sub) self.now) }
     {
         let level = self.find(sub)?;
         level.rows.get(row)

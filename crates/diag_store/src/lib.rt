@@ -14,7 +14,7 @@ pub use diag_setup::{
     SetupFault, Values, Who,
 };
 pub use dids::{DidFault, DidRow, DidRule, Dids};
-pub use dtcs::{Dtc, DtcMemory};
+pub use dtcs::{ALL_GROUPS, Dtc, DtcMemory};
 pub use levels::{KeyRow, KeyRows, Level, Levels};
 pub use routines::{Routine, RoutineState, Routines};
 pub use security::{KeyAnswer, Outstanding, Security, SecurityState, SeedAnswer};

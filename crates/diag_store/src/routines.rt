@@ -138,7 +138,8 @@ impl Routines {
     /// One tick of the running routines; with the setting, those that end report their codes.
     pub fn tick(&mut self, codes: &mut DtcMemory, setting: bool)
         ensures rows { self.new ≡ rows_after_tick self.old }
-        ensures codes { codes.new ≡ (if setting then codes_after_tick self.old codes.old else codes.old) }
+        ensures codes { codes.new
+            ≡ (if setting then codes_after_tick self.old codes.old else codes.old) }
     {
         if setting {
             report(&self.rows, codes);
@@ -146,8 +147,8 @@ impl Routines {
         tick_all(&mut self.rows);
     }
 
-    /// How many ticks pass at least before one ends a routine: all but the last of the one that ends first; `u32::MAX` where
-    /// none runs.
+    /// How many ticks pass at least before one ends a routine: all but the last of the one that ends first; `u32::MAX`
+    /// where none runs.
     pub fn quiet_ticks(&self) -> u32
         ensures { result ≡ quiet_ticks self.now }
     {

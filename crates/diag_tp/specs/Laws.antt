@@ -12,13 +12,19 @@ pub record TimeLaw : Type 0 where
   -- the moments of events and further events
   pub append : (E D : List Event) → moments (E ++ D) ≡ moments E ++ moments D
   -- one tick count after another is their sum
-  pub sum : (E : List Event) (n m : ℕ) → moments ((E ++ Ticks n ∷ []) ++ Ticks m ∷ []) ≡ moments (E ++ Ticks (n + m) ∷ [])
+  pub sum : (E : List Event) (n m : ℕ)
+      → moments ((E ++ Ticks n ∷ []) ++ Ticks m ∷ []) ≡ moments (E ++ Ticks (n + m) ∷ [])
   -- a frame takes no time, a tick count the time that it says
-  pub frame : (E : List Event) (e : Event) → IsTrue (is_frame e) → last_time (E ++ e ∷ []) ≡ last_time E
+  pub frame : (E : List Event) (e : Event)
+      → IsTrue (is_frame e)
+      → last_time (E ++ e ∷ []) ≡ last_time E
   pub ticks : (E : List Event) (n : ℕ) → last_time (E ++ Ticks n ∷ []) ≡ last_time E + n
 
 pub record GivesLaw (s : LinkSetup) (E : List Event) : Type 0 where
   -- a tick count gives the step of so many ticks
   pub ticks : (n : ℕ) → gives s E (Ticks n) ≡ Some (step.Ticks n)
   -- what a frame gives is a request
-  pub frame : (e : Event) → IsTrue (is_frame e) → IsSome (gives s E e) → IsTrue (is_request (gives s E e))
+  pub frame : (e : Event)
+      → IsTrue (is_frame e)
+      → IsSome (gives s E e)
+      → IsTrue (is_request (gives s E e))

@@ -96,7 +96,8 @@ fn within_block(setup: &LinkSetup, rest: u16, gap: u16) -> Phase
 impl Sending {
     /// The same message with so many frames due, and in this phase.
     fn with(self, due: u16, phase: Phase) -> Sending
-        ensures { result ≡ record { message = self.message; next = self.next; due = due; phase = phase } }
+        ensures { result
+            ≡ record { message = self.message; next = self.next; due = due; phase = phase } }
     {
         Sending { due, phase, ..self }
     }
@@ -134,7 +135,8 @@ impl Sending {
     ) -> Option<Sending>
         requires drained { self.due ≡ 0 }
         requires sound { IsSound self }
-        ensures fields { result ≡ flow_fields setup.now self (flow_decision status block gap) self.phase }
+        ensures fields { result
+            ≡ flow_fields setup.now self (flow_decision status block gap) self.phase }
         ensures sound { IfSome result (λ c. IsSound c) }
     {
         if matches!(self.phase, Phase::InBlock { .. }) {
@@ -150,7 +152,8 @@ impl Sending {
     /// A block begins.
     fn block_begun(self, setup: &LinkSetup, block: u8, gap: u16) -> Sending
         requires sound { IsSound self }
-        ensures fields { Some result ≡ block_fields setup.now self (block_size block (frames_of self.message - self.next)) gap }
+        ensures fields { Some result ≡ block_fields setup.now self
+            (block_size block (frames_of self.message - self.next)) gap }
         ensures sound { IsSound result }
     {
         let left = frames_of(&self.message) - self.next;

@@ -57,7 +57,8 @@ impl Link {
     /// Makes room, field by field.
     pub(crate) fn reserve(&mut self, event: &Event) -> Result<(), AllocError>
         ensures same { self.new.state ≡ self.old.state }
-        ensures room { OnOk result ((needed self.new.state.setup event.now ≤ self.new.room) × (0 < self.new.reply_room)) }
+        ensures room { OnOk result ((needed self.new.state.setup event.now ≤ self.new.room)
+            × (0 < self.new.reply_room)) }
     {
         let kind = match event {
             Event::Physical(bytes) => self.kind(bytes),
@@ -70,7 +71,9 @@ impl Link {
 
     /// The next frame, field by field.
     pub(crate) fn next_due(&mut self) -> Option<Frame>
-        ensures some { IfSome result (λ frame. (due self.old.state ≡ frame.bytes ∷ due self.new.state) × (frame.id ≡ self.old.state.setup.ids.response)) }
+        ensures some { IfSome result (λ frame.
+            (due self.old.state ≡ frame.bytes ∷ due self.new.state)
+            × (frame.id ≡ self.old.state.setup.ids.response)) }
         ensures none { IsNone result ↔ (due self.old.state ≡ []) }
         ensures same { IfNone result (self.new ≡ self.old) }
         ensures current { self.new.state.sender.current ≡ self.old.state.sender.current }
@@ -124,7 +127,8 @@ impl Link {
 
     /// Whether the event completes a request, from the fields.
     pub(crate) fn gives_request(&self, event: &Event) -> bool
-        ensures value { result ≡ is_request (step_after self.now.state.setup self.now.state.partial event.now) }
+        ensures value { result
+            ≡ is_request (step_after self.now.state.setup self.now.state.partial event.now) }
         ensures ticks { IsTrue result → IsTrue (is_frame event.now) }
     {
         match event {
@@ -137,7 +141,8 @@ impl Link {
     /// What feeding this event would answer, from the fields.
     pub(crate) fn peek_request(&self, event: &Event) -> Result<Option<Request>, AllocError>
         requires frame { IsTrue (is_frame event.now) }
-        ensures { IfOk result (λ request. asked_of request ≡ step_after self.now.state.setup self.now.state.partial event.now) }
+        ensures { IfOk result (λ request.
+            asked_of request ≡ step_after self.now.state.setup self.now.state.partial event.now) }
     {
         let (functional, kind) = match event {
             Event::Physical(bytes) => (false, self.kind(bytes)),
@@ -158,14 +163,19 @@ impl Link {
         requires frame { IsTrue (is_frame event.now) }
         requires drained { self.old.state.sender.due ≡ [] }
         requires room { needed self.old.state.setup event.now ≤ self.old.room }
-        ensures answer { asked_of result ≡ step_after self.old.state.setup self.old.state.partial event.now }
+        ensures answer { asked_of result
+            ≡ step_after self.old.state.setup self.old.state.partial event.now }
         ensures read { IsReadHere self.old.state.setup event.now }
-        ensures partial { self.new.state.partial ≡ partial_after self.old.state.setup self.old.state.partial event.now }
-        ensures grant { self.old.state.grant ≡ None → self.new.state.grant ≡ grant_after self.old.state.setup self.old.state.partial event.now }
+        ensures partial { self.new.state.partial
+            ≡ partial_after self.old.state.setup self.old.state.partial event.now }
+        ensures grant { self.old.state.grant ≡ None
+            → self.new.state.grant
+            ≡ grant_after self.old.state.setup self.old.state.partial event.now }
         ensures reply_room { self.new.reply_room ≡ self.old.reply_room }
         ensures setup { self.new.state.setup ≡ self.old.state.setup }
         ensures now { self.new.state.now ≡ self.old.state.now }
-        ensures sender { self.new.state.sender ≡ sender_event self.old.state.setup event.now self.old.state.sender.current self.old.state.sender.waiting }
+        ensures sender { self.new.state.sender ≡ sender_event self.old.state.setup
+            event.now self.old.state.sender.current self.old.state.sender.waiting }
     {
         match event {
             Event::Physical(bytes) => {
@@ -189,15 +199,22 @@ impl Link {
     /// Takes a frame with the tester's own identifier.
     fn physical(&mut self, bytes: &FrameBytes) -> Option<Message>
         requires drained { self.old.state.sender.due ≡ [] }
-        requires room { needed_for (kind bytes.now self.old.state.setup.max_request) ≤ self.old.room }
-        ensures read { IsRead self.old.state.setup.max_request (kind bytes.now self.old.state.setup.max_request) }
-        ensures partial { self.new.state.partial ≡ open_after self.old.state.partial (kind bytes.now self.old.state.setup.max_request) }
-        ensures message { result ≡ completed_by self.old.state.partial (kind bytes.now self.old.state.setup.max_request) }
-        ensures grant { self.new.state.grant ≡ granted_by self.old.state.setup self.old.state.partial (kind bytes.now self.old.state.setup.max_request) }
+        requires room { needed_for (kind bytes.now self.old.state.setup.max_request)
+            ≤ self.old.room }
+        ensures read { IsRead self.old.state.setup.max_request
+            (kind bytes.now self.old.state.setup.max_request) }
+        ensures partial { self.new.state.partial
+            ≡ open_after self.old.state.partial (kind bytes.now self.old.state.setup.max_request) }
+        ensures message { result ≡ completed_by self.old.state.partial
+            (kind bytes.now self.old.state.setup.max_request) }
+        ensures grant { self.new.state.grant ≡ granted_by self.old.state.setup
+            self.old.state.partial (kind bytes.now self.old.state.setup.max_request) }
         ensures reply_room { self.new.reply_room ≡ self.old.reply_room }
         ensures setup { self.new.state.setup ≡ self.old.state.setup }
         ensures now { self.new.state.now ≡ self.old.state.now }
-        ensures sender { self.new.state.sender ≡ sender_frame self.old.state.setup (kind bytes.now self.old.state.setup.max_request) self.old.state.sender.current self.old.state.sender.waiting }
+        ensures sender { self.new.state.sender
+            ≡ sender_frame self.old.state.setup (kind bytes.now self.old.state.setup.max_request)
+            self.old.state.sender.current self.old.state.sender.waiting }
     {
         let kind = self.kind(bytes);
         if let Pci::Flow { status, block, gap } = kind {
@@ -210,8 +227,10 @@ impl Link {
 
     /// Takes a frame with the functional identifier.
     fn functional(&mut self, bytes: &FrameBytes) -> Option<Message>
-        requires room { needed_for (single_only (kind bytes.now self.old.state.setup.max_request)) ≤ self.old.room }
-        ensures message { result ≡ completed_by None (single_only (kind bytes.now self.old.state.setup.max_request)) }
+        requires room { needed_for (single_only (kind bytes.now self.old.state.setup.max_request))
+            ≤ self.old.room }
+        ensures message { result
+            ≡ completed_by None (single_only (kind bytes.now self.old.state.setup.max_request)) }
         ensures partial { self.new.state.partial ≡ self.old.state.partial }
         ensures grant { self.new.state.grant ≡ self.old.state.grant }
         ensures reply_room { self.new.reply_room ≡ self.old.reply_room }
@@ -228,9 +247,12 @@ impl Link {
     /// So many ticks, before the last of which nothing falls due.
     pub(crate) fn pass(&mut self, count: u16)
         requires drained { self.old.state.sender.due ≡ [] }
-        ensures partial { self.new.state.partial ≡ option_and_then (ticks_later self.old.state.setup.n_cr count) self.old.state.partial }
+        ensures partial { self.new.state.partial
+            ≡ option_and_then (ticks_later self.old.state.setup.n_cr count) self.old.state.partial }
         ensures grant { self.new.state.grant ≡ self.old.state.grant }
-        ensures sender { self.new.state.sender ≡ sender_ticks self.old.state.setup count self.old.state.sender.current self.old.state.sender.waiting }
+        ensures sender { self.new.state.sender
+            ≡ sender_ticks self.old.state.setup count
+            self.old.state.sender.current self.old.state.sender.waiting }
         ensures reply_room { self.new.reply_room ≡ self.old.reply_room }
         ensures setup { self.new.state.setup ≡ self.old.state.setup }
         ensures now { self.new.state.now ≡ min (self.old.state.now + count) last_tick }
@@ -243,7 +265,9 @@ impl Link {
     /// For how many ticks nothing falls due and nothing ends, from the fields.
     pub(crate) fn quiet_ticks(&self) -> u64
         requires drained { self.now.state.sender.due ≡ [] }
-        ensures { result ≡ max (min (reception_quiet self.now.state.setup.n_cr self.now.state.partial) (sender_quiet self.now.state.sender.current)) 1 }
+        ensures { result
+            ≡ max (min (reception_quiet self.now.state.setup.n_cr self.now.state.partial)
+            (sender_quiet self.now.state.sender.current)) 1 }
     {
         let reception = self.receiver.quiet(self.setup.n_cr.get());
         reception.min(self.sender.quiet()).max(1)

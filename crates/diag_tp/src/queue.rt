@@ -42,7 +42,11 @@ impl Model for Runs {
 
     ghost Value = { RunsState };
 
-    ghost view = { λ a. record { before = a.before.items; last = a.last; room = deque_capacity a.before - deque_len a.before } };
+    ghost view = { λ a. record {
+      before = a.before.items;
+      last = a.last;
+      room = deque_capacity a.before - deque_len a.before;
+    } };
 }
 
 impl Runs {
@@ -86,8 +90,10 @@ impl Runs {
     fn push(&mut self, further: u16)
         requires fits { self.old.last + 1 < 2 ^ 64 }
         requires room { 0 < self.old.room }
-        ensures single { further ≡ 0 → (self.new.before ≡ self.old.before) × (self.new.last ≡ self.old.last + 1) }
-        ensures longer { 0 < further → (self.new.before ≡ self.old.before ++ self.old.last ∷ []) × (self.new.last ≡ 0) }
+        ensures single { further ≡ 0
+            → (self.new.before ≡ self.old.before) × (self.new.last ≡ self.old.last + 1) }
+        ensures longer { 0 < further
+            → (self.new.before ≡ self.old.before ++ self.old.last ∷ []) × (self.new.last ≡ 0) }
     {
         if further == 0 {
             self.last += 1;
@@ -100,8 +106,11 @@ impl Runs {
     /// The first reply goes, which has so many frames beside its first.
     fn pop(&mut self, further: u16)
         requires some { further ≡ 0 → 0 < first_run self.old }
-        ensures single { further ≡ 0 → (self.new.before ≡ (less_first self.old.before self.old.last).0) × (self.new.last ≡ (less_first self.old.before self.old.last).1) }
-        ensures longer { 0 < further → (self.new.before ≡ rest_of self.old.before) × (self.new.last ≡ self.old.last) }
+        ensures single { further ≡ 0
+            → (self.new.before ≡ (less_first self.old.before self.old.last).0)
+            × (self.new.last ≡ (less_first self.old.before self.old.last).1) }
+        ensures longer { 0 < further
+            → (self.new.before ≡ rest_of self.old.before) × (self.new.last ≡ self.old.last) }
         ensures room { self.old.room ≤ self.new.room }
     {
         if further == 0 {

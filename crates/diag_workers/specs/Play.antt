@@ -10,15 +10,18 @@ use Rattle.diag_workers.specs.declared.playing.PlayFault.{PlayFault}
 use Rattle.diag_workers.specs.declared.playing.PlayFault.TheVariants.{Memory, Log, JournalFull, RecordsDisagree}
 
 -- the log of tester n, before those of the testers after it
-abbrev pub before_rest : ℕ → Result (List Event) LogFault → Result (List (List Event)) (ℕ × LogFault) → Result (List (List Event)) (ℕ × LogFault)
+abbrev pub before_rest : ℕ → Result (List Event) LogFault
+    → Result (List (List Event)) (ℕ × LogFault) → Result (List (List Event)) (ℕ × LogFault)
 before_rest n (Err fault) rest = Err (n, fault)
 before_rest n (Ok log) (Ok logs) = Ok (log ∷ logs)
 before_rest n (Ok log) (Err first) = Err first
 
 -- the logs of tester n and those after it
-abbrev pub logs_from : ℕ → RawSetup → Timing → List (List ℕ) → Result (List (List Event)) (ℕ × LogFault)
+abbrev pub logs_from : ℕ → RawSetup → Timing → List (List ℕ)
+    → Result (List (List Event)) (ℕ × LogFault)
 logs_from n setup timing [] = Ok []
-logs_from n setup timing (text ∷ texts) = before_rest n (events text (ids_of setup n) timing) (logs_from (n + 1) setup timing texts)
+logs_from n setup timing (text ∷ texts) =
+    before_rest n (events text (ids_of setup n) timing) (logs_from (n + 1) setup timing texts)
 
 -- the events of each tester's log, or the first tester whose log is at fault, and its fault
 abbrev pub logs_of : RawSetup → Timing → List (List ℕ) → Result (List (List Event)) (ℕ × LogFault)

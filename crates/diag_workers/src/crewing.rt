@@ -14,7 +14,8 @@ use diag_store::Setup;
 use std::alloc::{AllocError, Global};
 use std::thread::{Threads, join};
 
-/// Plays each log through its door, all at the same time: the last on the calling thread, each other in a thread of its own.
+/// Plays each log through its door, all at the same time: the last on the calling thread, each other in a thread of its
+/// own.
 ///
 /// Where a thread can't be started, its log is played on the calling thread, after those that follow it.
 /// A refusal is that of the first tester, in order, that was refused; the doors are then dropped.
@@ -28,7 +29,8 @@ pub fn crew<D: Door + Send + Drop, R: Threads + Sync>(
     requires logs { length logs.now ≡ length setup.now.testers }
     requires limits { AllByRecursion (λ log. vec_len log ≤ 1000000) logs.now }
     requires doors { map D.tester doors.items ≡ counted_from 1 (length setup.now.testers) }
-    ensures { IfOk result (λ done. AllWorked (link_of setup.now) D.tester D.given D.home (map (λ log. log.items) logs.now) doors.items done.items) }
+    ensures { IfOk result (λ done. AllWorked (link_of setup.now) D.tester D.given D.home
+        (map (λ log. log.items) logs.now) doors.items done.items) }
 {
     crew_of(rt, alloc, setup, logs, doors)
 }
@@ -43,8 +45,10 @@ fn crew_of<D: Door + Send + Drop, R: Threads + Sync>(
 ) -> Result<Vec<(WorkerRecord, D)>, StepFault>
     requires as_many { length doors.items ≡ length logs.now }
     requires limits { AllByRecursion (λ log. vec_len log ≤ 1000000) logs.now }
-    requires in_setup { AllByRecursion (λ door. D.tester door ≤ length setup.now.testers) doors.items }
-    ensures { IfOk result (λ done. AllWorked (link_of setup.now) D.tester D.given D.home (map (λ log. log.items) logs.now) doors.items done.items) }
+    requires in_setup { AllByRecursion
+        (λ door. D.tester door ≤ length setup.now.testers) doors.items }
+    ensures { IfOk result (λ done. AllWorked (link_of setup.now) D.tester D.given D.home
+        (map (λ log. log.items) logs.now) doors.items done.items) }
 {
     let Some((log, logs)) = logs.split_first() else {
         return Ok(Vec::new(alloc));
@@ -58,11 +62,17 @@ fn crew_of<D: Door + Send + Drop, R: Threads + Sync>(
         rt,
         move || -> Result<(WorkerRecord, D), StepFault>
             requires { (vec_len log.now ≤ 1000000) × (D.tester door ≤ length setup.now.testers) }
-            ensures { IfOk result (λ r. Worked (link_of setup.entry.now) D.tester D.given D.home log.entry.now.items door r.0 r.1) }
+            ensures { IfOk result (λ r. Worked (link_of setup.entry.now)
+                D.tester D.given D.home log.entry.now.items door r.0 r.1) }
         { worked(alloc, setup, log, door) },
         move || -> Result<Vec<(WorkerRecord, D)>, StepFault>
-            requires { IsSync R.row × IsSend D.row × (length doors.items ≡ length logs.now) × AllByRecursion (λ log. vec_len log ≤ 1000000) logs.now × AllByRecursion (λ door. D.tester door ≤ length setup.now.testers) doors.items }
-            ensures { IfOk result (λ done. AllWorked (link_of setup.entry.now) D.tester D.given D.home (map (λ log. log.items) logs.entry.now) doors.items done.items) }
+            requires { IsSync R.row
+                × IsSend D.row
+                × (length doors.items ≡ length logs.now)
+                × AllByRecursion (λ log. vec_len log ≤ 1000000) logs.now
+                × AllByRecursion (λ door. D.tester door ≤ length setup.now.testers) doors.items }
+            ensures { IfOk result (λ done. AllWorked (link_of setup.entry.now) D.tester
+                D.given D.home (map (λ log. log.items) logs.entry.now) doors.items done.items) }
         { crew_of(rt, alloc, setup, logs, doors) },
     );
     let one = one?;
@@ -99,7 +109,8 @@ fn worked<D: Door + Drop>(
 ) -> Result<(WorkerRecord, D), StepFault>
     requires limit { length log.now ≤ 1000000 }
     requires in_setup { D.tester door ≤ length setup.now.testers }
-    ensures { IfOk result (λ r. Worked (link_of setup.now) D.tester D.given D.home log.now door r.0 r.1) }
+    ensures { IfOk result (λ r.
+        Worked (link_of setup.now) D.tester D.given D.home log.now door r.0 r.1) }
 {
     let who = door.who();
     let record = work(alloc, setup, who, log, &mut door)?;

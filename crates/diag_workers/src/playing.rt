@@ -39,16 +39,16 @@ pub enum PlayFault {
     RecordsDisagree(Who),
 }
 
-/// Plays all logs at the same time, over one desk behind a gate: the last on the calling thread, each other in a thread of its own.
-/// Where a thread can't be started, its log is played on the calling thread.
+/// Plays all logs at the same time, over one desk behind a gate: the last on the calling thread, each other in a thread
+/// of its own. Where a thread can't be started, its log is played on the calling thread.
 ///
-/// The journal is a legal run of the sequential server from the setup's opening, and the run of a named interleaving of the logs;
-/// each tester's frames are what its flow control draws from the replies to it. The watch is told of each step before it is
-/// taken. The logs are read first, at the same time too.
+/// The journal is a legal run of the sequential server from the setup's opening, and the run of a named interleaving of
+/// the logs; each tester's frames are what its flow control draws from the replies to it. The watch is told of each
+/// step before it is taken. The logs are read first, at the same time too.
 ///
 /// # Errors
-/// `Log` for the first log that is at fault, in order; `JournalFull` at the step that the journal has no room for; `Memory`
-/// where memory is refused.
+/// `Log` for the first log that is at fault, in order; `JournalFull` at the step that the journal has no room for;
+/// `Memory` where memory is refused.
 pub fn play<W: Watch + Sync, R: Threads + Wait + Sync>(
     rt: &R,
     alloc: Global,
@@ -58,9 +58,16 @@ pub fn play<W: Watch + Sync, R: Threads + Wait + Sync>(
     timing: Timing,
 ) -> Result<Played, PlayFault>
     requires { length texts.now ≡ length setup.now.testers }
-    ensures played { IfOk result (λ played. (logs : List (List AnEvent)) × (logs_of setup.now timing (map (λ text. text.items) texts.now) ≡ Ok logs) × IsPlay setup.now (weave (link_of setup.now) played.desk.journal logs) logs played.desk (map (λ s. s.items) played.sent.items)) }
-    ensures log { (who : ℕ) (fault : ALogFault) → result ≡ Err (PlayFault.Log who fault) → logs_of setup.now timing (map (λ text. text.items) texts.now) ≡ Err (who, fault) }
-    ensures full { result ≡ Err PlayFault.JournalFull → (logs : List (List AnEvent)) × (logs_of setup.now timing (map (λ text. text.items) texts.now) ≡ Ok logs) }
+    ensures played { IfOk result (λ played. (logs : List (List AnEvent))
+        × (logs_of setup.now timing (map (λ text. text.items) texts.now) ≡ Ok logs)
+        × IsPlay setup.now (weave (link_of setup.now) played.desk.journal logs) logs played.desk
+        (map (λ s. s.items) played.sent.items)) }
+    ensures log { (who : ℕ) (fault : ALogFault)
+        → result ≡ Err (PlayFault.Log who fault)
+        → logs_of setup.now timing (map (λ text. text.items) texts.now) ≡ Err (who, fault) }
+    ensures full { result ≡ Err PlayFault.JournalFull
+        → (logs : List (List AnEvent))
+        × (logs_of setup.now timing (map (λ text. text.items) texts.now) ≡ Ok logs) }
     ensures agree { (who : ℕ) → result ≢ Err (PlayFault.RecordsDisagree who) }
 {
     let logs = read_logs(rt, alloc, setup, texts, timing)?;
@@ -81,7 +88,9 @@ fn play_logs<W: Watch + Sync, R: Threads + Wait + Sync>(
 ) -> Result<Played, StepFault>
     requires logs { length logs.now ≡ length setup.now.testers }
     requires limits { AllByRecursion (λ log. vec_len log ≤ 1000000) logs.now }
-    ensures { IfOk result (λ played. IsPlay setup.now (weave (link_of setup.now) played.desk.journal (map (λ log. log.items) logs.now)) (map (λ log. log.items) logs.now) played.desk (map (λ s. s.items) played.sent.items)) }
+    ensures { IfOk result (λ played. IsPlay setup.now
+        (weave (link_of setup.now) played.desk.journal (map (λ log. log.items) logs.now))
+        (map (λ log. log.items) logs.now) played.desk (map (λ s. s.items) played.sent.items)) }
 {
     weaving_law();
     let desk = Desk::new(alloc, setup)?;
@@ -92,6 +101,7 @@ fn play_logs<W: Watch + Sync, R: Threads + Wait + Sync>(
     let (seats, sent) = take_apart(alloc, done)?;
     take_in(&gate, &mut host, seats);
     let desk = gate.close(host);
+    // (for its contract: a desk's journal is legal)
     let _journal = desk.journal();
     Ok(Played { desk, sent })
 }

@@ -13,8 +13,8 @@ use diag_store::{Setup, Who};
 use std::alloc::{AllocError, Global};
 use std::thread::{Threads, join};
 
-/// Reads all logs at the same time: the last on the calling thread, each other in a thread of its own, or on the calling thread where none
-/// can be started. The first that refuses, in order, decides.
+/// Reads all logs at the same time: the last on the calling thread, each other in a thread of its own, or on the
+/// calling thread where none can be started. The first that refuses, in order, decides.
 pub(crate) fn read_logs<R: Threads + Sync>(
     rt: &R,
     alloc: Global,
@@ -23,10 +23,14 @@ pub(crate) fn read_logs<R: Threads + Sync>(
     timing: Timing,
 ) -> Result<Vec<Vec<Event>>, PlayFault>
     requires { length texts.now ≡ length setup.now.testers }
-    ensures logs { IfOk result (λ logs. logs_of setup.now timing (map (λ text. text.items) texts.now) ≡ Ok (map (λ log. log.items) logs.items)) }
+    ensures logs { IfOk result (λ logs.
+        logs_of setup.now timing (map (λ text. text.items) texts.now)
+        ≡ Ok (map (λ log. log.items) logs.items)) }
     ensures count { IfOk result (λ logs. length logs.items ≡ length texts.now) }
-    ensures limits { IfOk result (λ logs. AllByRecursion (λ log. vec_len log ≤ 1000000) logs.items) }
-    ensures refused { IfErr result (NotRead (logs_of setup.now timing (map (λ text. text.items) texts.now))) }
+    ensures limits { IfOk result (λ logs.
+        AllByRecursion (λ log. vec_len log ≤ 1000000) logs.items) }
+    ensures refused { IfErr result
+        (NotRead (logs_of setup.now timing (map (λ text. text.items) texts.now))) }
 {
     let _at_most_8 = setup.testers();
     read_from(rt, alloc, setup, 1, texts, timing)
@@ -43,10 +47,14 @@ fn read_from<R: Threads + Sync>(
 ) -> Result<Vec<Vec<Event>>, PlayFault>
     requires place { (1 ≤ place) × (place + length texts.now ≤ 9) }
     requires in_setup { place + length texts.now ≤ length setup.now.testers + 1 }
-    ensures logs { IfOk result (λ logs. logs_from place setup.now timing (map (λ text. text.items) texts.now) ≡ Ok (map (λ log. log.items) logs.items)) }
+    ensures logs { IfOk result (λ logs.
+        logs_from place setup.now timing (map (λ text. text.items) texts.now)
+        ≡ Ok (map (λ log. log.items) logs.items)) }
     ensures count { IfOk result (λ logs. length logs.items ≡ length texts.now) }
-    ensures limits { IfOk result (λ logs. AllByRecursion (λ log. vec_len log ≤ 1000000) logs.items) }
-    ensures refused { IfErr result (NotRead (logs_from place setup.now timing (map (λ text. text.items) texts.now))) }
+    ensures limits { IfOk result (λ logs.
+        AllByRecursion (λ log. vec_len log ≤ 1000000) logs.items) }
+    ensures refused { IfErr result
+        (NotRead (logs_from place setup.now timing (map (λ text. text.items) texts.now))) }
 {
     let Some((text, rest)) = texts.split_first() else {
         return Ok(Vec::new(alloc));
@@ -61,13 +69,24 @@ fn read_from<R: Threads + Sync>(
         rt,
         move || -> Result<Vec<Event>, PlayFault>
             requires { (1 ≤ place) × (place ≤ 8) × (place ≤ length setup.now.testers) }
-            ensures log { IfOk result (λ log. (events text.entry.now.items (ids_of setup.entry.now place) timing ≡ Ok log.items) × (vec_len log ≤ 1000000)) }
-            ensures refused { IfErr result (NotReadAt place (events text.entry.now.items (ids_of setup.entry.now place) timing)) }
+            ensures log { IfOk result (λ log.
+                (events text.entry.now.items (ids_of setup.entry.now place) timing ≡ Ok log.items)
+                × (vec_len log ≤ 1000000)) }
+            ensures refused { IfErr result (NotReadAt place
+                (events text.entry.now.items (ids_of setup.entry.now place) timing)) }
         { read_one(alloc, setup, place, text.as_slice(), timing) },
         move || -> Result<Vec<Vec<Event>>, PlayFault>
-            requires { IsSync R.row × (1 ≤ place) × (place + 1 + length rest.now ≤ 9) × (place + 1 + length rest.now ≤ length setup.now.testers + 1) }
-            ensures logs { IfOk result (λ logs. (logs_from (place + 1) setup.entry.now timing (map (λ text. text.items) rest.entry.now) ≡ Ok (map (λ log. log.items) logs.items)) × (length logs.items ≡ length rest.entry.now) × AllByRecursion (λ log. vec_len log ≤ 1000000) logs.items) }
-            ensures refused { IfErr result (NotRead (logs_from (place + 1) setup.entry.now timing (map (λ text. text.items) rest.entry.now))) }
+            requires { IsSync R.row
+                × (1 ≤ place)
+                × (place + 1 + length rest.now ≤ 9)
+                × (place + 1 + length rest.now ≤ length setup.now.testers + 1) }
+            ensures logs { IfOk result (λ logs. (logs_from (place + 1) setup.entry.now timing
+                (map (λ text. text.items) rest.entry.now)
+                ≡ Ok (map (λ log. log.items) logs.items))
+                × (length logs.items ≡ length rest.entry.now)
+                × AllByRecursion (λ log. vec_len log ≤ 1000000) logs.items) }
+            ensures refused { IfErr result (NotRead (logs_from (place + 1) setup.entry.now timing
+                (map (λ text. text.items) rest.entry.now))) }
         { read_from(rt, alloc, setup, place + 1, rest, timing) },
     );
     let one = one?;
@@ -99,8 +118,11 @@ fn read_one(
 ) -> Result<Vec<Event>, PlayFault>
     requires place { (1 ≤ place) × (place ≤ 8) }
     requires in_setup { place ≤ length setup.now.testers }
-    ensures log { IfOk result (λ log. (events text.now (ids_of setup.now place) timing ≡ Ok log.items) × (vec_len log ≤ 1000000)) }
-    ensures refused { IfErr result (NotReadAt place (events text.now (ids_of setup.now place) timing)) }
+    ensures log { IfOk result (λ log.
+        (events text.now (ids_of setup.now place) timing ≡ Ok log.items)
+        × (vec_len log ≤ 1000000)) }
+    ensures refused { IfErr result
+        (NotReadAt place (events text.now (ids_of setup.now place) timing)) }
 {
     let Some(who) = Who::new(place) else {
         unreachable!()

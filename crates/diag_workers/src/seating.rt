@@ -44,7 +44,9 @@ pub(crate) fn doors_of<'a, W: Watch, R: Wait>(
     watch: &'a W,
     seats: Vec<Seat>,
 ) -> Result<Vec<WatchedDoor<'a, GateDoor<'a, R>, W>>, AllocError>
-    requires { (k : ℕ) (d : SeatView) → k < length seats.items → (slice_index_or seats.items k d).gate ≡ gate.now }
+    requires { (k : ℕ) (d : SeatView)
+        → k < length seats.items
+        → (slice_index_or seats.items k d).gate ≡ gate.now }
     ensures { IfOk result (λ doors. map (λ d. d.door) doors.items ≡ seats.items) }
 {
     let mut doors = Vec::new(alloc);
@@ -61,7 +63,8 @@ pub(crate) fn take_apart<W: Watch, R: Wait>(
     done: Vec<(WorkerRecord, WatchedDoor<'_, GateDoor<'_, R>, W>)>,
 ) -> Result<(Vec<Seat>, Vec<Vec<Sent>>), AllocError>
     ensures seats { IfOk result (λ r. r.0.items ≡ map (λ d. d.1.door) done.entry.items) }
-    ensures sent { IfOk result (λ r. map (λ s. s.items) r.1.items ≡ map (λ d. d.0.sent.items) done.entry.items) }
+    ensures sent { IfOk result (λ r.
+        map (λ s. s.items) r.1.items ≡ map (λ d. d.0.sent.items) done.entry.items) }
 {
     let mut seats = Vec::new(alloc);
     let mut sent = Vec::new(alloc);
@@ -81,7 +84,10 @@ pub(crate) fn take_apart<W: Watch, R: Wait>(
 pub(crate) fn take_in(gate: &Gate, host: &mut Host, seats: Vec<Seat>)
     requires gate { host.old.gate ≡ gate.now }
     requires room { length seats.items < length host.old.owns }
-    requires seats { (k : ℕ) (d : SeatView) → k < length seats.items → ((slice_index_or seats.items k d).gate ≡ gate.now) × ((slice_index_or seats.items k d).who ≡ k + 1) }
+    requires seats { (k : ℕ) (d : SeatView)
+        → k < length seats.items
+        → ((slice_index_or seats.items k d).gate ≡ gate.now)
+        × ((slice_index_or seats.items k d).who ≡ k + 1) }
     ensures { Back host.old host.new seats.items }
 {
     for seat in seats {

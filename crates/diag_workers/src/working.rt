@@ -31,8 +31,8 @@ pub struct WorkerRecord {
 /// All growths for an event are made before the door is asked.
 ///
 /// # Errors
-/// `Memory` where memory is refused, here or at the door; `JournalFull` where the door's desk has a full journal. The door is left
-/// with the first of the steps.
+/// `Memory` where memory is refused, here or at the door; `JournalFull` where the door's desk has a full journal. The
+/// door is left with the first of the steps.
 pub fn work<D: Door>(
     alloc: Global,
     setup: &Setup,
@@ -44,9 +44,12 @@ pub fn work<D: Door>(
     requires in_setup { who ≤ length setup.now.testers }
     requires own_door { D.tester door.old ≡ who }
     ensures given { IfOk result (λ r. D.given door.new ≡ D.given door.old ++ r.entries.entries) }
-    ensures asked { IfOk result (λ r. asked r.entries.entries ≡ steps (link_of setup.now who) events.now) }
-    ensures sent { IfOk result (λ r. r.sent.items ≡ drawn (link_of setup.now who) events.now (replies r.entries.entries)) }
-    ensures refused { OnErr result (AskedSome (link_of setup.now who) events.now (D.given door.old) (D.given door.new)) }
+    ensures asked { IfOk result (λ r.
+        asked r.entries.entries ≡ steps (link_of setup.now who) events.now) }
+    ensures sent { IfOk result (λ r.
+        r.sent.items ≡ drawn (link_of setup.now who) events.now (replies r.entries.entries)) }
+    ensures refused { OnErr result
+        (AskedSome (link_of setup.now who) events.now (D.given door.old) (D.given door.new)) }
     ensures tester { D.tester door.new ≡ D.tester door.old }
     ensures home { D.home door.new ≡ D.home door.old }
 {
@@ -84,10 +87,15 @@ impl Worker {
     fn take<D: Door>(&mut self, event: &Event, door: &mut D) -> Result<(), StepFault>
         requires ready { IsReady (lane_of self.old.lane) (length self.old.entries.entries) }
         requires limit { length self.old.entries.entries < 1000000 }
-        ensures stands { OnOk result ((s : ALinkSetup) (E : List AnEvent) → LaneStands s (lane_of self.old.lane) E self.old.entries.entries → LaneStands s (lane_of self.new.lane) (E ++ event.now ∷ []) self.new.entries.entries) }
-        ensures ready { OnOk result (IsReady (lane_of self.new.lane) (length self.new.entries.entries)) }
-        ensures given { OnOk result (MoreOf (D.given door.old) (D.given door.new) self.old.entries.entries self.new.entries.entries) }
-        ensures longer { OnOk result (length self.new.entries.entries ≤ length self.old.entries.entries + 1) }
+        ensures stands { OnOk result ((s : ALinkSetup) (E : List AnEvent)
+            → LaneStands s (lane_of self.old.lane) E self.old.entries.entries
+            → LaneStands s (lane_of self.new.lane) (E ++ event.now ∷ []) self.new.entries.entries) }
+        ensures ready { OnOk result
+            (IsReady (lane_of self.new.lane) (length self.new.entries.entries)) }
+        ensures given { OnOk result (MoreOf (D.given door.old)
+            (D.given door.new) self.old.entries.entries self.new.entries.entries) }
+        ensures longer { OnOk result
+            (length self.new.entries.entries ≤ length self.old.entries.entries + 1) }
         ensures refused { OnErr result (D.given door.new ≡ D.given door.old) }
         ensures tester { D.tester door.new ≡ D.tester door.old }
         ensures home { D.home door.new ≡ D.home door.old }

@@ -12,10 +12,12 @@ use Rattle.diag_desk.specs.Entries.{asked_by, replies}
 use Rattle.diag_world.specs.Weaving.{steps_of, log_of, IsInterleaving, AsksItsLog}
 
 -- However the testers' events fall, as M says, this is what a play of their logs leaves.
-pub record IsPlay (setup : RawSetup) (M : List (ℕ × Event)) (logs : List (List Event)) (desk : Run) (sent : List (List Sent)) : Type 0 where
+pub record IsPlay (setup : RawSetup) (M : List (ℕ × Event)) (logs : List (List Event)) (desk : Run)
+    (sent : List (List Sent)) : Type 0 where
   -- the desk was opened as the setup says
   pub opening : desk.opening ≡ opening setup
-  -- the journal is one legal run of the sequential server; the ECU at the end is what that run makes of the opening, as every desk tells
+  -- the journal is one legal run of the sequential server; the ECU at the end is what that run makes of the opening, as
+  -- every desk tells
   pub legal : Legal desk.opening desk.journal
   -- M has the events of each tester's log, in their order, and no others
   pub interleaving : IsInterleaving M logs
@@ -23,7 +25,9 @@ pub record IsPlay (setup : RawSetup) (M : List (ℕ × Event)) (logs : List (Lis
   pub run : asked_by desk.journal ≡ steps_of (link_of setup) M
   -- each tester's steps are those that its log gives, each once, in order; no other tester has an entry
   pub asks : AsksItsLog (link_of setup) desk.journal logs
-  -- each tester's frames are what flow control draws from the replies to it, each placed at the moment that gave its step
+  -- each tester's frames are what flow control draws from the replies to it, each placed at the moment that gave its
+  -- step
   pub testers : length sent ≡ length logs
   pub frames : (i : ℕ) (frames : List Sent) → slice_get sent i ≡ Some frames
-      → frames ≡ drawn (link_of setup (i + 1)) (log_of logs (i + 1)) (replies (own desk.journal (i + 1)))
+      → frames
+      ≡ drawn (link_of setup (i + 1)) (log_of logs (i + 1)) (replies (own desk.journal (i + 1)))

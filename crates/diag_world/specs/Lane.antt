@@ -42,8 +42,10 @@ pub record IsReady (lane : LaneState) (entries : ℕ) : Type 0 where
 -- room was made for the event: in the link, and for the frames that may fall due
 abbrev pub HasRoom : Lane → Event → Type 0
 HasRoom lane (Ticks n) = vec_len lane.sent + unsent lane.link.state ≤ vec_capacity lane.sent
-HasRoom lane (Physical bytes) = IsTrue (has_room lane.link (Physical bytes)) × (vec_len lane.sent + unsent lane.link.state + 2 ≤ vec_capacity lane.sent)
-HasRoom lane (Functional bytes) = IsTrue (has_room lane.link (Functional bytes)) × (vec_len lane.sent + unsent lane.link.state + 2 ≤ vec_capacity lane.sent)
+HasRoom lane (Physical bytes) = IsTrue (has_room lane.link (Physical bytes))
+    × (vec_len lane.sent + unsent lane.link.state + 2 ≤ vec_capacity lane.sent)
+HasRoom lane (Functional bytes) = IsTrue (has_room lane.link (Functional bytes))
+    × (vec_len lane.sent + unsent lane.link.state + 2 ≤ vec_capacity lane.sent)
 
 -- the entry of a step with its reply, where an event gives one
 abbrev pub entries_of : ℕ → Option Step → Option (List ℕ) → List Entry
@@ -52,11 +54,13 @@ entries_of who (Some step) reply = entry who step reply ∷ []
 
 -- a step that can have a reply is that of a frame
 abbrev pub RepliesToFrame : Event → Step → Type 0
-RepliesToFrame event step = (reply : Option (List ℕ)) → HasNoReply step reply → IsSome reply → IsTrue (is_frame event)
+RepliesToFrame event step =
+    (reply : Option (List ℕ)) → HasNoReply step reply → IsSome reply → IsTrue (is_frame event)
 
--- The lane took the events E, to which the journal has the entries K: the link stands for both, all frames went out, and K
--- asks what E gives.
-pub record LaneStands (s : LinkSetup) (lane : LaneState) (E : List Event) (K : List Entry) : Type 0 where
+-- The lane took the events E, to which the journal has the entries K: the link stands for both, all frames went out,
+-- and K asks what E gives.
+pub record LaneStands (s : LinkSetup) (lane : LaneState) (E : List Event) (K : List Entry)
+    : Type 0 where
   pub stands : StandsFor s lane.link E (placed s E (replies K)) lane.sent
   pub all_sent : lane.sent ≡ drawn s E (replies K)
   pub asks : asked K ≡ steps s E
@@ -64,12 +68,14 @@ pub record LaneStands (s : LinkSetup) (lane : LaneState) (E : List Event) (K : L
   pub time : last_time E ≤ 60000 * length K
 
 -- the lane stands for these events and answers, and all frames went out
-pub record SentAll (s : LinkSetup) (lane : LaneState) (E : List Event) (A : List Placed) : Type 0 where
+pub record SentAll (s : LinkSetup) (lane : LaneState) (E : List Event) (A : List Placed)
+    : Type 0 where
   pub stands : StandsFor s lane.link E A lane.sent
   pub all_sent : lane.sent ≡ wire s E A
 
 -- what one event of a tester did: it added these entries to the journal, and the lane took it
-pub record Took (s : LinkSetup) (who : ℕ) (E : List Event) (K : List Entry) (e : Event) (lane : LaneState) (before after : List Entry) : Type 0 where
+pub record Took (s : LinkSetup) (who : ℕ) (E : List Event) (K : List Entry) (e : Event)
+    (lane : LaneState) (before after : List Entry) : Type 0 where
   pub more : List Entry
   pub grown : after ≡ before ++ more
   pub asks : asked_by more ≡ all_by who (option_to_list (gives s E e))

@@ -22,7 +22,8 @@ all_by t xs = map (λ x. (t, x)) xs
 abbrev pub steps_of_after : (ℕ → LinkSetup) → List (ℕ × Event) → List (ℕ × Event) → List (ℕ × Step)
 steps_of_after links past [] = []
 steps_of_after links past (m ∷ ms) =
-    all_by m.0 (option_to_list (gives (links m.0) (items_of past m.0) m.1)) ++ steps_of_after links (past ++ m ∷ []) ms
+    all_by m.0 (option_to_list (gives (links m.0) (items_of past m.0) m.1))
+    ++ steps_of_after links (past ++ m ∷ []) ms
 
 -- what the testers' events give, in order. `links` has the settings of each tester's link
 abbrev pub steps_of : (ℕ → LinkSetup) → List (ℕ × Event) → List (ℕ × Step)
@@ -64,7 +65,8 @@ turns logs = rounds (longest logs) logs
 -- of the events after those of the past, those up to and with the first that gives a step
 abbrev pub until_step : LinkSetup → List Event → List Event → List Event
 until_step s past [] = []
-until_step s past (e ∷ es) = e ∷ (if is_some (gives s past e) then [] else until_step s (past ++ e ∷ []) es)
+until_step s past (e ∷ es) =
+    e ∷ (if is_some (gives s past e) then [] else until_step s (past ++ e ∷ []) es)
 
 -- what is left of a log after the events that were taken
 abbrev pub left_of : List Event → List Event → List Event
@@ -73,17 +75,22 @@ left_of taken log = drop (length taken) log
 -- what is left of each log, in the testers' order, where the first log is that of tester n
 abbrev pub leftovers : List (ℕ × Event) → ℕ → List (List Event) → List (ℕ × Event)
 leftovers past n [] = []
-leftovers past n (log ∷ logs) = all_by n (left_of (items_of past n) log) ++ leftovers past (n + 1) logs
+leftovers past n (log ∷ logs) =
+    all_by n (left_of (items_of past n) log) ++ leftovers past (n + 1) logs
 
 -- the events of one tester that are next taken for a step
 abbrev pub taken_for : (ℕ → LinkSetup) → List (ℕ × Event) → ℕ → List (List Event) → List (ℕ × Event)
-taken_for links past t logs = all_by t (until_step (links t) (items_of past t) (left_of (items_of past t) (log_of logs t)))
+taken_for links past t logs =
+    all_by t (until_step (links t) (items_of past t) (left_of (items_of past t) (log_of logs t)))
 
--- for each entry, the events of its tester not yet taken, up to and with the one that gives it; at the end all that are left
-abbrev pub weave_after : (ℕ → LinkSetup) → List (ℕ × Event) → List Entry → List (List Event) → List (ℕ × Event)
+-- for each entry, the events of its tester not yet taken, up to and with the one that gives it; at the end all that are
+-- left
+abbrev pub weave_after : (ℕ → LinkSetup) → List (ℕ × Event) → List Entry → List (List Event)
+    → List (ℕ × Event)
 weave_after links past [] logs = leftovers past 1 logs
 weave_after links past (k ∷ ks) logs =
-    taken_for links past k.who logs ++ weave_after links (past ++ taken_for links past k.who logs) ks logs
+    taken_for links past k.who logs
+    ++ weave_after links (past ++ taken_for links past k.who logs) ks logs
 
 -- the interleaving of the logs whose run the journal is
 abbrev pub weave : (ℕ → LinkSetup) → List Entry → List (List Event) → List (ℕ × Event)
@@ -96,7 +103,8 @@ AsksItsLog links journal logs = (t : ℕ) → asked (own journal t) ≡ steps (l
 -- each tester's steps in an interleaving are those of its own events
 abbrev pub InterleavingLaw : Type 0
 InterleavingLaw =
-    (links : ℕ → LinkSetup) (ms : List (ℕ × Event)) (t : ℕ) → items_of (steps_of links ms) t ≡ steps (links t) (items_of ms t)
+    (links : ℕ → LinkSetup) (ms : List (ℕ × Event)) (t : ℕ)
+    → items_of (steps_of links ms) t ≡ steps (links t) (items_of ms t)
 
 -- what one event of each log in turn makes is an interleaving
 abbrev pub TurnsLaw : Type 0
@@ -105,5 +113,7 @@ TurnsLaw = (logs : List (List Event)) → IsInterleaving (turns logs) logs
 -- a journal in which each tester asks what its log gives is the run of an interleaving of the logs
 abbrev pub WeavingLaw : Type 0
 WeavingLaw =
-    (links : ℕ → LinkSetup) (journal : List Entry) (logs : List (List Event)) → AsksItsLog links journal logs
-    → IsInterleaving (weave links journal logs) logs × (steps_of links (weave links journal logs) ≡ asked_by journal)
+    (links : ℕ → LinkSetup) (journal : List Entry) (logs : List (List Event))
+    → AsksItsLog links journal logs
+    → IsInterleaving (weave links journal logs) logs
+    × (steps_of links (weave links journal logs) ≡ asked_by journal)

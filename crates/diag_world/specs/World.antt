@@ -22,12 +22,15 @@ pub record Stands (setup : RawSetup) (world : WorldState) (M : List (ℕ × Even
   pub testers : length world.lanes ≡ length setup.testers
   pub run : asked_by world.desk.journal ≡ steps_of (link_of setup) M
   pub lanes : (i : ℕ) (lane : LaneState) → slice_get world.lanes i ≡ Some lane
-      → LaneStands (link_of setup (i + 1)) lane (items_of M (i + 1)) (own world.desk.journal (i + 1))
+      → LaneStands (link_of setup (i + 1)) lane (items_of M (i + 1))
+      (own world.desk.journal (i + 1))
 
 -- each tester's lane is ready
 abbrev pub AllReady : List Lane → ℕ → Type 0
-AllReady lanes entries = (i : ℕ) (lane : Lane) → slice_get lanes i ≡ Some lane → IsReady (lane_of lane) entries
+AllReady lanes entries =
+    (i : ℕ) (lane : Lane) → slice_get lanes i ≡ Some lane → IsReady (lane_of lane) entries
 
 -- P holds of the setup and of each interleaving that the world stands for
 abbrev pub EachInterleaving : WorldState → (RawSetup → List (ℕ × Event) → Type 0) → Type 0
-EachInterleaving world P = (setup : RawSetup) (M : List (ℕ × Event)) → Stands setup world M → P setup M
+EachInterleaving world P =
+    (setup : RawSetup) (M : List (ℕ × Event)) → Stands setup world M → P setup M

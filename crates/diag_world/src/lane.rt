@@ -61,8 +61,11 @@ impl Lane {
         requires drained { due (lane_of self.old) ≡ 0 }
         ensures same { lane_of self.new ≡ lane_of self.old }
         ensures room { OnOk result (HasRoom self.new event.now) }
-        ensures step { IfOk result (λ step. (s : ALinkSetup) (E : List AnEvent) (K : List AnEntry) → LaneStands s (lane_of self.old) E K → step ≡ gives s E event.now) }
-        ensures replies { IfOk result (λ step. IfSome step (λ step. RepliesToFrame event.now step)) }
+        ensures step { IfOk result (λ step. (s : ALinkSetup) (E : List AnEvent) (K : List AnEntry)
+            → LaneStands s (lane_of self.old) E K
+            → step ≡ gives s E event.now) }
+        ensures replies { IfOk result (λ step.
+            IfSome step (λ step. RepliesToFrame event.now step)) }
     {
         gives_law();
         match event {
@@ -91,10 +94,16 @@ impl Lane {
         requires room { HasRoom self.old event.now }
         requires few { IsSome reply → waiting (lane_of self.old) < 1000000 }
         requires frame { IsSome reply → IsTrue (is_frame event.now) }
-        ensures took { (s : ALinkSetup) (who : ℕ) (E : List AnEvent) (K : List AnEntry) → LaneStands s (lane_of self.old) E K → length K ≤ 1000000 → (gives s E event.now ≡ None → reply ≡ None) → LaneStands s (lane_of self.new) (E ++ event.now ∷ []) (K ++ entries_of who (gives s E event.now) reply) }
+        ensures took { (s : ALinkSetup) (who : ℕ) (E : List AnEvent) (K : List AnEntry)
+            → LaneStands s (lane_of self.old) E K
+            → length K ≤ 1000000
+            → (gives s E event.now ≡ None → reply ≡ None)
+            → LaneStands s (lane_of self.new) (E ++ event.now ∷ [])
+            (K ++ entries_of who (gives s E event.now) reply) }
         ensures drained { due (lane_of self.new) ≡ 0 }
         ensures waiting { waiting (lane_of self.new) ≤ waiting (lane_of self.old) + 1 }
-        ensures none_waits { reply ≡ None → waiting (lane_of self.new) ≤ waiting (lane_of self.old) }
+        ensures none_waits { reply ≡ None
+            → waiting (lane_of self.new) ≤ waiting (lane_of self.old) }
     {
         gives_law();
         time_law();
@@ -106,7 +115,9 @@ impl Lane {
 
     /// Whether the event gives a step.
     pub(crate) fn gives_step(&self, event: &Event) -> bool
-        ensures { (s : ALinkSetup) (E : List AnEvent) (K : List AnEntry) → LaneStands s (lane_of self.now) E K → (IsTrue result ↔ IsSome (gives s E event.now)) }
+        ensures { (s : ALinkSetup) (E : List AnEvent) (K : List AnEntry)
+            → LaneStands s (lane_of self.now) E K
+            → (IsTrue result ↔ IsSome (gives s E event.now)) }
     {
         gives_law();
         match event {

@@ -17,8 +17,12 @@ impl Lane {
     /// Lets so many ticks pass, in moves before whose last tick nothing falls due.
     pub(crate) fn pass(&mut self, count: TickCount)
         requires drained { pending self.old.link.state ≡ 0 }
-        requires room { vec_len self.old.sent + unsent self.old.link.state ≤ vec_capacity self.old.sent }
-        ensures passed { (s : ALinkSetup) (E : List AnEvent) (A : List Placed) → StandsFor s self.old.link.state E A self.old.sent.items → last_time E + count ≤ last_tick → SentAll s (lane_of self.new) (E ++ Event.Ticks count ∷ []) A }
+        requires room { vec_len self.old.sent + unsent self.old.link.state
+            ≤ vec_capacity self.old.sent }
+        ensures passed { (s : ALinkSetup) (E : List AnEvent) (A : List Placed)
+            → StandsFor s self.old.link.state E A self.old.sent.items
+            → last_time E + count ≤ last_tick
+            → SentAll s (lane_of self.new) (E ++ Event.Ticks count ∷ []) A }
         ensures drained { pending self.new.link.state ≡ 0 }
         ensures waiting { waiting_count self.new.link.state ≤ waiting_count self.old.link.state }
         ensures most { count ≤ 60000 }
@@ -42,12 +46,19 @@ impl Lane {
         requires frame { IsTrue (is_frame event.now) }
         requires drained { pending self.old.link.state ≡ 0 }
         requires link_room { IsTrue (has_room self.old.link event.now) }
-        requires room { vec_len self.old.sent + unsent self.old.link.state + 2 ≤ vec_capacity self.old.sent }
+        requires room { vec_len self.old.sent + unsent self.old.link.state + 2
+            ≤ vec_capacity self.old.sent }
         requires few { IsSome reply → waiting_count self.old.link.state < 1000000 }
-        ensures received { (s : ALinkSetup) (E : List AnEvent) (A : List Placed) → StandsFor s self.old.link.state E A self.old.sent.items → last_time (E ++ event.now ∷ []) ≤ last_tick → SentAll s (lane_of self.new) (E ++ event.now ∷ []) (A ++ placed_at (last_moment (E ++ event.now ∷ [])) reply) }
+        ensures received { (s : ALinkSetup) (E : List AnEvent) (A : List Placed)
+            → StandsFor s self.old.link.state E A self.old.sent.items
+            → last_time (E ++ event.now ∷ []) ≤ last_tick
+            → SentAll s (lane_of self.new) (E ++ event.now ∷ [])
+            (A ++ placed_at (last_moment (E ++ event.now ∷ [])) reply) }
         ensures drained { pending self.new.link.state ≡ 0 }
-        ensures waiting { waiting_count self.new.link.state ≤ waiting_count self.old.link.state + 1 }
-        ensures none_waits { reply ≡ None → waiting_count self.new.link.state ≤ waiting_count self.old.link.state }
+        ensures waiting { waiting_count self.new.link.state
+            ≤ waiting_count self.old.link.state + 1 }
+        ensures none_waits { reply ≡ None
+            → waiting_count self.new.link.state ≤ waiting_count self.old.link.state }
     {
         self.link.feed(event);
         if let Some(reply) = reply {
@@ -60,9 +71,13 @@ impl Lane {
 /// Hands out all frames that are due.
 fn send_due(link: &mut Link, sent: &mut Vec<Sent>)
     requires room { vec_len sent.old + pending link.old.state ≤ vec_capacity sent.old }
-    ensures stands { (s : ALinkSetup) (E : List AnEvent) (A : List Placed) → StandsFor s link.old.state E A sent.old.items → last_time E ≤ last_tick → (StandsFor s link.new.state E A sent.new.items × (sent.new.items ≡ wire s E A)) }
+    ensures stands { (s : ALinkSetup) (E : List AnEvent) (A : List Placed)
+        → StandsFor s link.old.state E A sent.old.items
+        → last_time E ≤ last_tick
+        → (StandsFor s link.new.state E A sent.new.items × (sent.new.items ≡ wire s E A)) }
     ensures drained { pending link.new.state ≡ 0 }
-    ensures unsent { vec_len sent.new + unsent link.new.state ≡ vec_len sent.old + unsent link.old.state }
+    ensures unsent { vec_len sent.new + unsent link.new.state
+        ≡ vec_len sent.old + unsent link.old.state }
     ensures capacity { vec_capacity sent.new ≡ vec_capacity sent.old }
     ensures waiting { waiting_count link.new.state ≤ waiting_count link.old.state }
 {

@@ -16,13 +16,24 @@ impl Lane {
     /// Takes an event. All growths come first; refused, nothing has changed.
     pub(crate) fn take(&mut self, desk: &mut Desk, who: Who, event: &Event) -> Result<(), StepFault>
         requires ready { IsReady (lane_of self.old) (length desk.old.journal) }
-        ensures took { OnOk result ((s : ALinkSetup) (E : List AnEvent) (K : List AnEntry) → LaneStands s (lane_of self.old) E K → length K ≤ length desk.old.journal → Took s who E K event.now (lane_of self.new) desk.old.journal desk.new.journal) }
+        ensures took { OnOk result ((s : ALinkSetup) (E : List AnEvent) (K : List AnEntry)
+            → LaneStands s (lane_of self.old) E K
+            → length K ≤ length desk.old.journal
+            → Took s who E K event.now (lane_of self.new) desk.old.journal desk.new.journal) }
         ensures ready { IsReady (lane_of self.new) (length desk.new.journal) }
         ensures opening { desk.new.opening ≡ desk.old.opening }
         ensures longer { length desk.old.journal ≤ length desk.new.journal }
         ensures err { OnErr result ((lane_of self.new ≡ lane_of self.old) × (desk.new ≡ desk.old)) }
-        ensures full { result ≡ Err StepFault.JournalFull → (length desk.old.journal ≡ 1000000) × ((s : ALinkSetup) (E : List AnEvent) (K : List AnEntry) → LaneStands s (lane_of self.old) E K → IsSome (gives s E event.now)) }
-        ensures first { length desk.old.journal ≡ 1000000 → (s : ALinkSetup) (E : List AnEvent) (K : List AnEntry) → LaneStands s (lane_of self.old) E K → IsSome (gives s E event.now) → result ≡ Err StepFault.JournalFull }
+        ensures full { result ≡ Err StepFault.JournalFull
+            → (length desk.old.journal ≡ 1000000)
+            × ((s : ALinkSetup) (E : List AnEvent) (K : List AnEntry)
+            → LaneStands s (lane_of self.old) E K
+            → IsSome (gives s E event.now)) }
+        ensures first { length desk.old.journal ≡ 1000000
+            → (s : ALinkSetup) (E : List AnEvent) (K : List AnEntry)
+            → LaneStands s (lane_of self.old) E K
+            → IsSome (gives s E event.now)
+            → result ≡ Err StepFault.JournalFull }
     {
         let full = desk.journal().is_full();
         if full && self.gives_step(event) {

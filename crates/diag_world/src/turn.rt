@@ -18,18 +18,24 @@ use std::alloc::Global;
 /// What a play leaves: the desk, and the frames that each tester was sent, in the testers' order.
 #[derive(Drop)]
 pub struct Played {
+    /// The ECU and the journal.
     pub desk: Desk,
+    /// The frames of each tester.
     pub sent: Vec<Vec<Sent>>,
 }
 
-/// Plays the testers' logs on one thread: one event of each in turn, in the testers' order, a log that has ended being skipped.
+/// Plays the testers' logs on one thread: one event of each in turn, in the testers' order, a log that has ended being
+/// skipped.
 ///
 /// # Errors
 /// `JournalFull` where the logs give more steps than a journal has entries, `Memory` where memory is refused.
 pub fn serial(alloc: Global, setup: &Setup, logs: &[Vec<Event>]) -> Result<Played, StepFault>
     requires { length logs.now ≡ length setup.now.testers }
-    ensures played { IfOk result (λ played. let events = map (λ log. log.items) logs.now in IsPlay setup.now (turns events) events played.desk (map (λ s. s.items) played.sent.items)) }
-    ensures full { result ≡ Err StepFault.JournalFull → 1000000 < length (steps_of (link_of setup.now) (turns (map (λ log. log.items) logs.now))) }
+    ensures played { IfOk result (λ played. let events = map (λ log. log.items) logs.now in
+        IsPlay setup.now (turns events) events played.desk (map (λ s. s.items) played.sent.items)) }
+    ensures full { result ≡ Err StepFault.JournalFull
+        → 1000000
+        < length (steps_of (link_of setup.now) (turns (map (λ log. log.items) logs.now))) }
 {
     let sent = Vec::with_capacity(alloc, setup.testers())?;
     let mut world = World::new(alloc, setup)?;
@@ -63,9 +69,16 @@ fn take_round(
 ) -> Result<(), StepFault>
     requires logs { length logs.now ≡ length setup.now.testers }
     requires testers { length world.old.lanes ≡ length setup.now.testers }
-    ensures ok { OnOk result ((M : List (ℕ × AnEvent)) → Stands setup.now world.old M → Stands setup.now world.new (M ++ first_of_each 1 (map (drop round) (map (λ log. log.items) logs.now)))) }
+    ensures ok { OnOk result ((M : List (ℕ × AnEvent))
+        → Stands setup.now world.old M
+        → Stands setup.now world.new
+        (M ++ first_of_each 1 (map (drop round) (map (λ log. log.items) logs.now)))) }
     ensures testers { length world.new.lanes ≡ length world.old.lanes }
-    ensures full { result ≡ Err StepFault.JournalFull → (M : List (ℕ × AnEvent)) → Stands setup.now world.old M → 1000000 < length (steps_of (link_of setup.now) (M ++ first_of_each 1 (map (drop round) (map (λ log. log.items) logs.now)))) }
+    ensures full { result ≡ Err StepFault.JournalFull
+        → (M : List (ℕ × AnEvent))
+        → Stands setup.now world.old M
+        → 1000000 < length (steps_of (link_of setup.now)
+        (M ++ first_of_each 1 (map (drop round) (map (λ log. log.items) logs.now)))) }
 {
     for (index, log) in logs.iter().enumerate() {
         if round < log.len() {

@@ -69,15 +69,22 @@ impl World {
 
     /// Takes an event of a tester. Refused, nothing has changed.
     ///
-    /// JournalFull comes where the event gives a step and the journal is full, which is looked at first; else all growths
-    /// come before the step is taken.
+    /// JournalFull comes where the event gives a step and the journal is full, which is looked at first; else all
+    /// growths come before the step is taken.
     pub fn event(&mut self, who: Who, event: &Event) -> Result<(), StepFault>
         requires in_setup { who ≤ length self.old.lanes }
-        ensures ok { OnOk result (EachInterleaving self.old (λ setup M. Stands setup self.new (M ++ (who, event.now) ∷ []))) }
+        ensures ok { OnOk result (EachInterleaving self.old (λ setup M.
+            Stands setup self.new (M ++ (who, event.now) ∷ []))) }
         ensures testers { length self.new.lanes ≡ length self.old.lanes }
         ensures err { OnErr result (self.new ≡ self.old) }
-        ensures full { result ≡ Err StepFault.JournalFull → (length self.old.desk.journal ≡ 1000000) × EachInterleaving self.old (λ setup M. IsSome (gives (link_of setup who) (items_of M who) event.now)) }
-        ensures first { length self.old.desk.journal ≡ 1000000 → EachInterleaving self.old (λ setup M. IsSome (gives (link_of setup who) (items_of M who) event.now) → result ≡ Err StepFault.JournalFull) }
+        ensures full { result ≡ Err StepFault.JournalFull
+            → (length self.old.desk.journal ≡ 1000000)
+            × EachInterleaving self.old (λ setup M.
+            IsSome (gives (link_of setup who) (items_of M who) event.now)) }
+        ensures first { length self.old.desk.journal ≡ 1000000
+            → EachInterleaving self.old (λ setup M.
+            IsSome (gives (link_of setup who) (items_of M who) event.now)
+            → result ≡ Err StepFault.JournalFull) }
     {
         let index = usize::from(who.place()) - 1;
         let tester = &mut self.testers[index];
@@ -94,7 +101,8 @@ impl World {
     /// The frames that were sent to a tester, in order.
     pub fn sent(&self, who: Who) -> &[Sent]
         requires in_setup { who ≤ length self.now.lanes }
-        ensures { EachInterleaving self.now (λ setup M. result.now ≡ drawn (link_of setup who) (items_of M who) (replies (own self.now.desk.journal who))) }
+        ensures { EachInterleaving self.now (λ setup M. result.now ≡ drawn
+            (link_of setup who) (items_of M who) (replies (own self.now.desk.journal who))) }
     {
         let index = usize::from(who.place()) - 1;
         self.testers[index].sent()
@@ -109,6 +117,7 @@ impl World {
         ensures legal { Legal self.desk.opening self.desk.journal }
     {
         let World { desk, testers } = self;
+        // (for its contract: a desk's journal is legal)
         let _journal = desk.journal();
         for tester in testers {
             sent.push_reserved(tester.into_sent());

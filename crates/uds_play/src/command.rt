@@ -15,8 +15,11 @@ const VERSION: &str = "0.1.0";
 /// What the words ask for.
 #[derive(Debug, Drop)]
 pub struct Request<'a> {
+    /// What to do with the files.
     pub job: Job,
+    /// The path of the setup.
     pub config: &'a str,
+    /// The paths of the logs or of the journal, in the testers' order.
     pub files: Vec<&'a str>,
 }
 

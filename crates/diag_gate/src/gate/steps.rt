@@ -21,7 +21,13 @@ impl Gate {
         requires gate { place.old.table_id ≡ self.now }
         requires seat { IsSeat who place.old.me }
         ensures gate { place.new.table_id ≡ place.old.table_id }
-        ensures taken { MatchOption result (IsSeat who place.new.me × (seat_as place.new.table_id who place.new.me ≡ misses (seat_as place.old.table_id who place.old.me))) (λ d. IsHeld who place.new.me d × Finds (seat_as place.old.table_id who place.old.me) (seat_as place.new.table_id who place.new.me)) }
+        ensures taken { MatchOption result
+            (IsSeat who place.new.me
+            × (seat_as place.new.table_id who place.new.me
+            ≡ misses (seat_as place.old.table_id who place.old.me)))
+            (λ d. IsHeld who place.new.me d
+            × Finds (seat_as place.old.table_id who place.old.me)
+            (seat_as place.new.table_id who place.new.me)) }
     {
         let shared = &self.table.shared;
         if shared.compare_exchange::<Take>(place, 0, 0, 1) == 0 {
@@ -34,8 +40,12 @@ impl Gate {
     /// Puts the desk back, with what the seat's tester did to it.
     fn put(&self, place: &mut Place, who: Who, desk: DeskBox)
         requires gate { place.old.table_id ≡ self.now }
-        requires held { (before : _) × IsHeld who place.old.me before × (desk.opening ≡ before.opening) }
-        requires grown { (more : _) × (desk.journal ≡ place.old.me.0.seen ++ more) × ((t : ℕ) → t ≢ who → own more t ≡ []) }
+        requires held { (before : _)
+            × IsHeld who place.old.me before
+            × (desk.opening ≡ before.opening) }
+        requires grown { (more : _)
+            × (desk.journal ≡ place.old.me.0.seen ++ more)
+            × ((t : ℕ) → t ≢ who → own more t ≡ []) }
         ensures gate { place.new.table_id ≡ place.old.table_id }
         ensures seat { IsSeat who place.new.me }
         ensures put { place.new.me.0 ≡ letting_go place.old.me.0 desk }
@@ -59,7 +69,12 @@ impl Gate {
         requires held { IsHeld who place.old.me desk }
         ensures gate { place.new.table_id ≡ place.old.table_id }
         ensures seat { IsSeat who place.new.me }
-        ensures answer { MatchResult result (λ r. Answered (seat_as place.old.table_id who place.old.me) (seat_as place.new.table_id who place.new.me) step.now r) (λ e. (seat_as place.new.table_id who place.new.me ≡ seat_as place.old.table_id who place.old.me) × IsFull (seat_as place.old.table_id who place.old.me) e) }
+        ensures answer { MatchResult result
+            (λ r. Answered (seat_as place.old.table_id who place.old.me)
+            (seat_as place.new.table_id who place.new.me) step.now r)
+            (λ e. (seat_as place.new.table_id who place.new.me
+            ≡ seat_as place.old.table_id who place.old.me)
+            × IsFull (seat_as place.old.table_id who place.old.me) e) }
         ensures quiet { IfOk result (λ r. HasNoReply step.now r) }
     {
         desk.lawful();
@@ -91,7 +106,9 @@ impl Gate {
     /// `Busy`, with the step, where the word was found to be 1; else as the desk's step. The desk is then as it was.
     pub fn try_step(&self, seat: &mut Seat, step: Step) -> Result<Option<Message>, TryFault>
         requires { seat.old.gate ≡ self.now }
-        ensures made { MatchResult result (λ r. Answered seat.old seat.new step r) (λ e. NotMade seat.old seat.new step e) }
+        ensures made { MatchResult result
+            (λ r. Answered seat.old seat.new step r)
+            (λ e. NotMade seat.old seat.new step e) }
         ensures quiet { IfOk result (λ r. HasNoReply step r) }
     {
         let who = seat.who;
@@ -105,7 +122,8 @@ impl Gate {
     /// One step. It waits until the word is found to be 0.
     ///
     /// # Errors
-    /// As the desk's step, which is then as it was: `JournalFull` where the journal is full, `Memory` where memory is refused.
+    /// As the desk's step, which is then as it was: `JournalFull` where the journal is full, `Memory` where memory is
+    /// refused.
     pub fn step<R: Wait>(
         &self,
         rt: &R,
@@ -113,7 +131,10 @@ impl Gate {
         step: &Step,
     ) -> Result<Option<Message>, StepFault>
         requires { seat.old.gate ≡ self.now }
-        ensures made { (missed : ℕ) × MatchResult result (λ r. Answered (waited seat.old missed) seat.new step.now r) (λ e. Refused (waited seat.old missed) seat.new e) }
+        ensures made { (missed : ℕ)
+            × MatchResult result
+            (λ r. Answered (waited seat.old missed) seat.new step.now r)
+            (λ e. Refused (waited seat.old missed) seat.new e) }
         ensures quiet { IfOk result (λ r. HasNoReply step.now r) }
     {
         let who = seat.who;
@@ -127,8 +148,8 @@ impl Gate {
     }
 }
 
-/// How often a tester that found the desk out lets the others run before it tries again. A try takes the word's cache line from the one that
-/// has the desk, so a few turns more leave that one to take many steps in the time.
+/// How often a tester that found the desk out lets the others run before it tries again. A try takes the word's cache
+/// line from the one that has the desk, so a few turns more leave that one to take many steps in the time.
 const TURNS: u32 = 32;
 
 /// Lets the other threads run.
@@ -155,7 +176,9 @@ impl Held<'_> {
     /// # Errors
     /// As the desk's step: the desk goes back as it was.
     pub fn step(self, step: &Step) -> (Seat, Result<Option<Message>, StepFault>)
-        ensures made { MatchResult result.1 (λ r. Answered self.entry result.0 step.now r) (λ e. (result.0 ≡ self.entry) × IsFull self.entry e) }
+        ensures made { MatchResult result.1
+            (λ r. Answered self.entry result.0 step.now r)
+            (λ e. (result.0 ≡ self.entry) × IsFull self.entry e) }
         ensures quiet { IfOk result.1 (λ r. HasNoReply step.now r) }
     {
         let Held {

@@ -187,7 +187,8 @@ fn is_end(outcome: &Outcome, end: End<'_>) -> Result<bool, AllocError> {
     }
 }
 
-/// Whether a fault of this line and this status ends it. A line that had no memory, or told want of memory, is an error.
+/// Whether a fault of this line and this status ends it. A line that had no memory, or told want of memory, is an
+/// error.
 fn is_fault(told: &Option<Vec<u8>>, status: u8, end: End<'_>) -> Result<bool, AllocError> {
     match told {
         Some(line) if status != 4 => Ok(status == end.status && line.as_slice() == end.line),

@@ -147,7 +147,8 @@ fn play_meets<R: Threads + Wait + Sync>(rt: &R, alloc: Global) -> Result<bool, T
 
 /// Each tester's first step is held until the other tester was called.
 ///
-/// A thread that finds no memory at its start leaves its work to its caller's thread, so what did not meet is tried once more.
+/// A thread that finds no memory at its start leaves its work to its caller's thread, so what did not meet is tried
+/// once more.
 #[test]
 fn two_workers_meet(rt: HostRuntime) -> Result<(), Trouble> {
     if !crew_meets(&rt, rt.alloc())? {

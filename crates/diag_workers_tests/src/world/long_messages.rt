@@ -167,7 +167,8 @@ fn add_consecutives(text: &mut Vec<u8>) -> Result<(), AllocError> {
     Ok(())
 }
 
-/// Adds the line of a Consecutive of the reply, before which there are so many. The first of them has the reply's third byte.
+/// Adds the line of a Consecutive of the reply, before which there are so many. The first of them has the reply's third
+/// byte.
 fn add_consecutive(text: &mut Vec<u8>, before: u16) -> Result<(), AllocError> {
     let digits: &[u8] = b"0123456789ABCDEF";
     let digit = (usize::from(before) + 1) % 16;
@@ -179,7 +180,8 @@ fn add_consecutive(text: &mut Vec<u8>, before: u16) -> Result<(), AllocError> {
     text.extend_from_slice(b"\n")
 }
 
-/// The digits of a byte of the reply from its third on: sixteen identifiers with their values, and behind them what fills a frame.
+/// The digits of a byte of the reply from its third on: sixteen identifiers with their values, and behind them what
+/// fills a frame.
 fn reply_byte(index: usize) -> &'static [u8] {
     if index >= 4113 {
         b"CC"
