@@ -1,6 +1,6 @@
 -- Reading files one after the other, as a loop does.
 use Rattle.std.proofs.Common.{◌≡◌, ℕ, ◌+◌, ◌-◌, ◌≤◌, ◌<◌, length, take, drop, set, get_or, map, List, [], ◌∷◌, ◌++◌, Option, Some, Result, Ok, Err, refl, sym, ap, ◌∙◌, append_assoc, arith, le-leb, nat_le, false}
-use Rattle.std.proofs.lemmas.List.{append-nil, drop_more, drop-set-lt, take-set, drop-map, drop-drop, length-map}
+use Rattle.std.proofs.lemmas.List.{append-nil, map_push, drop_more, drop-set-lt, take-set, drop-map, drop-drop, length-map}
 use Rattle.std.proofs.lemmas.Bool.Decides.{nat_tests}
 use Rattle.std.proofs.lemmas.Grind.{drop_more_same}
 use Rattle.std.specs.Io.KnownBytes.{IsAtEnd}
@@ -66,6 +66,12 @@ module _ (limit : ℕ) (front : List (List ℕ)) (n : ℕ) (bytes : List ℕ) (m
       let no : nat_le (length bytes) limit ≡ false = grind (arith, nat_tests) in
       let one : with_front front (files_from limit n (bytes ∷ more)) ≡ Err (file_long n) = rw no refl in
       sym so_far ∙ one
+
+-- a list of texts with one more, whose bytes are these
+pub one_more : {A : Type 0} (bytes_of : A → List ℕ) (texts texts' : List A) (text : A) (bytes : List ℕ) → texts' ≡ texts ++ text ∷ [] → bytes_of text ≡ bytes
+    → map bytes_of texts' ≡ map bytes_of texts ++ bytes ∷ []
+one_more bytes_of texts texts' text bytes grown same =
+    ap (map bytes_of) grown ∙ (map_push bytes_of texts text ∙ ap (λ (b : List ℕ). map bytes_of texts ++ b ∷ []) same)
 
 pub is_done : (limit : ℕ) (front : List (List ℕ)) (n : ℕ) (total : Result (List (List ℕ)) Refusal) → with_front front (files_from limit n []) ≡ total → total ≡ Ok front
 unfolding files_from

@@ -1,5 +1,5 @@
 -- A crew at fresh seats of one gate plays the logs: what its records and the closed gate say together.
-use Rattle.std.proofs.Common.{◌≡◌, ◌≢◌, ◌⊎◌, inl, inr, ℕ, zero, suc, ◌+◌, ◌<◌, ◌≤◌, eqb, true, cond, is_some, List, [], ◌∷◌, ◌++◌, length, map, get_or, refl, sym, add-one, ap, ap₂, subst, ◌∙◌, arith, eq-eqb, ne_eqb, Some, None}
+use Rattle.std.proofs.Common.{◌≡◌, ◌≢◌, ◌⊎◌, inl, inr, ℕ, zero, suc, ◌+◌, ◌<◌, ◌≤◌, eqb, true, cond, is_some, List, [], ◌∷◌, ◌++◌, length, map, get_or, replicate, false, refl, sym, add-one, ap, ap₂, subst, ◌∙◌, arith, eq-eqb, ne_eqb, Some, None}
 use Rattle.std.specs.Prelude.{slice_get, if◌then◌else◌, ◌==◌}
 use Rattle.std.proofs.lemmas.Option.{slice_get_within}
 use Rattle.std.proofs.lemmas.List.{length-map}
@@ -189,10 +189,20 @@ pub record Opened (setup : RawSetup) (h : HostView) : Type 0 where
   pub owns : (t : ℕ) → t < 9 → of_host h t ≡ Some []
   pub wide : length h.owns ≡ 9
 
-pub opened : (setup : RawSetup) (h : HostView) (d : Run) → d ≡ record { opening = opening setup; journal = [] } → h.opening ≡ d.opening → h.owns ≡ owns_from 0 9 d.journal → Opened setup h
-opened setup h d is opening_is owns_are =
-    let none : h.owns ≡ owns_from 0 9 [] = owns_are ∙ ap (λ (r : Run). owns_from 0 9 r.journal) is in record {
-      opening_is = opening_is ∙ ap (λ (r : Run). r.opening) is;
+-- the host of a new gate over a desk
+abbrev pub new_host : TableId → Run → HostView
+new_host gate d = record {
+  gate = gate;
+  opening = d.opening;
+  seen = d.journal;
+  owns = owns_from 0 9 d.journal;
+  given = replicate 9 false;
+}
+
+pub opened : (setup : RawSetup) (h : HostView) (gate : TableId) (d : Run) → d ≡ record { opening = opening setup; journal = [] } → h ≡ new_host gate d → Opened setup h
+opened setup h gate d is made =
+    let none : h.owns ≡ owns_from 0 9 [] = ap (λ (x : HostView). x.owns) made ∙ ap (λ (r : Run). owns_from 0 9 r.journal) is in record {
+      opening_is = ap (λ (x : HostView). x.opening) made ∙ ap (λ (r : Run). r.opening) is;
       owns = λ t low. ap (λ l. get_or l t None) none ∙ owns_there 0 9 t [] low;
       wide = ap length none;
     }
@@ -325,6 +335,10 @@ pub doors_placed : {D : Type 0} (seat : D → SeatView) (setup : RawSetup) (h h1
 doors_placed seat setup h h1 n m seats doors few same o out doors_are =
     who_map seat doors ∙ (ap (map (λ (s : SeatView). s.who)) doors_are
     ∙ (places_are h.gate 1 seats (out_is_fresh setup h h1 n seats few o out) ∙ ap (counted_from 1) (out.many ∙ same)))
+
+-- a new gate's host is of that gate
+pub host_gate : (h : HostView) (gate : TableId) (d : Run) → h ≡ new_host gate d → h.gate ≡ gate
+host_gate h gate d made = ap (λ (x : HostView). x.gate) made
 
 -- a seat that was given out is of the host's gate
 pub seat_gate : (h h1 : HostView) (n : ℕ) (seats : List SeatView) → Out h h1 n seats → (k : ℕ) (s : SeatView) → k < length seats → (get_or seats k s).gate ≡ h.gate

@@ -1,12 +1,13 @@
 -- What one more event makes of a worker's record.
-use Rattle.std.proofs.Common.{◌≡◌, ℕ, Option, Some, None, List, [], ◌∷◌, ◌++◌, ap, subst, sym, ◌∙◌, append_assoc, append-nil}
+use Rattle.std.proofs.Common.{◌≡◌, ℕ, Option, Some, None, List, [], ◌∷◌, ◌++◌, take, drop, ap, subst, sym, ◌∙◌, append_assoc, append-nil}
 use Rattle.std.specs.Option.{option_to_list}
+use Rattle.std.proofs.lemmas.List.{take-append-drop}
 use Rattle.diag_can.specs.declared.frame.Event.{Event}
 use Rattle.diag_tp.specs.declared.setup.LinkSetup.{LinkSetup}
 use Rattle.diag_tp.specs.declared.step.Step.{Step}
 use Rattle.diag_tp.specs.Gives.{gives, steps, steps_after}
 use Rattle.diag_desk.specs.declared.entry.Entry.{Entry}
-use Rattle.diag_desk.specs.Entries.{entry}
+use Rattle.diag_desk.specs.Entries.{entry, asked}
 use Rattle.diag_world.specs.Lane.{entries_of}
 use Rattle.diag_world.specs.Lane.{LaneState, LaneStands}
 use Rattle.diag_workers.specs.Work.{MoreOf}
@@ -18,8 +19,15 @@ steps_after-append s p (x ∷ xs) ys =
     ap (λ w. now ++ w) (steps_after-append s (p ++ x ∷ []) xs ys ∙ ap (λ q. steps_after s (p ++ x ∷ []) xs ++ steps_after s q ys) (append_assoc p (x ∷ []) xs))
     ∙ sym (append_assoc now (steps_after s (p ++ x ∷ []) xs) (steps_after s (p ++ x ∷ xs) ys))
 
-pub steps_split : (s : LinkSetup) (es fs : List Event) → steps s (es ++ fs) ≡ steps s es ++ steps_after s es fs
+steps_split : (s : LinkSetup) (es fs : List Event) → steps s (es ++ fs) ≡ steps s es ++ steps_after s es fs
 steps_split s es fs = steps_after-append s [] es fs
+
+-- where the first k events ask what a record has, all events ask that and what the others give
+pub asks_first : (s : LinkSetup) (E : List Event) (k : ℕ) (K : List Entry) → asked K ≡ steps s (take k E)
+    → steps s E ≡ asked K ++ steps_after s (take k E) (drop k E)
+asks_first s E k K asks =
+    ap (steps s) (sym (take-append-drop k E))
+    ∙ (steps_split s (take k E) (drop k E) ∙ ap (λ w. w ++ steps_after s (take k E) (drop k E)) (sym asks))
 
 pub more_given : (given given' entries entries' before : List Entry) → given ≡ before ++ entries → MoreOf given given' entries entries' → given' ≡ before ++ entries'
 more_given given given' entries entries' before h more =

@@ -1,11 +1,11 @@
-use Rattle.std.proofs.Common.{subst, set, ◌≡◌, ◌+◌, ◌≤◌, ◌<◌, List, ℕ, ◌∷◌, ◌++◌, [], length, take, drop, map, ◌∙◌, ap, arith, rules}
+use Rattle.std.proofs.Common.{subst, set, ◌≡◌, ◌+◌, ◌≤◌, ◌<◌, ◌∷◌, [], length, take, drop, ◌∙◌, ap, arith, rules}
 use Rattle.std.proofs.lemmas.List.Elements.{All-push}
-use Rattle.std.proofs.lemmas.List.{take_more_set, map_push, drop-set-lt, drop_all, length-append, length-set}
+use Rattle.std.proofs.lemmas.List.{take_more_set, drop-set-lt, drop_all, length-append, length-set}
 use Rattle.std.proofs.lemmas.Grind.{drop_more_same}
 use Rattle.std.specs.Io.KnownBytes.{IsAtEnd}
 use Rattle.diag_run.specs.Files.{FailsAt, files_from}
 use Rattle.diag_run.proofs.Order.{AllLater-front, AllLater-files}
-use Rattle.diag_run.proofs.Reading.{AreKnown-length, known_at, fails_at, goes_on, too_long, is_done}
+use Rattle.diag_run.proofs.Reading.{AreKnown-length, known_at, fails_at, one_more, goes_on, too_long, is_done}
 use Rattle.diag_run.proofs.files.read_files.Goals as goal
 
 pub loop-index-preserved : goal.loop-index-preserved
@@ -21,9 +21,7 @@ loop-index-preserved g c = record {
       let at = known_at g.R.Read.remaining c.args.files.now c.loop-index.files known c.loop-index.index c.index-files-index.result h c.loop-index.invariant.rest (omega arith) in
       let same : c.in-Ok.text.items ≡ at.0 = rw at.1 at c.in-Ok.ensures.whole in
       let fits : length at.0 ≤ c.args.limit = rw same at c.in-Ok.ensures.within in
-      let kept : List (List ℕ) = map (λ bytes. bytes.items) c.loop-index.texts.items in
-      let front : map (λ bytes. bytes.items) c.push.new.self.items ≡ kept ++ at.0 ∷ [] =
-      ap (map (λ bytes. bytes.items)) c.in_ok-push.ensures.items ∙ (map_push _ c.loop-index.texts.items c.in-Ok.text ∙ ap (λ (bytes : List ℕ). kept ++ bytes ∷ []) same) in
+      let front = one_more (λ bytes. bytes.items) c.loop-index.texts.items c.push.new.self.items c.in-Ok.text at.0 c.in_ok-push.ensures.items same in
       rw front (goes_on c.args.limit _ (c.loop-index.index + 1) at.0 _ _ fits (rw at.2 at (c.loop-index.invariant.so_far known h)));
 }
 

@@ -8,4 +8,4 @@ pub returns : goal.returns
 returns g c =
     let facts = c.binary_search_by_key.ensures in
     let by_key = facts.position g.T.Keyed.key_of (answers_always _ _ _ (λ f a r q called. search rules)) in
-    c.ok.ensures.value ∙ placed g.T.Keyed.key_of c.args.rows.now c.requires c.args.key _ facts.bound by_key
+    c.ok.ensures.value ∙ placed g.T.Keyed.key_of c.args.rows.now c.requires c.args.key c.binary_search_by_key.result facts.bound by_key

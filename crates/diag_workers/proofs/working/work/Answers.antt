@@ -1,22 +1,18 @@
-use Rattle.std.proofs.Common.{◌≡◌, ◌++◌, take, drop, ap, sym, ◌∙◌}
+use Rattle.std.proofs.Common.{◌≡◌, take, drop, ◌∙◌}
 use Rattle.std.proofs.lemmas.Result.{err_from_is_err_and}
-use Rattle.std.proofs.lemmas.List.{take-append-drop}
 use Rattle.diag_setup.specs.Setup.{link_of}
-use Rattle.diag_tp.specs.Gives.{steps, steps_after}
-use Rattle.diag_workers.proofs.Recording.{steps_split}
+use Rattle.diag_tp.specs.Gives.{steps_after}
+use Rattle.diag_workers.proofs.Recording.{asks_first}
 use Rattle.diag_workers.proofs.working.work.Goals as goal
 
 pub returns-in_err-take-clause-refused : goal.returns-in_err-take-clause-refused
 returns-in_err-take-clause-refused g c =
     let s = link_of c.args.setup.now c.args.who in
-    let done = take c.loop-event.event-index c.args.events.now in
-    let rest = drop c.loop-event.event-index c.args.events.now in
     let kept : g.D.Door.given c.take.new.door ≡ g.D.Door.given c.loop-event.door = c.in_err-take.ensures.refused in
     let p = err_from_is_err_and c.from_residual.result c.from_residual.ensures.1 in
     rw p.1 (
       c.loop-event.worker.entries.entries,
-      steps_after s done rest,
+      steps_after s (take c.loop-event.event-index c.args.events.now) (drop c.loop-event.event-index c.args.events.now),
       kept ∙ c.loop-event.invariant.given,
-      ap (steps s) (sym (take-append-drop c.loop-event.event-index c.args.events.now))
-          ∙ (steps_split s done rest ∙ ap (λ w. w ++ steps_after s done rest) (sym c.loop-event.invariant.stands.asks)),
+      asks_first s c.args.events.now c.loop-event.event-index c.loop-event.worker.entries.entries c.loop-event.invariant.stands.asks,
     )

@@ -10,7 +10,9 @@ returns-in-Some-take-clause-made g c =
     let start : SeatView = waited c.args.seat.now m in
     let found : SeatView = seat_as c.take.new.place.table_id who c.take.new.place.me in
     let after : ℕ → SeatView = λ w. seat_as c.work.new.place.table_id w c.work.new.place.me in
-    let finds = subst (λ (s : SeatView). Finds s found) (c.loop.invariant.waits.1 ∙ ap (λ (s : SeatView). waited s m) c.seat.view_is) c.in-Some-take.ensures.taken.1 in (
+    let held : SeatView = seat_as c.seat.inside.place.table_id who c.seat.inside.place.me in
+    let waits = ◌∙◌ {b = waited held m} c.loop.invariant.waits.1 (ap (λ (s : SeatView). waited s m) c.seat.view_is) in
+    let finds = subst (λ (s : SeatView). Finds s found) waits c.in-Some-take.ensures.taken.1 in (
       m,
       subst (λ (w : ℕ). MatchResult c.work.result (λ r. Answered start (after w) c.args.step.now r) (λ e. Refused start (after w) e)) (sym c.loop.invariant.same.0)
           (made_of start found (after who) c.args.step.now c.work.result finds c.work.ensures.answer),
