@@ -28,6 +28,7 @@ pub record IsPlay (setup : RawSetup) (M : List (ℕ × Event)) (logs : List (Lis
   -- each tester's frames are what flow control draws from the replies to it, each placed at the moment that gave its
   -- step
   pub testers : length sent ≡ length logs
-  pub frames : (i : ℕ) (frames : List Sent) → slice_get sent i ≡ Some frames
-      → frames
-      ≡ drawn (link_of setup (i + 1)) (log_of logs (i + 1)) (replies (own desk.journal (i + 1)))
+  pub frames : (i : ℕ) (frames : List Sent)
+      → slice_get sent i ≡ Some frames
+      → frames ≡ drawn (link_of setup (i + 1)) (log_of logs (i + 1))
+      (replies (own desk.journal (i + 1)))
