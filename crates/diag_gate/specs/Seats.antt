@@ -1,5 +1,5 @@
 -- What contracts see of a seat and of the host, and what each call leaves.
-use Rattle.std.specs.Prelude.{◌≡◌, ℕ, ◌+◌, ◌<◌, Bool, true, false, List, [], ◌∷◌, ◌++◌, length, slice_index_or, slice_set, Option, Some, None, is_some, Result, Ok, Err}
+use Rattle.std.specs.Prelude.{◌≡◌, ℕ, ◌+◌, ◌<◌, Bool, true, false, List, [], ◌∷◌, ◌++◌, length, replicate, slice_index_or, slice_set, Option, Some, None, is_some, Result, Ok, Err}
 use Rattle.atomic_table.specs.Table.{Me}
 use Rattle.atomic_table.specs.Seated.{TableId}
 use Rattle.diag_ecu.specs.State.{State}
@@ -12,7 +12,7 @@ use Rattle.diag_desk.specs.declared.entry.Entry.{Entry}
 use Rattle.diag_gate.specs.declared.view.View.{View}
 use Rattle.diag_gate.specs.declared.fault.TryFault.{TryFault}
 use Rattle.diag_gate.specs.declared.fault.TryFault.TheVariants.{Memory as TryMemory, JournalFull as TryFull, Busy}
-use Rattle.diag_gate.specs.Views.{host_view, seat_view, holding, longer, shorter}
+use Rattle.diag_gate.specs.Views.{owns_from, host_view, seat_view, holding, longer, shorter}
 use Rattle.diag_gate.specs.Rule.{run}
 
 -- a seat: its gate and tester, the opening, its own entries, and the journal that it has seen
@@ -38,6 +38,16 @@ of_host h t = slice_index_or h.owns t None
 
 abbrev pub was_given : HostView → ℕ → Bool
 was_given h t = slice_index_or h.given t false
+
+-- the host of a new gate over a desk: every tester is with it, with the entries that the desk's journal has of it
+abbrev pub new_host : TableId → Run → HostView
+new_host gate desk = record {
+  gate = gate;
+  opening = desk.opening;
+  seen = desk.journal;
+  owns = owns_from 0 9 desk.journal;
+  given = replicate 9 false;
+}
 
 -- each tester is with the host
 abbrev pub AllHome : HostView → Type 0

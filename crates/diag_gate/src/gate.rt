@@ -1,7 +1,6 @@
 //! The gate, its host and its seats.
-ghost use Rattle.std.specs.Prelude.{◌≡◌, ◌↔◌, true, replicate, false, IfOk, IfSome, IfNone, IsTrue};
-ghost use Rattle.diag_gate.specs.Views.{owns_from};
-ghost use Rattle.diag_gate.specs.Seats.{Gave, Joined, Closed, AllHome, was_given};
+ghost use Rattle.std.specs.Prelude.{◌≡◌, ◌↔◌, true, IfOk, IfSome, IfNone, IsTrue};
+ghost use Rattle.diag_gate.specs.Seats.{Gave, Joined, Closed, AllHome, new_host, was_given};
 
 use crate::desk_box::DeskBox;
 use crate::view::{Give, Learn, Name, OneHistory, TakeIn, View};
@@ -97,13 +96,7 @@ mod steps;
 impl Gate {
     /// A gate over a desk, and the host that gives out its seats. Refused, the desk is dropped.
     pub fn new(alloc: Global, desk: Desk) -> Result<(Gate, Host), AllocError>
-        ensures { IfOk result (λ r. r.1 ≡ record {
-          gate = r.0;
-          opening = desk.opening;
-          seen = desk.journal;
-          owns = owns_from 0 9 desk.journal;
-          given = replicate 9 false;
-        }) }
+        ensures { IfOk result (λ r. r.1 ≡ new_host r.0 desk) }
     {
         let desk = DeskBox::new(alloc, desk)?;
         desk.lawful();

@@ -1,5 +1,5 @@
 -- A crew at fresh seats of one gate plays the logs: what its records and the closed gate say together.
-use Rattle.std.proofs.Common.{◌≡◌, ◌≢◌, ◌⊎◌, inl, inr, ℕ, zero, suc, ◌+◌, ◌<◌, ◌≤◌, eqb, true, cond, is_some, List, [], ◌∷◌, ◌++◌, length, map, get_or, replicate, false, refl, sym, add-one, ap, ap₂, subst, ◌∙◌, arith, eq-eqb, ne_eqb, Some, None}
+use Rattle.std.proofs.Common.{◌≡◌, ◌≢◌, ◌⊎◌, inl, inr, ℕ, zero, suc, ◌+◌, ◌<◌, ◌≤◌, eqb, true, cond, is_some, List, [], ◌∷◌, ◌++◌, length, map, get_or, refl, sym, add-one, ap, ap₂, subst, ◌∙◌, arith, eq-eqb, ne_eqb, Some, None}
 use Rattle.std.specs.Prelude.{slice_get, if◌then◌else◌, ◌==◌}
 use Rattle.std.proofs.lemmas.Option.{slice_get_within}
 use Rattle.std.proofs.lemmas.List.{length-map}
@@ -23,7 +23,7 @@ use Rattle.diag_desk.specs.Entries.{own, asked, replies}
 use Rattle.diag_world.specs.Headline.{IsPlay}
 use Rattle.diag_world.specs.Weaving.{weave, log_at, AsksItsLog, WeavingLaw}
 use Rattle.diag_gate.specs.Views.{owns_from}
-use Rattle.diag_gate.specs.Seats.{SeatView, HostView, of_host, AllHome, Closed}
+use Rattle.diag_gate.specs.Seats.{SeatView, HostView, of_host, new_host, AllHome, Closed}
 use Rattle.diag_workers.specs.declared.working.WorkerRecord.{WorkerRecord}
 use Rattle.diag_workers.specs.Crew.{AllWorked}
 use Rattle.diag_workers.specs.Seating.{Out, Back}
@@ -188,16 +188,6 @@ pub record Opened (setup : RawSetup) (h : HostView) : Type 0 where
   pub opening_is : h.opening ≡ opening setup
   pub owns : (t : ℕ) → t < 9 → of_host h t ≡ Some []
   pub wide : length h.owns ≡ 9
-
--- the host of a new gate over a desk
-abbrev pub new_host : TableId → Run → HostView
-new_host gate d = record {
-  gate = gate;
-  opening = d.opening;
-  seen = d.journal;
-  owns = owns_from 0 9 d.journal;
-  given = replicate 9 false;
-}
 
 pub opened : (setup : RawSetup) (h : HostView) (gate : TableId) (d : Run) → d ≡ record { opening = opening setup; journal = [] } → h ≡ new_host gate d → Opened setup h
 opened setup h gate d is made =
