@@ -74,7 +74,7 @@ pub fn read_log(
 }
 
 /// The line without one CR at its end.
-fn without_return(line: &[u8]) -> &[u8]
+pub fn without_return(line: &[u8]) -> &[u8]
     ensures { result.now ≡ without_return line.now }
 {
     if line.ends_with(b"\r") {

@@ -40,7 +40,7 @@ fn ticks_of(count: u64) -> Option<TickCount>
 }
 
 /// The count of a `tick` line, after these four letters.
-fn tick_count(text: &[u8]) -> Option<TickCount>
+pub fn tick_count(text: &[u8]) -> Option<TickCount>
     ensures { result ≡ tick_count text.now }
 {
     match text.split_first() {
@@ -53,7 +53,7 @@ fn tick_count(text: &[u8]) -> Option<TickCount>
 }
 
 /// A frame's moment and text, from a whole line.
-fn stamped_frame(line: &[u8]) -> Option<(u64, &[u8])>
+pub fn stamped_frame(line: &[u8]) -> Option<(u64, &[u8])>
     ensures { option_map (λ r. (r.0, r.1.now)) result ≡ stamped_frame line.now }
 {
     let (moment, text) = stamp_of(line)?;

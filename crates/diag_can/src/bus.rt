@@ -1,0 +1,90 @@
+//! The lines of a capture of a whole bus.
+
+ghost use Rattle.std.specs.Prelude.{◌≡◌};
+ghost use Rattle.diag_can.specs.Bus.{bus_line, data_frame, line_says, text_frame};
+ghost use Rattle.diag_can.specs.Line.{line_event};
+ghost use Rattle.diag_can.specs.Bus.{said_for, SameForms};
+
+use crate::fault::LineFault;
+use crate::frame::{CanId, Frame, TickCount};
+use crate::line::{frame_data, hex_run, id_of, is_passed_over};
+use crate::log::without_return;
+use crate::read::{stamped_frame, tick_count};
+use crate::stamp::behind;
+
+/// What a line of a capture says.
+#[derive(Debug, Drop)]
+pub enum BusLine {
+    /// Nothing.
+    Empty,
+    /// That many milliseconds pass.
+    Ticks(TickCount),
+    /// A frame was seen at this moment, in milliseconds; where it is a data frame with an 11-bit identifier, this one.
+    Stamped { moment: u64, frame: Option<Frame> },
+}
+
+/// The most bytes of a line.
+const LONGEST_LINE: usize = 4096;
+
+/// The data frame of this identifier, from what stands behind the `#`, or that it is passed over.
+fn data_frame(id: CanId, rest: &[u8]) -> Result<Option<Frame>, LineFault>
+    ensures { result ≡ data_frame id rest.now }
+{
+    if is_passed_over(rest) {
+        return Ok(None);
+    }
+    let bytes = frame_data(rest)?;
+    Ok(Some(Frame { id, bytes }))
+}
+
+/// The data frame with an 11-bit identifier that a text is, or that it is passed over.
+fn text_frame(text: &[u8]) -> Result<Option<Frame>, LineFault>
+    ensures { result ≡ text_frame text.now }
+{
+    let (digits, rest) = text.split_at(hex_run(text));
+    match behind(b'#', rest) {
+        None => Err(LineFault::BadLine),
+        Some(_) if digits.len() == 8 => Ok(None),
+        Some(rest) => match id_of(digits) {
+            None => Err(LineFault::BadLine),
+            Some(id) => data_frame(id, rest),
+        },
+    }
+}
+
+/// What a line without its end says.
+fn line_says(line: &[u8]) -> Result<BusLine, LineFault>
+    ensures { result ≡ line_says line.now }
+{
+    if line.is_empty() {
+        return Ok(BusLine::Empty);
+    }
+    if line.starts_with(b"tick") {
+        return match tick_count(&line[4..]) {
+            None => Err(LineFault::BadTick),
+            Some(count) => Ok(BusLine::Ticks(count)),
+        };
+    }
+    match stamped_frame(line) {
+        None => Err(LineFault::BadLine),
+        Some((moment, text)) => {
+            let frame = text_frame(text)?;
+            Ok(BusLine::Stamped { moment, frame })
+        }
+    }
+}
+
+/// What a whole line of a capture says, from its bytes without LF.
+pub fn read_bus_line(piece: &[u8]) -> Result<BusLine, LineFault>
+    ensures { result ≡ bus_line piece.now }
+{
+    if piece.len() > LONGEST_LINE {
+        return Err(LineFault::BadLine);
+    }
+    line_says(without_return(piece))
+}
+
+/// A line of a capture says of each tester what a log's line does.
+pub fn same_forms_law()
+    ensures { SameForms }
+{}
