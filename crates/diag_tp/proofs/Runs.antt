@@ -1,5 +1,5 @@
 -- The runs of replies of a single frame.
-use Rattle.std.proofs.Common.{◌≡◌, ℕ, suc, ◌+◌, ◌-◌, ◌*◌, ◌<◌, ◌≤◌, Bool, true, false, List, [], ◌∷◌, ◌++◌, length, refl, sym, ◌∙◌, ap, arith, length-append}
+use Rattle.std.proofs.Common.{◌≡◌, ℕ, suc, ◌+◌, ◌-◌, ◌*◌, ◌<◌, ◌≤◌, Bool, true, false, List, [], ◌∷◌, ◌++◌, length, refl, sym, ◌∙◌, ap, arith}
 use Rattle.std.specs.Prelude.{sum_by, nat_le, if◌then◌else◌, min}
 use Rattle.std.proofs.lemmas.List.Sums.{sum_by-cons, sum_by-append}
 use Rattle.std.proofs.lemmas.Bool.Decides.{nat_tests}
@@ -135,49 +135,14 @@ waits-count (P ∷ W) before last e =
           omega arith
     ] refl
 
-length-one_more : (ns : List ℕ) → length (one_more ns) ≡ length ns
-length-one_more [] = refl
-length-one_more (n ∷ ns) = refl
-
-runs-all : (W : List (List ℕ)) → length (runs_of W) ≤ 1 + length W
-runs-all [] = omega arith
-runs-all (P ∷ W) =
-    let rest = runs-all W in
-    let same = length-one_more (runs_of W) in
-    elim (is_single P) as (λ b. length (if b then one_more (runs_of W) else 0 ∷ runs_of W) ≤ 1 + suc (length W)) [ true ↦ omega arith | false ↦ omega arith ]
-
-runs-waits : (W : List (List ℕ)) → length (runs_of W) ≤ 2 + length (waits W)
-runs-waits [] = omega arith
-runs-waits (P ∷ W) =
-    let rest = runs-waits W in
-    let all = runs-all W in
-    let same = length-one_more (runs_of W) in
-    elim (is_single P) as (λ b. length (if b then one_more (runs_of W) else 0 ∷ runs_of W) ≤ 2 + length (if b then waits W else W)) [ true ↦ omega arith | false ↦ omega arith ]
-
--- at most one longer reply begins where the first does
-pub longer-few : (W : List (List ℕ)) (before : List ℕ) (last : ℕ) → runs_of W ≡ before ++ last ∷ [] → length before ≤ 1 + length (waits W)
-longer-few W before last e =
-    let few = runs-waits W in
-    let size = ap length e in
-    let sum = length-append before (last ∷ []) in omega arith
-
-further-runs : (W : List (List ℕ)) → AreShort W → sum_by further_of W + 10000 ≤ 10000 * length (runs_of W)
-further-runs [] h = omega arith
-further-runs (P ∷ W) h =
-    let rest = further-runs W h.1 in
+-- all of few frames
+pub further-few : (W : List (List ℕ)) → AreShort W → sum_by further_of W ≤ 10000 * length W
+further-few [] h = omega arith
+further-few (P ∷ W) h =
+    let rest = further-few W h.1 in
     let sum = sum_by-cons further_of P W in
-    let same = length-one_more (runs_of W) in
     let one = h.0 in
-    elim (is_single P) as (λ b. is_single P ≡ b → sum_by further_of (P ∷ W) + 10000 ≤ 10000 * length (if b then one_more (runs_of W) else 0 ∷ runs_of W)) [
-      | true ↦ λ t. let few : frames_of P ≤ 1 = grind (arith, nat_tests) in omega arith
-      | false ↦ λ f. omega arith
-    ] refl
-
-pub further-few : (W : List (List ℕ)) (before : List ℕ) (last : ℕ) → AreShort W → runs_of W ≡ before ++ last ∷ [] → sum_by further_of W ≤ 10000 * length before
-further-few W before last h e =
-    let few = further-runs W h in
-    let size = ap length e in
-    let sum = length-append before (last ∷ []) in omega arith
+    omega arith
 
 last-less : (before : List ℕ) (last : ℕ) → last ≤ (less_first before last).1 + 1
 last-less [] last = omega arith
@@ -204,25 +169,18 @@ last-few (P ∷ W) before last e =
 -- the runs after a reply has come
 pub pushed : (W : List (List ℕ)) (P before before' : List ℕ) (last last' further : ℕ) → further ≡ frames_of P - 1 → 1 ≤ frames_of P → runs_of W ≡ before ++ last ∷ [] →
     (further ≡ 0 → (before' ≡ before) × (last' ≡ last + 1)) → (0 < further → (before' ≡ before ++ last ∷ []) × (last' ≡ 0)) →
-    (runs_of (W ++ P ∷ []) ≡ before' ++ last' ∷ []) × (length before' ≤ 1 + length before)
+    runs_of (W ++ P ∷ []) ≡ before' ++ last' ∷ []
 pushed W P before before' last last' further n some e single longer =
-    elim (is_single P) as (λ b. is_single P ≡ b → (runs_of (W ++ P ∷ []) ≡ before' ++ last' ∷ []) × (length before' ≤ 1 + length before)) [
+    elim (is_single P) as (λ b. is_single P ≡ b → runs_of (W ++ P ∷ []) ≡ before' ++ last' ∷ []) [
       | true ↦ λ t.
           let one : frames_of P ≤ 1 = grind (arith, nat_tests) in
           let q = single (omega arith) in
-          let size = ap length q.0 in
-          (rw (q.0, q.1) (pushed-single W P before last one e), omega arith)
+          rw (q.0, q.1) (pushed-single W P before last one e)
       | false ↦ λ f.
           let long : 1 < frames_of P = grind (arith, nat_tests) in
           let q = longer (omega arith) in
-          let size = ap length q.0 in
-          let sum = length-append before (last ∷ []) in
-          (rw (q.0, q.1) (pushed-long W P before last long e), omega arith)
+          rw (q.0, q.1) (pushed-long W P before last long e)
     ] refl
-
-length-rest : (before : List ℕ) → length (rest_of before) ≤ length before
-length-rest [] = omega arith
-length-rest (n ∷ before) = omega arith
 
 -- where the first reply is of a single frame a run has begun
 pub run-some : (W V : List (List ℕ)) (P before : List ℕ) (last further : ℕ) → W ≡ P ∷ V → further ≡ frames_of P - 1 → 1 ≤ frames_of P → runs_of W ≡ before ++ last ∷ [] → further ≡ 0 → 0 < first_of before last
@@ -233,22 +191,18 @@ run-some W V P before last further same n some e none =
 -- the runs after the first reply has gone
 pub popped : (W V : List (List ℕ)) (P before before' : List ℕ) (last last' further : ℕ) → W ≡ P ∷ V → further ≡ frames_of P - 1 → 1 ≤ frames_of P → runs_of W ≡ before ++ last ∷ [] →
     (further ≡ 0 → (before' ≡ (less_first before last).0) × (last' ≡ (less_first before last).1)) → (0 < further → (before' ≡ rest_of before) × (last' ≡ last)) →
-    (runs_of V ≡ before' ++ last' ∷ []) × (length before' ≤ length before)
+    runs_of V ≡ before' ++ last' ∷ []
 popped W V P before before' last last' further same n some e single longer =
     let all : runs_of (P ∷ V) ≡ before ++ last ∷ [] = sym (ap runs_of same) ∙ e in
-    elim (is_single P) as (λ b. is_single P ≡ b → (runs_of V ≡ before' ++ last' ∷ []) × (length before' ≤ length before)) [
+    elim (is_single P) as (λ b. is_single P ≡ b → runs_of V ≡ before' ++ last' ∷ []) [
       | true ↦ λ t.
           let one : frames_of P ≤ 1 = grind (arith, nat_tests) in
           let q = single (omega arith) in
-          let size = ap length q.0 in
-          let less = length-less before last in
-          (rw (q.0, q.1) (popped-single V P before last one all).0, omega arith)
+          rw (q.0, q.1) (popped-single V P before last one all).0
       | false ↦ λ f.
           let long : 1 < frames_of P = grind (arith, nat_tests) in
           let q = longer (omega arith) in
-          let size = ap length q.0 in
-          let less = length-rest before in
-          (rw (q.0, q.1) (popped-long V P before last long all).0, omega arith)
+          rw (q.0, q.1) (popped-long V P before last long all).0
     ] refl
 
 pub further-append : (W : List (List ℕ)) (P : List ℕ) → sum_by further_of (W ++ P ∷ []) ≡ sum_by further_of W + further_of P

@@ -37,5 +37,5 @@ runs_of (P ∷ W) = if nat_le (frames_of P) 1 then one_more (runs_of W) else 0 �
 
 pub record QueueState : Type 0 where
   pub replies : List (List ℕ)
-  -- the replies for which there is room
+  -- the replies for which there is room: in memory, and up to the most that a queue holds
   pub room : ℕ

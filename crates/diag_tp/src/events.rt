@@ -256,6 +256,7 @@ impl Link {
         ensures reply_room { self.new.reply_room ≡ self.old.reply_room }
         ensures setup { self.new.state.setup ≡ self.old.state.setup }
         ensures now { self.new.state.now ≡ min (self.old.state.now + count) last_tick }
+        ensures later { self.old.state.now ≤ self.new.state.now }
     {
         self.ticks = self.ticks.saturating_add(u64::from(count));
         self.receiver.pass(self.setup.n_cr.get(), count);

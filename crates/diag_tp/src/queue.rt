@@ -134,6 +134,9 @@ impl Runs {
     }
 }
 
+/// How many replies a queue holds at most. Each has fewer than 10000 frames, so that a `u64` counts the frames of all.
+const MOST_WAITING: usize = 1 << 40;
+
 /// Replies that wait, in order.
 #[derive(Drop)]
 pub(crate) struct Queue {
@@ -148,19 +151,20 @@ impl Model for Queue {
     ghost use Rattle.std.specs.VecDeque.{deque_len, deque_capacity};
     ghost use Rattle.diag_tp.specs.Sender.{AreShort, further_of};
     ghost use Rattle.diag_tp.specs.Queue.{QueueState, runs_of};
+    ghost use Rattle.diag_tp.specs.declared.queue.TheConstants.{MOST_WAITING};
 
     ghost Value = { QueueState };
 
     ghost view = { λ a. record {
       replies = a.replies.items;
-      room = min a.runs.room (deque_capacity a.replies - deque_len a.replies);
+      room = min a.runs.room (min (deque_capacity a.replies) MOST_WAITING - deque_len a.replies);
     } };
 
     ghost invariant = { λ a.
         (runs_of a.replies.items ≡ a.runs.before ++ a.runs.last ∷ [])
         × (a.further ≡ sum_by further_of a.replies.items)
         × AreShort a.replies.items
-        × (length a.runs.before ≤ 1000001) };
+        × (length a.replies.items ≤ MOST_WAITING) };
 }
 
 impl Queue {
@@ -175,11 +179,14 @@ impl Queue {
         }
     }
 
-    /// Makes room for one more reply.
+    /// Makes room for one more reply. Refused where memory is, and where the queue is full.
     pub(crate) fn make_room(&mut self) -> Result<(), AllocError>
         ensures ok { OnOk result (0 < self.new.room) }
         ensures same { self.new.replies ≡ self.old.replies }
     {
+        if self.replies.len() >= MOST_WAITING {
+            return Err(AllocError);
+        }
         self.runs.make_room()?;
         self.replies.reserve(1)
     }
@@ -187,7 +194,6 @@ impl Queue {
     /// Adds a reply.
     pub(crate) fn push(&mut self, message: Message)
         requires room { 0 < self.old.room }
-        requires few { length (waits self.old.replies) < 1000000 }
         ensures { self.new.replies ≡ self.old.replies ++ message ∷ [] }
     {
         let further = frames_of(&message) - 1;
@@ -211,7 +217,8 @@ impl Queue {
 
     /// How many replies there are.
     pub(crate) fn len(&self) -> usize
-        ensures { result ≡ length self.now.replies }
+        ensures count { result ≡ length self.now.replies }
+        ensures few { result ≤ MOST_WAITING }
     {
         self.replies.len()
     }
@@ -234,7 +241,7 @@ impl Queue {
     /// How many frames the replies have beside the first of each.
     pub(crate) fn further(&self) -> u64
         ensures count { result ≡ sum_by further_of self.now.replies }
-        ensures few { result ≤ 10000 * 1000001 }
+        ensures few { result ≤ 10000 * MOST_WAITING }
     {
         self.further
     }

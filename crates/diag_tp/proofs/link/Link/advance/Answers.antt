@@ -37,5 +37,7 @@ returns c =
       unsent = let fewer = numbers.frames in omega arith;
       due = numbers.now;
       waiting = numbers.replies;
+      time = now;
+      later = done.later;
       setup = done.setup;
     }

@@ -20,5 +20,6 @@ returns c =
           let reply = done.reply_room in
           room-made c.next_due.new.self event (rw (done.setup, done.room) room.0) (let some = room.1 in omega arith);
       reply_room = λ h. let some = reply-room view h in let reply = done.reply_room in reply-room-made c.next_due.new.self (omega arith);
+      time = done.now;
       setup = done.setup;
     }

@@ -4,9 +4,8 @@ use Rattle.diag_tp.proofs.queue.Queue.further.Goals as goal
 
 pub returns-clause-few : goal.returns-clause-few
 returns-clause-few c =
-    let inside = c.self.inside in
     let held = c.self.invariant in
-    let few = further-few inside.replies.items inside.runs.before inside.runs.last held.2 held.0 in
+    let few = further-few c.self.inside.replies.items held.2 in
     let sum = held.1 in
-    let longer = held.3 in
+    let most = held.3 in
     omega arith

@@ -1,4 +1,4 @@
-use Rattle.std.proofs.Common.{arith, ◌-◌}
+use Rattle.std.proofs.Common.{arith, ◌-◌, ap, length}
 use Rattle.diag_tp.proofs.Runs.{popped, run-some, further-first}
 use Rattle.diag_tp.proofs.Settled.{short-tail}
 use Rattle.diag_tp.proofs.queue.Queue.pop.Goals as goal
@@ -39,6 +39,6 @@ invariant_of-self-2 c =
     let sum = held.1 in
     let all = further-first W V P split in
     let less = c.from.ensures in
-    let longer = held.3 in
-    let fewer = done.1 in
-    (done.0, omega arith, short-tail W V P split held.2, omega arith)
+    let most = held.3 in
+    let fewer = ap length split in
+    (done, omega arith, short-tail W V P split held.2, omega arith)
