@@ -13,7 +13,7 @@ use Rattle.std.specs.Prelude.{Result, Ok, Err, IfOk, IfErr, MatchResult}
 use Rattle.diag_desk.specs.Entry.{Kept, AreEntries, IsJournal, IsEntry}
 use Rattle.diag_desk.specs.Fault.{FaultAt, IsTextOf, one_journal_law}
 use Rattle.diag_desk.specs.PartRead.{HasNoNext, PartRead}
-use Rattle.diag_desk.specs.Text.{ended, entry_line, header, line_after, lines_after, stamped_line, text_of, ticks_in, ticks_of}
+use Rattle.diag_desk.specs.Text.{ended, entry_line, header, journal_text_at, line_after, lines_after, stamped_line, text_of, ticks_in, ticks_of}
 use Rattle.diag_desk.proofs.ClockLemmas.{SmallTicks, small_more, sum_bound, tells_more, ticks_bound}
 use Rattle.diag_desk.proofs.CutText.{Above, Free, above-free, cut-there, one_cut, same_cut}
 use Rattle.diag_desk.proofs.Runs.{take_one}
@@ -81,6 +81,10 @@ lines_more stamped past (x ∷ xs) e =
 pub text_one : (stamped : Bool) (es : List Entry) (e : Entry) → text_of stamped (es ++ e ∷ []) ≡ text_of stamped es ++ ended (line_after stamped es e)
 text_one stamped es e =
     ap (λ x. ended (header stamped) ++ x) (lines_more stamped [] es e) ∙ sym (append_assoc (ended (header stamped)) (lines_after stamped [] es) (ended (line_after stamped es e)))
+
+-- the text of version 2, one entry later
+pub journal_text_at_more : (es : List Entry) (e : Entry) → journal_text_at (es ++ e ∷ []) ≡ journal_text_at es ++ ended (stamped_line true (ticks_of e.who es + ticks_in e.step) (entry_line e))
+journal_text_at_more es e = text_one true es e
 
 -- the text so far, one line later
 pub text_more : (stamped : Bool) (es : List Entry) (e : Entry) (text rest line more : List ℕ) → text ≡ text_of stamped es ++ rest → rest ≡ line ++ 10 ∷ more

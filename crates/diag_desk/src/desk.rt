@@ -72,6 +72,21 @@ impl Desk {
         })
     }
 
+    /// The desk of a run that was made elsewhere: the ECU as it was opened, what the run has made of it, and the journal.
+    pub fn of(opening: Ecu, ecu: Ecu, journal: Journal) -> Desk
+        requires legal { Legal opening journal.entries }
+        requires ecu { ecu ≡ after opening journal.entries }
+        ensures { result ≡ record { opening = opening; journal = journal.entries } }
+    {
+        // (for its contract: what a journal holds)
+        let _entries = journal.len();
+        Desk {
+            opening,
+            ecu,
+            journal,
+        }
+    }
+
     /// The entries so far, which are a legal run from the desk's opening.
     pub fn journal(&self) -> &Journal
         ensures list { result.now.entries ≡ self.now.journal }
@@ -109,13 +124,13 @@ impl Desk {
         if self.journal.push(who, step, reply.as_ref()).is_err() {
             unreachable!();
         }
-        settle(&mut self.ecu, who, step);
+        settle_step(&mut self.ecu, who, step);
         Ok(reply)
     }
 }
 
 /// The reply to a step, none for ticks.
-fn reply_of(ecu: &Ecu, who: Who, step: &Step) -> Result<Option<Message>, AllocError>
+pub fn reply_of(ecu: &Ecu, who: Who, step: &Step) -> Result<Option<Message>, AllocError>
     ensures { IfOk result (λ reply. reply ≡ reply_to ecu.now who step.now) }
 {
     match step {
@@ -128,7 +143,7 @@ fn reply_of(ecu: &Ecu, who: Who, step: &Step) -> Result<Option<Message>, AllocEr
 }
 
 /// Brings the ECU to the state after a step.
-fn settle(ecu: &mut Ecu, who: Who, step: &Step)
+pub fn settle_step(ecu: &mut Ecu, who: Who, step: &Step)
     ensures { ecu.new ≡ after_step ecu.old who step.now }
 {
     match step {

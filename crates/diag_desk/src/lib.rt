@@ -12,11 +12,11 @@ mod read;
 mod replaying;
 mod text;
 
-pub use desk::{Desk, StepFault};
+pub use desk::{Desk, StepFault, reply_of, settle_step};
 pub use diag_tp::Step;
 pub use entry::{Entry, EntryRef, MOST_ENTRIES, StepRef};
 pub use journal::{Journal, JournalPush};
 pub use laws::{prefixes_are_legal, texts_have_one_journal, writes_follow_unlocking};
 pub use read::{JournalFault, read_journal};
 pub use replaying::{ReplayFault, replay};
-pub use text::{journal_text, journal_text_at};
+pub use text::{journal_text, journal_text_at, write_entry_at, write_header_at};

@@ -1,13 +1,15 @@
 //! Writing the text of a journal, in one buffer.
-ghost use Rattle.std.specs.Prelude.{◌≡◌, ◌≤◌, ◌<◌, ◌++◌, OnOk, IfOk, codes, decimal, option_copied};
+ghost use Rattle.std.specs.Prelude.{◌≡◌, ◌≤◌, ◌<◌, ◌++◌, [], true, OnOk, OnErr, IfOk, codes, decimal, option_copied};
 ghost use Rattle.hex.specs.Hex.{encode_upper};
+ghost use Rattle.diag_desk.specs.Entries.{entry};
 ghost use Rattle.diag_desk.specs.Entry.{entry_seen, step_seen};
 ghost use Rattle.diag_desk.specs.Text.{ended, entry_line, header, journal_text, journal_text_at, kind_text, reply_text, stamped_line, step_text, text_of, ticks_in};
 
 use crate::clocks::Clocks;
-use crate::entry::{EntryRef, StepRef};
+use crate::entry::{Entry, EntryRef, StepRef};
 use crate::journal::Journal;
 use diag_can::write_hex;
+use diag_store::Who;
 use std::alloc::{AllocError, Global};
 
 /// The text of version 1: the line `diag-journal 1`, then a line for each entry, each ended by LF.
@@ -26,6 +28,28 @@ pub fn journal_text_at(alloc: Global, journal: &Journal) -> Result<Vec<u8>, Allo
     ensures { IfOk result (λ text. text.items ≡ journal_text_at journal.now.entries) }
 {
     write_all(alloc, journal, true)
+}
+
+/// Appends the header of version 2, as the text of a journal without entries has it.
+///
+/// After an error the bytes that stood there are as before.
+pub fn write_header_at(text: &mut Vec<u8>) -> Result<(), AllocError>
+    ensures ok { OnOk result (text.new.items ≡ text.old.items ++ journal_text_at []) }
+    ensures err { OnErr result (text.new.items ≡ text.old.items) }
+{
+    write_header(text, true)
+}
+
+/// Appends the line of an entry in version 2; `at` is the ticks of its tester up to and with it.
+///
+/// After an error the text may have a front of the line behind what stood there.
+pub fn write_entry_at(text: &mut Vec<u8>, at: u64, entry: &Entry) -> Result<(), AllocError>
+    ensures { OnOk result (text.new.items
+        ≡ text.old.items ++ ended (stamped_line true at (entry_line entry.now))) }
+{
+    let shown = entry.as_ref();
+    write_stamp(text, at)?;
+    write_entry(text, shown.who, &shown.step, shown.reply)
 }
 
 fn write_all(alloc: Global, journal: &Journal, stamped: bool) -> Result<Vec<u8>, AllocError>
@@ -47,7 +71,8 @@ fn write_all(alloc: Global, journal: &Journal, stamped: bool) -> Result<Vec<u8>,
 
 /// Appends the header, with its end.
 fn write_header(text: &mut Vec<u8>, stamped: bool) -> Result<(), AllocError>
-    ensures { OnOk result (text.new.items ≡ text.old.items ++ ended (header stamped)) }
+    ensures ok { OnOk result (text.new.items ≡ text.old.items ++ ended (header stamped)) }
+    ensures err { OnErr result (text.new.items ≡ text.old.items) }
 {
     if stamped {
         text.extend_from_slice(b"diag-journal 2\n")
@@ -78,10 +103,18 @@ fn write_line(
         ++ ended (stamped_line stamped clock (entry_line (entry_seen entry.now)))) }
 {
     if stamped {
-        write_decimal(text, clock)?;
-        text.push(b' ')?;
+        write_stamp(text, clock)?;
     }
-    write_entry(text, entry)
+    write_entry(text, entry.who, &entry.step, entry.reply)
+}
+
+/// Appends a stamp and its space.
+fn write_stamp(text: &mut Vec<u8>, clock: u64) -> Result<(), AllocError>
+    ensures { OnOk result (text.new.items ≡ text.old.items ++ (decimal clock ++ codes " ")) }
+{
+    write_decimal(text, clock)?;
+    text.push(b' ')?;
+    Ok(())
 }
 
 /// Appends a number in decimal.
@@ -93,12 +126,17 @@ fn write_decimal(text: &mut Vec<u8>, number: u64) -> Result<(), AllocError>
 }
 
 /// Appends the line of an entry.
-fn write_entry(text: &mut Vec<u8>, entry: &EntryRef<'_>) -> Result<(), AllocError>
-    ensures { OnOk result
-        (text.new.items ≡ text.old.items ++ ended (entry_line (entry_seen entry.now))) }
+fn write_entry(
+    text: &mut Vec<u8>,
+    who: Who,
+    step: &StepRef<'_>,
+    reply: Option<&[u8]>,
+) -> Result<(), AllocError>
+    ensures { OnOk result (text.new.items ≡ text.old.items
+        ++ ended (entry_line (entry who (step_seen step.now) (option_copied reply.entry)))) }
 {
-    text.push(b'0' + entry.who.place())?;
-    write_step(text, &entry.step, entry.reply)?;
+    text.push(b'0' + who.place())?;
+    write_step(text, step, reply)?;
     text.push(b'\n')?;
     Ok(())
 }
