@@ -8,7 +8,7 @@ use Rattle.diag_tp.specs.declared.step.Step.{Step}
 use Rattle.diag_tp.specs.Gives.{gives, steps, steps_after}
 use Rattle.diag_desk.specs.declared.entry.Entry.{Entry}
 use Rattle.diag_desk.specs.Entries.{entry, asked}
-use Rattle.diag_world.specs.Lane.{entries_of}
+use Rattle.diag_world.specs.Port.{entries_of}
 use Rattle.diag_world.specs.Lane.{LaneState, LaneStands}
 use Rattle.diag_workers.specs.Work.{MoreOf}
 

@@ -1,5 +1,5 @@
 -- From a world to the headline.
-use Rattle.std.proofs.Common.{◌≡◌, ◌<◌, ◌≤◌, ℕ, ◌+◌, Bool, true, false, cond, Option, Some, None, List, [], ◌∷◌, ◌++◌, length, length-append, map, refl, ap, subst, sym, ◌∙◌, arith}
+use Rattle.std.proofs.Common.{◌≡◌, ◌<◌, ◌≤◌, ℕ, ◌+◌, Bool, true, false, cond, Option, Some, None, List, [], ◌∷◌, ◌++◌, length, length-append, refl, ap, subst, sym, ◌∙◌, arith}
 use Rattle.std.proofs.lemmas.List.{length-map}
 use Rattle.std.specs.Prelude.{◌==◌, slice_get, IsSome, Result, Err}
 use Rattle.std.specs.Option.{option_to_list}
@@ -16,15 +16,12 @@ use Rattle.diag_desk.specs.Legal.{Legal}
 use Rattle.diag_setup.specs.Setup.{link_of}
 use Rattle.diag_setup.specs.declared.raw.RawSetup.{RawSetup}
 use Rattle.diag_world.specs.Headline.{IsPlay}
-use Rattle.diag_world.specs.Lane.{LaneState, lane_of}
-use Rattle.diag_world.specs.declared.lane.Lane.{Lane}
 use Rattle.diag_world.specs.Weaving.{items_of, all_by, steps_of, steps_of_after, IsInterleaving, InterleavingLaw}
 use Rattle.diag_world.specs.World.{WorldState, Stands}
 use Rattle.diag_world.proofs.Weaves.{steps_of_after-append}
-use Rattle.diag_world.proofs.Worlds.{map_cases}
 
 -- what a tester asked, of what was asked by each
-asked_own : (J : List Entry) (t : ℕ) → items_of (asked_by J) t ≡ asked (own J t)
+pub asked_own : (J : List Entry) (t : ℕ) → items_of (asked_by J) t ≡ asked (own J t)
 asked_own [] t = refl
 asked_own (k ∷ J) t = pick (k.who == t) (asked_own J t)
   where
@@ -33,24 +30,18 @@ asked_own (k ∷ J) t = pick (k.who == t) (asked_own J t)
     pick false h = h
 
 pub headline : (setup : RawSetup) (w : WorldState) (M : List (ℕ × Event)) (logs : List (List Event)) (sent : List (List Sent))
-    → InterleavingLaw → IsInterleaving M logs → Stands setup w M → Legal w.desk.opening w.desk.journal → length logs ≡ length setup.testers
-    → sent ≡ map (λ (lane : LaneState). lane.sent) w.lanes → IsPlay setup M logs w.desk sent
-headline setup w M logs sent law inter h legal many is = record {
+    → InterleavingLaw → IsInterleaving M logs → Stands setup w M → length logs ≡ length setup.testers
+    → sent ≡ w.sent → IsPlay setup M logs w.desk sent
+headline setup w M logs sent law inter h many is = record {
   opening = h.opening;
-  legal = legal;
+  legal = subst (λ s. Legal s w.desk.journal) (sym h.opening) h.serves.legal;
   interleaving = inter;
-  run = h.run;
-  asks = λ t. sym (asked_own w.desk.journal t) ∙ (ap (λ x. items_of x t) h.run ∙ (law (link_of setup) M t ∙ ap (steps (link_of setup t)) (inter t)));
-  testers = ap length is ∙ (length-map w.lanes (λ (lane : LaneState). lane.sent) ∙ (h.testers ∙ sym many));
+  run = h.serves.run;
+  asks = λ t. sym (asked_own w.desk.journal t) ∙ (ap (λ x. items_of x t) h.serves.run ∙ (law (link_of setup) M t ∙ ap (steps (link_of setup t)) (inter t)));
+  testers = ap length is ∙ (h.testers ∙ sym many);
   frames = λ i frames at.
-      let lane = map_cases (λ (lane : LaneState). lane.sent) w.lanes i frames (subst (λ s. slice_get s i ≡ Some frames) is at) in
-      lane.2 ∙ ((h.lanes i lane.0 lane.1).all_sent ∙ ap (λ E. drawn (link_of setup (i + 1)) E (replies (own w.desk.journal (i + 1)))) (inter (i + 1)));
+      h.frames i frames (subst (λ s. slice_get s i ≡ Some frames) is at) ∙ ap (λ E. drawn (link_of setup (i + 1)) E (replies (own w.desk.journal (i + 1)))) (inter (i + 1));
 }
-
--- the frames of each lane
-pub lanes_sent : (testers : List Lane) → map (λ (lane : LaneState). lane.sent) (map lane_of testers) ≡ map (λ (t : Lane). t.sent.items) testers
-lanes_sent [] = refl
-lanes_sent (t ∷ testers) = ap (λ w. t.sent.items ∷ w) (lanes_sent testers)
 
 -- further events take no step away
 pub steps_grow : (links : ℕ → LinkSetup) (M N : List (ℕ × Event)) → length (steps_of links M) ≤ length (steps_of links (M ++ N))
@@ -70,7 +61,7 @@ too_many setup w M N all t e h full some is =
     let links = link_of setup in
     let by : Entry → ℕ × Step = λ k. (k.who, k.step) in
     let count = length-map w.desk.journal by in
-    omega (arith, ap length h.run, count, full, step_given links M t e (gives (links t) (items_of M t) e) refl some, steps_grow links (M ++ (t, e) ∷ []) N, ap (λ x. length (steps_of links x)) is)
+    omega (arith, ap length h.serves.run, count, full, step_given links M t e (gives (links t) (items_of M t) e) refl some, steps_grow links (M ++ (t, e) ∷ []) N, ap (λ x. length (steps_of links x)) is)
 
 pub same_fault : {X Y : Type 0} (a b : Y) (r : Result X Y) → r ≡ Err a → r ≡ Err b → a ≡ b
 same_fault a b r h k = cc

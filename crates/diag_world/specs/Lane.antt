@@ -1,21 +1,18 @@
 -- One tester's lane: its link, and the frames that it was sent.
-use Rattle.std.specs.Prelude.{◌≡◌, ℕ, ◌+◌, ◌*◌, ◌≤◌, List, ◌∷◌, [], ◌++◌, length, Option, Some, None, IsTrue, IsSome, vec_len, vec_capacity}
-use Rattle.std.specs.Option.{option_to_list}
+use Rattle.std.specs.Prelude.{◌≡◌, ℕ, ◌*◌, ◌≤◌, List, length, Option, IsTrue, IsSome, vec_len, vec_capacity}
 use Rattle.diag_can.specs.declared.frame.Event.{Event}
-use Rattle.diag_can.specs.declared.frame.Event.TheVariants.{Physical, Functional, Ticks}
 use Rattle.diag_tp.specs.declared.setup.LinkSetup.{LinkSetup}
 use Rattle.diag_tp.specs.declared.sent.Sent.{Sent}
 use Rattle.diag_tp.specs.declared.step.Step.{Step}
-use Rattle.diag_tp.specs.Gives.{gives, steps}
+use Rattle.diag_tp.specs.Gives.{steps}
 use Rattle.diag_tp.specs.Moments.{last_time}
 use Rattle.diag_tp.specs.Placing.{placed, drawn}
-use Rattle.diag_tp.specs.Wire.{Placed, wire}
 use Rattle.diag_tp.specs.State.{LinkState}
-use Rattle.diag_tp.specs.Link.{StandsFor, has_room, is_frame, pending, unsent, waiting_count}
+use Rattle.diag_tp.specs.Link.{StandsFor, is_frame, pending, waiting_count}
 use Rattle.diag_desk.specs.declared.entry.Entry.{Entry}
 use Rattle.diag_desk.specs.Entry.{HasNoReply}
-use Rattle.diag_desk.specs.Entries.{asked, asked_by, entry, replies}
-use Rattle.diag_world.specs.Weaving.{all_by}
+use Rattle.diag_desk.specs.Entries.{asked, replies}
+use Rattle.diag_world.specs.Port.{HasRoomFor}
 use Rattle.diag_world.specs.declared.lane.Lane.{Lane}
 
 -- what is seen of a lane: its link, and the frames that were sent. Room that was made is no part of it
@@ -41,16 +38,7 @@ pub record IsReady (lane : LaneState) (entries : ℕ) : Type 0 where
 
 -- room was made for the event: in the link, and for the frames that may fall due
 abbrev pub HasRoom : Lane → Event → Type 0
-HasRoom lane (Ticks n) = vec_len lane.sent + unsent lane.link.state ≤ vec_capacity lane.sent
-HasRoom lane (Physical bytes) = IsTrue (has_room lane.link (Physical bytes))
-    × (vec_len lane.sent + unsent lane.link.state + 2 ≤ vec_capacity lane.sent)
-HasRoom lane (Functional bytes) = IsTrue (has_room lane.link (Functional bytes))
-    × (vec_len lane.sent + unsent lane.link.state + 2 ≤ vec_capacity lane.sent)
-
--- the entry of a step with its reply, where an event gives one
-abbrev pub entries_of : ℕ → Option Step → Option (List ℕ) → List Entry
-entries_of who None reply = []
-entries_of who (Some step) reply = entry who step reply ∷ []
+HasRoom lane e = HasRoomFor lane.link e (vec_len lane.sent) (vec_capacity lane.sent)
 
 -- a step that can have a reply is that of a frame
 abbrev pub RepliesToFrame : Event → Step → Type 0
@@ -66,17 +54,3 @@ pub record LaneStands (s : LinkSetup) (lane : LaneState) (E : List Event) (K : L
   pub asks : asked K ≡ steps s E
   -- each tick count has its entry
   pub time : last_time E ≤ 60000 * length K
-
--- the lane stands for these events and answers, and all frames went out
-pub record SentAll (s : LinkSetup) (lane : LaneState) (E : List Event) (A : List Placed)
-    : Type 0 where
-  pub stands : StandsFor s lane.link E A lane.sent
-  pub all_sent : lane.sent ≡ wire s E A
-
--- what one event of a tester did: it added these entries to the journal, and the lane took it
-pub record Took (s : LinkSetup) (who : ℕ) (E : List Event) (K : List Entry) (e : Event)
-    (lane : LaneState) (before after : List Entry) : Type 0 where
-  pub more : List Entry
-  pub grown : after ≡ before ++ more
-  pub asks : asked_by more ≡ all_by who (option_to_list (gives s E e))
-  pub stands : LaneStands s lane (E ++ e ∷ []) (K ++ more)

@@ -5,7 +5,6 @@ ghost use Rattle.std.specs.Prelude.{
   ◌+◌,
   ◌≤◌,
   ◌<◌,
-  ◌↔◌,
   length,
   List,
   ℕ,
@@ -24,9 +23,10 @@ ghost use Rattle.diag_tp.specs.declared.setup.LinkSetup.{LinkSetup as ALinkSetup
 ghost use Rattle.diag_tp.specs.Gives.{gives};
 ghost use Rattle.diag_tp.specs.Link.{is_frame};
 ghost use Rattle.diag_desk.specs.declared.entry.Entry.{Entry as AnEntry};
-ghost use Rattle.diag_world.specs.Lane.{entries_of};
+ghost use Rattle.diag_world.specs.Port.{entries_of};
 ghost use Rattle.diag_world.specs.Lane.{due, lane_of, waiting, HasRoom, IsReady, LaneStands, RepliesToFrame};
 
+use crate::port::{prepare, settle};
 use diag_can::Event;
 use diag_tp::{Link, LinkSetup, Message, Sent, Step, gives_law, time_law};
 use std::alloc::{AllocError, Global};
@@ -37,8 +37,8 @@ use std::alloc::{AllocError, Global};
 /// that step is taken; `settle` takes the event with the reply, and can't fail. So a refusal leaves the lane as it was.
 #[derive(Drop)]
 pub struct Lane {
-    pub(crate) link: Link,
-    pub(crate) sent: Vec<Sent>,
+    link: Link,
+    sent: Vec<Sent>,
 }
 
 impl Lane {
@@ -67,25 +67,7 @@ impl Lane {
         ensures replies { IfOk result (λ step.
             IfSome step (λ step. RepliesToFrame event.now step)) }
     {
-        gives_law();
-        match event {
-            Event::Ticks(count) => {
-                self.sent.reserve(self.link.backlog() as usize)?;
-                Ok(Some(Step::Ticks(*count)))
-            }
-            Event::Physical(_) | Event::Functional(_) => {
-                self.link.make_room(event)?;
-                let most = self.link.backlog().saturating_add(2) as usize;
-                self.sent.reserve(most)?;
-                match self.link.peek(event)? {
-                    Some(request) => Ok(Some(Step::Request {
-                        functional: request.functional,
-                        message: request.message,
-                    })),
-                    None => Ok(None),
-                }
-            }
-        }
+        prepare(&mut self.link, event, &mut self.sent)
     }
 
     /// Takes an event for which room was made, with the reply to the step that it gives, and sends what is due.
@@ -107,30 +89,7 @@ impl Lane {
     {
         gives_law();
         time_law();
-        match event {
-            Event::Ticks(count) => self.pass(*count),
-            Event::Physical(_) | Event::Functional(_) => self.receive(event, reply),
-        }
-    }
-
-    /// Whether the event gives a step.
-    pub(crate) fn gives_step(&self, event: &Event) -> bool
-        ensures { (s : ALinkSetup) (E : List AnEvent) (K : List AnEntry)
-            → LaneStands s (lane_of self.now) E K
-            → (IsTrue result ↔ IsSome (gives s E event.now)) }
-    {
-        gives_law();
-        match event {
-            Event::Ticks(_) => true,
-            Event::Physical(_) | Event::Functional(_) => self.link.completes(event),
-        }
-    }
-
-    /// The frames that were sent, in order.
-    pub fn sent(&self) -> &[Sent]
-        ensures { result.now ≡ (lane_of self.now).sent }
-    {
-        self.sent.as_slice()
+        settle(&mut self.link, event, reply, &mut self.sent);
     }
 
     /// The frames that were sent, in order.

@@ -37,14 +37,13 @@ pub fn serial(alloc: Global, setup: &Setup, logs: &[Vec<Event>]) -> Result<Playe
         → 1000000
         < length (steps_of (link_of setup.now) (turns (map (λ log. log.items) logs.now))) }
 {
-    let sent = Vec::with_capacity(alloc, setup.testers())?;
     let mut world = World::new(alloc, setup)?;
     for round in 0..longest(logs) {
         take_round(&mut world, setup, logs, round)?;
     }
     interleaving_law();
     turns_law();
-    Ok(world.into_played(sent))
+    Ok(world.into_played())
 }
 
 /// The length of the longest log.
@@ -68,12 +67,12 @@ fn take_round(
     round: usize,
 ) -> Result<(), StepFault>
     requires logs { length logs.now ≡ length setup.now.testers }
-    requires testers { length world.old.lanes ≡ length setup.now.testers }
+    requires testers { length world.old.sent ≡ length setup.now.testers }
     ensures ok { OnOk result ((M : List (ℕ × AnEvent))
         → Stands setup.now world.old M
         → Stands setup.now world.new
         (M ++ first_of_each 1 (map (drop round) (map (λ log. log.items) logs.now)))) }
-    ensures testers { length world.new.lanes ≡ length world.old.lanes }
+    ensures testers { length world.new.sent ≡ length world.old.sent }
     ensures full { result ≡ Err StepFault.JournalFull
         → (M : List (ℕ × AnEvent))
         → Stands setup.now world.old M

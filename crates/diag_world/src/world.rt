@@ -1,54 +1,64 @@
-//! All testers' links and the desk, on one thread.
+//! The server with its journal, and the frames that it sent.
 
 ghost use Rattle.std.specs.Prelude.{
   ◌≡◌,
   ◌≤◌,
-  map,
   ◌∷◌,
   [],
   ◌++◌,
   length,
+  map,
   IfOk,
+  IfSome,
   OnOk,
   OnErr,
   IsSome,
-  vec_capacity,
 };
+ghost use Rattle.std.specs.Option.{option_to_list};
 ghost use Rattle.diag_tp.specs.Gives.{gives};
 ghost use Rattle.diag_tp.specs.Placing.{drawn};
 ghost use Rattle.diag_setup.specs.Setup.{link_of};
-ghost use Rattle.diag_desk.specs.Entries.{own};
-ghost use Rattle.diag_desk.specs.Legal.{Legal};
-ghost use Rattle.diag_desk.specs.Entries.{replies};
+ghost use Rattle.diag_desk.specs.Entries.{own, replies};
+ghost use Rattle.diag_desk.specs.Entry.{HasNoReply, IsJournal};
+ghost use Rattle.diag_desk.specs.Legal.{Legal, after};
+ghost use Rattle.diag_world.specs.Server.{server_of, EachRun};
 ghost use Rattle.diag_world.specs.Weaving.{items_of};
-ghost use Rattle.diag_world.specs.World.{EachInterleaving, Stands};
+ghost use Rattle.diag_world.specs.World.{ArePaced, EachInterleaving, Stands, Took};
 
-use crate::lane::Lane;
+use crate::server::{Server, ServerFault};
 use crate::turn::Played;
 use diag_can::Event;
-use diag_desk::{Desk, StepFault};
+use diag_desk::{Desk, Entry, Journal, JournalPush, StepFault};
+use diag_ecu::Ecu;
 use diag_store::{Setup, Who};
 use diag_tp::Sent;
 use std::alloc::{AllocError, Global};
 use std::marker::Model;
 
-/// All testers' links and the desk.
+/// A server with its journal, the frames that each tester was sent, and a copy of the ECU as it was opened.
 #[derive(Drop)]
 pub struct World {
-    desk: Desk,
-    testers: Vec<Lane>,
+    opening: Ecu,
+    server: Server,
+    journal: Journal,
+    sent: Vec<Vec<Sent>>,
 }
 
 impl Model for World {
-    ghost use Rattle.std.specs.Prelude.{length, map};
-    ghost use Rattle.diag_world.specs.Lane.{lane_of};
-    ghost use Rattle.diag_world.specs.World.{WorldState, AllReady};
+    ghost use Rattle.std.specs.Prelude.{◌≡◌, length, map};
+    ghost use Rattle.diag_world.specs.Server.{server_of};
+    ghost use Rattle.diag_world.specs.World.{WorldState, RunsTo};
 
     ghost Value = { WorldState };
 
-    ghost view = { λ w. record { desk = w.desk; lanes = map lane_of w.testers.items } };
+    ghost view = { λ w. record {
+      desk = record { opening = w.opening; journal = w.journal.entries };
+      server = server_of w.server;
+      sent = map (λ frames. frames.items) w.sent.items;
+    } };
 
-    ghost invariant = { λ w. AllReady w.testers.items (length w.desk.journal) };
+    ghost invariant = { λ w. RunsTo w.opening w.journal.entries (server_of w.server)
+        × (length w.server.links ≡ length w.sent.items) };
 }
 
 impl World {
@@ -56,15 +66,18 @@ impl World {
     pub fn new(alloc: Global, setup: &Setup) -> Result<World, AllocError>
         ensures { IfOk result (λ world. Stands setup.now world []) }
     {
-        let desk = Desk::new(alloc, setup)?;
-        let mut testers = Vec::with_capacity(alloc, setup.testers())?;
-        for index in 0..setup.testers() {
-            let Some(who) = setup.who(index) else {
-                unreachable!()
-            };
-            testers.push_reserved(Lane::new(alloc, setup.link(who)));
+        let server = Server::new(alloc, setup)?;
+        let opening = server.ecu().try_copy()?;
+        let mut sent = Vec::with_capacity(alloc, setup.testers())?;
+        for _index in 0..setup.testers() {
+            sent.push_reserved(Vec::new(alloc));
         }
-        Ok(World { desk, testers })
+        Ok(World {
+            opening,
+            server,
+            journal: Journal::new(alloc),
+            sent,
+        })
     }
 
     /// Takes an event of a tester. Refused, nothing has changed.
@@ -72,10 +85,10 @@ impl World {
     /// JournalFull comes where the event gives a step and the journal is full, which is looked at first; else all
     /// growths come before the step is taken.
     pub fn event(&mut self, who: Who, event: &Event) -> Result<(), StepFault>
-        requires in_setup { who ≤ length self.old.lanes }
+        requires in_setup { who ≤ length self.old.sent }
         ensures ok { OnOk result (EachInterleaving self.old (λ setup M.
             Stands setup self.new (M ++ (who, event.now) ∷ []))) }
-        ensures testers { length self.new.lanes ≡ length self.old.lanes }
+        ensures testers { length self.new.sent ≡ length self.old.sent }
         ensures err { OnErr result (self.new ≡ self.old) }
         ensures full { result ≡ Err StepFault.JournalFull
             → (length self.old.desk.journal ≡ 1000000)
@@ -87,41 +100,110 @@ impl World {
             → result ≡ Err StepFault.JournalFull) }
     {
         let index = usize::from(who.place()) - 1;
-        let tester = &mut self.testers[index];
-        tester.take(&mut self.desk, who, event)
+        let sent = &mut self.sent[index];
+        take(&mut self.server, &mut self.journal, sent, who, event)
     }
 
-    /// The desk.
-    pub fn desk(&self) -> &Desk
-        ensures { result.now ≡ self.now.desk }
+    /// The entries so far, which are a legal run from the opening.
+    pub fn journal(&self) -> &Journal
+        ensures list { result.now.entries ≡ self.now.desk.journal }
+        ensures legal { Legal self.now.desk.opening self.now.desk.journal }
+        ensures journal { IsJournal self.now.desk.journal }
+        ensures limit { length self.now.desk.journal ≤ 1000000 }
     {
-        &self.desk
+        &self.journal
+    }
+
+    /// The ECU as the entries have made it.
+    pub fn ecu(&self) -> &Ecu
+        ensures { result.now ≡ after self.now.desk.opening self.now.desk.journal }
+    {
+        self.server.ecu()
     }
 
     /// The frames that were sent to a tester, in order.
     pub fn sent(&self, who: Who) -> &[Sent]
-        requires in_setup { who ≤ length self.now.lanes }
+        requires in_setup { who ≤ length self.now.sent }
         ensures { EachInterleaving self.now (λ setup M. result.now ≡ drawn
             (link_of setup who) (items_of M who) (replies (own self.now.desk.journal who))) }
     {
         let index = usize::from(who.place()) - 1;
-        self.testers[index].sent()
+        self.sent[index].as_slice()
     }
 
-    /// What the play leaves; the frames go into a list that has room for each tester's.
-    pub(crate) fn into_played(self, mut sent: Vec<Vec<Sent>>) -> Played
-        requires empty { sent.items ≡ [] }
-        requires room { length self.lanes ≤ vec_capacity sent }
+    /// What the play leaves.
+    pub(crate) fn into_played(self) -> Played
         ensures desk { result.desk ≡ self.desk }
-        ensures sent { map (λ s. s.items) result.sent.items ≡ map (λ lane. lane.sent) self.lanes }
-        ensures legal { Legal self.desk.opening self.desk.journal }
+        ensures sent { map (λ s. s.items) result.sent.items ≡ self.sent }
     {
-        let World { desk, testers } = self;
-        // (for its contract: a desk's journal is legal)
-        let _journal = desk.journal();
-        for tester in testers {
-            sent.push_reserved(tester.into_sent());
+        let World {
+            opening,
+            server,
+            journal,
+            sent,
+        } = self;
+        Played {
+            desk: Desk::of(opening, server.into_ecu(), journal),
+            sent,
         }
-        Played { desk, sent }
+    }
+}
+
+/// Takes an event of a tester, whose frames are in the list. Refused, nothing has changed.
+fn take(
+    server: &mut Server,
+    journal: &mut Journal,
+    sent: &mut Vec<Sent>,
+    who: Who,
+    event: &Event,
+) -> Result<(), StepFault>
+    requires in_setup { who ≤ length server.old.links }
+    requires paced { ArePaced (server_of server.old).links (length journal.old.entries) }
+    requires limit { length journal.old.entries ≤ 1000000 }
+    ensures ok { OnOk result (Took (server_of server.old) (server_of server.new) who event.now
+        journal.old.entries journal.new.entries sent.old.items sent.new.items) }
+    ensures kept { IsJournal journal.old.entries → IsJournal journal.new.entries }
+    ensures err { OnErr result ((server_of server.new ≡ server_of server.old)
+        × (journal.new.entries ≡ journal.old.entries)
+        × (sent.new.items ≡ sent.old.items)) }
+    ensures full { result ≡ Err StepFault.JournalFull
+        → (length journal.old.entries ≡ 1000000)
+        × EachRun (server_of server.old) (λ setup M K.
+        IsSome (gives (link_of setup who) (items_of M who) event.now)) }
+    ensures first { length journal.old.entries ≡ 1000000
+        → EachRun (server_of server.old) (λ setup M K.
+        IsSome (gives (link_of setup who) (items_of M who) event.now)
+        → result ≡ Err StepFault.JournalFull) }
+{
+    if journal.is_full() && server.gives_step(who, event) {
+        return Err(StepFault::JournalFull);
+    }
+    let asked = match server.ask(who, event, sent) {
+        Ok(asked) => asked,
+        Err(ServerFault::Memory) => return Err(StepFault::Memory),
+        Err(ServerFault::Clock) => unreachable!(),
+    };
+    enter(journal, &asked)?;
+    server.settle(who, event, asked, sent);
+    Ok(())
+}
+
+/// Adds the entry that an event asks, if any. Refused, the entries are as before.
+fn enter(journal: &mut Journal, asked: &Option<Entry>) -> Result<(), StepFault>
+    requires quiet { IfSome asked.now (λ k. HasNoReply k.step k.reply) }
+    ensures ok { OnOk result
+        (journal.new.entries ≡ journal.old.entries ++ option_to_list asked.now) }
+    ensures kept { IsJournal journal.old.entries → IsJournal journal.new.entries }
+    ensures err { OnErr result (journal.new.entries ≡ journal.old.entries) }
+    ensures full { result ≡ Err StepFault.JournalFull
+        → (length journal.old.entries ≡ 1000000) × IsSome asked.now }
+{
+    let Some(entry) = asked else {
+        return Ok(());
+    };
+    match journal.push(entry.who, &entry.step, entry.reply.as_ref()) {
+        Ok(()) => Ok(()),
+        Err(JournalPush::Full) => Err(StepFault::JournalFull),
+        Err(JournalPush::Memory) => Err(StepFault::Memory),
     }
 }

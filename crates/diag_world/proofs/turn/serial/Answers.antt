@@ -27,7 +27,7 @@ returns-clause-played c =
     let left = c.into_played.ensures in
     let M = turns events in
     subst (λ d. IsPlay c.args.setup.now M events d (map (λ s. s.items) c.into_played.result.sent.items)) (sym left.desk)
-    (headline c.args.setup.now world M events _ c.interleaving_law.ensures (c.turns_law.ensures events) stands left.legal
+    (headline c.args.setup.now world M events _ c.interleaving_law.ensures (c.turns_law.ensures events) stands
     (length-map c.args.logs.now (λ log. log.items) ∙ c.requires)
     left.sent)
 

@@ -31,7 +31,7 @@ loop-index-preserved c =
           let here : slice_get log.items r ≡ Some e = slice_get_read log.items (length log.items) r e refl within w.index.ensures in
           let grown = more ∙ ap (λ x. F ++ x) (round_gives (p + 1) log.items r e here ∙ ap (λ n. (n, e) ∷ []) (sym (who_found c.args.setup.now p w.in-Some.who w.in-Some.ensures))) in
           record {
-            testers = ap (λ x. length x.lanes) w.world-is ∙ (w.in_ok-event.ensures.testers ∙ inv.testers);
+            testers = ap (λ x. length x.sent) w.world-is ∙ (w.in_ok-event.ensures.testers ∙ inv.testers);
             stands = λ M h. subst (λ x. Stands c.args.setup.now x (M ++ first_of_each 1 (take (p + 1) (map (drop r) events)))) (sym w.world-is)
                 (subst (λ x. Stands c.args.setup.now w.event.new.self x) (append_assoc M F ((who, e) ∷ []) ∙ ap (λ x. M ++ x) (sym grown))
                 (w.in_ok-event.ensures.ok c.args.setup.now (M ++ F) (inv.stands M h)));
@@ -40,7 +40,7 @@ loop-index-preserved c =
           let past : length log.items ≤ r = omega (arith, w.if-round-len.false, c.len.ensures, log.ok.0) in
           let same = more ∙ (ap (λ x. F ++ x) (round_ends (p + 1) log.items r past) ∙ append-nil F) in
           record {
-            testers = ap (λ x. length x.lanes) w.world-is ∙ inv.testers;
+            testers = ap (λ x. length x.sent) w.world-is ∙ inv.testers;
             stands = λ M h. subst (λ x. Stands c.args.setup.now x (M ++ first_of_each 1 (take (p + 1) (map (drop r) events)))) (sym w.world-is)
                 (subst (λ x. Stands c.args.setup.now c.loop-index.world x) (ap (λ x. M ++ x) (sym same)) (inv.stands M h));
           })

@@ -1,0 +1,150 @@
+-- How a server goes on with one event more.
+use Rattle.std.proofs.Common.{◌≡◌, ◌≤◌, ℕ, ◌+◌, ◌*◌, false, Option, Some, None, List, [], ◌∷◌, ◌++◌, length, map, refl, ap, ap₂, subst, sym, ◌∙◌, arith, inl, inr}
+use Rattle.std.proofs.lemmas.List.{map-append, append-nil, length-set}
+use Rattle.std.specs.Prelude.{◌==◌, slice_get, slice_set, IfSome, IsSome, IsTrue, Result, Ok, Err, IfOk}
+use Rattle.std.proofs.lemmas.Option.{slice_get-map}
+use Rattle.std.specs.Option.{option_map, option_to_list}
+use Rattle.diag_can.specs.declared.frame.Event.{Event}
+use Rattle.diag_can.specs.declared.frame.Event.TheVariants.{Physical, Functional, Ticks}
+use Rattle.diag_tp.specs.declared.setup.LinkSetup.{LinkSetup}
+use Rattle.diag_tp.specs.declared.sent.Sent.{Sent}
+use Rattle.diag_tp.specs.declared.step.Step.{Step}
+use Rattle.diag_tp.specs.declared.step.Step.TheVariants as step
+use Rattle.diag_tp.specs.Moments.{is_tick, moments, last_moment}
+use Rattle.diag_tp.specs.Wire.{stamped}
+use Rattle.diag_tp.proofs.Lists.{length-zero}
+use Rattle.diag_tp.specs.Gives.{gives}
+use Rattle.diag_tp.specs.Placing.{drawn}
+use Rattle.diag_tp.specs.State.{LinkState, LinkView, due}
+use Rattle.diag_tp.specs.Link.{StandsFor, pending}
+use Rattle.diag_setup.specs.Setup.{link_of}
+use Rattle.diag_setup.specs.declared.raw.RawSetup.{RawSetup}
+use Rattle.diag_ecu.specs.State.{State, opening}
+use Rattle.diag_desk.specs.declared.entry.Entry.{Entry}
+use Rattle.diag_desk.specs.Entry.{HasNoReply}
+use Rattle.diag_desk.specs.Entries.{asked_by, own, replies}
+use Rattle.diag_desk.specs.Legal.{Legal, after, reply_to}
+use Rattle.diag_desk.proofs.Runs.{legal_more, after_more}
+use Rattle.diag_world.specs.Port.{PortStands, entries_of, time_after}
+use Rattle.diag_world.specs.Server.{ServerState, ServerView, server_of, Serves, Served}
+use Rattle.diag_world.specs.Weaving.{items_of, all_by}
+use Rattle.diag_world.proofs.Weaves.{steps_of_after-append}
+use Rattle.diag_world.proofs.Worlds.{set_cases, own-append, own_mine, own_none, items_mine, items_other, other_place}
+
+-- the entry that an event gives, as the list of it
+pub entries_asked : (who : ℕ) (o : Option Step) (asked : Option Entry) (reply : Option (List ℕ)) → option_map (λ k. k.step) asked ≡ o
+    → IfSome asked (λ k. (k.who ≡ who) × (k.reply ≡ reply)) → entries_of who o reply ≡ option_to_list asked
+entries_asked who None None reply h k = refl
+entries_asked who None (Some k) reply h same = absurd (clash h)
+  where
+    clash : Some k.step ≡ None → ⊥
+    clash h = cc
+entries_asked who (Some x) None reply h same = absurd (clash h)
+  where
+    clash : None ≡ Some x → ⊥
+    clash h = cc
+entries_asked who (Some x) (Some k) reply h same =
+    let step : k.step ≡ x = cc in
+    ap₂ (λ (e : Entry) (rest : List Entry). e ∷ rest) (entry_is k who x reply same.0 step same.1) refl
+  where
+    entry_is : (k : Entry) (who : ℕ) (x : Step) (reply : Option (List ℕ)) → k.who ≡ who → k.step ≡ x → k.reply ≡ reply → record { who = who; step = x; reply = reply } ≡ k
+    entry_is k who x reply a b r = sym (ap₂ (λ w s. (let e : Entry = record { who = w; step = s; reply = k.reply } in e)) a b ∙ ap (λ r'. (let e : Entry = record { who = who; step = x; reply = r' } in e)) r)
+
+-- what the entry asks is what the event gives
+pub asked_gives : (who : ℕ) (o : Option Step) (asked : Option Entry) → option_map (λ k. k.step) asked ≡ o → IfSome asked (λ k. k.who ≡ who)
+    → asked_by (option_to_list asked) ≡ all_by who (option_to_list o)
+asked_gives who o None h same = ap (λ x. all_by who (option_to_list x)) h
+asked_gives who o (Some k) h same = ap (λ w. (w, k.step) ∷ []) same ∙ ap (λ x. all_by who (option_to_list x)) h
+
+-- ticks have no reply
+pub no_reply_to : (s : State) (who : ℕ) (x : Step) → HasNoReply x (reply_to s who x)
+no_reply_to s who (step.Request functional message) = tt
+no_reply_to s who (step.Ticks n) = refl
+
+pub legal_asked : (s now : State) (K : List Entry) (asked : Option Entry) → Legal s K → now ≡ after s K → IfSome asked (λ k. k.reply ≡ reply_to now k.who k.step) → Legal s (K ++ option_to_list asked)
+legal_asked s now K None h is same = subst (Legal s) (sym (append-nil K)) h
+legal_asked s now K (Some k) h is same = legal_more s K k h (same ∙ ap (λ x. reply_to x k.who k.step) is)
+
+pub after_asked : (s now : State) (K : List Entry) (asked : Option Entry) → now ≡ after s K → after now (option_to_list asked) ≡ after s (K ++ option_to_list asked)
+after_asked s now K None is = is ∙ ap (after s) (sym (append-nil K))
+after_asked s now K (Some k) is = ap (λ x. after x (k ∷ [])) is ∙ sym (after_more s K k)
+
+-- a server goes on as the link of the tester does
+pub server_takes : (setup : RawSetup) (old new : ServerState) (M : List (ℕ × Event)) (K : List Entry) (who : ℕ) (e : Event) (asked : Option Entry) (i : ℕ) (link' : LinkState) (more : List Sent)
+    → Serves setup old M K → who ≡ i + 1
+    → new.links ≡ slice_set old.links i link' → new.ecu ≡ after old.ecu (option_to_list asked)
+    → option_map (λ k. k.step) asked ≡ gives (link_of setup who) (items_of M who) e
+    → IfSome asked (λ k. k.who ≡ who) → IfSome asked (λ k. k.reply ≡ reply_to old.ecu k.who k.step)
+    → PortStands (link_of setup who) link' (items_of M who ++ e ∷ []) (own K who ++ option_to_list asked)
+    × (drawn (link_of setup who) (items_of M who ++ e ∷ []) (replies (own K who ++ option_to_list asked)) ≡ drawn (link_of setup who) (items_of M who) (replies (own K who)) ++ more)
+    → Served setup new M K who e asked more
+server_takes setup old new M K who e asked i link' more h is links ecu step by reply took =
+    let links_of = link_of setup in
+    let K' = K ++ option_to_list asked in
+    let M' = M ++ (who, e) ∷ [] in
+    let given = asked_gives who (gives (links_of who) (items_of M who) e) asked step by in
+    let xs = option_to_list (gives (links_of who) (items_of M who) e) in
+    let mine : own K' who ≡ own K who ++ option_to_list asked =
+    own-append K (option_to_list asked) who ∙ ap (λ w. own K who ++ w) (own_mine (option_to_list asked) who xs given) in
+    let mine' = items_mine M who e in
+    let here : PortStands (links_of who) link' (items_of M' who) (own K' who) =
+    subst (λ E. PortStands (links_of who) link' E (own K' who)) (sym mine') (subst (λ L. PortStands (links_of who) link' (items_of M who ++ e ∷ []) L) (sym mine) took.0) in
+    let other : (t : ℕ) → (who == t) ≡ false → own K' t ≡ own K t = λ t away.
+    own-append K (option_to_list asked) t ∙ (ap (λ w. own K t ++ w) (own_none (option_to_list asked) who t xs away given) ∙ append-nil (own K t)) in
+    let other' : (t : ℕ) → (who == t) ≡ false → items_of M' t ≡ items_of M t = λ t away. items_other M who t e away in
+    record {
+      serves = record {
+        legal = legal_asked (opening setup) old.ecu K asked h.legal h.ecu reply;
+        ecu = ecu ∙ after_asked (opening setup) old.ecu K asked h.ecu;
+        testers = ap length links ∙ (length-set old.links i link' ∙ h.testers);
+        run = map-append (λ (k : Entry). (k.who, k.step)) K (option_to_list asked)
+            ∙ (ap₂ ◌++◌ h.run (given ∙ sym (append-nil _))
+            ∙ sym (steps_of_after-append links_of [] M ((who, e) ∷ [])));
+        ports = λ j l at. elim (set_cases old.links i j link' l (subst (λ ls. slice_get ls j ≡ Some l) links at)) [
+          | inl p ↦ (
+              let place : who ≡ j + 1 = omega (arith, is, p.0) in
+              subst (λ t. PortStands (links_of t) l (items_of M' t) (own K' t)) place
+              (subst (λ l'. PortStands (links_of who) l' (items_of M' who) (own K' who)) (sym p.1) here))
+          | inr p ↦ (
+              let away = other_place i j who is p.0 in
+              subst (λ E. PortStands (links_of (j + 1)) l E (own K' (j + 1))) (sym (other' (j + 1) away))
+              (subst (λ L. PortStands (links_of (j + 1)) l (items_of M (j + 1)) L) (sym (other (j + 1) away)) (h.ports j l p.1)))
+        ];
+      };
+      grown = ap₂ (λ E L. drawn (links_of who) E (replies L)) mine' mine ∙ took.1;
+      others = λ t away. ap₂ (λ E L. drawn (links_of t) E (replies L)) (other' t away) (other t away);
+    }
+
+-- a link on which nothing has happened
+pub fresh_port : (s : LinkSetup) (link : LinkState) → StandsFor s link [] [] [] → pending link ≡ 0 → PortStands s link [] []
+unfolding pending
+fresh_port s link h none = record { stands = subst (λ (Q : List Sent). StandsFor s link [] [] Q) (nothing_due s link h none) h; asks = refl }
+  where
+    nothing_due : (s : LinkSetup) (link : LinkState) → StandsFor s link [] [] [] → length (due link) ≡ 0 → [] ≡ drawn s [] []
+    nothing_due s link h none = sym (ap (λ (d : List (List ℕ)). map (stamped s (moments []) (last_moment [])) d) (length-zero (due link) none)) ∙ h.out
+
+-- the tester's link, of a server
+pub port_at : (setup : RawSetup) (server : ServerView) (M : List (ℕ × Event)) (K : List Entry) (who i : ℕ) (link : LinkView) → Serves setup (server_of server) M K → who ≡ i + 1
+    → slice_get server.links i ≡ Some link → PortStands (link_of setup who) link.state (items_of M who) (own K who)
+port_at setup server M K who i link h is found =
+    subst (λ t. PortStands (link_of setup t) link.state (items_of M t) (own K t)) (sym is)
+    (h.ports i link.state (slice_get-map (λ (l : LinkView). l.state) server.links i ∙ ap (option_map (λ (l : LinkView). l.state)) found))
+
+-- a clock goes on with an entry alone
+pub paced : (e : Event) (asked : Option Entry) (now next : ℕ) → next ≡ time_after now e → next ≤ now + 60000 → (IsTrue (is_tick e) → IsSome asked) → next ≤ now + 60000 * length (option_to_list asked)
+paced e (Some k) now next time most ticks = omega (arith, most)
+paced (Physical bytes) None now next time most ticks = omega (arith, time)
+paced (Functional bytes) None now next time most ticks = omega (arith, time)
+paced (Ticks n) None now next time most ticks = absurd (clash None refl (ticks refl))
+  where
+    clash : (o : Option Entry) → o ≡ None → IsSome o → ⊥
+    clash None is h = cc
+    clash (Some k) is h = cc
+
+-- what stands at a place that was written
+pub set_here : {X : Type 0} (xs : List X) (i j : ℕ) (v x : X) → j ≡ i → slice_get (slice_set xs i v) j ≡ Some x → x ≡ v
+set_here xs i j v x same at = elim (set_cases xs i j v x at) [ inl p ↦ p.1 | inr p ↦ absurd (p.0 same) ]
+
+pub if_ok : {X Y : Type 0} (P Q : X → Type 0) (r : Result X Y) → ((x : X) → P x → Q x) → IfOk r P → IfOk r Q
+if_ok P Q (Ok x) f h = f x h
+if_ok P Q (Err y) f h = h

@@ -1,5 +1,0 @@
-use Rattle.std.proofs.Common.{sym}
-use Rattle.diag_world.proofs.lane.Lane.prepare.Goals as goal
-
-pub returns-in_ok-reserve-in-Ticks-clause-step : goal.returns-in_ok-reserve-in-Ticks-clause-step
-returns-in_ok-reserve-in-Ticks-clause-step c = λ s E K h. rw c.in-Ticks.is (sym ((c.gives_law.ensures s E).ticks c.in-Ticks.count))

@@ -1,0 +1,53 @@
+use Rattle.std.proofs.Common.{◌≡◌, ◌+◌, [], ◌∷◌, ◌++◌, length, rules, refl, ap, subst, sym, ◌∙◌, arith, inl, inr, length-append}
+use Rattle.std.proofs.lemmas.Grind.{common_steps}
+use Rattle.std.proofs.lemmas.List.{length-map}
+use Rattle.diag_setup.specs.Setup.{link_of}
+use Rattle.diag_tp.specs.State.{LinkView, LinkState}
+use Rattle.diag_tp.specs.Link.{pending}
+use Rattle.diag_world.specs.Port.{PortStands}
+use Rattle.diag_world.proofs.Serving.{fresh_port}
+use Rattle.diag_world.proofs.Worlds.{push_cases, map_cases, who_found}
+use Rattle.diag_world.proofs.server.Server.new.Goals as goal
+
+pub loop-index-preserved : goal.loop-index-preserved
+loop-index-preserved c =
+    let inv = c.loop-index.invariant in
+    let before = c.loop-index.links.items in
+    let one = c.new-in-loop-index.result in
+    let grown : c.push_reserved.new.self.items ≡ before ++ one ∷ [] = search (rules, common_steps) in
+    let fresh = c.new-in-loop-index.ensures in
+    record {
+      count = ap length grown ∙ omega (arith, length-append before (one ∷ []), inv.count);
+      stand = λ i link at. elim (push_cases before i one link (rw grown at at)) [
+        | inl p ↦ (
+            let place : c.in-Some.who ≡ i + 1 = omega (arith, p.0, inv.count, who_found c.args.setup.now c.loop-index.index c.in-Some.who c.in-Some.ensures) in
+            subst (λ (x : LinkView). PortStands (link_of c.args.setup.now (i + 1)) x.state [] []) (sym p.1)
+            (subst (λ s. PortStands s one.state [] []) (c.link.ensures ∙ ap (link_of c.args.setup.now) place) (fresh_port c.link.result one.state fresh.stands fresh.drained)))
+        | inr p ↦ inv.stand i link p
+      ];
+      drained = λ i link at. elim (push_cases before i one link (rw grown at at)) [
+        | inl p ↦ subst (λ (x : LinkView). pending x.state ≡ 0) (sym p.1) fresh.drained
+        | inr p ↦ inv.drained i link p
+      ];
+      room = omega (arith, inv.room, c.push_reserved.ensures.capacity);
+    }
+
+pub push_reserved-requires : goal.push_reserved-requires
+push_reserved-requires c = omega (arith, c.loop-index.invariant.room, c.loop-index.invariant.count, c.testers-index-end.ensures.same)
+
+pub invariant_of-result : goal.invariant_of-result
+invariant_of-result c = c.loop-index.invariant.drained
+
+pub returns : goal.returns
+returns c =
+    let links = c.loop-index.links.items in
+    let state = λ (l : LinkView). l.state in
+    record {
+      legal = tt;
+      ecu = c.in_ok-ecu.ensures;
+      testers = length-map links state ∙ omega (arith, c.loop-index.invariant.count, c.testers-index-end.ensures.same);
+      run = refl;
+      ports = λ i link at.
+          let t = map_cases state links i link at in
+          subst (λ (l : LinkState). PortStands (link_of c.args.setup.now (i + 1)) l [] []) (sym t.2) (c.loop-index.invariant.stand i t.0 t.1);
+    }

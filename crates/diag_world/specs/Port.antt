@@ -1,0 +1,64 @@
+-- One tester's port: its link between two events, where all frames that are due were handed out.
+use Rattle.std.specs.Prelude.{◌≡◌, ℕ, ◌+◌, ◌≤◌, List, ◌∷◌, [], ◌++◌, Option, Some, None, IsTrue, min}
+use Rattle.std.specs.List.{All}
+use Rattle.diag_can.specs.declared.frame.Event.{Event}
+use Rattle.diag_can.specs.declared.frame.Event.TheVariants.{Physical, Functional, Ticks}
+use Rattle.diag_tp.specs.declared.setup.LinkSetup.{LinkSetup}
+use Rattle.diag_tp.specs.declared.sent.Sent.{Sent}
+use Rattle.diag_tp.specs.Gives.{gives, steps}
+use Rattle.diag_tp.specs.Placing.{placed, drawn}
+use Rattle.diag_tp.specs.Wire.{Placed, wire}
+use Rattle.diag_tp.specs.State.{LinkState, LinkView}
+use Rattle.diag_tp.specs.Link.{StandsFor, has_room, last_tick, unsent}
+use Rattle.diag_desk.specs.declared.entry.Entry.{Entry}
+use Rattle.diag_desk.specs.Entries.{asked, entry, replies}
+use Rattle.diag_tp.specs.declared.step.Step.{Step}
+
+-- the entry of a step with its reply, where an event gives one
+abbrev pub entries_of : ℕ → Option Step → Option (List ℕ) → List Entry
+entries_of who None reply = []
+entries_of who (Some step) reply = entry who step reply ∷ []
+
+-- a list has grown by further items, of which P holds
+pub record Grew {X : Type 0} (old new : List X) (P : List X → Type 0) : Type 0 where
+  pub more : List X
+  pub grown : new ≡ old ++ more
+  pub holds : P more
+
+-- room was made for the event: in the link, and for the frames that may fall due in a list of this length and capacity
+abbrev pub HasRoomFor : LinkView → Event → ℕ → ℕ → Type 0
+HasRoomFor link (Ticks n) len capacity = len + unsent link.state ≤ capacity
+HasRoomFor link (Physical bytes) len capacity = IsTrue (has_room link (Physical bytes))
+    × (len + unsent link.state + 2 ≤ capacity)
+HasRoomFor link (Functional bytes) len capacity = IsTrue (has_room link (Functional bytes))
+    × (len + unsent link.state + 2 ≤ capacity)
+
+-- the time that a link tells after an event, where it told this time before
+abbrev pub time_after : ℕ → Event → ℕ
+time_after now (Ticks n) = min (now + n) last_tick
+time_after now (Physical bytes) = now
+time_after now (Functional bytes) = now
+
+-- frames that were sent from one time to another
+abbrev pub AreWithin : ℕ → ℕ → List Sent → Type 0
+AreWithin from to sent = All (λ f. (from ≤ f.at) × (f.at ≤ to)) sent
+
+-- the link stands for these events, answers and frames, and these are all frames of its wire
+pub record HandedOut (s : LinkSetup) (link : LinkState) (E : List Event) (A : List Placed)
+    (Q : List Sent) : Type 0 where
+  pub stands : StandsFor s link E A Q
+  pub all : Q ≡ wire s E A
+
+-- The link took the events E, to which the journal has the entries K: it stands for both, all that they draw was handed
+-- out, and K asks what E gives.
+pub record PortStands (s : LinkSetup) (link : LinkState) (E : List Event) (K : List Entry)
+    : Type 0 where
+  pub stands : StandsFor s link E (placed s E (replies K)) (drawn s E (replies K))
+  pub asks : asked K ≡ steps s E
+
+-- one event more, with the reply to the step that it gives: the link took it, and these frames were handed out
+pub record PortTook (s : LinkSetup) (who : ℕ) (E : List Event) (K : List Entry) (e : Event)
+    (reply : Option (List ℕ)) (link : LinkState) (more : List Sent) : Type 0 where
+  pub stands : PortStands s link (E ++ e ∷ []) (K ++ entries_of who (gives s E e) reply)
+  pub grown : drawn s (E ++ e ∷ []) (replies (K ++ entries_of who (gives s E e) reply))
+      ≡ drawn s E (replies K) ++ more

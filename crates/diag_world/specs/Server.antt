@@ -1,0 +1,124 @@
+-- What a server stands for: an interleaving of the testers' events, and the journal of its run. It keeps neither.
+use Rattle.std.specs.Prelude.{◌≡◌, ◌<◌, ◌≤◌, ◌-◌, ◌^◌, ℕ, ◌+◌, ◌*◌, ◌==◌, false, List, [], ◌∷◌, ◌++◌, length, map, Option, Some, IfSome, IsSome, IsTrue, slice_get, slice_set}
+use Rattle.std.specs.Option.{option_map, option_to_list}
+use Rattle.diag_can.specs.declared.frame.Event.{Event}
+use Rattle.diag_tp.specs.declared.setup.LinkSetup.{LinkSetup}
+use Rattle.diag_tp.specs.declared.sent.Sent.{Sent}
+use Rattle.diag_tp.specs.Gives.{gives}
+use Rattle.diag_tp.specs.Moments.{is_tick}
+use Rattle.diag_tp.specs.Placing.{drawn}
+use Rattle.diag_tp.specs.State.{LinkState, LinkView}
+use Rattle.diag_tp.specs.Link.{EachHistory, is_frame, pending}
+use Rattle.diag_setup.specs.declared.raw.RawSetup.{RawSetup}
+use Rattle.diag_setup.specs.Setup.{link_of}
+use Rattle.diag_ecu.specs.State.{State, opening}
+use Rattle.diag_desk.specs.declared.entry.Entry.{Entry}
+use Rattle.diag_desk.specs.Entries.{asked_by, own, replies}
+use Rattle.diag_desk.specs.Legal.{Legal, after, reply_to}
+use Rattle.diag_world.specs.Port.{AreWithin, HasRoomFor, PortStands, time_after}
+use Rattle.diag_world.specs.Weaving.{items_of, steps_of}
+
+-- what a contract sees of a server: the ECU, and the testers' links in order, with the room that was made in them
+pub record ServerView : Type 0 where
+  pub ecu : State
+  pub links : List LinkView
+
+-- the same but for the room
+pub record ServerState : Type 0 where
+  pub ecu : State
+  pub links : List LinkState
+
+abbrev pub server_of : ServerView → ServerState
+server_of server = record { ecu = server.ecu; links = map (λ link. link.state) server.links }
+
+-- The server took the interleaving M, and K is the journal of its run: a legal run from the opening that asks what M
+-- gives. The ECU is its end, and each link stands for its tester's part of both, with all frames handed out.
+pub record Serves (setup : RawSetup) (server : ServerState) (M : List (ℕ × Event)) (K : List Entry)
+    : Type 0 where
+  pub legal : Legal (opening setup) K
+  pub ecu : server.ecu ≡ after (opening setup) K
+  pub testers : length server.links ≡ length setup.testers
+  pub run : asked_by K ≡ steps_of (link_of setup) M
+  pub ports : (i : ℕ) (link : LinkState) → slice_get server.links i ≡ Some link
+      → PortStands (link_of setup (i + 1)) link (items_of M (i + 1)) (own K (i + 1))
+
+-- the frames that a tester is sent where the journal of M is K
+abbrev pub sent_to : RawSetup → List (ℕ × Event) → List Entry → ℕ → List Sent
+sent_to setup M K t = drawn (link_of setup t) (items_of M t) (replies (own K t))
+
+-- a tester's event more, with its entry where it gives one: the tester is sent these frames more, and no other is
+pub record Served (setup : RawSetup) (server : ServerState) (M : List (ℕ × Event)) (K : List Entry)
+    (who : ℕ) (e : Event) (asked : Option Entry) (more : List Sent) : Type 0 where
+  pub serves : Serves setup server (M ++ (who, e) ∷ []) (K ++ option_to_list asked)
+  pub grown : sent_to setup (M ++ (who, e) ∷ []) (K ++ option_to_list asked) who
+      ≡ sent_to setup M K who ++ more
+  pub others : (t : ℕ) → (who == t) ≡ false
+      → sent_to setup (M ++ (who, e) ∷ []) (K ++ option_to_list asked) t ≡ sent_to setup M K t
+
+-- the last time, in ticks of its link, at which a tester's event is taken
+abbrev pub closing_time : ℕ
+closing_time = 2 ^ 63
+
+-- At this link the tester's event asks this entry, its reply being what the ECU answers; all room for it is made.
+pub record PortAsked (ecu : State) (link : LinkView) (who : ℕ) (e : Event) (asked : Option Entry)
+    (len capacity : ℕ) : Type 0 where
+  pub room : HasRoomFor link e len capacity
+  pub early : link.state.now ≤ closing_time
+  pub ticks : IsTrue (is_tick e) → IsSome asked
+  pub step : EachHistory link.state (λ s E A Q. option_map (λ k. k.step) asked ≡ gives s E e)
+  pub by : IfSome asked (λ k. k.who ≡ who)
+  pub answer : IfSome asked (λ k. k.reply ≡ reply_to ecu k.who k.step)
+  pub framed : IfSome asked (λ k. IsSome k.reply → IsTrue (is_frame e))
+
+-- a link took an event with its entry, by which it moved on in time, and sent these frames
+pub record PortSettled (old new : LinkView) (who : ℕ) (e : Event) (asked : Option Entry)
+    (more : List Sent) : Type 0 where
+  pub time : new.state.now ≡ time_after old.state.now e
+  pub most : new.state.now ≤ old.state.now + 60000
+  pub within : AreWithin old.state.now new.state.now more
+  pub stands : (s : LinkSetup) (E : List Event) (K : List Entry) → PortStands s old.state E K
+      → PortStands s new.state (E ++ e ∷ []) (K ++ option_to_list asked)
+      × (drawn s (E ++ e ∷ []) (replies (K ++ option_to_list asked))
+      ≡ drawn s E (replies K) ++ more)
+
+-- the same at the link of the tester, in a server
+abbrev pub IsAsked : ServerView → ℕ → Event → Option Entry → ℕ → ℕ → Type 0
+IsAsked server who e asked len capacity = (link : LinkView)
+    → slice_get server.links (who - 1) ≡ Some link
+    → PortAsked server.ecu link who e asked len capacity
+
+-- The link at this place took the event, by which it moved on in time, and sent these frames; the others are as before.
+-- A clock goes on by at most 60000 with an entry, and without one not at all: ticks always ask an entry.
+pub record MovedOn (old new : List LinkState) (place : ℕ) (e : Event) (asked : Option Entry)
+    (more : List Sent) : Type 0 where
+  pub before : LinkState
+  pub after : LinkState
+  pub found : slice_get old place ≡ Some before
+  pub set : new ≡ slice_set old place after
+  pub time : after.now ≡ time_after before.now e
+  pub pace : after.now ≤ before.now + 60000 * length (option_to_list asked)
+  pub within : AreWithin before.now after.now more
+
+-- the link at this place has come to its closing time
+pub record IsClosed (links : List LinkState) (place : ℕ) : Type 0 where
+  pub link : LinkState
+  pub found : slice_get links place ≡ Some link
+  pub late : closing_time < link.now
+
+-- no link has a frame that is due
+abbrev pub AllDrained : List LinkView → Type 0
+AllDrained links = (i : ℕ) (link : LinkView) → slice_get links i ≡ Some link → pending link.state ≡ 0
+
+-- P holds of the setup, and of each interleaving and journal that the server stands for
+abbrev pub EachRun : ServerState → (RawSetup → List (ℕ × Event) → List Entry → Type 0) → Type 0
+EachRun server P = (setup : RawSetup) (M : List (ℕ × Event)) (K : List Entry)
+    → Serves setup server M K
+    → P setup M K
+
+-- the server took a tester's event with its entry, whose reply is what the ECU answered, and handed out these frames
+pub record Settled (old new : ServerState) (who : ℕ) (e : Event) (asked : Option Entry)
+    (more : List Sent) : Type 0 where
+  pub answer : IfSome asked (λ k. k.reply ≡ reply_to old.ecu k.who k.step)
+  pub ecu : new.ecu ≡ after old.ecu (option_to_list asked)
+  pub moved : MovedOn old.links new.links (who - 1) e asked more
+  pub served : EachRun old (λ setup M K. Served setup new M K who e asked more)

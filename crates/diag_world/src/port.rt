@@ -1,0 +1,114 @@
+//! One event at a link: what it asks, and then what the reply makes of it.
+
+ghost use Rattle.std.specs.Prelude.{
+  ◌≡◌,
+  ◌+◌,
+  ◌≤◌,
+  ◌<◌,
+  ◌↔◌,
+  ℕ,
+  List,
+  [],
+  ◌∷◌,
+  ◌++◌,
+  OnOk,
+  IfOk,
+  IfSome,
+  IsTrue,
+  IsSome,
+  None,
+  vec_len,
+  vec_capacity,
+};
+ghost use Rattle.diag_can.specs.declared.frame.Event.{Event as AnEvent};
+ghost use Rattle.diag_tp.specs.declared.setup.LinkSetup.{LinkSetup as ALinkSetup};
+ghost use Rattle.diag_tp.specs.Gives.{gives};
+ghost use Rattle.diag_tp.specs.Moments.{is_tick, last_time};
+ghost use Rattle.diag_tp.specs.Link.{EachHistory, is_frame, last_tick, pending, waiting_count};
+ghost use Rattle.diag_desk.specs.declared.entry.Entry.{Entry as AnEntry};
+ghost use Rattle.diag_world.specs.Lane.{RepliesToFrame};
+ghost use Rattle.diag_world.specs.Port.{AreWithin, Grew, HasRoomFor, PortStands, PortTook, time_after};
+
+use crate::passing::{pass, receive};
+use diag_can::Event;
+use diag_tp::{Link, Message, Sent, Step, gives_law, time_law};
+use std::alloc::AllocError;
+
+/// Whether the event gives a step.
+pub(crate) fn gives_step(link: &Link, event: &Event) -> bool
+    ensures { EachHistory link.now.state (λ s E A Q.
+        IsTrue result ↔ IsSome (gives s E event.now)) }
+{
+    gives_law();
+    match event {
+        Event::Ticks(_) => true,
+        Event::Physical(_) | Event::Functional(_) => link.completes(event),
+    }
+}
+
+/// Makes room for the event, and answers the step that it gives. Nothing else changes, whatever the answer.
+pub(crate) fn prepare(
+    link: &mut Link,
+    event: &Event,
+    out: &mut Vec<Sent>,
+) -> Result<Option<Step>, AllocError>
+    requires drained { pending link.old.state ≡ 0 }
+    ensures same { link.new.state ≡ link.old.state }
+    ensures out { out.new.items ≡ out.old.items }
+    ensures room { OnOk result
+        (HasRoomFor link.new event.now (vec_len out.new) (vec_capacity out.new)) }
+    ensures step { IfOk result (λ step. EachHistory link.old.state (λ s E A Q.
+        step ≡ gives s E event.now)) }
+    ensures replies { IfOk result (λ step.
+        IfSome step (λ step. RepliesToFrame event.now step)) }
+    ensures ticks { IfOk result (λ step. IsTrue (is_tick event.now) → IsSome step) }
+{
+    gives_law();
+    match event {
+        Event::Ticks(count) => {
+            out.reserve(link.backlog() as usize)?;
+            Ok(Some(Step::Ticks(*count)))
+        }
+        Event::Physical(_) | Event::Functional(_) => {
+            link.make_room(event)?;
+            let most = link.backlog().saturating_add(2) as usize;
+            out.reserve(most)?;
+            match link.peek(event)? {
+                Some(request) => Ok(Some(Step::Request {
+                    functional: request.functional,
+                    message: request.message,
+                })),
+                None => Ok(None),
+            }
+        }
+    }
+}
+
+/// Takes an event for which room was made, with the reply to the step that it gives, and hands out what is due.
+pub(crate) fn settle(link: &mut Link, event: &Event, reply: Option<Message>, out: &mut Vec<Sent>)
+    requires drained { pending link.old.state ≡ 0 }
+    requires room { HasRoomFor link.old event.now (vec_len out.old) (vec_capacity out.old) }
+    requires frame { IsSome reply → IsTrue (is_frame event.now) }
+    ensures took { Grew out.old.items out.new.items (λ more.
+        AreWithin link.old.state.now link.new.state.now more
+        × ((s : ALinkSetup) (who : ℕ) (E : List AnEvent) (K : List AnEntry)
+        → PortStands s link.old.state E K
+        → last_time (E ++ event.now ∷ []) ≤ last_tick
+        → (gives s E event.now ≡ None → reply ≡ None)
+        → PortTook s who E K event.now reply link.new.state more)) }
+    ensures short { (E : List AnEvent)
+        → last_time (E ++ event.now ∷ []) ≤ last_time E + 60000 }
+    ensures drained { pending link.new.state ≡ 0 }
+    ensures waiting { waiting_count link.new.state ≤ waiting_count link.old.state + 1 }
+    ensures none_waits { reply ≡ None
+        → waiting_count link.new.state ≤ waiting_count link.old.state }
+    ensures time { link.new.state.now ≡ time_after link.old.state.now event.now }
+    ensures most { link.new.state.now ≤ link.old.state.now + 60000 }
+{
+    gives_law();
+    time_law();
+    match event {
+        Event::Ticks(count) => pass(link, *count, out),
+        Event::Physical(_) | Event::Functional(_) => receive(link, event, reply, out),
+    }
+}

@@ -1,0 +1,260 @@
+//! The server as it streams: the ECU and the testers' links, and neither a journal nor the frames that were sent.
+
+ghost use Rattle.std.specs.Prelude.{
+  ◌≡◌,
+  ◌≤◌,
+  ◌<◌,
+  ◌-◌,
+  ◌↔◌,
+  IsTrue,
+  IsSome,
+  [],
+  ◌∷◌,
+  ◌++◌,
+  length,
+  Option,
+  Err,
+  IfOk,
+  IfSome,
+  option_map,
+  OnOk,
+  OnErr,
+  vec_len,
+  vec_capacity,
+  slice_get,
+};
+ghost use Rattle.std.specs.Option.{option_to_list};
+ghost use Rattle.diag_tp.specs.Gives.{gives};
+ghost use Rattle.diag_tp.specs.Link.{pending};
+ghost use Rattle.diag_tp.specs.Moments.{last_time};
+ghost use Rattle.diag_setup.specs.Setup.{link_of};
+ghost use Rattle.diag_desk.specs.declared.entry.Entry.{Entry as AnEntry};
+ghost use Rattle.diag_desk.specs.Legal.{after, reply_to};
+ghost use Rattle.diag_world.specs.Weaving.{items_of};
+ghost use Rattle.diag_world.specs.Port.{Grew};
+ghost use Rattle.diag_world.specs.Server.{closing_time, server_of, EachRun, IsAsked, IsClosed, PortAsked, PortSettled, Serves, Settled};
+
+use crate::port::{gives_step, prepare, settle};
+use diag_can::Event;
+use diag_desk::{Entry, reply_of, settle_step};
+use diag_ecu::Ecu;
+use diag_store::{Setup, Who};
+use diag_tp::{Link, Sent};
+use std::alloc::{AllocError, Global};
+use std::marker::Model;
+use thiserror::Error;
+
+/// Why an event was not taken.
+#[derive(Clone, Copy, PartialEq, Eq, Debug, Drop, Error)]
+pub enum ServerFault {
+    /// Memory was refused, or 2^40 replies wait.
+    #[error("no memory")]
+    Memory,
+    /// The tester's link has come to its closing time.
+    #[error("the clock has run out")]
+    Clock,
+}
+
+impl From<AllocError> for ServerFault {
+    ghost use Rattle.diag_world.specs.declared.server.ServerFault.TheVariants as fault;
+
+    ghost from_gives = { λ e f. f ≡ fault.Memory };
+
+    fn from(_refused: AllocError) -> ServerFault {
+        ServerFault::Memory
+    }
+}
+
+/// The last time of a link, in ticks, at which an event is taken.
+const CLOSING_TIME: u64 = 1 << 63;
+
+/// The ECU and each tester's link.
+///
+/// It keeps no history: its contract is the relation `Serves`, from each interleaving and journal that it stands for to
+/// those with one event more. An event goes through in two halves. `ask` makes all growths and answers the entry that the
+/// event gives; whoever keeps a journal enters it; `settle` takes the event, and can't fail.
+#[derive(Drop)]
+pub struct Server {
+    ecu: Ecu,
+    links: Vec<Link>,
+}
+
+impl Model for Server {
+    ghost use Rattle.diag_world.specs.Server.{ServerView, AllDrained};
+
+    ghost Value = { ServerView };
+
+    ghost view = { λ s. record { ecu = s.ecu; links = s.links.items } };
+
+    ghost invariant = { λ s. AllDrained s.links.items };
+}
+
+impl Server {
+    /// A server to which nothing has happened.
+    pub fn new(alloc: Global, setup: &Setup) -> Result<Server, AllocError>
+        ensures { IfOk result (λ server. Serves setup.now (server_of server) [] []) }
+    {
+        let ecu = Ecu::new(alloc, setup)?;
+        let mut links = Vec::with_capacity(alloc, setup.testers())?;
+        for index in 0..setup.testers() {
+            let Some(who) = setup.who(index) else {
+                unreachable!()
+            };
+            links.push_reserved(Link::new(alloc, setup.link(who)));
+        }
+        Ok(Server { ecu, links })
+    }
+
+    /// Whether an event of a tester gives a step.
+    pub fn gives_step(&self, who: Who, event: &Event) -> bool
+        requires in_setup { who ≤ length self.now.links }
+        ensures { EachRun (server_of self.now) (λ setup M K.
+            IsTrue result ↔ IsSome (gives (link_of setup who) (items_of M who) event.now)) }
+    {
+        let index = usize::from(who.place()) - 1;
+        gives_step(&self.links[index], event)
+    }
+
+    /// Makes room for an event of a tester, and answers the entry that it gives. Nothing else changes.
+    pub fn ask(
+        &mut self,
+        who: Who,
+        event: &Event,
+        out: &mut Vec<Sent>,
+    ) -> Result<Option<Entry>, ServerFault>
+        requires in_setup { who ≤ length self.old.links }
+        ensures same { server_of self.new ≡ server_of self.old }
+        ensures out { out.new.items ≡ out.old.items }
+        ensures asked { IfOk result (λ asked.
+            IsAsked self.new who event.now asked (vec_len out.new) (vec_capacity out.new)) }
+        ensures step { IfOk result (λ asked. EachRun (server_of self.old) (λ setup M K.
+            option_map (λ k. k.step) asked
+            ≡ gives (link_of setup who) (items_of M who) event.now)) }
+        ensures answer { IfOk result (λ asked.
+            IfSome asked (λ k. k.reply ≡ reply_to self.old.ecu k.who k.step)) }
+        ensures clock { result ≡ Err ServerFault.Clock
+            → EachRun (server_of self.old) (λ setup M K.
+            closing_time < last_time (items_of M who)) }
+        ensures closed { result ≡ Err ServerFault.Clock
+            → IsClosed (server_of self.old).links (who - 1) }
+    {
+        let index = usize::from(who.place()) - 1;
+        let link = &mut self.links[index];
+        ask_at(link, &self.ecu, who, event, out)
+    }
+
+    /// Takes an event of a tester with the entry that it gives, and hands out the frames that it draws.
+    pub fn settle(&mut self, who: Who, event: &Event, asked: Option<Entry>, out: &mut Vec<Sent>)
+        requires in_setup { who ≤ length self.old.links }
+        requires asked { IsAsked self.old who event.now asked
+            (vec_len out.old) (vec_capacity out.old) }
+        ensures took { Grew out.old.items out.new.items (λ more.
+            Settled (server_of self.old) (server_of self.new) who event.now asked more) }
+    {
+        let index = usize::from(who.place()) - 1;
+        let link = &mut self.links[index];
+        settle_at(link, &mut self.ecu, who, event, asked, out);
+    }
+
+    /// Takes an event of a tester, and hands out the frames that it draws. Refused, nothing has changed.
+    pub fn event(&mut self, who: Who, event: &Event, out: &mut Vec<Sent>) -> Result<(), ServerFault>
+        requires in_setup { who ≤ length self.old.links }
+        ensures ok { OnOk result ((asked : Option AnEntry)
+            × Grew out.old.items out.new.items (λ more.
+            Settled (server_of self.old) (server_of self.new) who event.now asked more)) }
+        ensures err { OnErr result
+            ((server_of self.new ≡ server_of self.old) × (out.new.items ≡ out.old.items)) }
+        ensures clock { result ≡ Err ServerFault.Clock
+            → EachRun (server_of self.old) (λ setup M K.
+            closing_time < last_time (items_of M who)) }
+        ensures closed { result ≡ Err ServerFault.Clock
+            → IsClosed (server_of self.old).links (who - 1) }
+    {
+        let asked = self.ask(who, event, out)?;
+        self.settle(who, event, asked, out);
+        Ok(())
+    }
+
+    /// What a tester's clock tells, in ticks of its link.
+    pub fn now(&self, who: Who) -> u64
+        requires in_setup { who ≤ length self.now.links }
+        ensures { IfSome (slice_get self.now.links (who - 1)) (λ link. result ≡ link.state.now) }
+    {
+        let index = usize::from(who.place()) - 1;
+        self.links[index].now()
+    }
+
+    /// The ECU as the run has made it.
+    pub fn ecu(&self) -> &Ecu
+        ensures { result.now ≡ self.now.ecu }
+    {
+        &self.ecu
+    }
+
+    /// The ECU as the run has made it.
+    pub fn into_ecu(self) -> Ecu
+        ensures { result ≡ self.ecu }
+    {
+        let Server { ecu, links: _ } = self;
+        ecu
+    }
+}
+
+/// Makes room for an event at a link, and answers the entry that it gives.
+fn ask_at(
+    link: &mut Link,
+    ecu: &Ecu,
+    who: Who,
+    event: &Event,
+    out: &mut Vec<Sent>,
+) -> Result<Option<Entry>, ServerFault>
+    requires drained { pending link.old.state ≡ 0 }
+    ensures same { link.new.state ≡ link.old.state }
+    ensures out { out.new.items ≡ out.old.items }
+    ensures asked { IfOk result (λ asked.
+        PortAsked ecu.now link.new who event.now asked (vec_len out.new) (vec_capacity out.new)) }
+    ensures clock { result ≡ Err ServerFault.Clock → closing_time < link.old.state.now }
+{
+    if link.now() > CLOSING_TIME {
+        return Err(ServerFault::Clock);
+    }
+    match prepare(link, event, out)? {
+        Some(step) => {
+            let reply = reply_of(ecu, who, &step)?;
+            Ok(Some(Entry { who, step, reply }))
+        }
+        None => Ok(None),
+    }
+}
+
+/// Takes an event at a link, with the entry that it gives.
+fn settle_at(
+    link: &mut Link,
+    ecu: &mut Ecu,
+    who: Who,
+    event: &Event,
+    asked: Option<Entry>,
+    out: &mut Vec<Sent>,
+)
+    requires drained { pending link.old.state ≡ 0 }
+    requires asked { PortAsked ecu.old link.old who event.now asked
+        (vec_len out.old) (vec_capacity out.old) }
+    ensures took { Grew out.old.items out.new.items (λ more.
+        PortSettled link.old link.new who event.now asked more) }
+    ensures drained { pending link.new.state ≡ 0 }
+    ensures ecu { ecu.new ≡ after ecu.old (option_to_list asked) }
+{
+    match asked {
+        Some(
+            Entry {
+                who: _,
+                step,
+                reply,
+            },
+        ) => {
+            settle_step(ecu, who, &step);
+            settle(link, event, reply, out);
+        }
+        None => settle(link, event, None, out),
+    }
+}
