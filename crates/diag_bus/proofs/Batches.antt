@@ -1,0 +1,169 @@
+-- How a batch goes on.
+use Rattle.std.proofs.lemmas.Bool.{eq-eqb}
+use Rattle.std.proofs.lemmas.Bool.Decides.{nat_tests}
+use Rattle.std.specs.Prelude.{if◌then◌else◌, ◌/◌, ◌%◌}
+use Rattle.diag_can.specs.Log.{waited}
+use Rattle.diag_can.specs.Bus.{frame_for}
+use Rattle.diag_can.specs.declared.frame.Ids.{Ids}
+use Rattle.diag_can.specs.declared.frame.Event.TheVariants.{Ticks}
+use Rattle.diag_setup.specs.Setup.{ids_of}
+use Rattle.diag_world.specs.Weaving.{all_by}
+use Rattle.std.proofs.Common.{◌≡◌, ◌≤◌, ◌<◌, min, None, Bool, ℕ, ◌+◌, false, zero, suc, Option, Some, List, [], ◌∷◌, ◌++◌, length, map, refl, ap, subst, sym, ◌∙◌, append_assoc, arith, inl, inr}
+use Rattle.std.proofs.lemmas.List.{map-append, append-nil, length-map, length-set}
+use Rattle.std.specs.Prelude.{◌==◌, replicate, slice_get, slice_set, IfSome}
+use Rattle.std.specs.Option.{option_to_list}
+use Rattle.diag_can.specs.declared.frame.Event.{Event}
+use Rattle.diag_tp.specs.declared.sent.Sent.{Sent}
+use Rattle.diag_tp.specs.Moments.{counted_from, last_time}
+use Rattle.diag_setup.specs.declared.raw.RawSetup.{RawSetup}
+use Rattle.diag_desk.specs.declared.entry.Entry.{Entry}
+use Rattle.diag_world.specs.Server.{ServerView, Serves, Settled, closing_time, sent_to, server_of}
+use Rattle.diag_world.proofs.Worlds.{set_cases, other_place}
+use Rattle.std.proofs.lemmas.Grind.{flat_map-append}
+use Rattle.std.specs.List.{flat_map}
+use Rattle.diag_can.specs.declared.frame.Frame.{Frame}
+use Rattle.diag_bus.specs.Batch.{Drew, Gave, SameShape, entered, entry_added, lists_of}
+use Rattle.diag_bus.specs.declared.mid_line.MidLine.{MidLine}
+use Rattle.diag_bus.proofs.Entries.{entered_more}
+use Rattle.diag_desk.specs.Text.{ticks_of}
+use Rattle.diag_tp.specs.State.{LinkView}
+use Rattle.diag_tp.specs.Link.{last_tick}
+use Rattle.diag_world.specs.Weaving.{items_of}
+use Rattle.diag_world.proofs.Serving.{port_at}
+use Rattle.diag_world.proofs.Times.{ticks_served}
+use Rattle.diag_bus.specs.Events.{frame_to, to_each}
+
+-- one event more: the tester's list has grown by the frames, and the others are as they were; the entry was written
+pub drew_more : (setup : RawSetup) (old new : MidLine) (base : ℕ → List Sent) (before : List ℕ) (M : List (ℕ × Event)) (who i now : ℕ) (e : Event) (asked : Option Entry) (frames more : List Sent)
+    → Settled (server_of old.server) (server_of new.server) who e asked more → who ≡ i + 1 → slice_get (lists_of old) i ≡ Some frames
+    → lists_of new ≡ slice_set (lists_of old) i (frames ++ more) → new.output ≡ old.output
+    → new.text.items ≡ old.text.items ++ entry_added old.output now asked
+    → ((K : List Entry) → Serves setup (server_of old.server) M K → IfSome asked (λ k. now ≡ ticks_of k.who K))
+    → Drew setup old base before M → Drew setup new base before (M ++ (who, e) ∷ [])
+drew_more setup old new base before M who i now e asked frames more settled is found lists output text clock h =
+    let served = settled.served setup M h.journal h.serves in
+    let K' = h.journal ++ option_to_list asked in
+    let M' = M ++ (who, e) ∷ [] in
+    record {
+      journal = K';
+      serves = served.serves;
+      lists = sym (length-map new.drawn.items (λ f. f.items)) ∙ (ap length lists ∙ (length-set (lists_of old) i (frames ++ more) ∙ (length-map old.drawn.items (λ f. f.items) ∙ h.lists)));
+      frames = λ j fs at. elim (set_cases (lists_of old) i j (frames ++ more) fs (subst (λ ls. slice_get ls j ≡ Some fs) lists at)) [
+        | inl p ↦ (
+            let place : who ≡ j + 1 = omega (arith, is, p.0) in
+            subst (λ t. sent_to setup M' K' t ≡ base t ++ fs) place
+            (served.grown ∙ (ap (λ w. w ++ more) (subst (λ t. sent_to setup M h.journal t ≡ base t ++ frames) (sym is) (h.frames i frames found))
+            ∙ (append_assoc (base who) frames more ∙ ap (λ w. base who ++ w) (sym p.1)))))
+        | inr p ↦ served.others (j + 1) (other_place i j who is p.0) ∙ h.frames j fs p.1
+      ];
+      text = ap (λ o. entered o K') output
+          ∙ (entered_more old.output h.journal asked now (clock h.journal h.serves)
+          ∙ (ap (λ w. w ++ entry_added old.output now asked) h.text
+          ∙ (append_assoc before old.text.items (entry_added old.output now asked)
+          ∙ ap (λ w. before ++ w) (sym text))));
+    }
+
+-- events and further events
+pub gave_more : (a b c : MidLine) (L M : List (ℕ × Event)) → Gave a b L → Gave b c M → Gave a c (L ++ M)
+gave_more a b c L M h k = λ setup base before N d.
+    subst (λ w. Drew setup c base before w) (append_assoc N L M) (k setup base before (N ++ L) (h setup base before N d))
+
+pub gave_none : (a : MidLine) → Gave a a []
+gave_none a = λ setup base before N d. subst (λ w. Drew setup a base before w) (sym (append-nil N)) d
+
+pub same_more : (a b c : MidLine) → SameShape a b → SameShape b c → SameShape a c
+same_more a b c h k = record { links = k.links ∙ h.links; lists = k.lists ∙ h.lists; output = k.output ∙ h.output }
+
+pub same_none : (a : MidLine) → SameShape a a
+same_none a = record { links = refl; lists = refl; output = refl }
+
+-- counting on
+counted_suc : (a n : ℕ) → counted_from a (suc n) ≡ counted_from a n ++ (a + n) ∷ []
+counted_suc a zero = ap (λ m. m ∷ []) (omega arith)
+counted_suc a (suc n) = ap (λ w. a ∷ w) (counted_suc (suc a) n ∙ ap (λ m. counted_from (suc a) n ++ m ∷ []) (omega arith))
+
+pub counted_more : (a n : ℕ) → counted_from a (n + 1) ≡ counted_from a n ++ (a + n) ∷ []
+counted_more a n = let e : n + 1 ≡ suc n = omega arith in ap (counted_from a) e ∙ counted_suc a n
+
+-- one tester more
+pub each_more : (n : ℕ) (e : Event) (who : ℕ) → who ≡ n + 1 → to_each (n + 1) e ≡ to_each n e ++ (who, e) ∷ []
+each_more n e who is = ap (map (λ t. (t, e))) (counted_more 1 n) ∙ (map-append (λ t. (t, e)) (counted_from 1 n) ((1 + n) ∷ []) ∙ ap (λ t. to_each n e ++ (t, e) ∷ []) (omega (arith, is)))
+
+pub frames_more : (setup : RawSetup) (frame : Option Frame) (n who : ℕ) → who ≡ n + 1
+    → flat_map (frame_to setup frame) (counted_from 1 (n + 1)) ≡ flat_map (frame_to setup frame) (counted_from 1 n) ++ frame_to setup frame who
+frames_more setup frame n who is =
+    ap (flat_map (frame_to setup frame)) (counted_more 1 n)
+    ∙ (flat_map-append (frame_to setup frame) (counted_from 1 n) ((1 + n) ∷ [])
+    ∙ (ap (λ w. flat_map (frame_to setup frame) (counted_from 1 n) ++ w) (append-nil (frame_to setup frame (1 + n)))
+    ∙ ap (λ t. flat_map (frame_to setup frame) (counted_from 1 n) ++ frame_to setup frame t) (omega (arith, is))))
+
+-- a part of 60000 more
+pub parts_more : (n k : ℕ) (e : Event) → flat_map (to_each n) (replicate (k + 1) e) ≡ flat_map (to_each n) (replicate k e) ++ to_each n e
+parts_more n k e =
+    let one : k + 1 ≡ suc k = omega arith in
+    ap (flat_map (to_each n)) (ap (λ m. replicate m e) one ∙ replicate_last k e)
+    ∙ (flat_map-append (to_each n) (replicate k e) (e ∷ []) ∙ ap (λ w. flat_map (to_each n) (replicate k e) ++ w) (append-nil (to_each n e)))
+  where
+    replicate_last : (k : ℕ) (e : Event) → replicate (suc k) e ≡ replicate k e ++ e ∷ []
+    replicate_last zero e = refl
+    replicate_last (suc k) e = ap (λ w. e ∷ w) (replicate_last k e)
+
+pub waited_whole : (ms : ℕ) → ms % 60000 ≡ 0 → waited ms ≡ replicate (ms / 60000) (Ticks 60000)
+waited_whole ms none =
+    ap (λ (b : Bool). replicate (ms / 60000) (Ticks 60000) ++ (if b then [] else Ticks (ms % 60000) ∷ [])) (eq-eqb (ms % 60000) 0 none)
+    ∙ append-nil (replicate (ms / 60000) (Ticks 60000))
+
+pub waited_rest : (ms : ℕ) → 1 ≤ ms % 60000 → waited ms ≡ replicate (ms / 60000) (Ticks 60000) ++ Ticks (ms % 60000) ∷ []
+waited_rest ms some =
+    ap (λ (b : Bool). replicate (ms / 60000) (Ticks 60000) ++ (if b then [] else Ticks (ms % 60000) ∷ [])) (some-eqb (ms % 60000) some)
+  where
+    some-eqb : (n : ℕ) → 1 ≤ n → (n == 0) ≡ false
+    some-eqb n h = grind (arith, nat_tests)
+
+pub rest_more : (n : ℕ) (es : List Event) (e : Event) → flat_map (to_each n) (es ++ e ∷ []) ≡ flat_map (to_each n) es ++ to_each n e
+rest_more n es e = flat_map-append (to_each n) es (e ∷ []) ∙ ap (λ w. flat_map (to_each n) es ++ w) (append-nil (to_each n e))
+
+-- what a frame is to a tester, where it is known
+pub frame_given : (setup : RawSetup) (frame : Frame) (who : ℕ) (ids : Ids) (r o : Option Event) → ids ≡ ids_of setup who → r ≡ frame_for ids (Some frame) → r ≡ o
+    → frame_to setup (Some frame) who ≡ all_by who (option_to_list o)
+frame_given setup frame who ids r o same given is = ap (λ x. all_by who (option_to_list x)) (ap (λ i. frame_for i (Some frame)) (sym same) ∙ (sym given ∙ is))
+
+-- what stands at a place that there is
+pub found_at : {X : Type 0} (xs : List X) (i : ℕ) → i < length xs → (x : X) × (slice_get xs i ≡ Some x)
+found_at [] i h = absurd (omega (arith, h))
+found_at (x ∷ xs) zero h = (x, refl)
+found_at (x ∷ xs) (suc i) h = found_at xs i (omega (arith, h))
+
+some_of : {X : Type 0} (P : X → Type 0) (o : Option X) (x : X) → o ≡ Some x → IfSome o P → P x
+some_of P None x is h = absurd (clash is)
+  where
+    clash : None ≡ Some x → ⊥
+    clash e = cc
+some_of P (Some y) x is h = let same : y ≡ x = cc in subst P same h
+
+-- a link's clock where an event was asked
+pub early_now : (links : List LinkView) (i now : ℕ) → i < length links → IfSome (slice_get links i) (λ link. now ≡ link.state.now)
+    → ((link : LinkView) → slice_get links i ≡ Some link → link.state.now ≤ closing_time) → now ≤ closing_time
+early_now links i now within is early =
+    let at = found_at links i within in
+    let same = some_of (λ (link : LinkView). now ≡ link.state.now) (slice_get links i) at.0 at.1 is in
+    let low = early at.0 at.1 in
+    omega (arith, same, low)
+
+whose : (asked : Option Entry) (who now : ℕ) (K : List Entry) → IfSome asked (λ k. k.who ≡ who) → now ≡ ticks_of who K → IfSome asked (λ k. now ≡ ticks_of k.who K)
+whose None who now K by is = tt
+whose (Some k) who now K by is = is ∙ ap (λ t. ticks_of t K) (sym by)
+
+-- the link's clock tells the ticks that its tester has in the journal
+pub clock_told : (setup : RawSetup) (server : ServerView) (M : List (ℕ × Event)) (K : List Entry) (who i now : ℕ) (asked : Option Entry) → Serves setup (server_of server) M K → who ≡ i + 1 → i < length server.links
+    → IfSome (slice_get server.links i) (λ link. now ≡ link.state.now) → now ≤ closing_time → IfSome asked (λ k. k.who ≡ who) → IfSome asked (λ k. now ≡ ticks_of k.who K)
+clock_told setup server M K who i now asked h is within told early by =
+    let at = found_at server.links i within in
+    let same = some_of (λ (link : LinkView). now ≡ link.state.now) (slice_get server.links i) at.0 at.1 told in
+    let port = port_at setup server M K who i at.0 h is at.1 in
+    let time : at.0.state.now ≡ min (last_time (items_of M who)) last_tick = port.stands.now in
+    let exact : now ≡ last_time (items_of M who) = under now (last_time (items_of M who)) early (same ∙ time) in
+    whose asked who now K by (exact ∙ sym (ticks_served setup (server_of server) M K who h))
+  where
+    under : (now time : ℕ) → now ≤ closing_time → now ≡ min time last_tick → now ≡ time
+    under now time early is = omega (arith, early, is)

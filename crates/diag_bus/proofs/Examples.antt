@@ -1,0 +1,54 @@
+-- Worked examples of the definitions, computed.
+use Rattle.std.proofs.Common.{◌≡◌, ℕ, List, [], ◌∷◌, ◌++◌, codes, refl, Some, Ok, Err}
+use Rattle.hex.proofs.OnLiterals.{hex_on_literals}
+use Rattle.diag_can.specs.declared.fault.LineFault.TheVariants.{BadTick}
+use Rattle.diag_can.specs.declared.frame.Event.{Event}
+use Rattle.diag_bus.specs.declared.fault.BusFault.TheVariants.{Line}
+use Rattle.diag_can.specs.declared.frame.Event.TheVariants.{Physical, Functional, Ticks}
+use Rattle.diag_setup.specs.TwoTesters.{two_testers}
+use Rattle.diag_bus.specs.Events.{bus_events}
+use Rattle.diag_bus.specs.Text.{bus_moment, start_after}
+
+-- ---- the bus's order decides
+
+abbrev pub order : List ℕ
+order =
+    codes "(0000000100.000000) can0 7E0#021003\n"
+    ++ codes "(0000000100.000400) can0 7E8#065003003201F4CC\n"
+    ++ codes "(0000000100.010000) can0 7E1#021003\n"
+    ++ codes "(0000000100.020000) can0 7E0#021001\n"
+    ++ codes "(0000000100.030000) can0 7E1#021003\n"
+
+abbrev enter : Event
+enter = Physical (0x02 ∷ 0x10 ∷ 0x03 ∷ [])
+
+order_events : bus_events order two_testers ≡ Ok (
+    (1, enter)
+    ∷ (1, Ticks 10) ∷ (2, Ticks 10) ∷ (2, enter)
+    ∷ (1, Ticks 10) ∷ (2, Ticks 10) ∷ (1, Physical (0x02 ∷ 0x10 ∷ 0x01 ∷ []))
+    ∷ (1, Ticks 10) ∷ (2, Ticks 10) ∷ (2, enter) ∷ [])
+unfolding hex_on_literals
+order_events = refl
+
+-- ---- a functional frame is each tester's; a stamp that isn't later gives no time; tick lines leave the reference alone
+
+functional_events : bus_events (codes "(100.000000) can0 7DF#023E80\r\ntick 5\n\n(99.000000) x 123#00\n(100.002000) x 18DB33F1#021003") two_testers ≡ Ok (
+    (1, Functional (0x02 ∷ 0x3E ∷ 0x80 ∷ [])) ∷ (2, Functional (0x02 ∷ 0x3E ∷ 0x80 ∷ []))
+    ∷ (1, Ticks 5) ∷ (2, Ticks 5) ∷ (1, Ticks 2) ∷ (2, Ticks 2) ∷ [])
+unfolding hex_on_literals
+functional_events = refl
+
+-- ---- the first fault, by its line
+
+fault : bus_events (codes "(100.000000) can0 7E0#021003\n\ntick 0\nwrong\n") two_testers ≡ Err (3, Line BadTick)
+unfolding hex_on_literals
+fault = refl
+
+-- ---- the bus's time: 7 ticks before the first stamp are no part of it
+
+start : start_after 0 (codes "tick 7" ∷ codes "(100.000000) can0 123#00" ∷ codes "(105.000000) can0 123#00" ∷ []) ≡ Some (record { moment = 100000; before = 7 })
+unfolding hex_on_literals
+start = refl
+
+moment : bus_moment (Some (record { moment = 100000; before = 7 })) 37 ≡ 100030
+moment = refl

@@ -1,0 +1,11 @@
+pub mod Batches
+pub mod Clocks
+pub mod Entries
+pub mod Faults
+pub mod Lines
+pub mod Examples
+pub mod Order
+pub mod Runs
+pub mod Taking
+pub mod TextExamples
+pub mod Texts

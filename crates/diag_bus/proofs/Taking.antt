@@ -1,0 +1,47 @@
+-- A bus takes a line more.
+use Rattle.std.proofs.Common.{◌≡◌, ℕ, ◌+◌, List, [], ◌∷◌, ◌++◌, Some, None, Ok, length, ap, ap₂, subst, sym, ◌∙◌}
+use Rattle.std.specs.Prelude.{slice_get}
+use Rattle.diag_can.specs.Bus.{bus_line}
+use Rattle.diag_can.specs.declared.bus.BusLine.{BusLine}
+use Rattle.diag_tp.specs.declared.sent.Sent.{Sent}
+use Rattle.diag_setup.specs.declared.raw.RawSetup.{RawSetup}
+use Rattle.diag_world.specs.Server.{ServerView, server_of}
+use Rattle.diag_bus.specs.Batch.{BusStands, Gave, GoesOn, SameShape, lists_of, replied}
+use Rattle.diag_bus.specs.Bus.{BusState, TookLines}
+use Rattle.diag_bus.specs.Events.{fault_said, said_gives, span_said}
+use Rattle.diag_bus.specs.Text.{written}
+use Rattle.diag_bus.specs.declared.clock.Clock.{Clock}
+use Rattle.diag_bus.specs.declared.mid_line.MidLine.{MidLine}
+use Rattle.diag_bus.proofs.Faults.{well_more}
+use Rattle.diag_bus.proofs.Lines.{line_taken}
+use Rattle.diag_bus.proofs.Texts.{wrote}
+
+-- what a contract sees of a bus with this line and this clock
+abbrev pub seen : RawSetup → MidLine → Clock → BusState
+seen setup line clock = record { setup = setup; output = line.output; server = server_of line.server; clock = clock }
+
+-- the line begins, what it says is given to the server, and what that drew is written
+pub took_line : (setup : RawSetup) (lines : List (List ℕ)) (line : List ℕ) (said : BusLine) (old begun taken done : MidLine) (clock clock' : Clock)
+    → bus_line line ≡ Ok said → fault_said (bus_line line) (clock.time + span_said clock.reference (bus_line line)) ≡ None → GoesOn clock said clock'
+    → length old.drawn.items ≡ length setup.testers
+    → ((i : ℕ) (frames : List Sent) → slice_get (lists_of begun) i ≡ Some frames → frames ≡ []) → begun.text.items ≡ [] → begun.server ≡ old.server → SameShape old begun
+    → Gave begun taken (said_gives setup clock.reference said) → SameShape begun taken
+    → done.text.items ≡ taken.text.items ++ replied taken.output setup clock'.start (lists_of taken) → done.server ≡ taken.server → SameShape taken done
+    → TookLines (seen setup old clock) lines
+    → TookLines (seen setup done clock') (lines ++ line ∷ [])
+    × (written old.output setup (lines ++ line ∷ []) ≡ written old.output setup lines ++ done.text.items)
+took_line setup lines line said old begun taken done clock clock' is well on lists empty none server first gave second text after third h =
+    let stands : BusStands setup (server_of begun.server) clock lines = subst (λ (s : ServerView). BusStands setup (server_of s) clock lines) (sym server) h.stands in
+    let t = line_taken setup lines line said begun taken clock clock' is stands on (first.lists ∙ lists) empty none gave second.output in
+    let calm = ap₂ (λ time reference. fault_said (bus_line line) (time + span_said reference (bus_line line))) (sym h.stands.time) (sym h.stands.reference) ∙ well in
+    let same : taken.output ≡ old.output = second.output ∙ first.output in (
+      record {
+        well = well_more lines line h.well calm;
+        stands = subst (λ (s : ServerView). BusStands setup (server_of s) clock' (lines ++ line ∷ [])) (sym after) t.0.stands;
+      },
+      ap (λ o. written o setup (lines ++ line ∷ [])) (sym first.output)
+          ∙ (wrote begun.output setup lines line (server_of taken.server) (lists_of taken) clock' taken.text.items t.0 t.1
+          ∙ (ap (λ o. written o setup lines ++ (taken.text.items ++ replied begun.output setup clock'.start (lists_of taken))) first.output
+          ∙ ap (λ w. written old.output setup lines ++ w)
+          (ap (λ o. taken.text.items ++ replied o setup clock'.start (lists_of taken)) (sym second.output) ∙ sym text))),
+    )

@@ -1,0 +1,117 @@
+-- What a line writes, from the testers' lists; and the text of one line more.
+use Rattle.std.proofs.Common.{◌≡◌, ◌≢◌, ◌≤◌, ℕ, zero, suc, ◌+◌, take, Vec, Global, Option, Some, None, List, [], ◌∷◌, ◌++◌, length, map, drop, refl, ap, ap₂, subst, sym, ◌∙◌, append_assoc, arith}
+use Rattle.std.proofs.lemmas.List.{append-nil, length-map, map-append, length-take-le, take_more}
+use Rattle.std.proofs.lemmas.Option.{slice_get_within, get_or_from_slice_get}
+use Rattle.std.specs.List.{All, flat_map}
+use Rattle.std.proofs.lemmas.List.Elements.{All-append}
+use Rattle.diag_bus.specs.declared.writing.Drawn.{Drawn}
+use Rattle.std.specs.Prelude.{slice_get, slice_set}
+use Rattle.diag_can.specs.declared.frame.Event.{Event}
+use Rattle.diag_tp.specs.declared.sent.Sent.{Sent}
+use Rattle.diag_tp.specs.Moments.{counted_from}
+use Rattle.diag_setup.specs.declared.raw.RawSetup.{RawSetup}
+use Rattle.diag_setup.specs.Rows.{in_order}
+use Rattle.diag_world.specs.Server.{ServerState}
+use Rattle.diag_desk.specs.Text.{journal_text_at}
+use Rattle.diag_bus.specs.Batch.{LineTaken, entered, replied, resumed}
+use Rattle.diag_bus.specs.declared.bus.Output.{Output}
+use Rattle.diag_bus.specs.declared.bus.Output.TheVariants.{Replies, Journal, End}
+use Rattle.diag_bus.specs.Events.{events_of}
+use Rattle.diag_bus.specs.Text.{drawn_by, drawn_for, drawn_text, gathered, line_of, line_text, run_of, sent_of, start_after, text_after, text_of, time_of, written}
+use Rattle.diag_bus.specs.declared.clock.Clock.{Clock}
+use Rattle.diag_bus.specs.declared.clock.Start.{Start}
+
+behind : {X : Type 0} (xs ys : List X) → drop (length xs) (xs ++ ys) ≡ ys
+behind [] ys = refl
+behind (x ∷ xs) ys = behind xs ys
+
+-- the testers' lists one behind the other are the frames that the events draw
+gathered_is : (setup : RawSetup) (L M : List (ℕ × Event)) (a : ℕ) (lists : List (List Sent))
+    → ((i : ℕ) (frames : List Sent) → slice_get lists i ≡ Some frames → sent_of setup M (i + a) ≡ sent_of setup L (i + a) ++ frames)
+    → flat_map (drawn_by setup L M) (counted_from a (length lists)) ≡ gathered a lists
+gathered_is setup L M a [] h = refl
+gathered_is setup L M a (frames ∷ lists) h =
+    let next : suc a ≡ a + 1 = omega arith in
+    let none : 0 + a ≡ a = omega arith in
+    let first : sent_of setup M a ≡ sent_of setup L a ++ frames = subst (λ t. sent_of setup M t ≡ sent_of setup L t ++ frames) none (h zero frames refl) in
+    let here : drawn_by setup L M a ≡ map (drawn_for a) frames =
+    ap (λ xs. map (drawn_for a) (drop (length (sent_of setup L a)) xs)) first ∙ ap (map (drawn_for a)) (behind (sent_of setup L a) frames) in
+    ap₂ ◌++◌ here (gathered_is setup L M (suc a) lists (λ i fs at.
+    let same : suc i + a ≡ i + suc a = omega arith in
+    subst (λ t. sent_of setup M t ≡ sent_of setup L t ++ fs) same (h (suc i) fs at)) ∙ ap (λ n. gathered n lists) next)
+
+-- what a line writes is what `write_batch` writes for the lists of the testers, with the clock behind the line
+pub line_writes : (setup : RawSetup) (lines : List (List ℕ)) (line : List ℕ) (server : ServerState) (drawn : List (List Sent)) (clock : Clock) → LineTaken setup lines line server drawn clock
+    → flat_map (line_of setup clock.start) (in_order time_of (gathered 1 drawn)) ≡ line_text setup lines line
+line_writes setup lines line server drawn clock h =
+    let all = gathered_is setup (events_of setup lines) (events_of setup (lines ++ line ∷ [])) 1 drawn h.frames in
+    let counted = ap (λ n. flat_map (drawn_by setup (events_of setup lines) (events_of setup (lines ++ line ∷ []))) (counted_from 1 n)) h.lists in
+    let start : start_after 0 (lines ++ line ∷ []) ≡ clock.start =
+    ap (start_after 0) (sym (append-nil (lines ++ line ∷ []))) ∙ (h.stands.start [] ∙ resumed_none clock.start clock.time) in
+    ap₂ (λ s ds. flat_map (line_of setup s) (in_order time_of ds)) (sym start) (sym all ∙ counted)
+  where
+    resumed_none : (start : Option Start) (before : ℕ) → resumed start before [] ≡ start
+    resumed_none None before = refl
+    resumed_none (Some s) before = refl
+
+push_after : (setup : RawSetup) (past lines : List (List ℕ)) (line : List ℕ) → text_after setup past (lines ++ line ∷ []) ≡ text_after setup past lines ++ line_text setup (past ++ lines) line
+push_after setup past [] line = append-nil (line_text setup past line) ∙ ap (λ p. line_text setup p line) (sym (append-nil past))
+push_after setup past (first ∷ lines) line =
+    let here = line_text setup past first in
+    ap (λ w. here ++ w) (push_after setup (past ++ first ∷ []) lines line
+    ∙ ap (λ p. text_after setup (past ++ first ∷ []) lines ++ line_text setup p line) (append_assoc past (first ∷ []) lines))
+    ∙ sym (append_assoc here (text_after setup (past ++ first ∷ []) lines) (line_text setup (past ++ first ∷ lines) line))
+
+-- the text of one line more
+pub text_push : (setup : RawSetup) (lines : List (List ℕ)) (line : List ℕ) → text_of setup (lines ++ line ∷ []) ≡ text_of setup lines ++ line_text setup lines line
+text_push setup lines line = push_after setup [] lines line
+
+-- what the whole text has more with a line that was taken
+pub wrote : (output : Output) (setup : RawSetup) (lines : List (List ℕ)) (line : List ℕ) (server : ServerState) (drawn : List (List Sent)) (clock : Clock) (T : List ℕ) → LineTaken setup lines line server drawn clock
+    → entered output (run_of setup (events_of setup (lines ++ line ∷ []))) ≡ entered output (run_of setup (events_of setup lines)) ++ T
+    → written output setup (lines ++ line ∷ []) ≡ written output setup lines ++ (T ++ replied output setup clock.start drawn)
+wrote Replies setup lines line server drawn clock T h more =
+    text_push setup lines line
+    ∙ ap (λ w. text_of setup lines ++ w) (sym (line_writes setup lines line server drawn clock h) ∙ ap (λ t. t ++ drawn_text setup clock.start drawn) more)
+wrote Journal setup lines line server drawn clock T h more =
+    more ∙ ap (λ w. journal_text_at (run_of setup (events_of setup lines)) ++ w) (sym (append-nil T))
+wrote End setup lines line server drawn clock T h more = more ∙ sym (append-nil T)
+
+-- one list more
+gathered_more : (n : ℕ) (lists : List (List Sent)) (frames : List Sent) → gathered n (lists ++ frames ∷ []) ≡ gathered n lists ++ map (drawn_for (n + length lists)) frames
+gathered_more n [] frames = append-nil (map (drawn_for n) frames) ∙ (let none : n ≡ n + 0 = omega arith in ap (λ t. map (drawn_for t) frames) none)
+gathered_more n (first ∷ lists) frames =
+    let next : n + 1 + length lists ≡ n + length (first ∷ lists) = omega arith in
+    ap (λ w. map (drawn_for n) first ++ w) (gathered_more (n + 1) lists frames ∙ ap (λ t. gathered (n + 1) lists ++ map (drawn_for t) frames) next)
+    ∙ sym (append_assoc (map (drawn_for n) first) (gathered (n + 1) lists) (map (drawn_for (n + length (first ∷ lists))) frames))
+
+pub gathered_next : (xs : List (Vec Sent Global)) (i who : ℕ) (x : Vec Sent Global) → slice_get xs i ≡ Some x → who ≡ i + 1
+    → gathered 1 (map (λ f. f.items) (take (i + 1) xs)) ≡ gathered 1 (map (λ f. f.items) (take i xs)) ++ map (drawn_for who) x.items
+gathered_next xs i who x at is =
+    let within = slice_get_within xs i x at in
+    let lists = map (λ (f : Vec Sent Global). f.items) (take i xs) in
+    let one : take (i + 1) xs ≡ take i xs ++ x ∷ [] = take_more xs i x within ∙ ap (λ y. take i xs ++ y ∷ []) (get_or_from_slice_get xs i x x at) in
+    let count : 1 + length lists ≡ who = omega (arith, length-map (take i xs) (λ (f : Vec Sent Global). f.items), length-take-le i xs (omega (arith, within)), is) in
+    ap (λ l. gathered 1 (map (λ f. f.items) l)) one
+    ∙ (ap (gathered 1) (map-append (λ (f : Vec Sent Global). f.items) (take i xs) (x ∷ []))
+    ∙ (gathered_more 1 lists x.items ∙ ap (λ t. gathered 1 lists ++ map (drawn_for t) x.items) count))
+
+pub get_set_other : {X : Type 0} (xs : List X) (i k : ℕ) (v : X) → k ≢ i → slice_get (slice_set xs i v) k ≡ slice_get xs k
+get_set_other [] i k v apart = refl
+get_set_other (x ∷ xs) zero zero v apart = absurd (apart refl)
+get_set_other (x ∷ xs) zero (suc k) v apart = refl
+get_set_other (x ∷ xs) (suc i) zero v apart = refl
+get_set_other (x ∷ xs) (suc i) (suc k) v apart = get_set_other xs i k v (λ e. apart (ap suc e))
+
+all_cons : {X : Type 0} (P : X → Type 0) (x : X) (xs : List X) → P x → All P xs → All P (x ∷ xs)
+all_cons P x xs p h zero d less = p
+all_cons P x xs p h (suc k) d less = h k d (omega (arith, less))
+
+all_of : (n a : ℕ) (frames : List Sent) → a ≤ n → All (λ (d : Drawn). d.who ≤ n) (map (drawn_for a) frames)
+all_of n a [] le = λ k d less. absurd (omega (arith, less))
+all_of n a (f ∷ frames) le = all_cons (λ (d : Drawn). d.who ≤ n) (drawn_for a f) (map (drawn_for a) frames) le (all_of n a frames le)
+
+-- the frames are of testers that there are
+pub gathered_within : (n a : ℕ) (lists : List (List Sent)) → a + length lists ≤ n + 1 → All (λ (d : Drawn). d.who ≤ n) (gathered a lists)
+gathered_within n a [] le = λ k d less. absurd (omega (arith, less))
+gathered_within n a (frames ∷ lists) le = All-append (λ (d : Drawn). d.who ≤ n) (map (drawn_for a) frames) (gathered (a + 1) lists) (all_of n a frames (omega (arith, le))) (gathered_within n (a + 1) lists (omega (arith, le)))

@@ -1,0 +1,52 @@
+use Rattle.std.proofs.Common.{◌≡◌, Some, None, ◌++◌, length, ap, subst, sym, ◌∙◌, arith}
+use Rattle.std.proofs.lemmas.List.{append-nil}
+use Rattle.std.specs.List.{flat_map}
+use Rattle.diag_tp.specs.Moments.{counted_from}
+use Rattle.diag_world.proofs.Lanes.{none_of}
+use Rattle.diag_world.proofs.Worlds.{who_found}
+use Rattle.diag_bus.specs.Batch.{Gave}
+use Rattle.diag_bus.specs.Events.{frame_to}
+use Rattle.diag_bus.proofs.Batches.{frame_given, frames_more, gave_none, gave_more, same_more, same_none}
+use Rattle.diag_bus.proofs.mid_line.MidLine.give_frame.Goals.{in-Some-frame_for+in_ok-give, in_default-frame_for}
+use Rattle.diag_bus.proofs.mid_line.MidLine.give_frame.Goals as goal
+
+pub loop-index-init : goal.loop-index-init
+loop-index-init c = record { shape = same_none c.args.self.now; gave = gave_none c.args.self.now }
+
+pub give-requires-clause-in_setup : goal.give-requires-clause-in_setup
+give-requires-clause-in_setup c =
+    let who = who_found c.args.setup.now c.loop-index.index c.in-Some.who c.in-Some.ensures in
+    omega (arith, who, c.loop-index.invariant.shape.links, c.requires.in_setup, c.testers-index-end.ensures.same)
+
+pub give-requires-clause-lists : goal.give-requires-clause-lists
+give-requires-clause-lists c = omega (arith, c.loop-index.invariant.shape.links, c.loop-index.invariant.shape.lists, c.requires.in_setup, c.requires.lists)
+
+pub loop-index-preserved : goal.loop-index-preserved
+loop-index-preserved c =
+    let inv = c.loop-index.invariant in
+    let who = who_found c.args.setup.now c.loop-index.index c.in-Some.who c.in-Some.ensures in
+    let frame = c.args.frame.now in
+    let more = frames_more c.args.setup.now (Some frame) c.loop-index.index c.in-Some.who who in
+    let given = frame_given c.args.setup.now frame c.in-Some.who c.ids.result c.frame_for.result in
+    let L = flat_map (frame_to c.args.setup.now (Some frame)) (counted_from 1 c.loop-index.index) in
+    elim c.match-frame_for.branch [
+      | in-Some-frame_for+in_ok-give w ↦ (
+          let is = given (Some w.in-Some-frame_for.event) c.ids.ensures c.frame_for.ensures w.in-Some-frame_for.is in
+          rw w.self-is (record {
+            shape = same_more c.args.self.now c.loop-index.self w.give.new.self inv.shape w.give.ensures.shape;
+            gave = subst (λ N. Gave c.args.self.now w.give.new.self N) (sym (more ∙ ap (λ x. L ++ x) is))
+                (gave_more c.args.self.now c.loop-index.self w.give.new.self _ _ inv.gave w.in_ok-give.ensures.ok);
+          }))
+      | in_default-frame_for w ↦ (
+          let is = given None c.ids.ensures c.frame_for.ensures (none_of c.frame_for.result w.in_default-frame_for.not-Some) in
+          rw w.self-is (record {
+            shape = inv.shape;
+            gave = subst (λ N. Gave c.args.self.now c.loop-index.self N) (sym (more ∙ (ap (λ x. L ++ x) is ∙ append-nil L))) inv.gave;
+          }))
+    ]
+
+pub returns-clause-ok : goal.returns-clause-ok
+returns-clause-ok c =
+    let ended : c.loop-index.index ≡ length c.args.setup.now.testers = omega (arith, c.testers-index-end.ensures.same) in
+    subst (λ n. Gave c.args.self.now c.loop-index.self (flat_map (frame_to c.args.setup.now (Some c.args.frame.now)) (counted_from 1 n)))
+    ended c.loop-index.invariant.gave

@@ -1,0 +1,31 @@
+use Rattle.std.proofs.Common.{◌≡◌, ◌<◌, ◌++◌, Some, Vec, Global, length, map, take, refl, ap, sym, ◌∙◌, append_assoc, arith}
+use Rattle.std.proofs.lemmas.List.{length-set}
+use Rattle.std.proofs.lemmas.Option.{slice_get_read}
+use Rattle.std.specs.Prelude.{slice_get}
+use Rattle.diag_tp.specs.declared.sent.Sent.{Sent}
+use Rattle.diag_world.proofs.Worlds.{who_found}
+use Rattle.diag_bus.specs.Text.{drawn_for, gathered}
+use Rattle.diag_bus.proofs.Texts.{gathered_next, get_set_other}
+use Rattle.diag_bus.proofs.writing.gather.Goals as goal
+
+pub loop-index-preserved : goal.loop-index-preserved
+loop-index-preserved c =
+    let inv = c.loop-index.invariant in
+    let i = c.loop-index.index in
+    let items = c.loop-index.drawn.items in
+    let old = c.args.drawn.now.items in
+    let who = who_found c.args.setup.now i c.in-Some.who c.in-Some.ensures in
+    let list : Vec Sent Global = c.index_mut.result.now in
+    let within : i < length items = omega (arith, c.loop-index-test.true, inv.lists, c.requires, c.testers-index-end.ensures.same) in
+    let here : slice_get items i ≡ Some list = slice_get_read items (length items) i list refl within c.index_mut.ensures.value in
+    let found : slice_get old i ≡ Some list = sym (inv.left i (omega arith)) ∙ here in
+    let before = gathered 1 (map (λ f. f.items) (take i old)) in
+    record {
+      lists = length-set items i c.replace-frames.new.dest ∙ inv.lists;
+      left = λ k above. get_set_other items i k c.replace-frames.new.dest (λ e. absurd (omega (arith, above, e))) ∙ inv.left k (omega (arith, above));
+      batch = c.in_ok-add_frames.ensures
+          ∙ (ap (λ b. b ++ map (drawn_for c.in-Some.who) c.replace-frames.result.items) inv.batch
+          ∙ (append_assoc c.args.batch.now.items before (map (drawn_for c.in-Some.who) c.replace-frames.result.items)
+          ∙ ap (λ w. c.args.batch.now.items ++ w) (ap (λ (v : Vec Sent Global). before ++ map (drawn_for c.in-Some.who) v.items) c.replace-frames.ensures.value
+          ∙ sym (gathered_next old i c.in-Some.who list found who))));
+    }

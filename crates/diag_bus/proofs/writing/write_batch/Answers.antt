@@ -1,0 +1,13 @@
+use Rattle.std.proofs.Common.{◌≤◌, length, subst, sym}
+use Rattle.std.proofs.lemmas.List.Sorted.{All-permutation}
+use Rattle.std.specs.Prelude.{List}
+use Rattle.std.specs.List.{All}
+use Rattle.diag_bus.specs.declared.writing.Drawn.{Drawn}
+use Rattle.diag_bus.proofs.writing.write_batch.Goals as goal
+
+pub name-requires : goal.name-requires
+name-requires c =
+    let one = c.drawn-item.result in
+    let all = All-permutation (λ (d : Drawn). d.who ≤ length c.args.setup.now.testers) c.args.batch.now.items c.sort_batch.new.batch.items c.in_ok-sort_batch.ensures.same c.requires in
+    let here = subst (λ (ds : List Drawn). All (λ (d : Drawn). d.who ≤ length c.args.setup.now.testers) ds) (sym c.as_slice-drawn-items.ensures.value) all in
+    subst (λ (d : Drawn). d.who ≤ length c.args.setup.now.testers) (sym c.drawn-item.is) (here c.loop-drawn.drawn-index one c.loop-drawn-test.true)

@@ -1,0 +1,107 @@
+-- What the server stands for in the midst of a line, beside what the line has drawn so far; and between two lines.
+use Rattle.std.specs.Prelude.{◌≡◌, ℕ, ◌+◌, true, List, [], ◌∷◌, ◌++◌, length, map, Option, Some, None, Ok, slice_get}
+use Rattle.diag_can.specs.declared.bus.BusLine.{BusLine}
+use Rattle.diag_can.specs.declared.frame.Event.{Event}
+use Rattle.diag_can.specs.Reading.{later}
+use Rattle.diag_tp.specs.declared.sent.Sent.{Sent}
+use Rattle.diag_setup.specs.declared.raw.RawSetup.{RawSetup}
+use Rattle.diag_desk.specs.declared.entry.Entry.{Entry}
+use Rattle.diag_desk.specs.Text.{ended, entry_line, journal_text_at, stamped_line, ticks_in}
+use Rattle.diag_world.specs.Server.{ServerState, Serves, sent_to, server_of}
+use Rattle.diag_bus.specs.Events.{clock_of, events_of, moment_said, reference, span_said}
+use Rattle.diag_bus.specs.Text.{drawn_text, sent_of, start_after, start_said}
+use Rattle.diag_bus.specs.declared.bus.Output.{Output}
+use Rattle.diag_bus.specs.declared.bus.Output.TheVariants.{Replies, Journal, End}
+use Rattle.diag_bus.specs.declared.clock.Clock.{Clock}
+use Rattle.diag_bus.specs.declared.clock.Start.{Start}
+use Rattle.diag_bus.specs.declared.mid_line.MidLine.{MidLine}
+
+-- ---- what is entered
+
+-- the text of the entries, where a journal is wanted
+abbrev pub entered : Output → List Entry → List ℕ
+entered Replies journal = []
+entered Journal journal = journal_text_at journal
+entered End journal = []
+
+-- what an entry adds to it, before which its tester's clock tells this time
+abbrev pub entry_added : Output → ℕ → Option Entry → List ℕ
+entry_added Replies now asked = []
+entry_added Journal now None = []
+entry_added Journal now (Some e) = ended (stamped_line true (now + ticks_in e.step) (entry_line e))
+entry_added End now asked = []
+
+-- the reply lines of what was drawn, where they are wanted
+abbrev pub replied : Output → RawSetup → Option Start → List (List Sent) → List ℕ
+replied Replies setup start lists = drawn_text setup start lists
+replied Journal setup start lists = []
+replied End setup start lists = []
+
+-- ---- in a line
+
+-- the frames of each tester in this line
+abbrev pub lists_of : MidLine → List (List Sent)
+lists_of line = map (λ frames. frames.items) line.drawn.items
+
+-- The server took M. Each tester was sent its frames of the line behind those that it had been sent, and the text of the
+-- line stands behind what had been entered.
+pub record Drew (setup : RawSetup) (line : MidLine) (base : ℕ → List Sent) (before : List ℕ)
+    (M : List (ℕ × Event)) : Type 0 where
+  pub journal : List Entry
+  pub serves : Serves setup (server_of line.server) M journal
+  pub lists : length line.drawn.items ≡ length setup.testers
+  pub frames : (i : ℕ) (frames : List Sent) → slice_get (lists_of line) i ≡ Some frames
+      → sent_to setup M journal (i + 1) ≡ base (i + 1) ++ frames
+  pub text : entered line.output journal ≡ before ++ line.text.items
+
+-- the server was given these events: whatever it stood for, it stands for them behind it
+abbrev pub Gave : MidLine → MidLine → List (ℕ × Event) → Type 0
+Gave old new more = (setup : RawSetup) (base : ℕ → List Sent) (before : List ℕ) (M : List (ℕ × Event))
+    → Drew setup old base before M
+    → Drew setup new base before (M ++ more)
+
+-- as many testers as before, and the same output
+pub record SameShape (old new : MidLine) : Type 0 where
+  pub links : length new.server.links ≡ length old.server.links
+  pub lists : length new.drawn.items ≡ length old.drawn.items
+  pub output : new.output ≡ old.output
+
+-- ---- the clock
+
+-- the start, where it is known, or as further lines have it
+abbrev pub resumed : Option Start → ℕ → List (List ℕ) → Option Start
+resumed (Some start) before next = Some start
+resumed None before next = start_after before next
+
+-- the same where a line that says this stands before them
+abbrev pub resumed_by : Option Start → ℕ → BusLine → List (List ℕ) → Option Start
+resumed_by (Some start) before said next = Some start
+resumed_by None before said next = start_said before (Ok said) (λ sum. start_after sum next)
+
+-- the clock after a line that says this
+pub record GoesOn (old : Clock) (said : BusLine) (new : Clock) : Type 0 where
+  pub reference : new.reference ≡ later old.reference (moment_said (Ok said))
+  pub time : new.time ≡ old.time + span_said old.reference (Ok said)
+  pub start : (next : List (List ℕ)) → resumed_by old.start old.time said next
+      ≡ resumed new.start new.time next
+
+-- ---- between lines
+
+-- the server and the clock took these lines
+pub record BusStands (setup : RawSetup) (server : ServerState) (clock : Clock)
+    (lines : List (List ℕ)) : Type 0 where
+  pub journal : List Entry
+  pub serves : Serves setup server (events_of setup lines) journal
+  pub reference : clock.reference ≡ reference lines
+  pub time : clock.time ≡ clock_of lines
+  pub start : (next : List (List ℕ)) → start_after 0 (lines ++ next)
+      ≡ resumed clock.start clock.time next
+
+-- they took this line after these, and each tester's list has the frames that it draws
+pub record LineTaken (setup : RawSetup) (lines : List (List ℕ)) (line : List ℕ)
+    (server : ServerState) (drawn : List (List Sent)) (clock : Clock) : Type 0 where
+  pub stands : BusStands setup server clock (lines ++ line ∷ [])
+  pub lists : length drawn ≡ length setup.testers
+  pub frames : (i : ℕ) (frames : List Sent) → slice_get drawn i ≡ Some frames
+      → sent_of setup (events_of setup (lines ++ line ∷ [])) (i + 1)
+      ≡ sent_of setup (events_of setup lines) (i + 1) ++ frames

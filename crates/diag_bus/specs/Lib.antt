@@ -1,0 +1,4 @@
+pub mod Batch
+pub mod Bus
+pub mod Events
+pub mod Text

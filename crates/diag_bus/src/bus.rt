@@ -1,0 +1,162 @@
+//! The bus: the server, and what is kept of a capture between two of its lines.
+
+ghost use Rattle.std.specs.Prelude.{◌≡◌, ◌≢◌, ◌∷◌, [], ◌++◌, ℕ, List, length, IfOk, IfSome, OnOk, OnErr, Err};
+ghost use Rattle.diag_world.specs.Port.{Grew};
+ghost use Rattle.diag_bus.specs.Bus.{TookLines};
+ghost use Rattle.diag_bus.specs.Events.{line_fault};
+ghost use Rattle.diag_bus.specs.Text.{ecu_after, written};
+ghost use Rattle.diag_bus.specs.declared.fault.BusFault.{BusFault as ABusFault};
+
+use crate::clock::{Clock, clock_after, next_said};
+use crate::fault::BusFault;
+use crate::mid_line::MidLine;
+use crate::writing::Drawn;
+use diag_desk::write_header_at;
+use diag_ecu::Ecu;
+use diag_setup::Setup;
+use diag_tp::Sent;
+use diag_world::Server;
+use std::alloc::{AllocError, Global};
+use std::marker::Model;
+
+/// What is written while a capture goes by.
+#[derive(Clone, Copy, Debug, PartialEq, Eq)]
+pub enum Output {
+    /// The reply lines that each line draws, in the bus's order.
+    Replies,
+    /// The journal of the run, in version 2 of its text, entry by entry.
+    Journal,
+    /// Nothing: what is wanted is the end.
+    End,
+}
+
+/// The server, and what is kept of a capture between two of its lines: the bus's clock, and room to work in.
+///
+/// It takes a capture line by line, of any length, and keeps neither its lines nor a journal nor the frames that were
+/// sent. Its contract is the relation `TookLines`, to every list of lines that it may have taken.
+#[derive(Drop)]
+pub struct Bus {
+    setup: Setup,
+    line: MidLine,
+    clock: Clock,
+    batch: Vec<Drawn>,
+}
+
+impl Model for Bus {
+    ghost use Rattle.std.specs.Prelude.{◌≡◌, length};
+    ghost use Rattle.diag_world.specs.Server.{server_of};
+    ghost use Rattle.diag_bus.specs.Bus.{BusState};
+
+    ghost Value = { BusState };
+
+    ghost view = { λ b. record {
+      setup = b.setup;
+      output = b.line.output;
+      server = server_of b.line.server;
+      clock = b.clock;
+    } };
+
+    ghost invariant = { λ b. (length b.line.server.links ≡ length b.setup.testers)
+        × (length b.line.drawn.items ≡ length b.setup.testers) };
+}
+
+impl Bus {
+    /// A bus that took no line.
+    pub fn new(alloc: Global, setup: Setup, output: Output) -> Result<Bus, AllocError>
+        ensures took { IfOk result (λ bus. TookLines bus []) }
+        ensures setup { IfOk result (λ bus. bus.setup ≡ setup) }
+        ensures output { IfOk result (λ bus. bus.output ≡ output) }
+    {
+        let server = Server::new(alloc, &setup)?;
+        let drawn = empty_lists(alloc, setup.testers())?;
+        Ok(Bus {
+            line: MidLine {
+                server,
+                output,
+                drawn,
+                text: Vec::new(alloc),
+            },
+            setup,
+            clock: Clock::new(),
+            batch: Vec::new(alloc),
+        })
+    }
+
+    /// Adds what is written before the first line: the header of a journal. Refused, the text is as it was.
+    pub fn begin(&self, text: &mut Vec<u8>) -> Result<(), AllocError>
+        ensures ok { OnOk result
+            (text.new.items ≡ text.old.items ++ written self.now.output self.now.setup []) }
+        ensures err { OnErr result (text.new.items ≡ text.old.items) }
+    {
+        match self.line.output {
+            Output::Journal => write_header_at(text),
+            Output::Replies | Output::End => Ok(()),
+        }
+    }
+
+    /// Takes a line, given without its LF, and adds to the text what it writes.
+    ///
+    /// # Errors
+    /// `Line` and `Late` exactly where the line is at fault, which is looked at before memory is asked for; `Memory`
+    /// where memory is refused, or 2^40 replies wait. Refused, the text is as it was, and the bus can't go on: of what
+    /// it took nothing is said then.
+    pub fn take_line(&mut self, line: &[u8], text: &mut Vec<u8>) -> Result<(), BusFault>
+        ensures took { OnOk result (Grew text.old.items text.new.items (λ more.
+            (lines : List (List ℕ)) → TookLines self.old lines
+            → TookLines self.new (lines ++ line.now ∷ [])
+            × (written self.old.output self.old.setup (lines ++ line.now ∷ [])
+            ≡ written self.old.output self.old.setup lines ++ more))) }
+        ensures fault { (fault : ABusFault) → result ≡ Err fault → fault ≢ BusFault.Memory
+            → (lines : List (List ℕ)) → TookLines self.old lines
+            → line_fault lines line.now ≡ Some fault }
+        ensures first { (lines : List (List ℕ)) → TookLines self.old lines
+            → IfSome (line_fault lines line.now) (λ fault. result ≡ Err fault) }
+        ensures err { OnErr result (text.new.items ≡ text.old.items) }
+        ensures setup { self.new.setup ≡ self.old.setup }
+        ensures output { self.new.output ≡ self.old.output }
+    {
+        let (said, time) = next_said(&self.clock, line)?;
+        self.line.begin();
+        self.line
+            .take_said(&self.setup, self.clock.reference, &said)?;
+        let clock = clock_after(self.clock, &said, time);
+        self.line
+            .write_drawn(&self.setup, clock.start, &mut self.batch)?;
+        text.extend_from_slice(self.line.text.as_slice())?;
+        self.clock = clock;
+        Ok(())
+    }
+
+    /// The setup of the ECU and its testers.
+    pub fn setup(&self) -> &Setup
+        ensures { result.now ≡ self.now.setup }
+    {
+        &self.setup
+    }
+
+    /// What is written while the capture goes by.
+    pub fn output(&self) -> Output
+        ensures { result ≡ self.now.output }
+    {
+        self.line.output
+    }
+
+    /// The ECU as the lines have made it.
+    pub fn ecu(&self) -> &Ecu
+        ensures { (lines : List (List ℕ)) → TookLines self.now lines
+            → result.now ≡ ecu_after self.now.setup lines }
+    {
+        self.line.server.ecu()
+    }
+}
+
+/// So many empty lists.
+fn empty_lists(alloc: Global, count: usize) -> Result<Vec<Vec<Sent>>, AllocError>
+    ensures { IfOk result (λ lists. length lists.items ≡ count) }
+{
+    let mut lists = Vec::new(alloc);
+    for made in 0..count {
+        lists.push(Vec::new(alloc))?;
+    }
+    Ok(lists)
+}

@@ -1,0 +1,124 @@
+//! The clock of a recording.
+
+ghost use Rattle.std.specs.Prelude.{◌≡◌, ◌+◌, ◌≤◌, Some, None, Ok, IfOk, IfErr, IfSome};
+ghost use Rattle.diag_can.specs.Bus.{bus_line};
+ghost use Rattle.diag_world.specs.Server.{closing_time};
+ghost use Rattle.diag_can.specs.Reading.{later};
+ghost use Rattle.diag_bus.specs.Batch.{GoesOn};
+ghost use Rattle.diag_bus.specs.Events.{fault_said, span_said};
+ghost use Rattle.diag_can.specs.Log.{silence};
+ghost use Rattle.diag_can.specs.declared.log.Timing.TheVariants.{Stamps};
+
+use crate::fault::BusFault;
+use diag_can::{BusLine, read_bus_line};
+
+/// Where the bus's time begins.
+#[derive(Clone, Copy, Debug, PartialEq, Eq)]
+pub struct Start {
+    /// The moment of the first stamped line, in milliseconds.
+    pub moment: u64,
+    /// The time that tick lines before it gave.
+    pub before: u64,
+}
+
+/// What is kept of the time of the lines so far.
+#[derive(Clone, Copy, Debug, PartialEq, Eq)]
+pub struct Clock {
+    /// The greatest moment of the stamped lines.
+    pub reference: Option<u64>,
+    /// Where the bus's time begins, once a stamped line came.
+    pub start: Option<Start>,
+    /// What each tester's clock tells: the time that the lines gave.
+    pub time: u64,
+}
+
+impl Clock {
+    /// The clock before the first line.
+    pub(crate) fn new() -> Clock
+        ensures { result ≡ record { reference = None; start = None; time = 0 } }
+    {
+        Clock {
+            reference: None,
+            start: None,
+            time: 0,
+        }
+    }
+}
+
+/// The milliseconds from the reference to a later moment.
+pub(crate) fn silence(reference: Option<u64>, moment: u64) -> u64
+    ensures { result ≡ silence Stamps reference (Some moment) }
+{
+    match reference {
+        Some(reference) => moment.saturating_sub(reference),
+        None => 0,
+    }
+}
+
+/// The milliseconds that a line gives.
+pub(crate) fn span_of(reference: Option<u64>, said: &BusLine) -> u64
+    ensures { result ≡ span_said reference (Ok said.now) }
+{
+    match said {
+        BusLine::Empty => 0,
+        BusLine::Ticks(count) => u64::from(count.get()),
+        BusLine::Stamped { moment, frame: _ } => silence(reference, *moment),
+    }
+}
+
+/// The last time of a tester's clock.
+const CLOSING_TIME: u64 = 1 << 63;
+
+/// What a line says, and what each tester's clock tells behind it; its fault where it has one. Nothing is asked of memory.
+pub(crate) fn next_said(clock: &Clock, line: &[u8]) -> Result<(BusLine, u64), BusFault>
+    ensures said { IfOk result (λ r. bus_line line.now ≡ Ok r.0) }
+    ensures time { IfOk result (λ r. r.1 ≡ clock.now.time + span_said clock.now.reference (Ok r.0)) }
+    ensures early { IfOk result (λ r. r.1 ≤ closing_time) }
+    ensures well { IfOk result (λ r. fault_said (bus_line line.now)
+        (clock.now.time + span_said clock.now.reference (bus_line line.now)) ≡ None) }
+    ensures fault { IfErr result (λ fault. fault_said (bus_line line.now)
+        (clock.now.time + span_said clock.now.reference (bus_line line.now)) ≡ Some fault) }
+{
+    let said = match read_bus_line(line) {
+        Ok(said) => said,
+        Err(fault) => return Err(BusFault::Line(fault)),
+    };
+    match clock.time.checked_add(span_of(clock.reference, &said)) {
+        Some(time) if time <= CLOSING_TIME => Ok((said, time)),
+        _ => Err(BusFault::Late),
+    }
+}
+
+/// The greater of two moments, where there is a first.
+fn later(reference: Option<u64>, moment: u64) -> Option<u64>
+    ensures { result ≡ later reference (Some moment) }
+{
+    match reference {
+        Some(reference) => Some(reference.max(moment)),
+        None => Some(moment),
+    }
+}
+
+/// The clock behind a line, by which each tester's clock tells this time.
+pub(crate) fn clock_after(clock: Clock, said: &BusLine, time: u64) -> Clock
+    requires { time ≡ clock.time + span_said clock.reference (Ok said.now) }
+    ensures { GoesOn clock said.now result }
+{
+    match said {
+        BusLine::Empty | BusLine::Ticks(_) => Clock {
+            reference: clock.reference,
+            start: clock.start,
+            time,
+        },
+        BusLine::Stamped { moment, frame: _ } => Clock {
+            reference: later(clock.reference, *moment),
+            start: Some(
+                clock.start.unwrap_or(Start {
+                    moment: *moment,
+                    before: clock.time,
+                }),
+            ),
+            time,
+        },
+    }
+}

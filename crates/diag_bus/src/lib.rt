@@ -1,0 +1,16 @@
+//! The recording of a whole bus, line by line: what each line gives the server, and what it draws.
+#![tactic(auto)]
+
+mod bus;
+mod clock;
+mod entering;
+mod fault;
+mod laws;
+mod mid_line;
+mod writing;
+
+pub use bus::{Bus, Output};
+pub use clock::{Clock, Start};
+pub use fault::BusFault;
+pub use laws::{clocks_law, run_law};
+pub use writing::Drawn;

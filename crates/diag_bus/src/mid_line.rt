@@ -1,0 +1,192 @@
+//! A line of a capture, given to the server: its time to every tester, and its frame to those it is for.
+
+ghost use Rattle.std.specs.Prelude.{◌≡◌, ◌≤◌, ℕ, List, [], ◌∷◌, ◌++◌, Some, length, map, slice_get, OnOk};
+ghost use Rattle.std.specs.List.{flat_map};
+ghost use Rattle.diag_can.specs.Bus.{frame_for};
+ghost use Rattle.diag_can.specs.Log.{waited};
+ghost use Rattle.diag_tp.specs.Moments.{counted_from};
+ghost use Rattle.diag_tp.specs.declared.sent.Sent.{Sent as ASent};
+ghost use Rattle.diag_bus.specs.Events.{frame_to, said_gives, to_each};
+
+use crate::bus::Output;
+use crate::clock::{Start, silence};
+use crate::entering::enter;
+use crate::writing::{Drawn, write_drawn};
+use diag_can::{BusLine, Event, Frame, FrameBytes, Ids, TickCount};
+use diag_setup::{Setup, Who};
+use diag_tp::Sent;
+use diag_world::{Server, ServerFault};
+use std::alloc::AllocError;
+
+/// The server in the midst of a line, with what the line has drawn and entered so far.
+#[derive(Drop)]
+pub struct MidLine {
+    /// The ECU and each tester's link.
+    pub server: Server,
+    /// What is wanted.
+    pub output: Output,
+    /// The frames that each tester is sent with this line.
+    pub drawn: Vec<Vec<Sent>>,
+    /// What this line writes.
+    pub text: Vec<u8>,
+}
+
+impl MidLine {
+    ghost use Rattle.diag_bus.specs.Batch.{Gave, SameShape, lists_of, replied};
+
+    /// Begins a line: nothing was drawn and nothing written.
+    pub fn begin(&mut self)
+        ensures empty { (i : ℕ) (frames : List ASent)
+            → slice_get (lists_of self.new) i ≡ Some frames → frames ≡ [] }
+        ensures text { self.new.text.items ≡ [] }
+        ensures server { self.new.server ≡ self.old.server }
+        ensures shape { SameShape self.old self.new }
+    {
+        clear(&mut self.drawn);
+        self.text.clear();
+    }
+
+    /// Adds the reply lines of what the line drew, where they are wanted; the batch is room to work in.
+    pub fn write_drawn(
+        &mut self,
+        setup: &Setup,
+        start: Option<Start>,
+        batch: &mut Vec<Drawn>,
+    ) -> Result<(), AllocError>
+        requires lists { length self.old.drawn.items ≡ length setup.now.testers }
+        ensures ok { OnOk result (self.new.text.items ≡ self.old.text.items
+            ++ replied self.old.output setup.now start (lists_of self.old)) }
+        ensures server { self.new.server ≡ self.old.server }
+        ensures shape { SameShape self.old self.new }
+    {
+        match self.output {
+            Output::Replies => write_drawn(setup, start, &mut self.drawn, batch, &mut self.text),
+            Output::Journal | Output::End => Ok(()),
+        }
+    }
+
+    /// Gives the server an event of a tester.
+    fn give(&mut self, who: Who, event: &Event) -> Result<(), ServerFault>
+        requires in_setup { who ≤ length self.old.server.links }
+        requires lists { length self.old.drawn.items ≡ length self.old.server.links }
+        ensures ok { OnOk result (Gave self.old self.new ((who, event.now) ∷ [])) }
+        ensures shape { SameShape self.old self.new }
+    {
+        let index = usize::from(who.place()) - 1;
+        let out = &mut self.drawn[index];
+        let asked = self.server.ask(who, event, out)?;
+        enter(
+            self.output,
+            self.server.now(who),
+            asked.as_ref(),
+            &mut self.text,
+        )?;
+        self.server.settle(who, event, asked, out);
+        Ok(())
+    }
+
+    /// Gives the server an event of each tester, in order.
+    fn give_each(&mut self, setup: &Setup, event: &Event) -> Result<(), ServerFault>
+        requires in_setup { length self.old.server.links ≡ length setup.now.testers }
+        requires lists { length self.old.drawn.items ≡ length setup.now.testers }
+        ensures ok { OnOk result
+            (Gave self.old self.new (to_each (length setup.now.testers) event.now)) }
+        ensures shape { SameShape self.old self.new }
+    {
+        for index in 0..setup.testers() {
+            let Some(who) = setup.who(index) else {
+                unreachable!()
+            };
+            self.give(who, event)?;
+        }
+        Ok(())
+    }
+
+    /// Lets so many milliseconds pass for each tester: 60000 each, and last the rest.
+    fn pass(&mut self, setup: &Setup, ms: u64) -> Result<(), ServerFault>
+        requires in_setup { length self.old.server.links ≡ length setup.now.testers }
+        requires lists { length self.old.drawn.items ≡ length setup.now.testers }
+        ensures ok { OnOk result (Gave self.old self.new
+            (flat_map (to_each (length setup.now.testers)) (waited ms))) }
+        ensures shape { SameShape self.old self.new }
+    {
+        let longest = Event::Ticks(TickCount::longest());
+        for part in 0..ms / 60000 {
+            self.give_each(setup, &longest)?;
+        }
+        match TickCount::new((ms % 60000) as u16) {
+            None => Ok(()),
+            Some(rest) => self.give_each(setup, &Event::Ticks(rest)),
+        }
+    }
+
+    /// Gives the server a frame, for each tester that it is for.
+    fn give_frame(&mut self, setup: &Setup, frame: &Frame) -> Result<(), ServerFault>
+        requires in_setup { length self.old.server.links ≡ length setup.now.testers }
+        requires lists { length self.old.drawn.items ≡ length setup.now.testers }
+        ensures ok { OnOk result (Gave self.old self.new
+            (flat_map (frame_to setup.now (Some frame.now))
+            (counted_from 1 (length setup.now.testers)))) }
+        ensures shape { SameShape self.old self.new }
+    {
+        for index in 0..setup.testers() {
+            let Some(who) = setup.who(index) else {
+                unreachable!()
+            };
+            if let Some(event) = frame_for(&setup.ids(who), frame) {
+                self.give(who, &event)?;
+            }
+        }
+        Ok(())
+    }
+
+    /// Gives the server what a line says.
+    pub fn take_said(
+        &mut self,
+        setup: &Setup,
+        reference: Option<u64>,
+        said: &BusLine,
+    ) -> Result<(), ServerFault>
+        requires in_setup { length self.old.server.links ≡ length setup.now.testers }
+        requires lists { length self.old.drawn.items ≡ length setup.now.testers }
+        ensures ok { OnOk result (Gave self.old self.new (said_gives setup.now reference said.now)) }
+        ensures shape { SameShape self.old self.new }
+    {
+        match said {
+            BusLine::Empty => Ok(()),
+            BusLine::Ticks(count) => self.give_each(setup, &Event::Ticks(*count)),
+            BusLine::Stamped { moment, frame } => {
+                self.pass(setup, silence(reference, *moment))?;
+                match frame {
+                    Some(frame) => self.give_frame(setup, frame),
+                    None => Ok(()),
+                }
+            }
+        }
+    }
+}
+
+/// Empties each tester's list.
+fn clear(drawn: &mut Vec<Vec<Sent>>)
+    ensures empty { (i : ℕ) (frames : List ASent)
+        → slice_get (map (λ f. f.items) drawn.new.items) i ≡ Some frames → frames ≡ [] }
+    ensures lists { length drawn.new.items ≡ length drawn.old.items }
+{
+    for index in 0..drawn.len() {
+        drawn[index].clear();
+    }
+}
+
+/// What a frame is to the tester of these identifiers.
+fn frame_for(ids: &Ids, frame: &Frame) -> Option<Event>
+    ensures { result ≡ frame_for ids.now (Some frame.now) }
+{
+    let bytes = FrameBytes::from_slice(frame.bytes.as_slice());
+    if frame.id == ids.request {
+        Some(Event::Physical(bytes))
+    } else if frame.id == ids.functional {
+        Some(Event::Functional(bytes))
+    } else {
+        None
+    }
+}

@@ -1,0 +1,116 @@
+//! The frames that a line draws, as lines of their own, in the order of the bus.
+
+ghost use Rattle.std.specs.Prelude.{◌≡◌, ◌≤◌, ◌++◌, length, map, OnOk, IfSome};
+ghost use Rattle.std.specs.List.{All, flat_map};
+ghost use Rattle.std.specs.List.Sorted.{IsPermutation};
+ghost use Rattle.diag_setup.specs.Rows.{in_order};
+ghost use Rattle.diag_bus.specs.Text.{bus_moment, drawn_for, drawn_text, gathered, line_of, time_of};
+
+use crate::clock::Start;
+use diag_can::write_line;
+use diag_setup::{Setup, Who};
+use diag_tp::Sent;
+use std::alloc::AllocError;
+use std::mem;
+
+/// A frame that a tester is sent.
+#[derive(Debug, Drop)]
+pub struct Drawn {
+    /// The tester.
+    pub who: Who,
+    /// The frame, with its time on the tester's link.
+    pub sent: Sent,
+}
+
+/// A link's time as a moment of the bus; None where the number would be too great.
+fn bus_moment(start: Option<Start>, at: u64) -> Option<u64>
+    ensures { IfSome result (λ moment. moment ≡ bus_moment start at) }
+{
+    match start {
+        None => Some(at),
+        Some(start) => start.moment.checked_add(at.saturating_sub(start.before)),
+    }
+}
+
+/// Puts the frames in the order of their times, frames of one time as they stand.
+fn sort_batch(batch: &mut Vec<Drawn>) -> Result<(), AllocError>
+    ensures is { OnOk result (batch.new.items ≡ in_order time_of batch.old.items) }
+    ensures same { OnOk result (IsPermutation batch.old.items batch.new.items) }
+{
+    batch.sort_by_key(|drawn| drawn.sent.at)?;
+    Ok(())
+}
+
+/// Adds a tester's frames to a batch.
+fn add_frames(batch: &mut Vec<Drawn>, who: Who, frames: Vec<Sent>) -> Result<(), AllocError>
+    ensures { OnOk result
+        (batch.new.items ≡ batch.old.items ++ map (drawn_for who) frames.items) }
+{
+    for sent in frames {
+        batch.push(Drawn { who, sent })?;
+    }
+    Ok(())
+}
+
+/// Moves the frames of each tester's list into a batch, one list behind the other.
+fn gather(
+    setup: &Setup,
+    drawn: &mut Vec<Vec<Sent>>,
+    batch: &mut Vec<Drawn>,
+) -> Result<(), AllocError>
+    requires { length drawn.old.items ≡ length setup.now.testers }
+    ensures all { OnOk result (batch.new.items
+        ≡ batch.old.items ++ gathered 1 (map (λ f. f.items) drawn.old.items)) }
+    ensures lists { length drawn.new.items ≡ length drawn.old.items }
+{
+    let alloc = *drawn.allocator();
+    for index in 0..setup.testers() {
+        let Some(who) = setup.who(index) else {
+            unreachable!()
+        };
+        let frames = mem::replace(&mut drawn[index], Vec::new(alloc));
+        add_frames(batch, who, frames)?;
+    }
+    Ok(())
+}
+
+/// Writes a line for each frame of a batch, in the order of their times.
+fn write_batch(
+    setup: &Setup,
+    start: Option<Start>,
+    batch: &mut Vec<Drawn>,
+    text: &mut Vec<u8>,
+) -> Result<(), AllocError>
+    requires { All (λ drawn. drawn.who ≤ length setup.now.testers) batch.old.items }
+    ensures { OnOk result (text.new.items ≡ text.old.items
+        ++ flat_map (line_of setup.now start) (in_order time_of batch.old.items)) }
+{
+    sort_batch(batch)?;
+    for drawn in batch.as_slice() {
+        let Some(moment) = bus_moment(start, drawn.sent.at) else {
+            // (a moment is below 10^15, and no clock passes 2^63)
+            return Err(AllocError);
+        };
+        write_line(text, setup.name(drawn.who), moment, &drawn.sent.frame)?;
+    }
+    Ok(())
+}
+
+/// Adds the reply lines of the frames in the testers' lists, in the order of the bus. The batch is room to work in, and
+/// the lists are empty afterwards.
+pub(crate) fn write_drawn(
+    setup: &Setup,
+    start: Option<Start>,
+    drawn: &mut Vec<Vec<Sent>>,
+    batch: &mut Vec<Drawn>,
+    text: &mut Vec<u8>,
+) -> Result<(), AllocError>
+    requires { length drawn.old.items ≡ length setup.now.testers }
+    ensures ok { OnOk result (text.new.items ≡ text.old.items
+        ++ drawn_text setup.now start (map (λ f. f.items) drawn.old.items)) }
+    ensures lists { length drawn.new.items ≡ length drawn.old.items }
+{
+    batch.clear();
+    gather(setup, drawn, batch)?;
+    write_batch(setup, start, batch, text)
+}
