@@ -5,6 +5,8 @@
 #![tactic(auto)]
 
 #[cfg(test)]
+mod bus;
+#[cfg(test)]
 mod gate;
 #[cfg(test)]
 mod trouble;

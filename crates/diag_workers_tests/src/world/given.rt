@@ -25,7 +25,7 @@ fn told_of(alloc: Global, setup: &Setup, given: &[Logs]) -> Result<Vec<u8>, Trou
 }
 
 fn tell(alloc: Global, world: &mut World, setup: &Setup, given: &[Logs]) -> Result<Vec<u8>, Trouble>
-    requires { length world.old.lanes ≡ length setup.now.testers }
+    requires { length world.old.sent ≡ length setup.now.testers }
 {
     let mut text = Vec::new(alloc);
     for logs in given {
@@ -42,8 +42,8 @@ fn give_logs(
     setup: &Setup,
     logs: &Logs,
 ) -> Result<(), Trouble>
-    requires { length world.old.lanes ≡ length setup.now.testers }
-    ensures { length world.new.lanes ≡ length world.old.lanes }
+    requires { length world.old.sent ≡ length setup.now.testers }
+    ensures { length world.new.sent ≡ length world.old.sent }
 {
     let logs = logs_of(*text.allocator(), setup, logs, Timing::Lines)?;
     for round in 0..longest(logs.as_slice()) {
@@ -68,8 +68,8 @@ fn give_round(
     logs: &[Vec<Event>],
     round: usize,
 ) -> Result<(), Trouble>
-    requires { length world.old.lanes ≡ length setup.now.testers }
-    ensures { length world.new.lanes ≡ length world.old.lanes }
+    requires { length world.old.sent ≡ length setup.now.testers }
+    ensures { length world.new.sent ≡ length world.old.sent }
 {
     for (index, log) in logs.iter().enumerate() {
         if round < log.len() {
@@ -87,8 +87,8 @@ fn add_answer(
     index: usize,
     event: &Event,
 ) -> Result<(), Trouble>
-    requires { length world.old.lanes ≡ length setup.now.testers }
-    ensures { length world.new.lanes ≡ length world.old.lanes }
+    requires { length world.old.sent ≡ length setup.now.testers }
+    ensures { length world.new.sent ≡ length world.old.sent }
 {
     let Some(who) = setup.who(index) else {
         return Err(Trouble::Wrong);
@@ -99,8 +99,8 @@ fn add_answer(
 
 /// Gives an event, and where memory is refused gives it once more.
 fn given(world: &mut World, who: Who, event: &Event) -> Result<(), StepFault>
-    requires { who ≤ length world.old.lanes }
-    ensures { length world.new.lanes ≡ length world.old.lanes }
+    requires { who ≤ length world.old.sent }
+    ensures { length world.new.sent ≡ length world.old.sent }
 {
     match world.event(who, event) {
         Err(StepFault::Memory) => world.event(who, event),
@@ -119,14 +119,19 @@ fn line_of(answer: Result<(), StepFault>) -> &'static [u8] {
 
 /// Adds the frames of all testers, the journal, and the holder.
 fn add_left(text: &mut Vec<u8>, world: &World, setup: &Setup) -> Result<(), Trouble>
-    requires { length world.now.lanes ≡ length setup.now.testers }
+    requires { length world.now.sent ≡ length setup.now.testers }
 {
     for index in 0..setup.testers() {
         if let Some(who) = setup.who(index) {
             add_frames(text, setup, index, world.sent(who))?;
         }
     }
-    Ok(add_end(text, world.desk(), Timing::Lines)?)
+    Ok(add_end(
+        text,
+        world.journal(),
+        world.ecu(),
+        Timing::Lines,
+    )?)
 }
 
 const ALL_TAKEN: [Times; 3] = [Times(13, "taken\n"), Times(1, PLAYED), Times(1, HELD_BY_A)];

@@ -4,7 +4,8 @@ use crate::trouble::{Trouble, is_refused};
 use crate::world::text::{Times, text_of};
 use crate::world::unit::{Unit, setup_of};
 use diag_can::{Event, Timing, read_log, write_line};
-use diag_desk::{Desk, Journal, journal_text, journal_text_at};
+use diag_desk::{Journal, journal_text, journal_text_at};
+use diag_ecu::Ecu;
 use diag_setup::Setup;
 use diag_world::{Played, Sent, serial};
 use std::alloc::{AllocError, Global};
@@ -107,7 +108,7 @@ fn text_left(
     for (index, sent) in left.sent.iter().enumerate() {
         add_frames(&mut text, setup, index, sent.as_slice())?;
     }
-    add_end(&mut text, &left.desk, timing)?;
+    add_end(&mut text, left.desk.journal(), left.desk.ecu(), timing)?;
     Ok(text)
 }
 
@@ -128,9 +129,14 @@ pub(crate) fn add_frames(
 }
 
 /// Adds the journal, and the holder's number.
-pub(crate) fn add_end(text: &mut Vec<u8>, desk: &Desk, timing: Timing) -> Result<(), AllocError> {
-    add_journal(text, desk.journal(), timing)?;
-    if let Some(who) = desk.ecu().holder() {
+pub(crate) fn add_end(
+    text: &mut Vec<u8>,
+    journal: &Journal,
+    ecu: &Ecu,
+    timing: Timing,
+) -> Result<(), AllocError> {
+    add_journal(text, journal, timing)?;
+    if let Some(who) = ecu.holder() {
         text.extend_from_slice(b"holder ")?;
         text.extend_from_slice(&[b'0' + who.place(), b'\n'])?;
     }
