@@ -2,4 +2,4 @@ use Rattle.std.proofs.Common.{◌≡◌, length}
 use Rattle.diag_workers_tests.proofs.world.given.tell.Given as goal
 
 abbrev pub invariant-loop-logs : goal.invariant-loop-logs
-invariant-loop-logs l = length l.world.lanes ≡ length l.fn.world.lanes
+invariant-loop-logs l = length l.world.sent ≡ length l.fn.world.sent
