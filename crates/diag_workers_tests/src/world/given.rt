@@ -126,12 +126,7 @@ fn add_left(text: &mut Vec<u8>, world: &World, setup: &Setup) -> Result<(), Trou
             add_frames(text, setup, index, world.sent(who))?;
         }
     }
-    Ok(add_end(
-        text,
-        world.journal(),
-        world.ecu(),
-        Timing::Lines,
-    )?)
+    Ok(add_end(text, world.journal(), world.ecu(), Timing::Lines)?)
 }
 
 const ALL_TAKEN: [Times; 3] = [Times(13, "taken\n"), Times(1, PLAYED), Times(1, HELD_BY_A)];
