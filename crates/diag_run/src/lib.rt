@@ -2,6 +2,8 @@
 #![tactic(auto)]
 
 mod answer;
+mod bus_run;
+mod capture;
 mod device;
 mod fault;
 mod files;
@@ -9,6 +11,7 @@ mod logs;
 mod text;
 mod whole;
 
+pub use bus_run::{run_bus, run_bus_and_tell};
 pub use device::{ReadFault, WriteFault, read_whole, write_whole};
 pub use fault::{RunFault, fault_text, status};
 pub use text::{end_text, play_text, replay_text};
