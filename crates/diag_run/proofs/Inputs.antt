@@ -6,7 +6,7 @@ use Rattle.diag_config.specs.declared.fault.ConfigFault.TheVariants as config
 use Rattle.diag_setup.specs.declared.raw.RawSetup.{RawSetup}
 use Rattle.diag_config.specs.Key.{◌>>=◌}
 use Rattle.diag_run.specs.declared.fault.RunFault.{RunFault}
-use Rattle.diag_run.specs.declared.fault.RunFault.TheVariants.{Files, Config, ConfigLong, Log, JournalLine, FileLong, Memory, JournalFull, RecordsDisagree, Read, Write, Differs, Capture}
+use Rattle.diag_run.specs.declared.fault.RunFault.TheVariants.{Files, Config, ConfigLong, Log, JournalLine, FileLong, Memory, JournalFull, RecordsDisagree, Read, Write, Differs}
 use Rattle.diag_run.specs.declared.whole.Job.{Job}
 use Rattle.diag_run.specs.declared.whole.Job.TheVariants.{Serial, Play, Replay}
 use Rattle.diag_run.specs.Files.{Refusal, wrong_count, Fails, ConfigFails, config_of, files_from}
@@ -35,7 +35,6 @@ module _ {A B : Type 0} (f : A → B) where
   Fails-map (RecordsDisagree who) said h = absurd h
   Fails-map Write said h = absurd h
   Fails-map (Differs n) said h = absurd h
-  Fails-map (Capture n fault) said h = absurd h
 
 -- what was read, of these parts
 abbrev pub inputs : RawSetup → List (List ℕ) → Inputs

@@ -1,8 +1,6 @@
 -- What is printed for a fault, and the status that the program ends with.
 use Rattle.std.specs.Prelude.{ℕ, codes, List, ◌++◌}
 use Rattle.std.specs.Fmt.{decimal}
-use Rattle.diag_bus.specs.declared.fault.BusFault.{BusFault}
-use Rattle.diag_bus.specs.declared.fault.BusFault.TheVariants as bus
 use Rattle.diag_can.specs.Fault.{line_fault_text}
 use Rattle.diag_can.specs.declared.fault.LogFault.{LogFault}
 use Rattle.diag_can.specs.declared.fault.LogFault.TheVariants as log
@@ -14,7 +12,7 @@ use Rattle.diag_desk.specs.declared.desk.StepFault.TheVariants as step
 use Rattle.diag_workers.specs.declared.playing.PlayFault.{PlayFault}
 use Rattle.diag_workers.specs.declared.playing.PlayFault.TheVariants as play
 use Rattle.diag_run.specs.declared.fault.RunFault.{RunFault}
-use Rattle.diag_run.specs.declared.fault.RunFault.TheVariants.{Files, Config, ConfigLong, Log, JournalLine, FileLong, Memory, JournalFull, RecordsDisagree, Read, Write, Differs, Capture}
+use Rattle.diag_run.specs.declared.fault.RunFault.TheVariants.{Files, Config, ConfigLong, Log, JournalLine, FileLong, Memory, JournalFull, RecordsDisagree, Read, Write, Differs}
 
 -- the fault of a threaded play as one of a run
 abbrev pub run_fault : PlayFault → RunFault
@@ -40,13 +38,6 @@ log_text who log.TooManyLines = codes "log " ++ decimal who ++ codes ": too many
 log_text who log.TooManyEvents = codes "log " ++ decimal who ++ codes ": too many events"
 log_text who log.Memory = codes "memory"
 
--- a line of a capture is told by its number from 1
-abbrev pub capture_fault_text : ℕ → BusFault → List ℕ
-capture_fault_text n (bus.Line fault) =
-    codes "capture line " ++ decimal n ++ codes ": " ++ line_fault_text fault
-capture_fault_text n bus.Late = codes "capture line " ++ decimal n ++ codes ": too late"
-capture_fault_text n bus.Memory = codes "memory"
-
 abbrev pub run_fault_text : RunFault → List ℕ
 run_fault_text (Files wanted given) =
     decimal wanted ++ (codes " files wanted, " ++ (decimal given ++ codes " given"))
@@ -61,7 +52,6 @@ run_fault_text (RecordsDisagree who) = codes "records of " ++ decimal who ++ cod
 run_fault_text (Read n) = codes "cannot read file " ++ decimal n
 run_fault_text Write = codes "cannot write"
 run_fault_text (Differs n) = codes "entry " ++ decimal n ++ codes " differs"
-run_fault_text (Capture n fault) = capture_fault_text n fault
 
 -- the whole line on standard error
 abbrev pub fault_text : RunFault → List ℕ
@@ -74,10 +64,6 @@ config_status fault = 2
 abbrev pub log_status : LogFault → ℕ
 log_status log.Memory = 4
 log_status fault = 3
-
-abbrev pub bus_status : BusFault → ℕ
-bus_status bus.Memory = 4
-bus_status fault = 3
 
 abbrev pub status : RunFault → ℕ
 status (Files wanted given) = 1
@@ -92,4 +78,3 @@ status (RecordsDisagree who) = 6
 status (Read n) = 7
 status Write = 7
 status (Differs n) = 8
-status (Capture n fault) = bus_status fault

@@ -1,6 +1,6 @@
 -- What the files of a run say: the first fault in the order in which a run meets them, or what is read.
 use Rattle.std.specs.Prelude.{◌≡◌, ◌≤◌, ℕ, ◌+◌, ◌-◌, ◌==◌, nat_le, nat_lt, Bool, false, IfErr, if◌then◌else◌, List, [], ◌∷◌, length, map, take, drop, Option, Some, Result, Ok, Err}
-use Rattle.std.specs.Io.KnownBytes.{Consumes, IsAtEnd}
+use Rattle.std.specs.Io.KnownBytes.{IsAtEnd}
 use Rattle.std.specs.List.{All}
 use Rattle.diag_can.specs.declared.fault.LogFault.{LogFault}
 use Rattle.diag_can.specs.declared.frame.Event.{Event}
@@ -11,9 +11,8 @@ use Rattle.diag_config.specs.Key.{Fault, syntax, missing, bad_value, refused, �
 use Rattle.diag_config.specs.Setup.{setup_of}
 use Rattle.diag_config.specs.declared.fault.ConfigFault.{ConfigFault}
 use Rattle.diag_config.specs.declared.fault.ConfigFault.TheVariants as config
-use Rattle.diag_run.specs.Bytes.{ReadWhole}
 use Rattle.diag_run.specs.declared.fault.RunFault.{RunFault}
-use Rattle.diag_run.specs.declared.fault.RunFault.TheVariants.{Files, Config, ConfigLong, Log, JournalLine, FileLong, Memory, JournalFull, RecordsDisagree, Read, Write, Differs, Capture}
+use Rattle.diag_run.specs.declared.fault.RunFault.TheVariants.{Files, Config, ConfigLong, Log, JournalLine, FileLong, Memory, JournalFull, RecordsDisagree, Read, Write, Differs}
 
 -- what was read is refused; file 0 is the config, and a tester is its place from 1
 pub data Refusal : Type 0 where
@@ -55,7 +54,6 @@ Fails JournalFull said = ⊥
 Fails (RecordsDisagree who) said = ⊥
 Fails Write said = ⊥
 Fails (Differs n) said = ⊥
-Fails (Capture n fault) said = ⊥
 
 abbrev pub Gives : {X Y : Type 0} → (X → Y) → Result X RunFault → Result Y Refusal → Type 0
 Gives view (Ok x) said = said ≡ Ok (view x)
@@ -73,34 +71,6 @@ or_bad_config (Err fault) = Err (bad_config fault)
 
 unfoldable pub config_of : List ℕ → Result RawSetup Refusal
 config_of bytes = within 1048576 config_long bytes >>= λ text. or_bad_config (setup_of text)
-
--- the config was read whole, and says this setup
-pub record SaysSetup (old new : Option (List ℕ)) (setup : RawSetup) : Type 0 where
-  pub bytes : List ℕ
-  pub read : ReadWhole old new bytes
-  pub says : config_of bytes ≡ Ok setup
-
--- bytes of the config were read that are refused for this fault
-pub record IsRefused (old new : Option (List ℕ)) (fault : RunFault) : Type 0 where
-  pub bytes : List ℕ
-  pub read : Consumes old new bytes
-  pub fails : Fails fault (config_of bytes)
-
--- the fault came in reading the config
-abbrev pub ConfigEnds : Option (List ℕ) → Option (List ℕ) → RunFault → Type 0
-ConfigEnds old new (Config fault) = IsRefused old new (Config fault)
-ConfigEnds old new ConfigLong = IsRefused old new ConfigLong
-ConfigEnds old new Memory = Unit {0}
-ConfigEnds old new (Read n) = n ≡ 0
-ConfigEnds old new (Files wanted given) = ⊥
-ConfigEnds old new (Log who fault) = ⊥
-ConfigEnds old new (JournalLine n) = ⊥
-ConfigEnds old new (FileLong n) = ⊥
-ConfigEnds old new JournalFull = ⊥
-ConfigEnds old new (RecordsDisagree who) = ⊥
-ConfigEnds old new Write = ⊥
-ConfigEnds old new (Differs n) = ⊥
-ConfigEnds old new (Capture n fault) = ⊥
 
 abbrev pub counted : ℕ → ℕ → Result (Unit {0}) Refusal
 counted wanted given = if wanted == given then Ok tt else Err (wrong_count wanted given)

@@ -1,6 +1,4 @@
 pub mod Bytes
-pub mod Capture
-pub mod Capturing
 pub mod Faults
 pub mod Files
 pub mod Run

@@ -1,9 +1,9 @@
 //! Reading a whole file and writing a whole text, by loops of their own.
 
 ghost use Rattle.std.specs.Prelude.{◌≡◌, ◌+◌, ◌<◌, ◌^◌, ◌≤◌, ℕ, List, length, map, take, IfOk, IfSome, OnOk, OnErr, Err, Some};
-ghost use Rattle.std.specs.Io.KnownBytes.{Appends, Consumes, IsAtEnd, Keeps};
+ghost use Rattle.std.specs.Io.KnownBytes.{Appends, IsAtEnd, Keeps};
 ghost use Rattle.std.specs.List.{concat};
-ghost use Rattle.diag_run.specs.Bytes.{AppendsFront, Takes};
+ghost use Rattle.diag_run.specs.Bytes.{AppendsFront};
 
 use std::alloc::{AllocError, Global};
 use std::io::{Read, Write};
@@ -40,10 +40,6 @@ pub fn read_whole<R: Read>(
     ensures end { OnOk result (IsAtEnd (R.remaining reader.new)) }
     ensures long { result ≡ Err ReadFault.Long
         → IfSome (R.remaining reader.old) (λ bytes. limit < length bytes) }
-    ensures read { IfOk result (λ v.
-        Consumes (R.remaining reader.old) (R.remaining reader.new) v.items) }
-    ensures seen { result ≡ Err ReadFault.Long
-        → Takes (R.remaining reader.old) (R.remaining reader.new) (λ bytes. limit < length bytes) }
 {
     let mut bytes = Vec::new(alloc);
     let mut buffer = [0u8; 65_536];
@@ -74,18 +70,6 @@ pub fn write_whole<W: Write>(out: &mut W, parts: &[Vec<u8>]) -> Result<(), Write
     for part in parts {
         write_part(out, part.as_slice())?;
     }
-    match out.flush() {
-        Ok(()) => Ok(()),
-        Err(_) => Err(WriteFault),
-    }
-}
-
-/// Writes a text and flushes. After a fault a front of the text went out.
-pub(crate) fn write_text<W: Write>(out: &mut W, text: &[u8]) -> Result<(), WriteFault>
-    ensures whole { OnOk result (Appends (W.contents out.old) (W.contents out.new) text.now) }
-    ensures front { OnErr result (AppendsFront (W.contents out.old) (W.contents out.new) text.now) }
-{
-    write_part(out, text)?;
     match out.flush() {
         Ok(()) => Ok(()),
         Err(_) => Err(WriteFault),

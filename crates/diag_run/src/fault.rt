@@ -4,7 +4,6 @@ ghost use Rattle.std.specs.Prelude.{◌≡◌, ◌++◌, codes, IfOk, Some};
 ghost use Rattle.diag_run.specs.Faults.{run_fault, step_fault, run_fault_text, fault_text, status};
 ghost use Rattle.diag_run.specs.declared.fault.RunFault.TheVariants.{Memory};
 
-use diag_bus::BusFault;
 use diag_can::LogFault;
 use diag_config::ConfigFault;
 use diag_desk::StepFault;
@@ -42,8 +41,6 @@ pub enum RunFault {
     Write,
     /// The entry of that number, from 1, is the first that the replayed server does not give.
     Differs(usize),
-    /// The capture's line of that number, from 1, is the first at fault.
-    Capture(u64, BusFault),
 }
 
 impl From<AllocError> for RunFault {
@@ -119,11 +116,6 @@ impl fmt::Display for RunFault {
             RunFault::Read(n) => write!(f, "cannot read file {n}"),
             RunFault::Write => write!(f, "cannot write"),
             RunFault::Differs(n) => write!(f, "entry {n} differs"),
-            RunFault::Capture(n, fault) => match fault {
-                BusFault::Line(fault) => write!(f, "capture line {n}: {fault}"),
-                BusFault::Late => write!(f, "capture line {n}: too late"),
-                BusFault::Memory => write!(f, "memory"),
-            },
         }
     }
 }
@@ -147,12 +139,9 @@ pub fn status(fault: &RunFault) -> u8
 {
     match fault {
         RunFault::Files { .. } => 1,
-        RunFault::Config(ConfigFault::Memory)
-        | RunFault::Log(_, LogFault::Memory)
-        | RunFault::Capture(_, BusFault::Memory) => 4,
+        RunFault::Config(ConfigFault::Memory) | RunFault::Log(_, LogFault::Memory) => 4,
         RunFault::Config(_) | RunFault::ConfigLong => 2,
         RunFault::Log(..) | RunFault::JournalLine(_) | RunFault::FileLong(_) => 3,
-        RunFault::Capture(..) => 3,
         RunFault::Memory => 4,
         RunFault::JournalFull => 5,
         RunFault::RecordsDisagree(_) => 6,

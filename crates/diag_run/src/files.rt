@@ -1,8 +1,8 @@
 //! Reading the files of a run, in order.
 
-ghost use Rattle.std.specs.Prelude.{◌≡◌, ◌≤◌, ℕ, ◌<◌, ◌^◌, List, map, length, IfOk, IfErr, IfSome};
+ghost use Rattle.std.specs.Prelude.{◌≡◌, ◌≤◌, ℕ, ◌<◌, ◌^◌, List, map, length, IfOk, IfSome};
 ghost use Rattle.std.specs.Io.KnownBytes.{IsAtEnd};
-ghost use Rattle.diag_run.specs.Files.{AreKnown, ConfigEnds, FailsAt, Gives, SaysSetup, config_of, files_from};
+ghost use Rattle.diag_run.specs.Files.{AreKnown, FailsAt, Gives, config_of, files_from};
 
 use crate::device::{ReadFault, read_whole};
 use crate::fault::RunFault;
@@ -20,8 +20,6 @@ pub fn read_config<R: Read>(alloc: Global, config: &mut R) -> Result<Setup, RunF
         Gives (λ setup. setup) result (config_of bytes)) }
     ensures device { (n : ℕ) → result ≡ Err (RunFault.Read n) → n ≡ 0 }
     ensures end { IfOk result (λ _. IsAtEnd (R.remaining config.new)) }
-    ensures says { IfOk result (SaysSetup (R.remaining config.old) (R.remaining config.new)) }
-    ensures ends { IfErr result (ConfigEnds (R.remaining config.old) (R.remaining config.new)) }
 {
     let text = match read_whole(alloc, config, CONFIG_LIMIT) {
         Ok(text) => text,

@@ -2,8 +2,6 @@
 #![tactic(auto)]
 
 mod answer;
-mod bus_run;
-mod capture;
 mod device;
 mod fault;
 mod files;
@@ -11,7 +9,6 @@ mod logs;
 mod text;
 mod whole;
 
-pub use bus_run::{run_bus, run_bus_and_tell};
 pub use device::{ReadFault, WriteFault, read_whole, write_whole};
 pub use fault::{RunFault, fault_text, status};
 pub use text::{end_text, play_text, replay_text};

@@ -4,14 +4,13 @@
 mod command;
 mod source;
 
-use command::{Refusal, Request, Task, read_words};
-use diag_bus::Output;
+use command::{Refusal, Request, read_words};
 use diag_can::Timing;
-use diag_run::{Job, Outcome, run_and_tell, run_bus_and_tell};
+use diag_run::{Job, Outcome, run_and_tell};
 use diag_stored::{CONFIG, LOG_A, LOG_B};
 use source::Source;
 use std::alloc::{AllocError, Global};
-use std::io::ErrorKind;
+use std::io::{ErrorKind, Read};
 use std::process::ExitCode;
 use std::rt::Files;
 use std::sync::Wait;
@@ -50,77 +49,48 @@ fn refuse(rt: &(impl Print + Eprint), refusal: &Refusal) -> ExitCode {
     }
 }
 
-/// A file of a run, standard input, or bytes of the program's own.
-type RunSource<R> = Source<<R as Files>::File, <R as Input>::Reader>;
-
-fn run_words<R: Print + Eprint + Files + Input + AllocGlobal + Threads + Wait + Sync>(
+fn run_words<R: Print + Eprint + Files + AllocGlobal + Threads + Wait + Sync>(
     rt: &R,
     words: &[String],
 ) -> ExitCode {
+    let alloc = rt.alloc();
     if words.len() < 2 {
         return run_stored(rt);
     }
-    match read_words(rt.alloc(), words) {
-        Ok(Request { config, task }) => match task {
-            Task::Files { job, paths } => run_files(rt, job, config, paths.as_slice()),
-            Task::Bus { output, capture } => run_bus(rt, output, config, capture),
+    match read_words(alloc, words) {
+        Ok(request) => match open_all(rt, &request) {
+            Ok((config, files)) => run_job(rt, request.job, config, files),
+            Err(AllocError) => refuse(rt, &Refusal::Memory),
         },
         Err(refusal) => refuse(rt, &refusal),
     }
 }
 
 /// The run of the program's own config and logs.
-fn run_stored<R: Print + Eprint + Files + Input + AllocGlobal + Threads + Wait + Sync>(
-    rt: &R,
-) -> ExitCode {
+fn run_stored<R: Print + Eprint + Files + AllocGlobal + Threads + Wait + Sync>(rt: &R) -> ExitCode {
     let job = Job::Serial {
         only_journal: false,
         timing: Timing::Lines,
     };
-    match stored_files::<R>(rt.alloc()) {
+    match stored_files::<R::File>(rt.alloc()) {
         Ok(files) => run_job(rt, job, Source::Stored(CONFIG.as_bytes()), files),
         Err(AllocError) => refuse(rt, &Refusal::Memory),
     }
 }
 
 /// The program's own logs.
-fn stored_files<R: Files + Input>(alloc: Global) -> Result<Vec<RunSource<R>>, AllocError> {
+fn stored_files<F>(alloc: Global) -> Result<Vec<Source<F>>, AllocError>
+where
+    F: Drop,
+{
     let mut files = Vec::new(alloc);
     files.push(Source::Stored(LOG_A.as_bytes()))?;
     files.push(Source::Stored(LOG_B.as_bytes()))?;
     Ok(files)
 }
 
-/// The run of a job over the files at these paths.
-fn run_files<R: Print + Eprint + Files + Input + AllocGlobal + Threads + Wait + Sync>(
-    rt: &R,
-    job: Job,
-    config: &str,
-    paths: &[&str],
-) -> ExitCode {
-    match open_all(rt, config, paths) {
-        Ok((config, files)) => run_job(rt, job, config, files),
-        Err(AllocError) => refuse(rt, &Refusal::Memory),
-    }
-}
-
-/// The run over a capture: the file at its path, or standard input.
-fn run_bus<R: Print + Eprint + Files + Input + AllocGlobal>(
-    rt: &R,
-    output: Output,
-    config: &str,
-    capture: Option<&str>,
-) -> ExitCode {
-    let (Ok(config), Ok(capture)) = (open(rt, config), open_capture(rt, capture)) else {
-        return refuse(rt, &Refusal::Memory);
-    };
-    let mut out = io::writer(rt);
-    let outcome = run_bus_and_tell(rt.alloc(), output, config, capture, &mut out);
-    tell(rt, &outcome)
-}
-
 /// The file at a path, or a source whose first read fails.
-fn open<R: Files + Input>(rt: &R, path: &str) -> Result<RunSource<R>, AllocError> {
+fn open<R: Files>(rt: &R, path: &str) -> Result<Source<R::File>, AllocError> {
     match fs::open(rt, path) {
         Ok(file) => Ok(Source::Opened(file)),
         Err(e) if e.kind() == ErrorKind::OutOfMemory => Err(AllocError),
@@ -128,52 +98,37 @@ fn open<R: Files + Input>(rt: &R, path: &str) -> Result<RunSource<R>, AllocError
     }
 }
 
-/// The capture at a path; standard input where there is none.
-fn open_capture<R: Files + Input>(rt: &R, path: Option<&str>) -> Result<RunSource<R>, AllocError> {
-    match path {
-        Some(path) => open(rt, path),
-        None => Ok(Source::Standard(rt.reader())),
-    }
-}
+type Sources<F> = (Source<F>, Vec<Source<F>>);
 
-type Sources<R> = (RunSource<R>, Vec<RunSource<R>>);
-
-fn open_all<R: Files + Input + AllocGlobal>(
+fn open_all<R: Files + AllocGlobal>(
     rt: &R,
-    config: &str,
-    paths: &[&str],
-) -> Result<Sources<R>, AllocError> {
-    let config = open(rt, config)?;
+    request: &Request<'_>,
+) -> Result<Sources<R::File>, AllocError> {
+    let config = open(rt, request.config)?;
     let mut files = Vec::new(rt.alloc());
-    for path in paths {
+    for path in &request.files {
         files.push(open(rt, path)?)?;
     }
     Ok((config, files))
 }
 
 /// Runs, and says the status.
-fn run_job<R: Print + Eprint + Files + Input + AllocGlobal + Threads + Wait + Sync>(
+fn run_job<R: Print + Eprint + AllocGlobal + Threads + Wait + Sync, F: Read + Drop>(
     rt: &R,
     job: Job,
-    config: RunSource<R>,
-    files: Vec<RunSource<R>>,
+    config: Source<F>,
+    files: Vec<Source<F>>,
 ) -> ExitCode {
     let mut out = io::writer(rt);
-    let outcome = run_and_tell(rt, rt.alloc(), job, config, files, &mut out);
-    tell(rt, &outcome)
-}
-
-/// Prints the line of a fault, and says the status.
-fn tell(rt: &impl Eprint, outcome: &Outcome) -> ExitCode {
-    match outcome {
+    match run_and_tell(rt, rt.alloc(), job, config, files, &mut out) {
         Outcome::Done => ExitCode::SUCCESS,
         Outcome::Fault { told, status } => {
-            if let Some(told) = told {
+            if let Some(told) = &told {
                 if let Ok(line) = str::from_utf8(told.as_slice()) {
                     let _ = rt.eprint(line);
                 }
             }
-            ExitCode::from(*status)
+            ExitCode::from(status)
         }
     }
 }
