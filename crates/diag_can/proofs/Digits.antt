@@ -9,7 +9,7 @@ use Rattle.diag_can.specs.Stamp.{is_digit, decimal_value}
 is_digit-le : (c : ℕ) → is_digit c ≡ true → c ≤ 57
 is_digit-le c h = grind (arith, nat_tests)
 
-pow-suc : (n : ℕ) → 10 ^ suc n ≡ 10 * 10 ^ n
+pub pow-suc : (n : ℕ) → 10 ^ suc n ≡ 10 * 10 ^ n
 pow-suc n = omega arith
 
 fold-digits-lt : (n : ℕ) (digits : List ℕ) → AllPass is_digit digits → fold (λ n c. n * 10 + (c - 48)) n digits < (n + 1) * 10 ^ length digits

@@ -7,7 +7,7 @@ ghost use Rattle.diag_can.specs.Bus.{said_for, SameForms};
 
 use crate::fault::LineFault;
 use crate::frame::{CanId, Frame, TickCount};
-use crate::line::{frame_data, hex_run, id_of, is_passed_over};
+use crate::line::{frame_data, hex_run, id_of, is_passed_over, short_id};
 use crate::log::without_return;
 use crate::read::{stamped_frame, tick_count};
 use crate::stamp::behind;
@@ -39,6 +39,16 @@ fn data_frame(id: CanId, rest: &[u8]) -> Result<Option<Frame>, LineFault>
 
 /// The data frame with an 11-bit identifier that a text is, or that it is passed over.
 fn text_frame(text: &[u8]) -> Result<Option<Frame>, LineFault>
+    ensures { result ≡ text_frame text.now }
+{
+    match short_id(text) {
+        Some((id, rest)) => data_frame(id, rest),
+        None => other_frame(text),
+    }
+}
+
+/// The same, whatever the identifier is.
+fn other_frame(text: &[u8]) -> Result<Option<Frame>, LineFault>
     ensures { result ≡ text_frame text.now }
 {
     let (digits, rest) = text.split_at(hex_run(text));

@@ -1,18 +1,19 @@
 //! The line of a frame that a tester was sent, in candump's log notation.
 
-ghost use Rattle.std.specs.Prelude.{◌≡◌, ◌≤◌, ◌++◌, true, decimal, replicate, IfOk, OnOk, OnErr};
+ghost use Rattle.std.specs.Prelude.{◌≡◌, ◌<◌, ◌≤◌, ◌+◌, ◌^◌, ◌++◌, [], ◌∷◌, true, length, decimal, replicate, OnOk, OnErr, vec_len, vec_capacity};
 ghost use Rattle.std.specs.Fmt.{digits};
 ghost use Rattle.diag_can.specs.Reply.{zero_filled, stamp, frame_text, reply_line};
 
 use crate::frame::{CanId, Frame};
-use crate::upper::{upper_digit, write_hex};
+use crate::upper::{add_hex, upper_digit};
 use itoa::Buffer;
-use std::alloc::{AllocError, Global};
+use std::alloc::AllocError;
 
 /// More bytes than a line has beside its name.
 const LINE_ROOM: usize = 64;
 
-const ZEROS: [u8; 10] = *b"0000000000";
+/// The first number of more than ten digits.
+const TEN_DIGITS: u64 = 10_000_000_000;
 
 /// Appends the line of a frame that the tester `name` was sent at `at` milliseconds:
 /// `(SECONDS.MILLISECONDS000) NAME ID#BYTES` and LF, where the seconds have ten digits or more, the milliseconds three,
@@ -24,71 +25,121 @@ pub fn write_line(text: &mut Vec<u8>, name: &[u8], at: u64, frame: &Frame) -> Re
     ensures ok { OnOk result (text.new.items ≡ text.old.items ++ reply_line name.now at frame.now) }
     ensures err { OnErr result (text.new.items ≡ text.old.items) }
 {
-    let line = line(*text.allocator(), name, at, frame)?;
-    text.extend_from_slice(line.as_slice())
+    let Some(room) = name.len().checked_add(LINE_ROOM) else {
+        return Err(AllocError);
+    };
+    text.reserve(room)?;
+    add_stamp(text, at);
+    add(text, b" ");
+    add(text, name);
+    add(text, b" ");
+    add_frame(text, frame);
+    add(text, b"\n");
+    Ok(())
 }
 
-/// The line of a frame, as bytes of its own.
-fn line(alloc: Global, name: &[u8], at: u64, frame: &Frame) -> Result<Vec<u8>, AllocError>
-    ensures { IfOk result (λ line. line.items ≡ reply_line name.now at frame.now) }
+/// Appends bytes for which there is room.
+fn add(text: &mut Vec<u8>, bytes: &[u8])
+    requires { vec_len text.old + length bytes.now ≤ vec_capacity text.old }
+    ensures items { text.new.items ≡ text.old.items ++ bytes.now }
+    ensures len { vec_len text.new ≡ vec_len text.old + length bytes.now }
+    ensures capacity { vec_capacity text.old ≤ vec_capacity text.new }
 {
-    let mut line = Vec::with_capacity(alloc, name.len().saturating_add(LINE_ROOM))?;
-    add_stamp(&mut line, at)?;
-    line.push(b' ')?;
-    line.extend_from_slice(name)?;
-    line.push(b' ')?;
-    add_frame(&mut line, frame)?;
-    line.push(b'\n')?;
-    Ok(line)
+    let added = text.extend_from_slice(bytes).is_ok();
+    prove!(added);
 }
 
-/// The stamp of a time in milliseconds.
-fn add_stamp(line: &mut Vec<u8>, at: u64) -> Result<(), AllocError>
-    ensures { OnOk result (line.new.items ≡ line.old.items ++ stamp at) }
+/// The stamp of a time in milliseconds, where there is room.
+fn add_stamp(text: &mut Vec<u8>, at: u64)
+    requires { vec_len text.old + 32 ≤ vec_capacity text.old }
+    ensures items { text.new.items ≡ text.old.items ++ stamp at }
+    ensures len { vec_len text.new ≤ vec_len text.old + 32 }
+    ensures capacity { vec_capacity text.old ≤ vec_capacity text.new }
 {
-    line.push(b'(')?;
-    add_zero_filled(line, 10, at / 1000)?;
-    line.push(b'.')?;
-    add_zero_filled(line, 3, at % 1000)?;
-    line.extend_from_slice(b"000)")
+    add(text, b"(");
+    add_seconds(text, at / 1000);
+    add(text, b".");
+    add(text, &three_digits(at % 1000));
+    add(text, b"000)");
 }
 
-/// A number in decimal, with zeros before it up to a width.
-fn add_zero_filled(line: &mut Vec<u8>, width: usize, number: u64) -> Result<(), AllocError>
-    requires { width ≤ 10 }
-    ensures { OnOk result (line.new.items ≡ line.old.items ++ zero_filled width (decimal number)) }
+/// Seconds in ten digits or more, where there is room.
+fn add_seconds(text: &mut Vec<u8>, seconds: u64)
+    requires { vec_len text.old + 20 ≤ vec_capacity text.old }
+    ensures items { text.new.items ≡ text.old.items ++ zero_filled 10 (decimal seconds) }
+    ensures len { vec_len text.new ≤ vec_len text.old + 20 }
+    ensures capacity { vec_capacity text.old ≤ vec_capacity text.new }
 {
-    let mut buffer = Buffer::new();
-    let digits = buffer.format(number).as_bytes();
-    line.extend_from_slice(zeros(width.saturating_sub(digits.len())))?;
-    line.extend_from_slice(digits)
+    if seconds < TEN_DIGITS {
+        add(text, &ten_digits(seconds));
+    } else {
+        let mut buffer = Buffer::new();
+        add(text, buffer.format(seconds).as_bytes());
+    }
 }
 
-/// That many zeros.
-fn zeros(count: usize) -> &'static [u8]
-    requires { count ≤ 10 }
-    ensures { result.now ≡ replicate count 48 }
+/// The ten digits of a number.
+fn ten_digits(number: u64) -> [u8; 10]
+    requires { number < 10 ^ 10 }
+    ensures { result ≡ zero_filled 10 (decimal number) }
 {
-    &ZEROS[..count]
+    let tens = number / 10;
+    let hundreds = tens / 10;
+    let thousands = hundreds / 10;
+    let fifth = thousands / 10;
+    let sixth = fifth / 10;
+    let seventh = sixth / 10;
+    let eighth = seventh / 10;
+    let ninth = eighth / 10;
+    let tenth = ninth / 10;
+    [
+        b'0' + (tenth % 10) as u8,
+        b'0' + (ninth % 10) as u8,
+        b'0' + (eighth % 10) as u8,
+        b'0' + (seventh % 10) as u8,
+        b'0' + (sixth % 10) as u8,
+        b'0' + (fifth % 10) as u8,
+        b'0' + (thousands % 10) as u8,
+        b'0' + (hundreds % 10) as u8,
+        b'0' + (tens % 10) as u8,
+        b'0' + (number % 10) as u8,
+    ]
 }
 
-/// The identifier, `#` and the bytes.
-fn add_frame(line: &mut Vec<u8>, frame: &Frame) -> Result<(), AllocError>
-    ensures { OnOk result (line.new.items ≡ line.old.items ++ frame_text frame.now) }
+/// The three digits of a number.
+fn three_digits(number: u64) -> [u8; 3]
+    requires { number < 1000 }
+    ensures { result ≡ zero_filled 3 (decimal number) }
 {
-    add_identifier(line, frame.id)?;
-    line.push(b'#')?;
-    write_hex(line, frame.bytes.as_slice())
+    let tens = number / 10;
+    let hundreds = tens / 10;
+    [
+        b'0' + (hundreds % 10) as u8,
+        b'0' + (tens % 10) as u8,
+        b'0' + (number % 10) as u8,
+    ]
 }
 
-/// The identifier in three digits.
-fn add_identifier(line: &mut Vec<u8>, id: CanId) -> Result<(), AllocError>
-    ensures { OnOk result (line.new.items ≡ line.old.items ++ zero_filled 3 (digits 16 true id)) }
+/// The identifier, `#` and the bytes, where there is room.
+fn add_frame(text: &mut Vec<u8>, frame: &Frame)
+    requires { vec_len text.old + 20 ≤ vec_capacity text.old }
+    ensures items { text.new.items ≡ text.old.items ++ frame_text frame.now }
+    ensures len { vec_len text.new ≤ vec_len text.old + 20 }
+    ensures capacity { vec_capacity text.old ≤ vec_capacity text.new }
+{
+    add(text, &identifier(frame.id));
+    add(text, b"#");
+    add_hex(text, frame.bytes.as_slice());
+}
+
+/// The three digits of an identifier.
+fn identifier(id: CanId) -> [u8; 3]
+    ensures { result ≡ zero_filled 3 (digits 16 true id) }
 {
     let number = id.get();
-    line.extend_from_slice(&[
+    [
         upper_digit((number / 256) as u8),
         upper_digit((number / 16 % 16) as u8),
         upper_digit((number % 16) as u8),
-    ])
+    ]
 }

@@ -94,6 +94,19 @@ fn digits_of(least: usize, most: usize, text: &[u8]) -> Option<(&[u8], &[u8])>
     }
 }
 
+/// The number that at most 12 digits write.
+fn short_value(digits: &[u8]) -> u64
+    requires digits { AllPass is_digit digits.now }
+    requires few { length digits.now ≤ 12 }
+    ensures { result ≡ decimal_value digits.now }
+{
+    let mut value: u64 = 0;
+    for c in digits {
+        value = value * 10 + u64::from(*c - b'0');
+    }
+    value
+}
+
 /// The moment of a stamp in milliseconds.
 fn moment_of(seconds: &[u8], fraction: &[u8]) -> u64
     requires seconds { AllPass is_digit seconds.now }
@@ -102,7 +115,7 @@ fn moment_of(seconds: &[u8], fraction: &[u8]) -> u64
     requires enough { 6 ≤ length fraction.now }
     ensures { result ≡ moment_of seconds.now fraction.now }
 {
-    decimal_value(seconds) * 1000 + decimal_value(&fraction[..3])
+    short_value(seconds) * 1000 + short_value(&fraction[..3])
 }
 
 /// The moment of the stamp at the front, and what stands behind the stamp.

@@ -1,6 +1,6 @@
 //! Upper-case hex, appended to a text. (The library `hex` makes a text of its own of each call.)
 
-ghost use Rattle.std.specs.Prelude.{◌≡◌, ◌<◌, ◌++◌, OnOk, OnErr, slice_index};
+ghost use Rattle.std.specs.Prelude.{◌≡◌, ◌<◌, ◌≤◌, ◌+◌, ◌*◌, ◌++◌, length, OnOk, OnErr, slice_index, vec_len, vec_capacity};
 ghost use Rattle.hex.specs.Hex.{encode_upper, upper_digits};
 
 use std::alloc::AllocError;
@@ -24,9 +24,19 @@ pub fn write_hex(text: &mut Vec<u8>, bytes: &[u8]) -> Result<(), AllocError>
     ensures err { OnErr result (text.new.items ≡ text.old.items) }
 {
     text.reserve(2 * bytes.len())?;
+    add_hex(text, bytes);
+    Ok(())
+}
+
+/// Appends bytes in upper-case hex, where there is room for them.
+pub(crate) fn add_hex(text: &mut Vec<u8>, bytes: &[u8])
+    requires { vec_len text.old + 2 * length bytes.now ≤ vec_capacity text.old }
+    ensures items { text.new.items ≡ text.old.items ++ encode_upper bytes.now }
+    ensures len { vec_len text.new ≡ vec_len text.old + 2 * length bytes.now }
+    ensures capacity { vec_capacity text.new ≡ vec_capacity text.old }
+{
     for byte in bytes {
         text.push_reserved(upper_digit(*byte / 16));
         text.push_reserved(upper_digit(*byte % 16));
     }
-    Ok(())
 }
