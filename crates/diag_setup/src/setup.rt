@@ -2,7 +2,7 @@
 
 ghost use Rattle.std.specs.Prelude.{IsTrue, ◌≡◌, ◌≤◌, ◌-◌, length, Some, slice_get};
 ghost use Rattle.std.specs.List.{All};
-ghost use Rattle.diag_setup.specs.Setup.{checked, did_id, dtc_code, routine_id, level_sub, who_at, name_of, ids_of, link_of, values_of};
+ghost use Rattle.diag_setup.specs.Setup.{IsSetup, checked, did_id, dtc_code, routine_id, level_sub, who_at, name_of, ids_of, link_of, values_of};
 ghost use Rattle.diag_setup.specs.Rows.{is_rising};
 ghost use Rattle.diag_setup.specs.Fits.{TesterFits, DidFits, CodeFits, RoutineFits, LevelFits, NumbersFit};
 
@@ -158,6 +158,7 @@ impl Setup {
     pub fn numbers(&self) -> &RawSetup
         ensures same { result.now ≡ self.now }
         ensures fits { NumbersFit self.now }
+        ensures checked { IsSetup self.now }
     {
         &self.raw
     }

@@ -10,31 +10,18 @@ use Rattle.diag_tp.specs.declared.sent.Sent.{Sent}
 use Rattle.diag_tp.specs.State.{LinkState, LinkView, due}
 use Rattle.diag_tp.specs.Wire.{Placed, wire}
 use Rattle.diag_tp.specs.Sender.{SenderState, sender_event, sender_ticks, replied, frame_count, current_left}
-use Rattle.diag_tp.specs.Link.{StandsFor, EachHistory, pending, unsent, waiting_count, has_room, has_reply_room, needed}
+use Rattle.diag_tp.specs.Link.{StandsFor, EachHistory, pending, unsent, waiting_count, has_room, has_reply_room, KeepsRoom, KeepsReplyRoom, needed}
 use Rattle.diag_tp.proofs.Lists.{length-zero}
 use Rattle.diag_tp.proofs.Numbers.{total, IsWithin, event-within, sender-ticks-within, replied-numbers}
 use Rattle.diag_tp.proofs.History.{stands_all, stands_length, stands_next}
 
-both : (p q : Bool) → IsTrue (p && q) → IsTrue p × IsTrue q
-both true true h = (refl, refl)
-both true false h = cc
-both false true h = cc
-both false false h = cc
-
-pub room-parts : (v : LinkView) (x : Event) → IsTrue (has_room v x) → (needed v.state.setup x ≤ v.room) × (0 < v.reply_room)
+pub room : (v : LinkView) (x : Event) → IsTrue (has_room v x) → needed v.state.setup x ≤ v.room
 unfolding has_room
-room-parts v x h =
-    let parts = both (nat_le (needed v.state.setup x) v.room) (nat_lt 0 v.reply_room) h in
-    let first : nat_le (needed v.state.setup x) v.room ≡ true = parts.0 in
-    let second : nat_lt 0 v.reply_room ≡ true = parts.1 in
-    (grind (arith, nat_tests), grind (arith, nat_tests))
+room v x h = let t : nat_le (needed v.state.setup x) v.room ≡ true = h in grind (arith, nat_tests)
 
-pub room-made : (v : LinkView) (x : Event) → needed v.state.setup x ≤ v.room → 0 < v.reply_room → IsTrue (has_room v x)
+pub room-made : (v : LinkView) (x : Event) → needed v.state.setup x ≤ v.room → IsTrue (has_room v x)
 unfolding has_room
-room-made v x h k =
-    let first : nat_le (needed v.state.setup x) v.room ≡ true = grind (arith, nat_tests) in
-    let second : nat_lt 0 v.reply_room ≡ true = grind (arith, nat_tests) in
-    rw (first, second) refl
+room-made v x h = let t : nat_le (needed v.state.setup x) v.room ≡ true = grind (arith, nat_tests) in t
 
 pub reply-room : (v : LinkView) → IsTrue (has_reply_room v) → 0 < v.reply_room
 unfolding has_reply_room
@@ -43,6 +30,16 @@ reply-room v h = let t : nat_lt 0 v.reply_room ≡ true = h in grind (arith, nat
 pub reply-room-made : (v : LinkView) → 0 < v.reply_room → IsTrue (has_reply_room v)
 unfolding has_reply_room
 reply-room-made v h = let t : nat_lt 0 v.reply_room ≡ true = grind (arith, nat_tests) in t
+
+-- at the same settings no room is lost where it doesn't get less
+pub keeps-room : (old new : LinkView) → new.state.setup ≡ old.state.setup → old.room ≤ new.room → KeepsRoom old new
+keeps-room old new same more x h =
+    let had = room old x h in
+    let needs = ap (λ s. needed s x) same in
+    room-made new x (omega arith)
+
+pub keeps-reply-room : (old new : LinkView) → old.reply_room ≤ new.reply_room → KeepsReplyRoom old new
+keeps-reply-room old new more h = let had = reply-room old h in reply-room-made new (omega arith)
 
 -- what is due, the rest of the current message and the replies that wait
 pub unsent-total : (link : LinkState) → unsent link ≡ length (option_to_list link.grant) + total link.setup link.sender

@@ -59,6 +59,8 @@ impl Link {
         ensures same { self.new.state ≡ self.old.state }
         ensures room { OnOk result ((needed self.new.state.setup event.now ≤ self.new.room)
             × (0 < self.new.reply_room)) }
+        ensures kept { self.old.room ≤ self.new.room }
+        ensures reply_kept { self.old.reply_room ≤ self.new.reply_room }
     {
         let kind = match event {
             Event::Physical(bytes) => self.kind(bytes),
@@ -253,6 +255,7 @@ impl Link {
         ensures sender { self.new.state.sender
             ≡ sender_ticks self.old.state.setup count
             self.old.state.sender.current self.old.state.sender.waiting }
+        ensures room { self.new.room ≡ self.old.room }
         ensures reply_room { self.new.reply_room ≡ self.old.reply_room }
         ensures setup { self.new.state.setup ≡ self.old.state.setup }
         ensures now { self.new.state.now ≡ min (self.old.state.now + count) last_tick }

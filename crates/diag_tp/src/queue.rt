@@ -63,6 +63,7 @@ impl Runs {
     /// Makes room for one more reply.
     fn make_room(&mut self) -> Result<(), AllocError>
         ensures ok { OnOk result (0 < self.new.room) }
+        ensures kept { self.old.room ≤ self.new.room }
         ensures before { self.new.before ≡ self.old.before }
         ensures last { self.new.last ≡ self.old.last }
     {
@@ -182,6 +183,7 @@ impl Queue {
     /// Makes room for one more reply. Refused where memory is, and where the queue is full.
     pub(crate) fn make_room(&mut self) -> Result<(), AllocError>
         ensures ok { OnOk result (0 < self.new.room) }
+        ensures kept { self.old.room ≤ self.new.room }
         ensures same { self.new.replies ≡ self.old.replies }
     {
         if self.replies.len() >= MOST_WAITING {

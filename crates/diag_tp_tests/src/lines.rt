@@ -275,6 +275,28 @@ fn stamp_limits(rt: HostRuntime) -> Result<(), Fail> {
     Ok(())
 }
 
+/// The faults of a log, and how each is told.
+const FAULT_TEXTS: [(LogFault, &str); 6] = [
+    (LogFault::Line(2, LineFault::BadLine), "line 2: bad line"),
+    (LogFault::Line(40, LineFault::BadTick), "line 40: bad tick"),
+    (
+        LogFault::Line(1_000_000, LineFault::TooManyBytes),
+        "line 1000000: too many bytes",
+    ),
+    (LogFault::TooManyLines, "too many lines"),
+    (LogFault::TooManyEvents, "too many events"),
+    (LogFault::Memory, "memory"),
+];
+
+#[test]
+fn log_faults_are_told(rt: HostRuntime) -> Result<(), Fail> {
+    for (fault, wanted) in &FAULT_TEXTS {
+        let text = format!(in rt.alloc(); "{fault}")?;
+        assert!(rt; text.as_str() == *wanted, "{fault:?}");
+    }
+    Ok(())
+}
+
 #[test]
 fn million_lines(rt: HostRuntime) -> Result<(), Fail> {
     let ids = ids().ok_or("identifiers")?;

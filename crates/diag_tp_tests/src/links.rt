@@ -12,6 +12,7 @@ mod moments;
 mod pair;
 mod random;
 mod receptions;
+mod rooms;
 mod script;
 mod trouble;
 mod twin;

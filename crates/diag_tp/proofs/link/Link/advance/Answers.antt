@@ -7,7 +7,7 @@ use Rattle.diag_tp.specs.Link.{pending, last_tick}
 use Rattle.diag_tp.proofs.Lists.{length-zero}
 use Rattle.diag_tp.proofs.History.{drained-parts}
 use Rattle.diag_tp.proofs.Silence.{stands_ticks, silent}
-use Rattle.diag_tp.proofs.Views.{ticks-numbers, reply-room, reply-room-made}
+use Rattle.diag_tp.proofs.Views.{ticks-numbers, keeps-room, keeps-reply-room}
 use Rattle.diag_tp.proofs.link.Link.advance.Goals as goal
 
 pub pass-requires : goal.pass-requires
@@ -33,7 +33,8 @@ returns c =
     record {
       stands = λ s E A Q h. stands_ticks s old new E A Q n (omega arith) c.requires.quiet none grant sender partial done.setup now h;
       silent = λ h. silent old.setup n old new (omega arith) none h grant sender;
-      reply_room = λ h. reply-room-made c.pass.new.self (rw done.reply_room (reply-room c.args.self.now h));
+      room = keeps-room c.args.self.now c.pass.new.self done.setup (let same = done.room in omega arith);
+      reply_room = keeps-reply-room c.args.self.now c.pass.new.self (let same = done.reply_room in omega arith);
       unsent = let fewer = numbers.frames in omega arith;
       due = numbers.now;
       waiting = numbers.replies;

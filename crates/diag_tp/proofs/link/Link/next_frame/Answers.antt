@@ -1,5 +1,5 @@
 use Rattle.std.proofs.Common.{arith}
-use Rattle.diag_tp.proofs.Views.{all_none, none_pending, handed, handed-fewer, room-parts, room-made, reply-room, reply-room-made, waiting-same}
+use Rattle.diag_tp.proofs.Views.{all_none, none_pending, handed, handed-fewer, keeps-room, keeps-reply-room, waiting-same}
 use Rattle.diag_tp.proofs.link.Link.next_frame.Goals as goal
 
 pub returns : goal.returns
@@ -15,11 +15,8 @@ returns c =
       all = λ s E A Q h. all_none s old E A Q c.next_due.result done.none.0 done.none.1 h;
       same = done.same;
       waiting = waiting-same old new done.waiting;
-      room = λ event h.
-          let room = room-parts view event h in
-          let reply = done.reply_room in
-          room-made c.next_due.new.self event (rw (done.setup, done.room) room.0) (let some = room.1 in omega arith);
-      reply_room = λ h. let some = reply-room view h in let reply = done.reply_room in reply-room-made c.next_due.new.self (omega arith);
+      room = keeps-room view c.next_due.new.self done.setup (let same = done.room in omega arith);
+      reply_room = keeps-reply-room view c.next_due.new.self done.reply_room;
       time = done.now;
       setup = done.setup;
     }
