@@ -1,5 +1,5 @@
 -- What single services and ticks do, told by the tables.
-use Rattle.std.proofs.Common.{◌≡◌, append_assoc, add-one, ℕ, zero, suc, ◌+◌, ◌<◌, true, false, not, cond, List, [], ◌∷◌, ◌++◌, length, drop, Option, Some, None, is_none, refl, ap, arith, slice_get, bit_and, ◌==◌, if◌then◌else◌}
+use Rattle.std.proofs.Common.{◌≡◌, append_assoc, add-one, ℕ, zero, suc, ◌+◌, true, false, not, cond, List, [], ◌∷◌, ◌++◌, drop, Option, Some, None, is_none, refl, ap, slice_get, bit_and, ◌==◌, if◌then◌else◌}
 use Rattle.std.specs.Prelude.{flat_map, option_map}
 use Rattle.diag_store.specs.Routines as routines
 use Rattle.diag_store.specs.Security as security
@@ -60,12 +60,6 @@ report_next availability (row ∷ rows) zero code status e =
     let same_status : row.status ≡ status = ap (λ (p : ℕ × ℕ). p.1) pair in
     rw (← same_code, ← same_status) refl
 report_next availability (row ∷ rows) (suc i) code status e = report_next availability rows i code status e
-
--- a code that isn't there
-pub no_code : (rows : List Dtc) (i : ℕ) → i < length rows → option_map row_pair (slice_get rows i) ≡ None → ⊥
-no_code [] i below e = omega arith
-no_code (row ∷ rows) zero below e = cc
-no_code (row ∷ rows) (suc i) below e = no_code rows i (omega arith) e
 
 pub counted_next : (availability mask : ℕ) (rows : List Dtc) (i code status : ℕ) → option_map row_pair (slice_get rows i) ≡ Some (code, status)
     → flat_map (report availability) (matching (drop i rows) mask) ≡ (if bit_and status mask == 0 then [] else bytes_24 code ++ bit_and status availability ∷ []) ++ flat_map (report availability) (matching (drop (suc i) rows) mask)

@@ -20,7 +20,7 @@ use Rattle.diag_ecu.specs.declared.service.Service.TheVariants.{DiagnosticSessio
 use Rattle.diag_ecu.specs.declared.service.Nrc.{Nrc}
 use Rattle.diag_ecu.specs.declared.service.Nrc.TheVariants.{ServiceNotSupported, SubFunctionNotSupported, IncorrectMessageLengthOrInvalidFormat, ResponseTooLong, BusyRepeatRequest, ConditionsNotCorrect, RequestSequenceError, RequestOutOfRange, SecurityAccessDenied, InvalidKey, ExceedNumberOfAttempts, RequiredTimeDelayNotExpired, ServiceNotSupportedInActiveSession}
 use Rattle.diag_ecu.specs.Bytes.{bytes_16, bytes_24, number_16, number_24, has_bit_7, without_bit_7}
-use Rattle.diag_ecu.specs.Service.{service_of, nrc_code, has_sub_function, needs_extended, shortest, is_silent}
+use Rattle.diag_ecu.specs.Service.{service_of, nrc_code, row, is_silent}
 use Rattle.diag_ecu.specs.State.{State, is_holder, is_held_by_another, is_open, relocked, session_ended, s3_filled}
 
 -- ---- the parts of a request
@@ -48,9 +48,15 @@ abbrev pub needs_no_other_holder : Service → List ℕ → Bool
 needs_no_other_holder EcuReset p = true
 needs_no_other_holder ClearDiagnosticInformation p = true
 needs_no_other_holder DiagnosticSessionControl p = sub p == 0x03
-needs_no_other_holder _ p = false
+needs_no_other_holder ReadDtcInformation p = false
+needs_no_other_holder ReadDataByIdentifier p = false
+needs_no_other_holder SecurityAccess p = false
+needs_no_other_holder WriteDataByIdentifier p = false
+needs_no_other_holder RoutineControl p = false
+needs_no_other_holder TesterPresent p = false
+needs_no_other_holder ControlDtcSetting p = false
 
--- whether the service has this sub-function
+-- whether the service has this sub-function; of one that has none, any
 abbrev pub is_sub_function : State → Service → ℕ → Bool
 is_sub_function s DiagnosticSessionControl n = (n == 0x01) || (n == 0x03)
 is_sub_function s EcuReset n = (n == 0x01) || (n == 0x02) || (n == 0x03)
@@ -60,7 +66,9 @@ is_sub_function s SecurityAccess n =
 is_sub_function s RoutineControl n = (n == 0x01) || (n == 0x02) || (n == 0x03)
 is_sub_function s TesterPresent n = n == 0x00
 is_sub_function s ControlDtcSetting n = (n == 0x01) || (n == 0x02)
-is_sub_function s _ n = true
+is_sub_function s ClearDiagnosticInformation n = true
+is_sub_function s ReadDataByIdentifier n = true
+is_sub_function s WriteDataByIdentifier n = true
 
 -- whether a request for a seed, and not a key, is meant
 abbrev pub is_seed_request : State → List ℕ → Bool
@@ -171,9 +179,9 @@ Check = Bool × Nrc
 -- the checks that every service has
 abbrev pub common_checks : State → ℕ → Service → List ℕ → List Check
 common_checks s who service p =
-    (needs_extended service && not (is_holder s who), ServiceNotSupportedInActiveSession)
+    ((row service).needs_extended && not (is_holder s who), ServiceNotSupportedInActiveSession)
     ∷ (is_held_by_another s who && needs_no_other_holder service p, BusyRepeatRequest)
-    ∷ (nat_lt (length p) (shortest service), IncorrectMessageLengthOrInvalidFormat)
+    ∷ (nat_lt (length p) (row service).shortest, IncorrectMessageLengthOrInvalidFormat)
     ∷ (not (is_sub_function s service (sub p)), SubFunctionNotSupported)
     ∷ (not (has_exact_length s service p), IncorrectMessageLengthOrInvalidFormat)
     ∷ []
@@ -260,7 +268,10 @@ own_checks s who SecurityAccess p = security_checks s who p
 own_checks s who WriteDataByIdentifier p = write_checks s who p
 own_checks s who RoutineControl p = routine_checks s who p
 own_checks s who ControlDtcSetting p = setting_checks p
-own_checks s who _ p = []
+own_checks s who DiagnosticSessionControl p = []
+own_checks s who EcuReset p = []
+own_checks s who ReadDtcInformation p = []
+own_checks s who TesterPresent p = []
 
 abbrev pub checks : State → ℕ → Service → List ℕ → List Check
 checks s who service p = common_checks s who service p ++ own_checks s who service p
@@ -295,7 +306,9 @@ effect s who WriteDataByIdentifier p =
     record s { dids = dids.with_value s.dids (number_16 p 1) (drop 3 p) }
 effect s who RoutineControl p = routine_effect s (number_16 p 2) (sub p)
 effect s who ControlDtcSetting p = record s { status_update = sub p == 0x01 }
-effect s who _ p = s
+effect s who ReadDtcInformation p = s
+effect s who ReadDataByIdentifier p = s
+effect s who TesterPresent p = s
 
 -- a refused request changes nothing, but for a wrong key
 abbrev pub refused : State → ℕ → Nrc → State
@@ -328,7 +341,7 @@ served s who (Some service) p = outcome_of s who service p (first_holding (check
 -- whether the request asks that no positive reply be sent
 abbrev pub is_suppressed : Option Service → List ℕ → Bool
 is_suppressed None p = false
-is_suppressed (Some service) p = has_sub_function service && has_bit_7 (slice_index p 1)
+is_suppressed (Some service) p = (row service).has_sub_function && has_bit_7 (slice_index p 1)
 
 -- what is sent where a negative response code is the answer: not each of them on a functional request
 abbrev pub sent_negative : Bool → ℕ → Nrc → Option (List ℕ)
@@ -354,9 +367,6 @@ after_request s who functional p = kept_alive (outcome s who p).state who
 -- the reply that is sent, or none
 abbrev pub reply : State → ℕ → Bool → List ℕ → Option (List ℕ)
 reply s who functional p = sent functional p (outcome s who p).answer
-
-abbrev pub respond : State → ℕ → Bool → List ℕ → State × Option (List ℕ)
-respond s who functional p = (after_request s who functional p, reply s who functional p)
 
 -- the negative response code of what security access is answered, told by the table of levels
 abbrev pub seed_refusal : SeedAnswer → Option Nrc

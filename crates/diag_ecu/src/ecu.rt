@@ -330,7 +330,7 @@ fn is_suppressed(service: Service, p: &[u8]) -> bool
     ensures { result ≡ is_suppressed (Some service) p.now }
 {
     match p {
-        [_, second, ..] => service.has_sub_function() && *second >= 128,
+        [_, second, ..] => service.row().has_sub_function && *second >= 128,
         _ => false,
     }
 }

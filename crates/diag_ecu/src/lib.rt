@@ -14,5 +14,5 @@ mod trouble_codes;
 mod write_data;
 
 pub use ecu::Ecu;
-pub use service::{Nrc, Service};
+pub use service::{Nrc, Service, ServiceRow};
 pub use session::Session;
