@@ -114,12 +114,6 @@ pub request-text : (functional : Bool) (m : List ℕ) (r : Option (List ℕ)) (m
 request-text true m r message reply body a b e = ap (λ l. 32 ∷ 70 ∷ 32 ∷ l) ((λ i. a i ++ (32 ∷ b i)) ∙ sym e)
 request-text false m r message reply body a b e = ap (λ l. 32 ∷ 80 ∷ 32 ∷ l) ((λ i. a i ++ (32 ∷ b i)) ∙ sym e)
 
--- the body of ticks
-pub ticks-body : (body : List ℕ) (s : Step) (r : Option (List ℕ)) → IsStep s r → HasBody kind.Ticks s r body → (n : ℕ) × (1 ≤ n) × (n ≤ 60000) × (decimal n ≡ body)
-ticks-body body (Request true m) r h e = absurd (apart _ _ e refl)
-ticks-body body (Request false m) r h e = absurd (apart _ _ e refl)
-ticks-body body (Ticks n) r h e = (n, h.0, h.1, ap (drop 3) e)
-
 -- each step's text has a kind and a body
 pub has_body : (s : Step) (r : Option (List ℕ)) → (k : Kind) × (body : List ℕ) × HasBody k s r body
 has_body (Request true m) r = (kind.Functional, encode_upper m ++ (32 ∷ reply_text r), refl)

@@ -93,10 +93,6 @@ text_more stamped es e text rest line more t r l =
     let whole : text_of stamped (es ++ e ∷ []) ≡ text_of stamped es ++ ended line = text_one stamped es e ∙ ap (λ x. text_of stamped es ++ ended x) l in
     t ∙ ap (λ x. text_of stamped es ++ x) (r ∙ sym (append_assoc line (10 ∷ []) more)) ∙ sym (append_assoc (text_of stamped es) (ended line) more) ∙ ap (λ x. x ++ more) (sym whole)
 
--- the text of no entries
-pub text_none : (stamped : Bool) → ended (header stamped) ≡ text_of stamped []
-text_none stamped = sym (append-nil (ended (header stamped)))
-
 -- the text written so far, one line later
 pub written_more : (stamped : Bool) (all : List Entry) (i : ℕ) (e : Entry) (text next : List ℕ) (clock : ℕ) → slice_get all i ≡ Some e → text ≡ text_of stamped (take i all)
     → clock ≡ ticks_of e.who (take i all) + ticks_in e.step → next ≡ text ++ ended (stamped_line stamped clock (entry_line e)) → next ≡ text_of stamped (take (i + 1) all)
@@ -212,11 +208,6 @@ stuck_at_line r rest line more h some cuts none = record {
   no_line = λ e after k short is.
       none e k short (one_cut 10 rest _ _ _ _ (ap (cut 10) is ∙ cut-there 10 (line_after r.stamped r.entries e) after (after_free r.stamped r.entries e h.0 h.1 k)) cuts).0;
 }
-
--- the whole text
-pub text_whole : (stamped : Bool) (es : List Entry) (text rest : List ℕ) → text ≡ text_of stamped es ++ rest → rest ≡ [] → IsTextOf text es
-text_whole true es text rest t e = inr (t ∙ ap (λ l. text_of true es ++ l) e ∙ append-nil (text_of true es))
-text_whole false es text rest t e = inl (t ∙ ap (λ l. text_of false es ++ l) e ∙ append-nil (text_of false es))
 
 abbrev number_of : JournalFault → ℕ
 number_of (Line n) = n

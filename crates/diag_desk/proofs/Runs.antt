@@ -1,5 +1,5 @@
 -- Legal runs, one entry longer or shorter.
-use Rattle.std.proofs.Common.{◌≡◌, ℕ, List, [], ◌∷◌, ◌++◌, length, refl, sym, ap, ◌∙◌, subst, arith, ◌+◌, ◌-◌, ◌≤◌, Some, take, slice_get}
+use Rattle.std.proofs.Common.{◌≡◌, ℕ, List, [], ◌∷◌, ◌++◌, length, refl, sym, ap, ◌∙◌, subst, arith, ◌+◌, ◌-◌, ◌≤◌, Some, None, take, slice_get}
 use Rattle.std.proofs.Common.{zero, suc}
 use Rattle.std.specs.Prelude.{Result, Ok, Err, IfErr}
 use Rattle.std.proofs.lemmas.List.{take_more}
@@ -10,8 +10,18 @@ use Rattle.diag_desk.specs.Replay.{AreTesters, DiffersAt, IsRun}
 use Rattle.diag_desk.specs.declared.replaying.ReplayFault.{ReplayFault}
 use Rattle.diag_desk.specs.declared.replaying.ReplayFault.TheVariants.{Differs, Memory}
 use Rattle.diag_ecu.specs.State.{State}
-use Rattle.diag_desk.specs.Legal.{Legal, after, after_step, reply_to, legal_prefix_law}
+use Rattle.diag_setup.specs.Setup.{IsSetup}
+use Rattle.diag_desk.specs.Legal.{IsOpening, Legal, after, after_step, reply_to, legal_prefix_law}
 use Rattle.diag_desk.specs.declared.entry.Entry.{Entry}
+
+pub opens : (setup : RawSetup) (s : State) → IsSetup setup → s ≡ opening setup → IsOpening s
+unfolding IsOpening
+opens setup s checked is = (setup, checked, is)
+
+-- nothing is unlocked in an opening
+pub opens_locked : (s : State) → IsOpening s → s.security.unlocked ≡ None
+unfolding IsOpening
+opens_locked s h = ap (λ (s : State). s.security.unlocked) h.2
 
 pub legal_more : (s : State) (es : List Entry) (e : Entry) → Legal s es → e.reply ≡ reply_to (after s es) e.who e.step → Legal s (es ++ e ∷ [])
 legal_more s [] e h r = (r, tt)

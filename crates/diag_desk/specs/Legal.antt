@@ -4,7 +4,9 @@ use Rattle.diag_tp.specs.declared.step.Step.{Step}
 use Rattle.diag_tp.specs.declared.step.Step.TheVariants.{Request, Ticks}
 use Rattle.diag_desk.specs.declared.entry.Entry.{Entry}
 use Rattle.diag_desk.specs.Entries.{BeginsWith}
-use Rattle.diag_ecu.specs.State.{State}
+use Rattle.diag_setup.specs.declared.raw.RawSetup.{RawSetup}
+use Rattle.diag_setup.specs.Setup.{IsSetup}
+use Rattle.diag_ecu.specs.State.{State, opening}
 use Rattle.diag_ecu.specs.Elapse.{elapse}
 use Rattle.diag_ecu.specs.Respond as ecu
 
@@ -32,6 +34,10 @@ abbrev pub Legal : State → List Entry → Type 0
 Legal s [] = Unit {0}
 Legal s (e ∷ entries) =
     (e.reply ≡ reply_to s e.who e.step) × Legal (after_step s e.who e.step) entries
+
+-- the state is the one that some checked setup opens with
+unfoldable pub IsOpening : State → Type 0
+IsOpening s = (setup : RawSetup) × IsSetup setup × (s ≡ opening setup)
 
 -- a desk: the state that it was opened with, and its journal
 pub record Run : Type 0 where

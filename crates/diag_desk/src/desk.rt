@@ -3,7 +3,7 @@ ghost use Rattle.std.specs.Prelude.{◌≡◌, ◌<◌, ◌≤◌, ◌↔◌, []
 ghost use Rattle.diag_ecu.specs.State.{opening};
 ghost use Rattle.diag_desk.specs.Entries.{entry};
 ghost use Rattle.diag_desk.specs.Entry.{IsJournal};
-ghost use Rattle.diag_desk.specs.Legal.{Legal, after, after_step, reply_to, entered, is_ticks};
+ghost use Rattle.diag_desk.specs.Legal.{IsOpening, Legal, after, after_step, reply_to, entered, is_ticks};
 
 use crate::journal::Journal;
 use diag_ecu::Ecu;
@@ -36,7 +36,8 @@ impl From<AllocError> for StepFault {
 
 /// The ECU with its journal, and a copy of the ECU as it was opened.
 ///
-/// The journal is a legal run of the sequential server from that opening, and the ECU is what the run makes of it.
+/// The opening is that of a checked setup, the journal is a legal run of the sequential server from it, and the ECU is
+/// what the run makes of it.
 #[derive(Drop)]
 pub struct Desk {
     opening: Ecu,
@@ -47,7 +48,7 @@ pub struct Desk {
 impl Model for Desk {
     ghost use Rattle.std.specs.Prelude.{◌≡◌};
     ghost use Rattle.diag_desk.specs.Entry.{IsJournal};
-    ghost use Rattle.diag_desk.specs.Legal.{Run, Legal, after};
+    ghost use Rattle.diag_desk.specs.Legal.{IsOpening, Run, Legal, after};
 
     ghost Value = { Run };
 
@@ -55,16 +56,20 @@ impl Model for Desk {
 
     ghost invariant = { λ d. Legal d.opening d.journal.entries
         × (d.ecu ≡ after d.opening d.journal.entries)
-        × IsJournal d.journal.entries };
+        × IsJournal d.journal.entries
+        × IsOpening d.opening };
 }
 
 impl Desk {
     /// The desk of a setup, with no entry.
+    #[tactic(auto, using(crate::proofs::Runs::opens))]
     pub fn new(alloc: Global, setup: &Setup) -> Result<Desk, AllocError>
         ensures { IfOk result (λ desk.
             desk ≡ record { opening = opening setup.now; journal = [] }) }
     {
         let ecu = Ecu::new(alloc, setup)?;
+        // (for its contract: a setup is a checked one)
+        let _numbers = setup.numbers();
         Ok(Desk {
             opening: ecu.try_copy()?,
             ecu,
@@ -74,6 +79,7 @@ impl Desk {
 
     /// The desk of a run that was made elsewhere: the ECU as it was opened, what the run has made of it, and the journal.
     pub fn of(opening: Ecu, ecu: Ecu, journal: Journal) -> Desk
+        requires opened { IsOpening opening }
         requires legal { Legal opening journal.entries }
         requires ecu { ecu ≡ after opening journal.entries }
         ensures { result ≡ record { opening = opening; journal = journal.entries } }
@@ -87,9 +93,13 @@ impl Desk {
         }
     }
 
-    /// The entries so far, which are a legal run from the desk's opening.
+    /// The entries so far, which are a legal run from the desk's opening, that of a checked setup, in which nothing is
+    /// unlocked.
+    #[tactic(auto, using(crate::proofs::Runs::opens_locked))]
     pub fn journal(&self) -> &Journal
         ensures list { result.now.entries ≡ self.now.journal }
+        ensures opened { IsOpening self.now.opening }
+        ensures locked { self.now.opening.security.unlocked ≡ None }
         ensures legal { Legal self.now.opening self.now.journal }
         ensures journal { IsJournal self.now.journal }
         ensures limit { length self.now.journal ≤ 1000000 }

@@ -1,5 +1,5 @@
 -- Beginnings of a journal, the entries of one tester, and lists read by `get_elem?`.
-use Rattle.std.proofs.Common.{◌≡◌, ◌≢◌, ◌⊎◌, inl, inr, ℕ, zero, suc, ◌+◌, ◌≤◌, ◌<◌, eqb, leb, Bool, true, false, cond, List, [], ◌∷◌, ◌++◌, length, get_or, set, refl, sym, ap, ◌∙◌, arith, append_assoc, append-nil, eq-eqb, ne_eqb, Some, None}
+use Rattle.std.proofs.Common.{◌≡◌, ◌⊎◌, inl, inr, ℕ, zero, suc, ◌+◌, ◌≤◌, ◌<◌, eqb, leb, Bool, true, false, cond, List, [], ◌∷◌, ◌++◌, length, get_or, set, refl, sym, ap, ◌∙◌, arith, append_assoc, append-nil, eq-eqb, Some, None}
 use mathlib.Core.Option.{some, some-ne-none}
 use lib.ListN.{get_elem?}
 use Rattle.diag_desk.specs.Entries.{BeginsWith}
@@ -53,9 +53,6 @@ put_first false e xs ys = refl
 pub own-append : (t : ℕ) (xs ys : List Entry) → owned t (xs ++ ys) ≡ owned t xs ++ owned t ys
 own-append t [] ys = refl
 own-append t (x ∷ xs) ys = ap (λ l. cond (eqb x.who t) (x ∷ l) l) (own-append t xs ys) ∙ put_first (eqb x.who t) x (owned t xs) (owned t ys)
-
-pub own_other : (t : ℕ) (e : Entry) → e.who ≢ t → owned t (e ∷ []) ≡ []
-own_other t e n = ap (λ b. cond b (e ∷ []) []) (ne_eqb e.who t n)
 
 pub own_same : (t : ℕ) (e : Entry) → e.who ≡ t → owned t (e ∷ []) ≡ e ∷ []
 own_same t e is = ap (λ b. cond b (e ∷ []) []) (eq-eqb e.who t is)

@@ -118,6 +118,13 @@ module _ (who : ℕ) (me me2 : Sat) (d d2 : Run) (z z2 : TableId) (is : IsHeld w
         entries = ap (owned who) (sym seen_is) ∙ own_is ∙ sym (ap (λ (s : SeatView). s.own) n_is);
       }
 
+  -- the step comes behind what the seat has seen
+  pub behind_is : (step : Step) (result : Result (Option (List ℕ)) StepFault) → IfOk result (λ r. d2 ≡ entered d (entry who step r)) → IfOk result (λ r. me2.0.seen ≡ me.0.seen ++ entry who step r ∷ [])
+  behind_is step (Ok r) more =
+      ap (λ (v : View). v.seen) after
+      ∙ (ap (λ (r : Run). r.journal) more ∙ ap (λ (d : Run). d.journal ++ entry who step r ∷ []) is.desk)
+  behind_is step (Err e) more = tt
+
   pub same_is : d2 ≡ d → seat_as z2 who me2 ≡ seat_as z who me
   same_is none =
       let journal_is : d2.journal ≡ me.0.seen = ap (λ (r : Run). r.journal) (none ∙ is.desk) in

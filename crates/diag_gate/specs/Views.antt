@@ -1,14 +1,21 @@
 -- Views, as plain data: the host's, a seat's, and how one becomes another.
-use Rattle.std.specs.Prelude.{ℕ, zero, suc, ◌+◌, ◌==◌, nat_le, Bool, true, false, if◌then◌else◌, List, [], ◌∷◌, length, slice_index_or, slice_set, Option, Some, None}
+use Rattle.std.specs.Prelude.{ℕ, zero, suc, ◌+◌, ◌==◌, nat_le, Bool, true, false, if◌then◌else◌, List, [], ◌∷◌, ◌++◌, length, slice_index_or, slice_set, Option, Some, None}
 use Rattle.diag_ecu.specs.State.{State, blank}
-use Rattle.diag_desk.specs.Entries.{own}
-use Rattle.diag_desk.specs.Legal.{Legal, Run}
+use Rattle.diag_tp.specs.declared.step.Step.{Step}
+use Rattle.diag_desk.specs.Entries.{entry, own}
+use Rattle.diag_desk.specs.Legal.{IsOpening, Legal, Run}
 use Rattle.diag_desk.specs.declared.entry.Entry.{Entry}
 use Rattle.diag_gate.specs.declared.view.View.{View}
 
 -- the journal is a legal run from the opening
 abbrev pub IsLegal : Run → Type 0
 IsLegal r = Legal r.opening r.journal
+
+-- the reply is what the server answers behind some legal journal, from the opening of some checked setup
+pub record IsLawful (who : ℕ) (step : Step) (reply : Option (List ℕ)) : Type 0 where
+  pub desk : Run
+  pub opened : IsOpening desk.opening
+  pub legal : Legal desk.opening (desk.journal ++ entry who step reply ∷ [])
 
 -- the own list of a tester, if the view has that tester: a seat has its own, the host those that are with it
 abbrev pub own_if : Bool → ℕ → List Entry → List (Option (List Entry)) → ℕ → Option (List Entry)

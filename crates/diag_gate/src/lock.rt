@@ -2,7 +2,7 @@
 ghost use Rattle.std.specs.Prelude.{◌≡◌, ◌++◌, ◌∷◌, [], length, None, Err, IfOk, MatchResult};
 ghost use Rattle.diag_desk.specs.Entry.{HasNoReply};
 ghost use Rattle.diag_desk.specs.Entries.{entry};
-ghost use Rattle.diag_desk.specs.Legal.{Run, Legal};
+ghost use Rattle.diag_gate.specs.Views.{IsLawful};
 
 use crate::door::Door;
 use diag_desk::{Desk, Journal, Step, StepFault};
@@ -50,10 +50,9 @@ impl<'a, R: Wait> Door for LockDoor<'a, R> {
     }
 
     /// Its own journal has room before it locks, and a full one is looked at first. The answer is the desk's, so that
-    /// it is lawful behind some legal journal; which desk gave it, the contract doesn't say.
+    /// it is lawful behind some legal journal of some setup; which desk gave it, the contract doesn't say.
     fn step(&mut self, step: &Step) -> Result<Option<Message>, StepFault>
-        ensures lawful { IfOk result (λ reply. (desk : Run)
-            × Legal desk.opening (desk.journal ++ entry self.old.who step.now reply ∷ [])) }
+        ensures lawful { IfOk result (λ reply. IsLawful self.old.who step.now reply) }
         ensures full { length self.old.given.entries ≡ 1000000
             → result ≡ Err StepFault.JournalFull }
         ensures given { MatchResult result
@@ -81,12 +80,11 @@ impl<'a, R: Wait> Door for LockDoor<'a, R> {
 
 /// A desk's step, whose reply is lawful behind the desk's journal.
 fn lawful_step(desk: &mut Desk, who: Who, step: &Step) -> Result<Option<Message>, StepFault>
-    ensures lawful { IfOk result (λ reply.
-        (desk : Run) × Legal desk.opening (desk.journal ++ entry who step.now reply ∷ [])) }
+    ensures lawful { IfOk result (λ reply. IsLawful who step.now reply) }
     ensures quiet { IfOk result (λ reply. HasNoReply step.now reply) }
 {
     let reply = desk.step(who, step)?;
-    // (for its contract: a desk's journal is legal)
+    // (for its contract: a desk's journal is legal, from the opening of a checked setup)
     let _journal = desk.journal();
     Ok(reply)
 }

@@ -27,6 +27,7 @@ use Rattle.diag_gate.specs.Seats.{SeatView, HostView, of_host, new_host, AllHome
 use Rattle.diag_workers.specs.declared.working.WorkerRecord.{WorkerRecord}
 use Rattle.diag_workers.specs.Crew.{AllWorked}
 use Rattle.diag_workers.specs.Seating.{Out, Back}
+use Rattle.diag_workers.proofs.Recording.{asks_of}
 
 -- ---- seats of one gate, of testers in order
 
@@ -137,7 +138,7 @@ module _ {D : Type 0} (seat : D → SeatView) (links : ℕ → LinkSetup) (z : T
       let rest = entries_at (n + 1) (records rs) t in
       let rest_log = log_at (n + 1) logs t in
       let entries = r.0.entries.entries in dite (ℕ_discrete n t)
-      (λ is. ap asked (here_reads n t (List Entry) entries rest is) ∙ (all.0.asked ∙ (ap (λ (m : ℕ). steps (links m) log) (f.1 ∙ is) ∙ ap (steps (links t)) (sym (here_reads n t (List Event) log rest_log is)))))
+      (λ is. ap asked (here_reads n t (List Entry) entries rest is) ∙ (asks_of (seat door).who entries (steps (links (seat door).who) log) all.0.asked ∙ (ap (λ (m : ℕ). steps (links m) log) (f.1 ∙ is) ∙ ap (steps (links t)) (sym (here_reads n t (List Event) log rest_log is)))))
       (λ not. ap asked (past_reads n t (List Entry) entries rest not) ∙ (asks_at (n + 1) logs doors rs t f.3 all.1 ∙ ap (steps (links t)) (sym (past_reads n t (List Event) log rest_log not))))
   asks_at n [] [] (r ∷ rs) t f all = absurd all
   asks_at n [] (door ∷ doors) rs t f all = absurd all

@@ -16,9 +16,6 @@ last_reads [] y (suc k) d e = absurd (omega arith)
 last_reads (x ∷ xs) y zero d e = absurd (omega arith)
 last_reads (x ∷ xs) y (suc k) d e = last_reads xs y k d (omega arith)
 
-pub out_none : (h : HostView) → Out h h 0 []
-out_none h = record { same = (refl, refl, refl); wide = refl; many = refl; each = λ k d low. absurd (omega arith); rest = λ t e. (refl, refl) }
-
 later : (t k : ℕ) → (t ≡ 0) ⊎ (k + 1 < t) → (t ≡ 0) ⊎ (k < t)
 later t k (inl e) = inl e
 later t k (inr lt) = inr (omega arith)

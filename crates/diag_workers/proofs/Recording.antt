@@ -1,16 +1,17 @@
 -- What one more event makes of a worker's record.
-use Rattle.std.proofs.Common.{◌≡◌, ℕ, Option, Some, None, List, [], ◌∷◌, ◌++◌, take, drop, ap, subst, sym, ◌∙◌, append_assoc, append-nil}
+use Rattle.std.proofs.Common.{◌≡◌, ℕ, Option, Some, None, List, [], ◌∷◌, ◌++◌, take, drop, refl, ap, ap₂, subst, sym, ◌∙◌, append_assoc, append-nil}
 use Rattle.std.specs.Option.{option_to_list}
-use Rattle.std.proofs.lemmas.List.{take-append-drop}
+use Rattle.std.proofs.lemmas.List.{take-append-drop, map-append}
 use Rattle.diag_can.specs.declared.frame.Event.{Event}
 use Rattle.diag_tp.specs.declared.setup.LinkSetup.{LinkSetup}
 use Rattle.diag_tp.specs.declared.step.Step.{Step}
 use Rattle.diag_tp.specs.Gives.{gives, steps, steps_after}
 use Rattle.diag_desk.specs.declared.entry.Entry.{Entry}
-use Rattle.diag_desk.specs.Entries.{entry, asked}
+use Rattle.diag_desk.specs.Entries.{entry, asked, asked_by}
 use Rattle.diag_world.specs.Port.{entries_of}
 use Rattle.diag_world.specs.Lane.{LaneState, LaneStands}
-use Rattle.diag_workers.specs.Work.{MoreOf}
+use Rattle.diag_world.specs.Weaving.{all_by}
+use Rattle.diag_workers.specs.Work.{AreBy, MoreOf}
 
 steps_after-append : (s : LinkSetup) (p xs ys : List Event) → steps_after s p (xs ++ ys) ≡ steps_after s p xs ++ steps_after s (p ++ xs) ys
 steps_after-append s p [] ys = ap (λ q. steps_after s q ys) (sym (append-nil p))
@@ -29,9 +30,43 @@ asks_first s E k K asks =
     ap (steps s) (sym (take-append-drop k E))
     ∙ (steps_split s (take k E) (drop k E) ∙ ap (λ w. w ++ steps_after s (take k E) (drop k E)) (sym asks))
 
-pub more_given : (given given' entries entries' before : List Entry) → given ≡ before ++ entries → MoreOf given given' entries entries' → given' ≡ before ++ entries'
-more_given given given' entries entries' before h more =
-    more.1 ∙ (ap (λ w. w ++ more.0) h ∙ (append_assoc before entries more.0 ∙ ap (λ w. before ++ w) (sym more.2)))
+-- the same, each step beside the tester
+pub asks_first_by : (s : LinkSetup) (who : ℕ) (E : List Event) (k : ℕ) (K : List Entry) → AreBy who K → asked K ≡ steps s (take k E)
+    → all_by who (steps s E) ≡ asked_by K ++ all_by who (steps_after s (take k E) (drop k E))
+asks_first_by s who E k K mine asks =
+    let rest = steps_after s (take k E) (drop k E) in
+    ap (all_by who) (asks_first s E k K asks) ∙ (map-append (λ x. (who, x)) (asked K) rest ∙ ap (λ w. w ++ all_by who rest) (sym mine))
+
+by_append : (who : ℕ) (xs ys : List Entry) → AreBy who xs → AreBy who ys → AreBy who (xs ++ ys)
+by_append who xs ys h i =
+    map-append (λ (e : Entry). (e.who, e.step)) xs ys
+    ∙ (ap₂ (λ v w. v ++ w) h i
+    ∙ (sym (map-append (λ x. (who, x)) (asked xs) (asked ys)) ∙ ap (all_by who) (sym (map-append (λ (e : Entry). e.step) xs ys))))
+
+-- the tester's entries are still all of that tester
+pub more_by : (who : ℕ) (given given' entries entries' : List Entry) → AreBy who entries → MoreOf who given given' entries entries' → AreBy who entries'
+more_by who given given' entries entries' mine more = subst (AreBy who) (sym more.3) (by_append who entries more.0 mine more.1)
+
+first_step : Step → List (ℕ × Step) → Step
+first_step d [] = d
+first_step d (p ∷ ps) = p.1
+
+-- entries of one tester ask the steps
+pub asks_of : (who : ℕ) (K : List Entry) (xs : List Step) → asked_by K ≡ all_by who xs → asked K ≡ xs
+unfolding first_step
+asks_of who [] [] h = refl
+asks_of who [] (x ∷ xs) h = absurd (clash h)
+  where
+    clash : [] ≡ (who, x) ∷ all_by who xs → ⊥
+    clash h = cc
+asks_of who (k ∷ ks) [] h = absurd (clash h)
+  where
+    clash : (k.who, k.step) ∷ asked_by ks ≡ [] → ⊥
+    clash h = cc
+asks_of who (k ∷ ks) (x ∷ xs) h =
+    let here : k.step ≡ x = ap (first_step x) h in
+    let rest : asked_by ks ≡ all_by who xs = cc in
+    ap₂ (λ y ys. y ∷ ys) here (asks_of who ks xs rest)
 
 some_none : {X : Type 0} (x : X) → Some x ≡ None → ⊥
 some_none x e = cc

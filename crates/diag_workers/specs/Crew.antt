@@ -6,16 +6,18 @@ use Rattle.diag_tp.specs.declared.setup.LinkSetup.{LinkSetup}
 use Rattle.diag_tp.specs.Gives.{steps}
 use Rattle.diag_tp.specs.Placing.{drawn}
 use Rattle.diag_desk.specs.declared.entry.Entry.{Entry}
-use Rattle.diag_desk.specs.Entries.{asked, replies}
+use Rattle.diag_desk.specs.Entries.{asked_by, replies}
+use Rattle.diag_world.specs.Weaving.{all_by}
 use Rattle.diag_workers.specs.declared.working.WorkerRecord.{WorkerRecord}
 
 -- A worker played a log through a door, which comes back as that tester's door of the same gate: the door has answered
--- what the record says, which is what the log asks, and the record's frames are those of its replies.
+-- what the record says, which is what the log asks for its tester, and the record's frames are those of its replies.
 pub record Worked {D : Type 0} (links : ℕ → LinkSetup) (tester_of : D → ℕ)
     (given_of : D → List Entry) (home_of : D → Option TableId) (log : List Event) (door : D)
     (done : WorkerRecord) (door' : D) : Type 0 where
   pub given : given_of door' ≡ given_of door ++ done.entries.entries
-  pub asked : asked done.entries.entries ≡ steps (links (tester_of door)) log
+  pub asked : asked_by done.entries.entries
+      ≡ all_by (tester_of door) (steps (links (tester_of door)) log)
   pub sent : done.sent.items ≡ drawn (links (tester_of door)) log (replies done.entries.entries)
   pub tester : tester_of door' ≡ tester_of door
   pub home : home_of door' ≡ home_of door

@@ -5,8 +5,9 @@ ghost use Rattle.diag_tp.specs.declared.setup.LinkSetup.{LinkSetup as ALinkSetup
 ghost use Rattle.diag_tp.specs.Gives.{steps};
 ghost use Rattle.diag_tp.specs.Placing.{drawn};
 ghost use Rattle.diag_setup.specs.Setup.{link_of};
-ghost use Rattle.diag_desk.specs.Entries.{asked, replies};
-ghost use Rattle.diag_world.specs.Lane.{lane_of, IsReady, LaneStands};
+ghost use Rattle.diag_desk.specs.Entries.{asked_by, replies};
+ghost use Rattle.diag_world.specs.Lane.{due, lane_of, LaneStands};
+ghost use Rattle.diag_world.specs.Weaving.{all_by};
 ghost use Rattle.diag_workers.specs.Work.{AskedSome, MoreOf};
 
 use diag_can::Event;
@@ -45,11 +46,11 @@ pub fn work<D: Door>(
     requires own_door { D.tester door.old ≡ who }
     ensures given { IfOk result (λ r. D.given door.new ≡ D.given door.old ++ r.entries.entries) }
     ensures asked { IfOk result (λ r.
-        asked r.entries.entries ≡ steps (link_of setup.now who) events.now) }
+        asked_by r.entries.entries ≡ all_by who (steps (link_of setup.now who) events.now)) }
     ensures sent { IfOk result (λ r.
         r.sent.items ≡ drawn (link_of setup.now who) events.now (replies r.entries.entries)) }
     ensures refused { OnErr result
-        (AskedSome (link_of setup.now who) events.now (D.given door.old) (D.given door.new)) }
+        (AskedSome (link_of setup.now who) who events.now (D.given door.old) (D.given door.new)) }
     ensures tester { D.tester door.new ≡ D.tester door.old }
     ensures home { D.home door.new ≡ D.home door.old }
 {
@@ -74,7 +75,7 @@ struct Worker {
 impl Worker {
     fn new(alloc: Global, link: LinkSetup) -> Worker
         ensures stands { LaneStands link (lane_of result.lane) [] result.entries.entries }
-        ensures ready { IsReady (lane_of result.lane) (length result.entries.entries) }
+        ensures drained { due (lane_of result.lane) ≡ 0 }
         ensures empty { result.entries.entries ≡ [] }
     {
         Worker {
@@ -85,14 +86,13 @@ impl Worker {
 
     /// Takes one event. All that can be refused but the door's step comes before it.
     fn take<D: Door>(&mut self, event: &Event, door: &mut D) -> Result<(), StepFault>
-        requires ready { IsReady (lane_of self.old.lane) (length self.old.entries.entries) }
+        requires drained { due (lane_of self.old.lane) ≡ 0 }
         requires limit { length self.old.entries.entries < 1000000 }
         ensures stands { OnOk result ((s : ALinkSetup) (E : List AnEvent)
             → LaneStands s (lane_of self.old.lane) E self.old.entries.entries
             → LaneStands s (lane_of self.new.lane) (E ++ event.now ∷ []) self.new.entries.entries) }
-        ensures ready { OnOk result
-            (IsReady (lane_of self.new.lane) (length self.new.entries.entries)) }
-        ensures given { OnOk result (MoreOf (D.given door.old)
+        ensures drained { OnOk result (due (lane_of self.new.lane) ≡ 0) }
+        ensures given { OnOk result (MoreOf (D.tester door.old) (D.given door.old)
             (D.given door.new) self.old.entries.entries self.new.entries.entries) }
         ensures longer { OnOk result
             (length self.new.entries.entries ≤ length self.old.entries.entries + 1) }

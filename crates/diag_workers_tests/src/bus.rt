@@ -1,7 +1,7 @@
 //! The bus: captures of two testers, line by line. Expected texts are those of the worked examples.
 
 use crate::trouble::Trouble;
-use diag_bus::{Bus, BusFault, Output};
+use diag_bus::{Bus, BusFault, Output, Verdict};
 use diag_can::LineFault;
 use diag_fixtures::two_testers;
 use std::alloc::Global;
@@ -126,5 +126,106 @@ fn bus_fault(rt: HostRuntime) -> Result<(), Fail> {
     let long = bus.take_line(&[b' '; 4097], &mut text);
     assert!(rt; long == Err(BusFault::Line(LineFault::BadLine)));
     assert_eq!(rt; text.len(), length);
+    Ok(())
+}
+
+/// The recording of `ORDER` with all that the server sends.
+const ANSWERED: [&str; 8] = [
+    "(100.000000) can0 7E0#021003",
+    "(100.000400) can0 7E8#065003003201F4CC",
+    "(100.010000) can0 7E1#021003",
+    "(100.010400) can0 7E9#037F1021CCCCCCCC",
+    "(100.020000) can0 7E0#021001",
+    "(100.030000) can0 7E1#021003",
+    "(100.030400) can0 7E9#065003003201F4CC",
+    "(100.030800) can0 7E8#065001003201F4CC",
+];
+
+/// The verdict of a bus that took these lines and wrote nothing.
+fn judged(alloc: Global, lines: &[&str]) -> Result<Verdict, Trouble> {
+    let mut bus = Bus::new(alloc, two_testers(alloc)?, Output::Verdict)?;
+    let mut text = Vec::new(alloc);
+    for line in lines {
+        bus.take_line(line.as_bytes(), &mut text)?;
+    }
+    if text.is_empty() {
+        Ok(bus.verdict())
+    } else {
+        Err(Trouble::Wrong)
+    }
+}
+
+/// Whether all frames of these lines agree.
+fn agrees(alloc: Global, lines: &[&str]) -> Result<bool, Trouble> {
+    match judged(alloc, lines)? {
+        Verdict::Agrees => Ok(true),
+        Verdict::Differs(..) | Verdict::Lacks { .. } => Ok(false),
+    }
+}
+
+/// Whether these lines have so many frames of the tester at this place, and these bytes are to come next.
+fn lacks(
+    alloc: Global,
+    lines: &[&str],
+    place: u8,
+    frames: u64,
+    expected: &[u8],
+) -> Result<bool, Trouble> {
+    match judged(alloc, lines)? {
+        Verdict::Lacks { who, count, next } => {
+            Ok(who.place() == place && count == frames && next.as_slice() == expected)
+        }
+        Verdict::Agrees | Verdict::Differs(..) => Ok(false),
+    }
+}
+
+/// Whether this line, of the tester at this place, is the first that differs.
+fn differs(
+    alloc: Global,
+    lines: &[&str],
+    place: u8,
+    number: u64,
+    sent: &[u8],
+    expected: Option<&[u8]>,
+) -> Result<bool, Trouble> {
+    match judged(alloc, lines)? {
+        Verdict::Differs(who, first) => {
+            let wanted = match &first.expected {
+                Some(bytes) => expected == Some(bytes.as_slice()),
+                None => expected.is_none(),
+            };
+            let same = first.line == number && first.sent.as_slice() == sent;
+            Ok(who.place() == place && same && wanted)
+        }
+        Verdict::Agrees | Verdict::Lacks { .. } => Ok(false),
+    }
+}
+
+/// All frames are there, those to A late; and of a recording that has the first alone.
+#[test]
+fn bus_verdict(rt: HostRuntime) -> Result<(), Fail> {
+    let next = [0x06, 0x50, 0x01, 0x00, 0x32, 0x01, 0xF4, 0xCC];
+    assert!(rt; agrees(rt.alloc(), &ANSWERED)?);
+    assert!(rt; lacks(rt.alloc(), &ORDER, 1, 1, &next)?);
+    Ok(())
+}
+
+/// A frame that is filled otherwise, and one that nobody asked for.
+#[test]
+fn bus_verdict_differs(rt: HostRuntime) -> Result<(), Fail> {
+    let filled = [
+        "(100.000000) can0 7E0#021003",
+        "(100.000400) can0 7E8#065003003201F4AA",
+        "(100.000800) can0 7E8#065003003201F4BB",
+    ];
+    let sent = [0x06, 0x50, 0x03, 0x00, 0x32, 0x01, 0xF4, 0xAA];
+    let expected = [0x06, 0x50, 0x03, 0x00, 0x32, 0x01, 0xF4, 0xCC];
+    assert!(rt; differs(rt.alloc(), &filled, 1, 2, &sent, Some(&expected))?);
+    let unasked = [
+        "(100.000000) can0 7E0#021003",
+        "(100.001000) can0 7E9#0250",
+        "(100.002000) can0 7E8#0250",
+    ];
+    assert!(rt; differs(rt.alloc(), &unasked, 2, 2, &[0x02, 0x50], None)?);
     Ok(())
 }

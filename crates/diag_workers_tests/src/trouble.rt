@@ -7,12 +7,15 @@ use diag_tp::MessageFault;
 use diag_workers::PlayFault;
 use std::alloc::{AllocError, AllocFailed, Global};
 
-/// Why a test did not come to its end: memory was refused, or a call answered what it must not.
+/// Why a test did not come to its end: memory was refused, or a call answered what it must not. Two workers that are
+/// held for each other and didn't meet are `NotMet`: a thread that finds no memory at its start leaves its work to its
+/// caller's thread.
 #[derive(Clone, Copy, PartialEq, Eq, Debug, Drop)]
 pub(crate) enum Trouble {
     Memory,
     Full,
     Log(u8, LogFault),
+    NotMet,
     Wrong,
 }
 

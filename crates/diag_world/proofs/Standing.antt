@@ -8,13 +8,13 @@ use Rattle.diag_tp.specs.declared.sent.Sent.{Sent}
 use Rattle.diag_tp.specs.declared.setup.LinkSetup.{LinkSetup}
 use Rattle.diag_tp.specs.Placing.{drawn}
 use Rattle.diag_tp.specs.Wire.{grant, sendings, wire}
-use Rattle.diag_setup.specs.Setup.{link_of}
+use Rattle.diag_setup.specs.Setup.{IsSetup, link_of}
 use Rattle.diag_tp.specs.State.{LinkState}
 use Rattle.diag_setup.specs.declared.raw.RawSetup.{RawSetup}
 use Rattle.diag_ecu.specs.State.{State}
 use Rattle.diag_desk.specs.declared.entry.Entry.{Entry}
 use Rattle.diag_desk.specs.Entry.{HasNoReply, IsJournal}
-use Rattle.diag_desk.specs.Legal.{Legal, after, reply_to}
+use Rattle.diag_desk.specs.Legal.{IsOpening, Legal, after, reply_to}
 use Rattle.diag_world.specs.Server.{ServerState, Serves, sent_to}
 use Rattle.diag_world.specs.World.{WorldState, Stands, RunsTo, Took}
 use Rattle.diag_world.proofs.Serving.{legal_asked, after_asked, no_reply_to}
@@ -37,6 +37,7 @@ runs_more opening J J' old new who e xs xs' h kept took =
     let moved = took.settled.moved in
     let more = option_to_list took.asked in
     record {
+      opened = h.opened;
       legal = subst (λ K. Legal opening K) (sym took.entered) (legal_asked opening old.ecu J took.asked h.legal h.ecu took.settled.answer);
       ecu = took.settled.ecu ∙ (after_asked opening old.ecu J took.asked h.ecu ∙ ap (after opening) (sym took.entered));
       kept = kept h.kept;
@@ -75,8 +76,10 @@ unfolding wire grant sendings
 no_frames s = refl
 
 -- the run of a server to which nothing has happened
-pub runs_begin : (setup : RawSetup) (opening : State) (J : List Entry) (server : ServerState) → Serves setup server [] [] → opening ≡ server.ecu → J ≡ [] → RunsTo opening J server
-runs_begin setup opening J server h same none = subst (λ K. RunsTo opening K server) (sym none) (record {
+pub runs_begin : (setup : RawSetup) (opening : State) (J : List Entry) (server : ServerState) → IsSetup setup → Serves setup server [] [] → opening ≡ server.ecu → J ≡ [] → RunsTo opening J server
+unfolding IsOpening
+runs_begin setup opening J server checked h same none = subst (λ K. RunsTo opening K server) (sym none) (record {
+  opened = (setup, checked, same ∙ h.ecu);
   legal = tt;
   ecu = sym same;
   kept = (tt, omega arith);

@@ -84,13 +84,6 @@ until_leaves k p es s ss h =
 pub below_other : (n t : ℕ) → t < n → (n == t) ≡ false
 below_other n t h = grind (arith, nat_tests)
 
--- no earlier tester has a log
-log_at_before : (n : ℕ) (logs : List (List Event)) (t : ℕ) → t < n → log_at n logs t ≡ []
-log_at_before n [] t h = refl
-log_at_before n (log ∷ logs) t h =
-    let later : t < n + 1 = omega arith in
-    ap (λ b. cond b log (log_at (n + 1) logs t)) (below_other n t h) ∙ log_at_before (n + 1) logs t later
-
 -- no event of an earlier tester is left over
 leftovers_before : (past : List (ℕ × Event)) (n : ℕ) (logs : List (List Event)) (t : ℕ) → t < n → items_of (leftovers past n logs) t ≡ []
 leftovers_before past n [] t h = refl

@@ -31,11 +31,6 @@ due lane = pending lane.link
 abbrev pub waiting : LaneState → ℕ
 waiting lane = waiting_count lane.link
 
--- between two events no frame is due, and no more replies wait than there are entries
-pub record IsReady (lane : LaneState) (entries : ℕ) : Type 0 where
-  pub drained : due lane ≡ 0
-  pub few : waiting lane ≤ entries
-
 -- room was made for the event: in the link, and for the frames that may fall due
 abbrev pub HasRoom : Lane → Event → Type 0
 HasRoom lane e = HasRoomFor lane.link e (vec_len lane.sent) (vec_capacity lane.sent)

@@ -9,7 +9,7 @@ use Rattle.diag_tp.specs.Gives.{gives, steps}
 use Rattle.diag_tp.specs.Placing.{placed, drawn}
 use Rattle.diag_tp.specs.Wire.{Placed, wire}
 use Rattle.diag_tp.specs.State.{LinkState, LinkView}
-use Rattle.diag_tp.specs.Link.{StandsFor, has_room, last_tick, unsent}
+use Rattle.diag_tp.specs.Link.{StandsFor, has_room, has_reply_room, last_tick, unsent}
 use Rattle.diag_desk.specs.declared.entry.Entry.{Entry}
 use Rattle.diag_desk.specs.Entries.{asked, entry, replies}
 use Rattle.diag_tp.specs.declared.step.Step.{Step}
@@ -25,12 +25,15 @@ pub record Grew {X : Type 0} (old new : List X) (P : List X → Type 0) : Type 0
   pub grown : new ≡ old ++ more
   pub holds : P more
 
--- room was made for the event: in the link, and for the frames that may fall due in a list of this length and capacity
+-- room was made for the event: in the link for it and for a reply, and for the frames that may fall due in a list of
+-- this length and capacity
 abbrev pub HasRoomFor : LinkView → Event → ℕ → ℕ → Type 0
 HasRoomFor link (Ticks n) len capacity = len + unsent link.state ≤ capacity
 HasRoomFor link (Physical bytes) len capacity = IsTrue (has_room link (Physical bytes))
+    × IsTrue (has_reply_room link)
     × (len + unsent link.state + 2 ≤ capacity)
 HasRoomFor link (Functional bytes) len capacity = IsTrue (has_room link (Functional bytes))
+    × IsTrue (has_reply_room link)
     × (len + unsent link.state + 2 ≤ capacity)
 
 -- the time that a link tells after an event, where it told this time before

@@ -1,5 +1,5 @@
 -- What a server stands for: an interleaving of the testers' events, and the journal of its run. It keeps neither.
-use Rattle.std.specs.Prelude.{◌≡◌, ◌<◌, ◌≤◌, ◌-◌, ◌^◌, ℕ, ◌+◌, ◌*◌, ◌==◌, false, List, [], ◌∷◌, ◌++◌, length, map, Option, Some, IfSome, IsSome, IsTrue, slice_get, slice_set}
+use Rattle.std.specs.Prelude.{◌≡◌, ◌<◌, ◌≤◌, ◌-◌, ◌^◌, ℕ, ◌+◌, ◌*◌, ◌==◌, false, min, List, [], ◌∷◌, ◌++◌, length, map, Option, Some, IfSome, IsSome, IsTrue, slice_get, slice_set}
 use Rattle.std.specs.Option.{option_map, option_to_list}
 use Rattle.diag_can.specs.declared.frame.Event.{Event}
 use Rattle.diag_tp.specs.declared.setup.LinkSetup.{LinkSetup}
@@ -8,7 +8,8 @@ use Rattle.diag_tp.specs.Gives.{gives}
 use Rattle.diag_tp.specs.Moments.{is_tick}
 use Rattle.diag_tp.specs.Placing.{drawn}
 use Rattle.diag_tp.specs.State.{LinkState, LinkView}
-use Rattle.diag_tp.specs.Link.{EachHistory, is_frame, pending}
+use Rattle.diag_tp.specs.Link.{EachHistory, is_frame, pending, quiet}
+use Rattle.diag_tp.specs.Quiet.{always}
 use Rattle.diag_setup.specs.declared.raw.RawSetup.{RawSetup}
 use Rattle.diag_setup.specs.Setup.{link_of}
 use Rattle.diag_ecu.specs.State.{State, opening}
@@ -30,6 +31,11 @@ pub record ServerState : Type 0 where
 
 abbrev pub server_of : ServerView → ServerState
 server_of server = record { ecu = server.ecu; links = map (λ link. link.state) server.links }
+
+-- for how many ticks no link does anything before the last of them: the least of the links
+abbrev pub quiet_of : List LinkState → ℕ
+quiet_of [] = always
+quiet_of (link ∷ links) = min (quiet link) (quiet_of links)
 
 -- The server took the interleaving M, and K is the journal of its run: a legal run from the opening that asks what M
 -- gives. The ECU is its end, and each link stands for its tester's part of both, with all frames handed out.

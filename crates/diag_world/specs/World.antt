@@ -8,7 +8,7 @@ use Rattle.diag_setup.specs.declared.raw.RawSetup.{RawSetup}
 use Rattle.diag_ecu.specs.State.{State, opening}
 use Rattle.diag_desk.specs.declared.entry.Entry.{Entry}
 use Rattle.diag_desk.specs.Entry.{IsJournal}
-use Rattle.diag_desk.specs.Legal.{Run, Legal, after}
+use Rattle.diag_desk.specs.Legal.{IsOpening, Run, Legal, after}
 use Rattle.diag_world.specs.Server.{ServerState, Serves, Settled, sent_to}
 
 -- what a contract sees of a world: the opening and the journal, the server, and the frames of each tester in order
@@ -31,8 +31,9 @@ abbrev pub ArePaced : List LinkState → ℕ → Type 0
 ArePaced links entries =
     (i : ℕ) (link : LinkState) → slice_get links i ≡ Some link → link.now ≤ 60000 * entries
 
--- the journal is a legal run from the opening, and the server is at its end
+-- the journal is a legal run from the opening, that of a checked setup, and the server is at its end
 pub record RunsTo (opening : State) (journal : List Entry) (server : ServerState) : Type 0 where
+  pub opened : IsOpening opening
   pub legal : Legal opening journal
   pub ecu : server.ecu ≡ after opening journal
   pub kept : IsJournal journal

@@ -4,7 +4,6 @@ ghost use Rattle.std.specs.Prelude.{
   ◌≡◌,
   ◌+◌,
   ◌≤◌,
-  ◌<◌,
   length,
   List,
   ℕ,
@@ -24,7 +23,7 @@ ghost use Rattle.diag_tp.specs.Gives.{gives};
 ghost use Rattle.diag_tp.specs.Link.{is_frame};
 ghost use Rattle.diag_desk.specs.declared.entry.Entry.{Entry as AnEntry};
 ghost use Rattle.diag_world.specs.Port.{entries_of};
-ghost use Rattle.diag_world.specs.Lane.{due, lane_of, waiting, HasRoom, IsReady, LaneStands, RepliesToFrame};
+ghost use Rattle.diag_world.specs.Lane.{due, lane_of, waiting, HasRoom, LaneStands, RepliesToFrame};
 
 use crate::port::{prepare, settle};
 use diag_can::Event;
@@ -45,7 +44,8 @@ impl Lane {
     /// The lane of a tester to whom nothing has happened.
     pub fn new(alloc: Global, setup: LinkSetup) -> Lane
         ensures stands { LaneStands setup (lane_of result) [] [] }
-        ensures ready { IsReady (lane_of result) 0 }
+        ensures drained { due (lane_of result) ≡ 0 }
+        ensures none_waits { waiting (lane_of result) ≡ 0 }
     {
         let link = Link::new(alloc, setup);
         let drained = link.is_drained();
@@ -74,7 +74,6 @@ impl Lane {
     pub fn settle(&mut self, event: &Event, reply: Option<Message>)
         requires drained { due (lane_of self.old) ≡ 0 }
         requires room { HasRoom self.old event.now }
-        requires few { IsSome reply → waiting (lane_of self.old) < 1000000 }
         requires frame { IsSome reply → IsTrue (is_frame event.now) }
         ensures took { (s : ALinkSetup) (who : ℕ) (E : List AnEvent) (K : List AnEntry)
             → LaneStands s (lane_of self.old) E K

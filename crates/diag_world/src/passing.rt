@@ -7,7 +7,7 @@ ghost use Rattle.diag_tp.specs.declared.sent.Sent.{Sent as ASent};
 ghost use Rattle.diag_tp.specs.Moments.{last_moment, last_time};
 ghost use Rattle.diag_tp.specs.Placing.{placed_at};
 ghost use Rattle.diag_tp.specs.Wire.{Placed};
-ghost use Rattle.diag_tp.specs.Link.{StandsFor, has_room, is_frame, last_tick, pending, unsent, waiting_count};
+ghost use Rattle.diag_tp.specs.Link.{StandsFor, has_room, has_reply_room, is_frame, last_tick, pending, unsent, waiting_count};
 ghost use Rattle.diag_world.specs.Port.{AreWithin, Grew, HandedOut};
 
 use diag_can::{Event, TickCount};
@@ -46,6 +46,7 @@ pub(crate) fn receive(link: &mut Link, event: &Event, reply: Option<Message>, ou
     requires frame { IsTrue (is_frame event.now) }
     requires drained { pending link.old.state ≡ 0 }
     requires link_room { IsTrue (has_room link.old event.now) }
+    requires reply_room { IsTrue (has_reply_room link.old) }
     requires room { vec_len out.old + unsent link.old.state + 2 ≤ vec_capacity out.old }
     ensures received { Grew out.old.items out.new.items (λ more. AreWithin link.old.state.now link.new.state.now more
         × ((s : ALinkSetup) (E : List AnEvent) (A : List Placed) (Q : List ASent)

@@ -32,7 +32,7 @@ ghost use Rattle.diag_desk.specs.declared.entry.Entry.{Entry as AnEntry};
 ghost use Rattle.diag_desk.specs.Legal.{after, reply_to};
 ghost use Rattle.diag_world.specs.Weaving.{items_of};
 ghost use Rattle.diag_world.specs.Port.{Grew};
-ghost use Rattle.diag_world.specs.Server.{closing_time, server_of, EachRun, IsAsked, IsClosed, PortAsked, PortSettled, Serves, Settled};
+ghost use Rattle.diag_world.specs.Server.{closing_time, quiet_of, server_of, EachRun, IsAsked, IsClosed, PortAsked, PortSettled, Serves, Settled};
 
 use crate::port::{gives_step, prepare, settle};
 use diag_can::Event;
@@ -182,6 +182,19 @@ impl Server {
     {
         let index = usize::from(who.place()) - 1;
         self.links[index].now()
+    }
+
+    /// For how many ticks of every tester no frame falls due and no reception or wait ends, before the last of them: the
+    /// least of the links; at least 1, and 2^64 - 1 where nothing is waited for.
+    pub fn quiet(&self) -> u64
+        ensures is { result ≡ quiet_of (server_of self.now).links }
+        ensures some { 1 ≤ result }
+    {
+        let mut least = u64::MAX;
+        for link in &self.links {
+            least = least.min(link.quiet());
+        }
+        least
     }
 
     /// The ECU as the run has made it.

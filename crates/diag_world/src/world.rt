@@ -20,7 +20,7 @@ ghost use Rattle.diag_tp.specs.Placing.{drawn};
 ghost use Rattle.diag_setup.specs.Setup.{link_of};
 ghost use Rattle.diag_desk.specs.Entries.{own, replies};
 ghost use Rattle.diag_desk.specs.Entry.{HasNoReply, IsJournal};
-ghost use Rattle.diag_desk.specs.Legal.{Legal, after};
+ghost use Rattle.diag_desk.specs.Legal.{IsOpening, Legal, after};
 ghost use Rattle.diag_world.specs.Server.{server_of, EachRun};
 ghost use Rattle.diag_world.specs.Weaving.{items_of};
 ghost use Rattle.diag_world.specs.World.{ArePaced, EachInterleaving, Stands, Took};
@@ -68,6 +68,8 @@ impl World {
     {
         let server = Server::new(alloc, setup)?;
         let opening = server.ecu().try_copy()?;
+        // (for its contract: a setup is a checked one)
+        let _numbers = setup.numbers();
         let mut sent = Vec::with_capacity(alloc, setup.testers())?;
         for _index in 0..setup.testers() {
             sent.push_reserved(Vec::new(alloc));
@@ -104,9 +106,10 @@ impl World {
         take(&mut self.server, &mut self.journal, sent, who, event)
     }
 
-    /// The entries so far, which are a legal run from the opening.
+    /// The entries so far, which are a legal run from the opening, that of a checked setup.
     pub fn journal(&self) -> &Journal
         ensures list { result.now.entries ≡ self.now.desk.journal }
+        ensures opened { IsOpening self.now.desk.opening }
         ensures legal { Legal self.now.desk.opening self.now.desk.journal }
         ensures journal { IsJournal self.now.desk.journal }
         ensures limit { length self.now.desk.journal ≤ 1000000 }

@@ -1,7 +1,7 @@
 //! The steps on the word, and a tester's step at the desk.
-ghost use Rattle.std.specs.Prelude.{◌≡◌, ◌≢◌, ℕ, [], ◌++◌, MatchOption, MatchResult, IfOk};
+ghost use Rattle.std.specs.Prelude.{◌≡◌, ◌≢◌, ℕ, [], ◌∷◌, ◌++◌, MatchOption, MatchResult, IfOk};
 ghost use Rattle.diag_desk.specs.Entry.{HasNoReply};
-ghost use Rattle.diag_desk.specs.Entries.{own};
+ghost use Rattle.diag_desk.specs.Entries.{entry, own};
 ghost use Rattle.diag_gate.specs.Views.{IsLegal, letting_go};
 ghost use Rattle.diag_gate.specs.Seats.{Finds, Answered, IsFull, Refused, NotMade, IsSeat, IsHeld, as_tried, seat_as, misses, waited};
 
@@ -75,6 +75,8 @@ impl Gate {
             (λ e. (seat_as place.new.table_id who place.new.me
             ≡ seat_as place.old.table_id who place.old.me)
             × IsFull (seat_as place.old.table_id who place.old.me) e) }
+        ensures behind { IfOk result (λ r.
+            place.new.me.0.seen ≡ place.old.me.0.seen ++ entry who step.now r ∷ []) }
         ensures quiet { IfOk result (λ r. HasNoReply step.now r) }
     {
         desk.lawful();
@@ -171,7 +173,7 @@ fn tried(answer: Result<Option<Message>, StepFault>) -> Result<Option<Message>, 
 }
 
 impl Held<'_> {
-    /// One step at the desk, which then goes back.
+    /// One step at the desk, which then goes back: behind what the seat has seen comes this step, and nothing else.
     ///
     /// # Errors
     /// As the desk's step: the desk goes back as it was.
@@ -179,6 +181,8 @@ impl Held<'_> {
         ensures made { MatchResult result.1
             (λ r. Answered self.entry result.0 step.now r)
             (λ e. (result.0 ≡ self.entry) × IsFull self.entry e) }
+        ensures behind { IfOk result.1 (λ r. result.0.seen
+            ≡ self.entry.seen ++ entry self.entry.who step.now r ∷ []) }
         ensures quiet { IfOk result.1 (λ r. HasNoReply step.now r) }
     {
         let Held {

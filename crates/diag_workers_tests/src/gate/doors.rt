@@ -5,7 +5,7 @@ ghost use Rattle.std.specs.Prelude.{◌≡◌};
 use crate::gate::given::{and, desk_of_two, is_told, request, says, tester};
 use crate::gate::seating::{gate_of_two, seat_of, tries};
 use crate::trouble::{Trouble, holds};
-use diag_desk::Desk;
+use diag_desk::{Desk, StepFault};
 use diag_gate::{Door, Gate, GateDoor, Host, LockDoor};
 use std::alloc::Global;
 use std::sync::{Mutex, Wait};
@@ -76,4 +76,30 @@ fn locked_steps<R: Wait>(rt: &R, alloc: Global) -> Result<bool, Trouble> {
 #[test]
 fn doors_over_a_lock(rt: HostRuntime) -> Result<(), Trouble> {
     holds(locked_steps(&rt, rt.alloc()))
+}
+
+/// Whether each step of a door over a lock adds one entry, and a step that was refused for want of memory none.
+fn refused_adds_none<R: Wait>(rt: &R, alloc: Global, desk: &Mutex<Desk>) -> Result<bool, Trouble> {
+    let mut door = LockDoor::new(rt, alloc, desk, tester(1)?);
+    for before in 0..8 {
+        let answer = door.step(&request(alloc, &[0x3E, 0x00])?);
+        let after = desk.lock(rt).journal().len();
+        match answer {
+            Ok(_) if after == before + 1 => {}
+            Err(StepFault::Memory) if after == before => return Err(Trouble::Memory),
+            _ => return Ok(false),
+        }
+    }
+    Ok(true)
+}
+
+fn locked_room<R: Wait>(rt: &R, alloc: Global) -> Result<bool, Trouble> {
+    let desk = Mutex::new(desk_of_two(alloc)?);
+    refused_adds_none(rt, alloc, &desk)
+}
+
+/// A door over a lock makes its own room before it has the desk step. It shows where memory is refused.
+#[test]
+fn lock_door_makes_room_first(rt: HostRuntime) -> Result<(), Trouble> {
+    holds(locked_room(&rt, rt.alloc()))
 }

@@ -6,7 +6,7 @@ ghost use Rattle.diag_tp.specs.Moments.{counted_from};
 use crate::trouble::{Trouble, holds};
 use crate::workers::given::setup_of_two;
 use crate::workers::meeting::Meeting;
-use crate::workers::plays::{READERS_PLAY, tried};
+use crate::workers::plays::{READERS_PLAY, SECOND_BEGINS_PLAY, tried};
 use diag_can::{Event, TickCount};
 use diag_desk::{Journal, Step, StepFault};
 use diag_setup::{Setup, Who};
@@ -130,9 +130,9 @@ const WELL: Answers = Answers {
 
 /// Whether the two workers of a crew meet, and each door was asked for each of its steps once.
 fn crew_meets<R: Threads + Sync>(rt: &R, alloc: Global) -> Result<bool, Trouble> {
-    let meeting = Meeting::new();
+    let meeting = Meeting::new(1);
     match refused(rt, alloc, &meeting, [WELL, WELL])? {
-        None => Ok(meeting.is_met(2, 2)),
+        None => meeting.is_met(2, 2),
         Some(StepFault::Memory) => Err(Trouble::Memory),
         Some(StepFault::JournalFull) => Ok(false),
     }
@@ -140,24 +140,30 @@ fn crew_meets<R: Threads + Sync>(rt: &R, alloc: Global) -> Result<bool, Trouble>
 
 /// Whether the two workers of a play meet, and the watch is told of each of their steps once.
 fn play_meets<R: Threads + Wait + Sync>(rt: &R, alloc: Global) -> Result<bool, Trouble> {
-    let meeting = Meeting::new();
+    let meeting = Meeting::new(1);
     let played = tried(rt, alloc, &READERS_PLAY, &meeting)?;
-    Ok(played && meeting.is_met(2, 3))
+    Ok(meeting.is_met(2, 3)? && played)
 }
 
-/// Each tester's first step is held until the other tester was called.
-///
-/// A thread that finds no memory at its start leaves its work to its caller's thread, so what did not meet is tried
-/// once more.
+/// Each tester's first step is held until the other tester was called, for at most 1,000,000 turns.
 #[test]
 fn two_workers_meet(rt: HostRuntime) -> Result<(), Trouble> {
-    if !crew_meets(&rt, rt.alloc())? {
-        holds(crew_meets(&rt, rt.alloc()))?;
-    }
-    if !play_meets(&rt, rt.alloc())? {
-        holds(play_meets(&rt, rt.alloc()))?;
-    }
-    Ok(())
+    holds(crew_meets(&rt, rt.alloc()))?;
+    holds(play_meets(&rt, rt.alloc()))
+}
+
+/// Whether a tester whose watch is held has not taken its step: the first is held until the second was called for its
+/// third step, so that the second's two steps before it begin the journal.
+fn is_told_first<R: Threads + Wait + Sync>(rt: &R, alloc: Global) -> Result<bool, Trouble> {
+    let meeting = Meeting::new(3);
+    let second_begins = tried(rt, alloc, &SECOND_BEGINS_PLAY, &meeting)?;
+    Ok(meeting.is_met(2, 3)? && second_begins)
+}
+
+/// A watch is told of a step before it is taken.
+#[test]
+fn watch_is_told_before_the_step(rt: HostRuntime) -> Result<(), Trouble> {
+    holds(is_told_first(&rt, rt.alloc()))
 }
 
 /// Refuses its second step.
@@ -188,7 +194,7 @@ fn is_refused<R: Threads + Sync>(
     left: [Answers; 2],
     wanted: StepFault,
 ) -> Result<bool, Trouble> {
-    let meeting = Meeting::new();
+    let meeting = Meeting::new(1);
     match refused(rt, alloc, &meeting, left)? {
         Some(StepFault::Memory) if wanted != StepFault::Memory => Err(Trouble::Memory),
         Some(fault) => Ok(fault == wanted),

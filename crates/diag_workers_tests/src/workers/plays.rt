@@ -8,7 +8,7 @@ use crate::workers::given::{
     is_frame, is_replayed, setup_of_two, text_of,
 };
 use diag_can::{LineFault, LogFault, Timing};
-use diag_desk::journal_text_at;
+use diag_desk::{Journal, journal_text_at};
 use diag_setup::Setup;
 use diag_workers::{NoWatch, Played, Watch, play};
 use std::alloc::Global;
@@ -28,6 +28,8 @@ enum Log {
 enum Wanted {
     /// The readers' frames, five entries, and the first tester in the session.
     Readers,
+    /// Five entries, of which the first two are the second tester's.
+    SecondBegins,
     /// Five frames of the writer, and the old or the new value.
     OldOrNew,
     /// The clocks of the stamps.
@@ -75,6 +77,14 @@ fn is_readers_play(played: &Played) -> bool {
     sent && is_held(played) && played.desk.journal().len() == 5
 }
 
+/// Whether five entries begin with two of the second tester.
+fn second_begins(journal: &Journal) -> bool {
+    let (Some(first), Some(second)) = (journal.get(0), journal.get(1)) else {
+        return false;
+    };
+    first.who.place() == 2 && second.who.place() == 2 && journal.len() == 5
+}
+
 /// Whether the writer was sent five frames, and the reader the first frame of the old or of the new value.
 fn has_old_or_new(played: &Played) -> bool {
     let [writer, reader] = played.sent.as_slice() else {
@@ -99,6 +109,7 @@ fn leaves(alloc: Global, setup: &Setup, played: &Played, wanted: Wanted) -> Resu
     is_replayed(alloc, setup, played.desk.journal())?;
     match wanted {
         Wanted::Readers => Ok(is_readers_play(played)),
+        Wanted::SecondBegins => Ok(second_begins(played.desk.journal())),
         Wanted::OldOrNew => Ok(has_old_or_new(played)),
         Wanted::Clocks => has_clocks(alloc, played),
         Wanted::Entries(count) => Ok(played.desk.journal().len() == count),
@@ -150,6 +161,13 @@ pub(crate) const READERS_PLAY: Case = Case {
     logs: [Log::Lines(&FIRST_READER), Log::Lines(&SECOND_READER)],
     timing: Timing::Lines,
     wanted: Wanted::Readers,
+};
+
+/// The same, where the first tester is held until the second was called for its last step.
+pub(crate) const SECOND_BEGINS_PLAY: Case = Case {
+    logs: [Log::Lines(&FIRST_READER), Log::Lines(&SECOND_READER)],
+    timing: Timing::Lines,
+    wanted: Wanted::SecondBegins,
 };
 
 #[test]

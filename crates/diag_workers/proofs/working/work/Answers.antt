@@ -2,7 +2,7 @@ use Rattle.std.proofs.Common.{◌≡◌, take, drop, ◌∙◌}
 use Rattle.std.proofs.lemmas.Result.{err_from_is_err_and}
 use Rattle.diag_setup.specs.Setup.{link_of}
 use Rattle.diag_tp.specs.Gives.{steps_after}
-use Rattle.diag_workers.proofs.Recording.{asks_first}
+use Rattle.diag_workers.proofs.Recording.{asks_first_by}
 use Rattle.diag_workers.proofs.working.work.Goals as goal
 
 pub returns-in_err-take-clause-refused : goal.returns-in_err-take-clause-refused
@@ -14,5 +14,5 @@ returns-in_err-take-clause-refused g c =
       c.loop-event.worker.entries.entries,
       steps_after s (take c.loop-event.event-index c.args.events.now) (drop c.loop-event.event-index c.args.events.now),
       kept ∙ c.loop-event.invariant.given,
-      asks_first s c.args.events.now c.loop-event.event-index c.loop-event.worker.entries.entries c.loop-event.invariant.stands.asks,
+      asks_first_by s c.args.who c.args.events.now c.loop-event.event-index c.loop-event.worker.entries.entries c.loop-event.invariant.mine c.loop-event.invariant.stands.asks,
     )

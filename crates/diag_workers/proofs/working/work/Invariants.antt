@@ -1,6 +1,7 @@
 use Rattle.std.proofs.Common.{◌≡◌, ◌≤◌, ◌++◌, take, length}
 use Rattle.diag_setup.specs.Setup.{link_of}
-use Rattle.diag_world.specs.Lane.{lane_of, IsReady, LaneStands}
+use Rattle.diag_world.specs.Lane.{due, lane_of, LaneStands}
+use Rattle.diag_workers.specs.Work.{AreBy}
 use Rattle.diag_workers.proofs.working.work.Given as goal
 
 abbrev pub invariant-loop-event : goal.invariant-loop-event
@@ -8,7 +9,8 @@ invariant-loop-event g l = record {
   tester : g.D.Door.tester l.door ≡ g.D.Door.tester l.fn.door;
   home : g.D.Door.home l.door ≡ g.D.Door.home l.fn.door;
   stands : LaneStands (link_of l.setup l.fn.who) (lane_of l.worker.lane) (take l.event-index l.events) l.worker.entries.entries;
-  ready : IsReady (lane_of l.worker.lane) (length l.worker.entries.entries);
+  drained : due (lane_of l.worker.lane) ≡ 0;
   given : g.D.Door.given l.door ≡ g.D.Door.given l.fn.door ++ l.worker.entries.entries;
+  mine : AreBy l.fn.who l.worker.entries.entries;
   short : length l.worker.entries.entries ≤ l.event-index;
 }

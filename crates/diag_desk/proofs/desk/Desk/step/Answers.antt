@@ -10,4 +10,4 @@ invariant_of-self-2 c =
     let replied : c.in_ok-reply.reply ≡ reply_to c.self.inside.ecu c.args.who c.args.step.now = search rules in
     let kept = keeps_legal c.self.inside.opening c.self.inside.journal.entries c.push.new.self.entries (entry c.args.who c.args.step.now c.in_ok-reply.reply)
     c.self.inside.ecu c.settle_step.new.ecu (c.self.invariant.0, c.self.invariant.1) pushed replied c.settle_step.ensures in
-    (kept.0, kept.1, c.push.ensures.journal)
+    (kept.0, kept.1, c.push.ensures.journal, c.self.invariant.3)
