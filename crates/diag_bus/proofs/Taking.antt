@@ -7,30 +7,45 @@ use Rattle.diag_tp.specs.declared.sent.Sent.{Sent}
 use Rattle.diag_setup.specs.declared.raw.RawSetup.{RawSetup}
 use Rattle.diag_world.specs.Server.{ServerView, server_of}
 use Rattle.diag_bus.specs.Batch.{BusStands, Gave, GoesOn, SameShape, lists_of, replied}
-use Rattle.diag_bus.specs.Bus.{BusState, TookLines}
+use Rattle.diag_bus.specs.Bus.{BusState, Judges, TookLines}
+use Rattle.diag_bus.specs.Comparing.{DrawnBy, TakesLine}
 use Rattle.diag_bus.specs.Events.{fault_said, said_gives, span_said}
 use Rattle.diag_bus.specs.Text.{written}
+use Rattle.diag_bus.specs.declared.bus.Output.{Output}
+use Rattle.diag_bus.specs.declared.bus.Output.TheVariants.{Replies, Journal, End, Verdict}
 use Rattle.diag_bus.specs.declared.clock.Clock.{Clock}
+use Rattle.diag_bus.specs.declared.comparing.Comparisons.{Comparisons}
 use Rattle.diag_bus.specs.declared.mid_line.MidLine.{MidLine}
 use Rattle.diag_bus.proofs.Faults.{well_more}
 use Rattle.diag_bus.proofs.Lines.{line_taken}
 use Rattle.diag_bus.proofs.Texts.{wrote}
 
 -- what a contract sees of a bus with this line and this clock
-abbrev pub seen : RawSetup → MidLine → Clock → BusState
-seen setup line clock = record { setup = setup; output = line.output; server = server_of line.server; clock = clock }
+abbrev pub seen : RawSetup → MidLine → Clock → Comparisons → BusState
+seen setup line clock compared =
+    record { setup = setup; output = line.output; server = server_of line.server; clock = clock; compared = compared }
+
+-- what is kept of the recording goes on with the line, where a verdict is wanted
+judges_on : (output : Output) (setup : RawSetup) (old new : Comparisons) (said : BusLine) (drawn : List (List Sent)) (lines : List (List ℕ)) (line : List ℕ)
+    → TakesLine setup old new said drawn → bus_line line ≡ Ok said → DrawnBy setup lines line drawn
+    → Judges output setup old lines → Judges output setup new (lines ++ line ∷ [])
+judges_on Replies setup old new said drawn lines line takes is drew h = h
+judges_on Journal setup old new said drawn lines line takes is drew h = h
+judges_on End setup old new said drawn lines line takes is drew h = h
+judges_on Verdict setup old new said drawn lines line takes is drew h = takes lines line is drew h
 
 -- the line begins, what it says is given to the server, and what that drew is written
-pub took_line : (setup : RawSetup) (lines : List (List ℕ)) (line : List ℕ) (said : BusLine) (old begun taken done : MidLine) (clock clock' : Clock)
+pub took_line : (setup : RawSetup) (lines : List (List ℕ)) (line : List ℕ) (said : BusLine) (old begun taken done : MidLine) (clock clock' : Clock) (compared compared' : Comparisons)
     → bus_line line ≡ Ok said → fault_said (bus_line line) (clock.time + span_said clock.reference (bus_line line)) ≡ None → GoesOn clock said clock'
     → length old.drawn.items ≡ length setup.testers
     → ((i : ℕ) (frames : List Sent) → slice_get (lists_of begun) i ≡ Some frames → frames ≡ []) → begun.text.items ≡ [] → begun.server ≡ old.server → SameShape old begun
     → Gave begun taken (said_gives setup clock.reference said) → SameShape begun taken
+    → TakesLine setup compared compared' said (lists_of taken)
     → done.text.items ≡ taken.text.items ++ replied taken.output setup clock'.start (lists_of taken) → done.server ≡ taken.server → SameShape taken done
-    → TookLines (seen setup old clock) lines
-    → TookLines (seen setup done clock') (lines ++ line ∷ [])
+    → TookLines (seen setup old clock compared) lines
+    → TookLines (seen setup done clock' compared') (lines ++ line ∷ [])
     × (written old.output setup (lines ++ line ∷ []) ≡ written old.output setup lines ++ done.text.items)
-took_line setup lines line said old begun taken done clock clock' is well on lists empty none server first gave second text after third h =
+took_line setup lines line said old begun taken done clock clock' compared compared' is well on lists empty none server first gave second takes text after third h =
     let stands : BusStands setup (server_of begun.server) clock lines = subst (λ (s : ServerView). BusStands setup (server_of s) clock lines) (sym server) h.stands in
     let t = line_taken setup lines line said begun taken clock clock' is stands on (first.lists ∙ lists) empty none gave second.output in
     let calm = ap₂ (λ time reference. fault_said (bus_line line) (time + span_said reference (bus_line line))) (sym h.stands.time) (sym h.stands.reference) ∙ well in
@@ -38,6 +53,8 @@ took_line setup lines line said old begun taken done clock clock' is well on lis
       record {
         well = well_more lines line h.well calm;
         stands = subst (λ (s : ServerView). BusStands setup (server_of s) clock' (lines ++ line ∷ [])) (sym after) t.0.stands;
+        compared = subst (λ o. Judges o setup compared' (lines ++ line ∷ [])) (sym (third.output ∙ same))
+            (judges_on old.output setup compared compared' said (lists_of taken) lines line takes is t.0.frames h.compared);
       },
       ap (λ o. written o setup (lines ++ line ∷ [])) (sym first.output)
           ∙ (wrote begun.output setup lines line (server_of taken.server) (lists_of taken) clock' taken.text.items t.0 t.1

@@ -15,7 +15,7 @@ use Rattle.diag_world.specs.Server.{ServerState}
 use Rattle.diag_desk.specs.Text.{journal_text_at}
 use Rattle.diag_bus.specs.Batch.{LineTaken, entered, replied, resumed}
 use Rattle.diag_bus.specs.declared.bus.Output.{Output}
-use Rattle.diag_bus.specs.declared.bus.Output.TheVariants.{Replies, Journal, End}
+use Rattle.diag_bus.specs.declared.bus.Output.TheVariants.{Replies, Journal, End, Verdict}
 use Rattle.diag_bus.specs.Events.{events_of}
 use Rattle.diag_bus.specs.Text.{drawn_by, drawn_for, drawn_text, gathered, line_of, line_text, run_of, sent_of, start_after, text_after, text_of, time_of, written}
 use Rattle.diag_bus.specs.declared.clock.Clock.{Clock}
@@ -76,6 +76,7 @@ wrote Replies setup lines line server drawn clock T h more =
 wrote Journal setup lines line server drawn clock T h more =
     more ∙ ap (λ w. journal_text_at (run_of setup (events_of setup lines)) ++ w) (sym (append-nil T))
 wrote End setup lines line server drawn clock T h more = more ∙ sym (append-nil T)
+wrote Verdict setup lines line server drawn clock T h more = more ∙ sym (append-nil T)
 
 -- one list more
 gathered_more : (n : ℕ) (lists : List (List Sent)) (frames : List Sent) → gathered n (lists ++ frames ∷ []) ≡ gathered n lists ++ map (drawn_for (n + length lists)) frames

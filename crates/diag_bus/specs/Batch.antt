@@ -11,7 +11,7 @@ use Rattle.diag_world.specs.Server.{ServerState, Serves, sent_to, server_of}
 use Rattle.diag_bus.specs.Events.{clock_of, events_of, moment_said, reference, span_said}
 use Rattle.diag_bus.specs.Text.{drawn_text, sent_of, start_after, start_said}
 use Rattle.diag_bus.specs.declared.bus.Output.{Output}
-use Rattle.diag_bus.specs.declared.bus.Output.TheVariants.{Replies, Journal, End}
+use Rattle.diag_bus.specs.declared.bus.Output.TheVariants.{Replies, Journal, End, Verdict}
 use Rattle.diag_bus.specs.declared.clock.Clock.{Clock}
 use Rattle.diag_bus.specs.declared.clock.Start.{Start}
 use Rattle.diag_bus.specs.declared.mid_line.MidLine.{MidLine}
@@ -23,6 +23,7 @@ abbrev pub entered : Output → List Entry → List ℕ
 entered Replies journal = []
 entered Journal journal = journal_text_at journal
 entered End journal = []
+entered Verdict journal = []
 
 -- what an entry adds to it, before which its tester's clock tells this time
 abbrev pub entry_added : Output → ℕ → Option Entry → List ℕ
@@ -30,12 +31,14 @@ entry_added Replies now asked = []
 entry_added Journal now None = []
 entry_added Journal now (Some e) = ended (stamped_line true (now + ticks_in e.step) (entry_line e))
 entry_added End now asked = []
+entry_added Verdict now asked = []
 
 -- the reply lines of what was drawn, where they are wanted
 abbrev pub replied : Output → RawSetup → Option Start → List (List Sent) → List ℕ
 replied Replies setup start lists = drawn_text setup start lists
 replied Journal setup start lists = []
 replied End setup start lists = []
+replied Verdict setup start lists = []
 
 -- ---- in a line
 

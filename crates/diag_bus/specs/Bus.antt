@@ -4,7 +4,10 @@ use Rattle.diag_setup.specs.declared.raw.RawSetup.{RawSetup}
 use Rattle.diag_world.specs.Server.{ServerState}
 use Rattle.diag_bus.specs.Batch.{BusStands}
 use Rattle.diag_bus.specs.Events.{first_fault}
+use Rattle.diag_bus.specs.Comparing.{ComparesLines}
 use Rattle.diag_bus.specs.declared.bus.Output.{Output}
+use Rattle.diag_bus.specs.declared.bus.Output.TheVariants.{Replies, Journal, End, Verdict}
+use Rattle.diag_bus.specs.declared.comparing.Comparisons.{Comparisons}
 use Rattle.diag_bus.specs.declared.clock.Clock.{Clock}
 
 -- what a contract sees of a bus
@@ -13,8 +16,17 @@ pub record BusState : Type 0 where
   pub output : Output
   pub server : ServerState
   pub clock : Clock
+  pub compared : Comparisons
+
+-- where a verdict is wanted, what is kept of the recording stands for these lines
+abbrev pub Judges : Output → RawSetup → Comparisons → List (List ℕ) → Type 0
+Judges Replies setup compared lines = Unit {0}
+Judges Journal setup compared lines = Unit {0}
+Judges End setup compared lines = Unit {0}
+Judges Verdict setup compared lines = ComparesLines setup compared lines
 
 -- the bus took these lines, none of which is at fault
 pub record TookLines (bus : BusState) (lines : List (List ℕ)) : Type 0 where
   pub well : first_fault lines ≡ None
   pub stands : BusStands bus.setup bus.server bus.clock lines
+  pub compared : Judges bus.output bus.setup bus.compared lines

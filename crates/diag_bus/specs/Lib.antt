@@ -1,4 +1,6 @@
 pub mod Batch
 pub mod Bus
+pub mod Comparing
 pub mod Events
 pub mod Text
+pub mod Verdict

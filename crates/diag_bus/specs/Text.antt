@@ -25,7 +25,7 @@ use Rattle.diag_world.specs.Weaving.{items_of, steps_of}
 use Rattle.diag_bus.specs.Events.{events_of}
 use Rattle.diag_bus.specs.declared.clock.Start.{Start}
 use Rattle.diag_bus.specs.declared.bus.Output.{Output}
-use Rattle.diag_bus.specs.declared.bus.Output.TheVariants.{Replies, Journal, End}
+use Rattle.diag_bus.specs.declared.bus.Output.TheVariants.{Replies, Journal, End, Verdict}
 use Rattle.diag_bus.specs.declared.writing.Drawn.{Drawn}
 
 -- ---- the run
@@ -111,6 +111,7 @@ abbrev pub written : Output → RawSetup → List (List ℕ) → List ℕ
 written Replies setup lines = text_of setup lines
 written Journal setup lines = journal_text_at (run_of setup (events_of setup lines))
 written End setup lines = []
+written Verdict setup lines = []
 
 -- the ECU after the lines
 abbrev pub ecu_after : RawSetup → List (List ℕ) → State

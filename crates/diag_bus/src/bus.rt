@@ -1,19 +1,23 @@
 //! The bus: the server, and what is kept of a capture between two of its lines.
 
-ghost use Rattle.std.specs.Prelude.{◌≡◌, ◌≢◌, ◌∷◌, [], ◌++◌, ℕ, List, length, IfOk, IfSome, OnOk, OnErr, Err};
+ghost use Rattle.std.specs.Prelude.{◌≡◌, ◌≢◌, ◌≤◌, ◌∷◌, [], ◌++◌, ℕ, List, length, IfOk, IfSome, OnOk, OnErr, Err};
 ghost use Rattle.diag_world.specs.Port.{Grew};
-ghost use Rattle.diag_bus.specs.Bus.{TookLines};
+ghost use Rattle.diag_world.specs.Server.{quiet_of};
+ghost use Rattle.diag_bus.specs.Bus.{Judges, TookLines};
 ghost use Rattle.diag_bus.specs.Events.{line_fault};
 ghost use Rattle.diag_bus.specs.Text.{ecu_after, written};
+ghost use Rattle.diag_bus.specs.Verdict.{recorded, verdict};
 ghost use Rattle.diag_bus.specs.declared.fault.BusFault.{BusFault as ABusFault};
 
 use crate::clock::{Clock, clock_after, next_said};
+use crate::comparing::Comparisons;
 use crate::fault::BusFault;
 use crate::mid_line::MidLine;
+use crate::verdict::Verdict;
 use crate::writing::Drawn;
 use diag_desk::write_header_at;
 use diag_ecu::Ecu;
-use diag_setup::Setup;
+use diag_setup::{Setup, Who};
 use diag_tp::Sent;
 use diag_world::Server;
 use std::alloc::{AllocError, Global};
@@ -28,6 +32,8 @@ pub enum Output {
     Journal,
     /// Nothing: what is wanted is the end.
     End,
+    /// Nothing: what is wanted is the verdict on the unit's own frames in the capture.
+    Verdict,
 }
 
 /// The server, and what is kept of a capture between two of its lines: the bus's clock, and room to work in.
@@ -40,10 +46,11 @@ pub struct Bus {
     line: MidLine,
     clock: Clock,
     batch: Vec<Drawn>,
+    compared: Comparisons,
 }
 
 impl Model for Bus {
-    ghost use Rattle.std.specs.Prelude.{◌≡◌, length};
+    ghost use Rattle.std.specs.Prelude.{◌≡◌, ◌≤◌, length};
     ghost use Rattle.diag_world.specs.Server.{server_of};
     ghost use Rattle.diag_bus.specs.Bus.{BusState};
 
@@ -54,10 +61,12 @@ impl Model for Bus {
       output = b.line.output;
       server = server_of b.line.server;
       clock = b.clock;
+      compared = b.compared;
     } };
 
     ghost invariant = { λ b. (length b.line.server.links ≡ length b.setup.testers)
-        × (length b.line.drawn.items ≡ length b.setup.testers) };
+        × (length b.line.drawn.items ≡ length b.setup.testers)
+        × (length b.compared.testers.items ≤ length b.setup.testers) };
 }
 
 impl Bus {
@@ -69,6 +78,7 @@ impl Bus {
     {
         let server = Server::new(alloc, &setup)?;
         let drawn = empty_lists(alloc, setup.testers())?;
+        let compared = nothing_compared(alloc, &setup, output)?;
         Ok(Bus {
             line: MidLine {
                 server,
@@ -79,6 +89,7 @@ impl Bus {
             setup,
             clock: Clock::new(),
             batch: Vec::new(alloc),
+            compared,
         })
     }
 
@@ -90,7 +101,7 @@ impl Bus {
     {
         match self.line.output {
             Output::Journal => write_header_at(text),
-            Output::Replies | Output::End => Ok(()),
+            Output::Replies | Output::End | Output::Verdict => Ok(()),
         }
     }
 
@@ -119,12 +130,23 @@ impl Bus {
         self.line.begin();
         self.line
             .take_said(&self.setup, self.clock.reference, &said)?;
+        self.compared
+            .take_line(&self.setup, &said, self.line.drawn.as_slice())?;
         let clock = clock_after(self.clock, &said, time);
         self.line
             .write_drawn(&self.setup, clock.start, &mut self.batch)?;
         text.extend_from_slice(self.line.text.as_slice())?;
         self.clock = clock;
         Ok(())
+    }
+
+    /// For how many milliseconds of ticks no link does anything before the last of them: no frame falls due, and no
+    /// reception or wait ends. At least 1, and 2^64 - 1 where nothing is waited for.
+    pub fn quiet(&self) -> u64
+        ensures is { result ≡ quiet_of self.now.server.links }
+        ensures some { 1 ≤ result }
+    {
+        self.line.server.quiet()
     }
 
     /// The setup of the ECU and its testers.
@@ -139,6 +161,24 @@ impl Bus {
         ensures { result ≡ self.now.output }
     {
         self.line.output
+    }
+
+    /// How many frames the lines have that the unit sent to a tester, response pending not counted, where a verdict is
+    /// wanted.
+    pub fn recorded(&self, who: Who) -> u64
+        requires { who ≤ length self.now.setup.testers }
+        ensures { (lines : List (List ℕ)) → TookLines self.now lines → self.now.output ≡ Output.Verdict
+            → result ≡ length (recorded self.now.setup lines who) }
+    {
+        self.compared.recorded(who)
+    }
+
+    /// The verdict, where the capture ends here, and one is wanted.
+    pub fn verdict(&self) -> Verdict
+        ensures { (lines : List (List ℕ)) → TookLines self.now lines → self.now.output ≡ Output.Verdict
+            → result ≡ verdict self.now.setup lines }
+    {
+        self.compared.verdict(&self.setup)
     }
 
     /// The ECU as the lines have made it.
@@ -159,4 +199,16 @@ fn empty_lists(alloc: Global, count: usize) -> Result<Vec<Vec<Sent>>, AllocError
         lists.push(Vec::new(alloc))?;
     }
     Ok(lists)
+}
+
+/// What is kept of a recording before its first line.
+fn nothing_compared(alloc: Global, setup: &Setup, output: Output) -> Result<Comparisons, AllocError>
+    ensures judges { IfOk result (λ kept. Judges output setup.now kept []) }
+    ensures in_setup { IfOk result (λ kept.
+        length kept.testers.items ≤ length setup.now.testers) }
+{
+    match output {
+        Output::Verdict => Comparisons::new(alloc, setup.testers()),
+        Output::Replies | Output::Journal | Output::End => Comparisons::new(alloc, 0),
+    }
 }

@@ -3,14 +3,17 @@
 
 mod bus;
 mod clock;
+mod comparing;
 mod entering;
 mod fault;
 mod laws;
 mod mid_line;
+mod verdict;
 mod writing;
 
 pub use bus::{Bus, Output};
 pub use clock::{Clock, Start};
 pub use fault::BusFault;
-pub use laws::{clocks_law, run_law};
+pub use laws::{clocks_law, run_law, verdict_law};
+pub use verdict::{Difference, Recorded, Verdict};
 pub use writing::Drawn;

@@ -61,7 +61,7 @@ impl MidLine {
     {
         match self.output {
             Output::Replies => write_drawn(setup, start, &mut self.drawn, batch, &mut self.text),
-            Output::Journal | Output::End => Ok(()),
+            Output::Journal | Output::End | Output::Verdict => Ok(()),
         }
     }
 
@@ -181,12 +181,18 @@ fn clear(drawn: &mut Vec<Vec<Sent>>)
 fn frame_for(ids: &Ids, frame: &Frame) -> Option<Event>
     ensures { result ≡ frame_for ids.now (Some frame.now) }
 {
-    let bytes = FrameBytes::from_slice(frame.bytes.as_slice());
     if frame.id == ids.request {
-        Some(Event::Physical(bytes))
+        Some(Event::Physical(copy_of(&frame.bytes)))
     } else if frame.id == ids.functional {
-        Some(Event::Functional(bytes))
+        Some(Event::Functional(copy_of(&frame.bytes)))
     } else {
         None
     }
+}
+
+/// The same bytes.
+fn copy_of(bytes: &FrameBytes) -> FrameBytes
+    ensures { result ≡ bytes.now }
+{
+    FrameBytes::from_slice(bytes.as_slice())
 }

@@ -11,7 +11,6 @@ use diag_can::write_line;
 use diag_setup::{Setup, Who};
 use diag_tp::Sent;
 use std::alloc::AllocError;
-use std::mem;
 
 /// A frame that a tester is sent.
 #[derive(Debug, Drop)]
@@ -41,12 +40,15 @@ fn sort_batch(batch: &mut Vec<Drawn>) -> Result<(), AllocError>
     Ok(())
 }
 
-/// Adds a tester's frames to a batch.
-fn add_frames(batch: &mut Vec<Drawn>, who: Who, frames: Vec<Sent>) -> Result<(), AllocError>
+/// Moves a tester's frames to the end of a batch; the room that they had stays.
+fn add_frames(batch: &mut Vec<Drawn>, who: Who, frames: &mut Vec<Sent>) -> Result<(), AllocError>
     ensures { OnOk result
-        (batch.new.items ≡ batch.old.items ++ map (drawn_for who) frames.items) }
+        (batch.new.items ≡ batch.old.items ++ map (drawn_for who) frames.old.items) }
 {
-    for sent in frames {
+    if frames.is_empty() {
+        return Ok(());
+    }
+    for sent in frames.drain(..) {
         batch.push(Drawn { who, sent })?;
     }
     Ok(())
@@ -63,13 +65,11 @@ fn gather(
         ≡ batch.old.items ++ gathered 1 (map (λ f. f.items) drawn.old.items)) }
     ensures lists { length drawn.new.items ≡ length drawn.old.items }
 {
-    let alloc = *drawn.allocator();
     for index in 0..setup.testers() {
         let Some(who) = setup.who(index) else {
             unreachable!()
         };
-        let frames = mem::replace(&mut drawn[index], Vec::new(alloc));
-        add_frames(batch, who, frames)?;
+        add_frames(batch, who, &mut drawn[index])?;
     }
     Ok(())
 }

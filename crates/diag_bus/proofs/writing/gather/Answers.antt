@@ -21,11 +21,10 @@ loop-index-preserved c =
     let found : slice_get old i ≡ Some list = sym (inv.left i (omega arith)) ∙ here in
     let before = gathered 1 (map (λ f. f.items) (take i old)) in
     record {
-      lists = length-set items i c.replace-frames.new.dest ∙ inv.lists;
-      left = λ k above. get_set_other items i k c.replace-frames.new.dest (λ e. absurd (omega (arith, above, e))) ∙ inv.left k (omega (arith, above));
+      lists = length-set items i c.add_frames.new.frames ∙ inv.lists;
+      left = λ k above. get_set_other items i k c.add_frames.new.frames (λ e. absurd (omega (arith, above, e))) ∙ inv.left k (omega (arith, above));
       batch = c.in_ok-add_frames.ensures
-          ∙ (ap (λ b. b ++ map (drawn_for c.in-Some.who) c.replace-frames.result.items) inv.batch
-          ∙ (append_assoc c.args.batch.now.items before (map (drawn_for c.in-Some.who) c.replace-frames.result.items)
-          ∙ ap (λ w. c.args.batch.now.items ++ w) (ap (λ (v : Vec Sent Global). before ++ map (drawn_for c.in-Some.who) v.items) c.replace-frames.ensures.value
-          ∙ sym (gathered_next old i c.in-Some.who list found who))));
+          ∙ (ap (λ b. b ++ map (drawn_for c.in-Some.who) list.items) inv.batch
+          ∙ (append_assoc c.args.batch.now.items before (map (drawn_for c.in-Some.who) list.items)
+          ∙ ap (λ w. c.args.batch.now.items ++ w) (sym (gathered_next old i c.in-Some.who list found who))));
     }

@@ -1,0 +1,121 @@
+-- A recording with a line more, of all testers.
+use Rattle.std.proofs.Common.{◌≡◌, ◌<◌, ◌≤◌, ℕ, zero, suc, ◌+◌, Some, None, Ok, List, [], ◌∷◌, ◌++◌, length, map, inl, inr, refl, ap, subst, sym, ◌∙◌, append_assoc, arith}
+use Rattle.std.proofs.lemmas.List.{append-nil, map-append, length-append, length-set}
+use Rattle.std.proofs.lemmas.Option.{slice_get_within}
+use Rattle.std.specs.Prelude.{option_map, slice_get, slice_set}
+use Rattle.std.specs.Option.{option_to_list}
+use Rattle.diag_can.specs.declared.bus.BusLine.{BusLine}
+use Rattle.diag_tp.specs.declared.sent.Sent.{Sent}
+use Rattle.diag_tp.specs.Wire.{wire, sendings, grant}
+use Rattle.diag_setup.specs.Setup.{ids_of}
+use Rattle.diag_setup.specs.declared.raw.RawSetup.{RawSetup}
+use Rattle.diag_world.proofs.Worlds.{set_cases}
+use Rattle.diag_bus.specs.Comparing.{Compares, ComparesLines, Takes, TakesLine}
+use Rattle.diag_bus.specs.Events.{events_of}
+use Rattle.diag_bus.specs.Text.{sent_of}
+use Rattle.diag_bus.specs.Verdict.{at_line, expected, line_has, recorded, recorded_from, reply_said, sent_bytes}
+use Rattle.diag_bus.specs.declared.comparing.Comparison.{Comparison}
+use Rattle.diag_bus.specs.declared.comparing.Comparisons.{Comparisons}
+use Rattle.diag_bus.specs.declared.verdict.Recorded.{Recorded}
+use Rattle.diag_bus.proofs.Batches.{found_at}
+use Rattle.diag_bus.proofs.Texts.{get_set_other}
+
+-- ---- the recording of one tester
+
+pub recorded_push : (setup : RawSetup) (t n : ℕ) (lines : List (List ℕ)) (line : List ℕ)
+    → recorded_from setup t n (lines ++ line ∷ []) ≡ recorded_from setup t n lines ++ line_has setup t (n + length lines) line
+recorded_push setup t n [] line =
+    let none : n ≡ n + 0 = omega arith in
+    append-nil (line_has setup t n line) ∙ ap (λ k. line_has setup t k line) none
+recorded_push setup t n (first ∷ lines) line =
+    let next : n + 1 + length lines ≡ n + length (first ∷ lines) = omega arith in
+    ap (λ w. line_has setup t n first ++ w) (recorded_push setup t (n + 1) lines line ∙ ap (λ k. recorded_from setup t (n + 1) lines ++ line_has setup t k line) next)
+    ∙ sym (append_assoc (line_has setup t n first) (recorded_from setup t (n + 1) lines) (line_has setup t (n + length (first ∷ lines)) line))
+
+-- ---- of all testers
+
+-- what a line that says this has of the unit's frames to the tester at an index
+abbrev pub said_has : RawSetup → ℕ → BusLine → ℕ → List Recorded
+said_has setup n said i = option_to_list (option_map (at_line n) (reply_said (ids_of setup (i + 1)).response (Ok said)))
+
+-- the testers before an index took the line, and the others are as they were
+pub record TookEach (setup : RawSetup) (n : ℕ) (said : BusLine) (drawn : List (List Sent)) (old new : List Comparison) (index : ℕ) : Type 0 where
+  pub lists : length new ≡ length old
+  pub left : (k : ℕ) → index ≤ k → slice_get new k ≡ slice_get old k
+  pub done : (k : ℕ) (before after : Comparison) (frames : List Sent) → k < index → slice_get old k ≡ Some before → slice_get new k ≡ Some after
+      → slice_get drawn k ≡ Some frames → Takes before after (said_has setup n said k) (map sent_bytes frames)
+
+pub some_same : {X : Type 0} {x y : X} → Some x ≡ Some y → x ≡ y
+some_same e = cc
+
+module _ (setup : RawSetup) (n : ℕ) (said : BusLine) (drawn : List (List Sent)) (old : List Comparison) where
+  pub took_none : TookEach setup n said drawn old old 0
+  took_none = record { lists = refl; left = λ k above. refl; done = λ k before after frames less. absurd (omega (arith, less)) }
+
+  pub took_one : (new : List Comparison) (i : ℕ) → TookEach setup n said drawn old new i → (before after : Comparison) (own : List Sent)
+      → slice_get new i ≡ Some before → slice_get drawn i ≡ Some own → Takes before after (said_has setup n said i) (map sent_bytes own)
+      → TookEach setup n said drawn old (slice_set new i after) (i + 1)
+  took_one new i h before after own here drew takes = record {
+    lists = length-set new i after ∙ h.lists;
+    left = λ k above. get_set_other new i k after (λ e. absurd (omega (arith, above, e))) ∙ h.left k (omega (arith, above));
+    done = λ k first last frames less was is at. elim (set_cases new i k after last is) [
+      | inl p ↦ (
+          let same : k ≡ i = p.0 in
+          let was_here : before ≡ first = some_same (sym here ∙ (h.left i (omega arith) ∙ (ap (slice_get old) (sym same) ∙ was))) in
+          let drew_here : own ≡ frames = some_same (sym drew ∙ (ap (slice_get drawn) (sym same) ∙ at)) in
+          subst (λ j. Takes first last (said_has setup n said j) (map sent_bytes frames)) (sym same)
+          (subst (λ (f : List Sent). Takes first last (said_has setup n said i) (map sent_bytes f)) drew_here
+          (subst (λ (c : Comparison). Takes first c (said_has setup n said i) (map sent_bytes own)) (sym p.1)
+          (subst (λ (c : Comparison). Takes c after (said_has setup n said i) (map sent_bytes own)) was_here takes))))
+      | inr p ↦ (let below : k < i = omega (arith, less, p.0) in h.done k first last frames below was p.1 at)
+    ];
+  }
+
+-- all testers took the line
+pub took_all : (setup : RawSetup) (old new : Comparisons) (said : BusLine) (drawn : List (List Sent)) → new.lines ≡ old.lines + 1
+    → TookEach setup (old.lines + 1) said drawn old.testers.items new.testers.items (length old.testers.items)
+    → length drawn ≡ length setup.testers
+    → TakesLine setup old new said drawn
+took_all setup old new said drawn count each many lines line is drew h = record {
+  count = count ∙ (ap (λ n. n + 1) h.count ∙ sym (length-append lines (line ∷ [])));
+  many = each.lists ∙ h.many;
+  each = λ i own at.
+      let within = slice_get_within new.testers.items i own at in
+      let before = found_at old.testers.items i (omega (arith, within, each.lists)) in
+      let frames = found_at drawn i (omega (arith, within, each.lists, h.many, many)) in
+      let number : old.lines + 1 ≡ 1 + length lines = omega (arith, h.count) in
+      let has : said_has setup (old.lines + 1) said i ≡ line_has setup (i + 1) (1 + length lines) line =
+      ap (λ n. said_has setup n said i) number ∙ ap (λ r. option_to_list (option_map (at_line (1 + length lines)) (reply_said (ids_of setup (i + 1)).response r))) (sym is) in
+      let took = each.done i before.0 own frames.0 (omega (arith, within, each.lists)) before.1 at frames.1 (recorded setup lines (i + 1)) (expected setup lines (i + 1)) (h.each i before.0 before.1) in
+      let seen : recorded setup lines (i + 1) ++ said_has setup (old.lines + 1) said i ≡ recorded setup (lines ++ line ∷ []) (i + 1) =
+      ap (λ w. recorded setup lines (i + 1) ++ w) has ∙ sym (recorded_push setup (i + 1) 1 lines line) in
+      let due : expected setup lines (i + 1) ++ map sent_bytes frames.0 ≡ expected setup (lines ++ line ∷ []) (i + 1) =
+      sym (map-append sent_bytes (sent_of setup (events_of setup lines) (i + 1)) frames.0) ∙ ap (map sent_bytes) (sym (drew i frames.0 frames.1)) in
+      subst (λ (r : List Recorded). Compares own r (expected setup (lines ++ line ∷ []) (i + 1))) seen
+      (subst (λ (e : List (List ℕ)). Compares own (recorded setup lines (i + 1) ++ said_has setup (old.lines + 1) said i) e) due took);
+}
+
+-- one more of which this holds
+pub holds_more : {X : Type 0} (P : X → Type 0) (xs : List X) (x : X) → ((i : ℕ) (y : X) → slice_get xs i ≡ Some y → P y) → P x
+    → (i : ℕ) (y : X) → slice_get (xs ++ x ∷ []) i ≡ Some y → P y
+holds_more P [] x h p zero y at = subst P (some_same at) p
+holds_more P [] x h p (suc i) y at = absurd (clash at)
+  where
+    clash : None ≡ Some y → ⊥
+    clash e = cc
+holds_more P (z ∷ xs) x h p zero y at = h zero y at
+holds_more P (z ∷ xs) x h p (suc i) y at = holds_more P xs x (λ j w is. h (suc j) w is) p i y at
+
+-- ---- before the first line
+
+sent_none : (setup : RawSetup) (t : ℕ) → sent_of setup [] t ≡ []
+unfolding wire sendings grant
+sent_none setup t = refl
+
+pub nothing_yet : (setup : RawSetup) (kept : Comparisons) → kept.lines ≡ 0 → length kept.testers.items ≡ length setup.testers
+    → ((i : ℕ) (own : Comparison) → slice_get kept.testers.items i ≡ Some own → Compares own [] []) → ComparesLines setup kept []
+nothing_yet setup kept count many each = record {
+  count = count;
+  many = many;
+  each = λ i own at. subst (λ (frames : List Sent). Compares own [] (map sent_bytes frames)) (sym (sent_none setup (i + 1))) (each i own at);
+}

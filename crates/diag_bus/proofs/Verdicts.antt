@@ -1,0 +1,99 @@
+-- The verdict, from what is kept of all testers.
+use Rattle.std.proofs.Common.{◌≡◌, ◌<◌, ℕ, zero, suc, ◌+◌, Option, Some, None, List, [], ◌∷◌, ◌++◌, length, refl, ap, ap₂, sym, ◌∙◌, arith}
+use Rattle.std.proofs.lemmas.List.{append-nil}
+use Rattle.std.proofs.lemmas.List.Elements.{filter_map-append}
+use Rattle.std.proofs.lemmas.List.Sums.{fold-append}
+use Rattle.std.specs.List.{cons_option, filter_map, reduce}
+use Rattle.std.specs.Prelude.{option_map}
+use Rattle.std.specs.Option.{option_to_list}
+use Rattle.diag_tp.specs.Moments.{counted_from}
+use Rattle.diag_setup.specs.declared.raw.RawSetup.{RawSetup}
+use Rattle.diag_bus.specs.Comparing.{earlier_of}
+use Rattle.diag_bus.specs.Verdict.{difference, difference_of, earlier, expected, first_difference, lack_of, places, recorded, verdict, verdict_by}
+use Rattle.diag_bus.specs.declared.verdict.Difference.{Difference}
+use Rattle.diag_bus.specs.declared.verdict.Verdict.{Verdict}
+use Rattle.diag_bus.specs.declared.verdict.Verdict.TheVariants.{Agrees, Differs}
+use Rattle.diag_bus.proofs.Batches.{counted_more}
+
+clash : {X : Type 0} {x : X} → Some x ≡ None → ⊥
+clash e = cc
+
+clash_list : {X : Type 0} {x : X} {xs : List X} → x ∷ xs ≡ [] → ⊥
+clash_list e = cc
+
+-- ---- one place more
+
+one_place : {X : Type 0} (o : Option X) → cons_option o [] ≡ option_to_list o
+one_place None = refl
+one_place (Some x) = refl
+
+pub place_more : {X : Type 0} (g : ℕ → Option X) (n : ℕ) → filter_map g (counted_from 1 (n + 1)) ≡ filter_map g (counted_from 1 n) ++ option_to_list (g (n + 1))
+place_more g n =
+    let next : 1 + n ≡ n + 1 = omega arith in
+    ap (filter_map g) (counted_more 1 n)
+    ∙ (filter_map-append g (counted_from 1 n) ((1 + n) ∷ [])
+    ∙ (ap (λ w. filter_map g (counted_from 1 n) ++ w) (one_place (g (1 + n))) ∙ ap (λ k. filter_map g (counted_from 1 n) ++ option_to_list (g k)) next))
+
+pub earlier_more : (ds : List (ℕ × Difference)) (o : Option (ℕ × Difference)) → earlier_of (reduce earlier ds) o ≡ reduce earlier (ds ++ option_to_list o)
+earlier_more [] None = refl
+earlier_more [] (Some d) = refl
+earlier_more (a ∷ ds) None = ap (reduce earlier) (sym (append-nil (a ∷ ds)))
+earlier_more (a ∷ ds) (Some d) = ap Some (sym (fold-append earlier a ds (d ∷ [])))
+
+-- ---- where there is none
+
+pub none_left : (ds : List (ℕ × Difference)) → reduce earlier ds ≡ None → ds ≡ []
+none_left [] e = refl
+none_left (d ∷ ds) e = absurd (clash e)
+
+both_none : {X : Type 0} (o : Option X) (xs : List X) → cons_option o xs ≡ [] → (o ≡ None) × (xs ≡ [])
+both_none None xs e = (refl, e)
+both_none (Some x) xs e = absurd (clash_list e)
+
+none_at : {X : Type 0} (g : ℕ → Option X) (a n i : ℕ) → filter_map g (counted_from a n) ≡ [] → i < n → g (a + i) ≡ None
+none_at g a zero i none less = absurd (omega arith)
+none_at g a (suc n) zero none less = let same : a + 0 ≡ a = omega arith in ap g same ∙ (both_none (g a) (filter_map g (counted_from (suc a) n)) none).0
+none_at g a (suc n) (suc i) none less =
+    let same : a + suc i ≡ suc a + i = omega arith in
+    ap g same ∙ none_at g (suc a) n i (both_none (g a) (filter_map g (counted_from (suc a) n)) none).1 (omega (arith, less))
+
+pub unmapped : {X Y : Type 0} (f : X → Y) (o : Option X) → option_map f o ≡ None → o ≡ None
+unmapped f None e = refl
+unmapped f (Some x) e = absurd (clash e)
+
+-- where no line differs, none of any tester's does
+pub no_difference : (setup : RawSetup) (lines : List (List ℕ)) (i : ℕ) → first_difference setup lines ≡ None → i < length setup.testers
+    → difference (recorded setup lines (i + 1)) (expected setup lines (i + 1)) ≡ None
+no_difference setup lines i none less =
+    let next : 1 + i ≡ i + 1 = omega arith in
+    let here = none_at (difference_of setup lines) 1 (length setup.testers) i (none_left (filter_map (difference_of setup lines) (places setup)) none) less in
+    unmapped (λ d. (i + 1, d)) (difference (recorded setup lines (i + 1)) (expected setup lines (i + 1))) (ap (difference_of setup lines) (sym next) ∙ here)
+
+-- ---- the first of whom frames are missing
+
+pub first_at : {X : Type 0} (g : ℕ → Option X) (x : X) (a n i : ℕ) → filter_map g (counted_from a i) ≡ [] → i < n → g (a + i) ≡ Some x
+    → (rest : List X) × (filter_map g (counted_from a n) ≡ x ∷ rest)
+first_at g x a zero i none less at = absurd (omega arith)
+first_at g x a (suc n) zero none less at =
+    let same : a + 0 ≡ a = omega arith in
+    (filter_map g (counted_from (suc a) n), ap (λ o. cons_option o (filter_map g (counted_from (suc a) n))) (ap g (sym same) ∙ at))
+first_at g x a (suc n) (suc i) none less at =
+    let same : suc a + i ≡ a + suc i = omega arith in
+    let before = both_none (g a) (filter_map g (counted_from (suc a) i)) none in
+    let later = first_at g x (suc a) n i before.1 (omega (arith, less)) (ap g same ∙ at) in
+    (later.0, ap (λ o. cons_option o (filter_map g (counted_from (suc a) n))) before.0 ∙ later.1)
+
+-- the verdict where no line differs and frames of this tester are missing first
+pub verdict_lacks : (setup : RawSetup) (lines : List (List ℕ)) (i : ℕ) (v : Verdict) → first_difference setup lines ≡ None
+    → filter_map (lack_of setup lines) (counted_from 1 i) ≡ [] → i < length setup.testers → lack_of setup lines (i + 1) ≡ Some v
+    → v ≡ verdict setup lines
+verdict_lacks setup lines i v none before less at =
+    let next : 1 + i ≡ i + 1 = omega arith in
+    let first = first_at (lack_of setup lines) v 1 (length setup.testers) i before less (ap (lack_of setup lines) next ∙ at) in
+    sym (ap₂ verdict_by none first.1)
+
+pub verdict_agrees : (setup : RawSetup) (lines : List (List ℕ)) → first_difference setup lines ≡ None → filter_map (lack_of setup lines) (places setup) ≡ [] → Agrees ≡ verdict setup lines
+verdict_agrees setup lines none all = sym (ap₂ verdict_by none all)
+
+pub verdict_differs : (setup : RawSetup) (lines : List (List ℕ)) (who : ℕ) (d : Difference) → Some (who, d) ≡ first_difference setup lines → Differs who d ≡ verdict setup lines
+verdict_differs setup lines who d is = ap (λ o. verdict_by o (filter_map (lack_of setup lines) (places setup))) is

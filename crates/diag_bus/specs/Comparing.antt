@@ -1,0 +1,82 @@
+-- What is kept of a recording and of the frames that the server sends: those by which the two are apart.
+use Rattle.std.specs.Prelude.{◌≡◌, ◌⊎◌, ℕ, ◌+◌, List, [], ◌∷◌, ◌++◌, length, map, Option, Some, None, Ok, slice_get}
+use Rattle.diag_can.specs.Bus.{bus_line}
+use Rattle.diag_can.specs.declared.bus.BusLine.{BusLine}
+use Rattle.diag_tp.specs.declared.sent.Sent.{Sent}
+use Rattle.diag_setup.specs.declared.raw.RawSetup.{RawSetup}
+use Rattle.diag_bus.specs.Events.{events_of}
+use Rattle.diag_bus.specs.Text.{sent_of}
+use Rattle.diag_bus.specs.Verdict.{bytes_of, difference, earlier, expected, recorded}
+use Rattle.diag_bus.specs.declared.comparing.Comparison.{Comparison}
+use Rattle.diag_bus.specs.declared.comparing.Comparisons.{Comparisons}
+use Rattle.diag_bus.specs.declared.verdict.Recorded.{Recorded}
+use Rattle.diag_bus.specs.declared.verdict.Difference.{Difference}
+
+-- ---- of one tester
+
+-- both have the same frames in front, and behind them these
+pub record Part (ahead : List Recorded) (behind : List (List ℕ)) (recorded : List Recorded)
+    (expected : List (List ℕ)) : Type 0 where
+  pub both : List Recorded
+  pub front : recorded ≡ both ++ ahead
+  pub back : expected ≡ map bytes_of both ++ behind
+
+abbrev pub OneIsEmpty : List Recorded → List (List ℕ) → Type 0
+OneIsEmpty ahead behind = (ahead ≡ []) ⊎ (behind ≡ [])
+
+-- what either has more is kept; a difference that is settled is the first, whatever follows
+abbrev pub Apart : Option Difference → List Recorded → List (List ℕ) → List Recorded
+    → List (List ℕ) → Type 0
+Apart None ahead behind recorded expected =
+    Part ahead behind recorded expected × OneIsEmpty ahead behind
+Apart (Some d) ahead behind recorded expected = (frames : List Recorded) (others : List (List ℕ))
+    → difference (recorded ++ frames) (expected ++ others) ≡ Some d
+
+-- what is kept stands for these frames of the recording, and these of the server
+pub record Compares (kept : Comparison) (recorded : List Recorded) (expected : List (List ℕ))
+    : Type 0 where
+  pub count : kept.count ≡ length recorded
+  pub apart : Apart kept.difference kept.ahead.items kept.behind.items recorded expected
+
+-- so many frames of either were taken
+abbrev pub Takes : Comparison → Comparison → List Recorded → List (List ℕ) → Type 0
+Takes old new frames others = (recorded : List Recorded) (expected : List (List ℕ))
+    → Compares old recorded expected
+    → Compares new (recorded ++ frames) (expected ++ others)
+
+-- two frames were compared that stand at one place, behind which this was kept
+abbrev pub Compared : Comparison → Comparison → Recorded → List ℕ → Type 0
+Compared old new frame bytes = (recorded : List Recorded) (expected : List (List ℕ))
+    → old.count ≡ length recorded
+    → Part (frame ∷ old.ahead.items) (bytes ∷ old.behind.items) recorded expected
+    → OneIsEmpty old.ahead.items old.behind.items
+    → Compares new recorded expected
+
+-- ---- of all testers
+
+-- the earlier of two differences, where there are both
+abbrev pub earlier_of : Option (ℕ × Difference) → Option (ℕ × Difference) → Option (ℕ × Difference)
+earlier_of None b = b
+earlier_of (Some a) None = Some a
+earlier_of (Some a) (Some b) = Some (earlier a b)
+
+-- what is kept stands for these lines
+pub record ComparesLines (setup : RawSetup) (kept : Comparisons) (lines : List (List ℕ)) : Type 0 where
+  pub count : kept.lines ≡ length lines
+  pub many : length kept.testers.items ≡ length setup.testers
+  pub each : (i : ℕ) (own : Comparison) → slice_get kept.testers.items i ≡ Some own
+      → Compares own (recorded setup lines (i + 1)) (expected setup lines (i + 1))
+
+-- the testers are sent these frames by a line behind these
+abbrev pub DrawnBy : RawSetup → List (List ℕ) → List ℕ → List (List Sent) → Type 0
+DrawnBy setup lines line drawn = (i : ℕ) (frames : List Sent) → slice_get drawn i ≡ Some frames
+    → sent_of setup (events_of setup (lines ++ line ∷ [])) (i + 1)
+    ≡ sent_of setup (events_of setup lines) (i + 1) ++ frames
+
+-- a line that says this was taken, and so were the frames that it draws
+abbrev pub TakesLine : RawSetup → Comparisons → Comparisons → BusLine → List (List Sent) → Type 0
+TakesLine setup old new said drawn = (lines : List (List ℕ)) (line : List ℕ)
+    → bus_line line ≡ Ok said
+    → DrawnBy setup lines line drawn
+    → ComparesLines setup old lines
+    → ComparesLines setup new (lines ++ line ∷ [])

@@ -1,0 +1,285 @@
+//! What is kept of a recording and of the frames that the server sends, to compare the two.
+
+ghost use Rattle.std.specs.Prelude.{◌≡◌, ◌≤◌, ℕ, List, [], ◌∷◌, ◌++◌, ◌+◌, ◌≤◌, length, map, option_map, slice_get, Ok, OnOk, IfOk};
+ghost use Rattle.std.specs.Option.{option_to_list};
+ghost use Rattle.diag_bus.specs.Comparing.{Compared, Compares, ComparesLines, Takes, TakesLine};
+ghost use Rattle.diag_bus.specs.Verdict.{at_line, difference, first_difference, is_pending, recorded, reply_said, sent_bytes, verdict};
+ghost use Rattle.diag_bus.specs.declared.comparing.Comparison.{Comparison as AComparison};
+ghost use Rattle.diag_bus.specs.declared.verdict.Recorded.{Recorded as ARecorded};
+ghost use Rattle.diag_setup.specs.declared.raw.RawSetup.{RawSetup};
+
+use crate::verdict::{Difference, Recorded, Verdict, earlier, same_bytes, same_difference};
+use diag_can::{BusLine, CanId, FrameBytes};
+use diag_setup::{Setup, Who};
+use diag_tp::Sent;
+use std::alloc::{AllocError, Global};
+use std::collections::VecDeque;
+
+/// What is kept of a tester's frames: those by which the recording and the server are apart.
+///
+/// Its contract is the relation `Compares`, to the frames that the recording had and those that the server sent.
+#[derive(Drop)]
+pub struct Comparison {
+    /// Frames of the recording that the server has yet to send.
+    pub ahead: VecDeque<Recorded>,
+    /// Frames of the server that the recording has yet to have.
+    pub behind: VecDeque<FrameBytes>,
+    /// How many frames the recording had.
+    pub count: u64,
+    /// The first difference, once the frame that the server sends at its place is known. Nothing is kept behind it.
+    pub difference: Option<Difference>,
+}
+
+impl Comparison {
+    /// Nothing was recorded, and nothing sent.
+    fn new(alloc: Global) -> Comparison
+        ensures { Compares result [] [] }
+    {
+        Comparison {
+            ahead: VecDeque::new(alloc),
+            behind: VecDeque::new(alloc),
+            count: 0,
+            difference: None,
+        }
+    }
+
+    /// Compares a frame of the recording with the one that the server sends at its place.
+    fn compare(&mut self, frame: Recorded, bytes: FrameBytes)
+        requires { self.old.difference ≡ None }
+        ensures { Compared self.old self.new frame bytes }
+    {
+        if frame.bytes.as_slice() != bytes.as_slice() {
+            self.difference = Some(Difference {
+                line: frame.line,
+                sent: frame.bytes,
+                expected: Some(bytes),
+            });
+            self.ahead.clear();
+            self.behind.clear();
+        }
+    }
+
+    /// Takes a frame that the server sends.
+    fn expect(&mut self, bytes: FrameBytes) -> Result<(), AllocError>
+        ensures { OnOk result ((recorded : List ARecorded) (expected : List (List ℕ))
+            → Compares self.old recorded expected
+            → Compares self.new recorded (expected ++ bytes ∷ [])) }
+    {
+        if self.difference.is_some() {
+            return Ok(());
+        }
+        match self.ahead.pop_front() {
+            Some(frame) => self.compare(frame, bytes),
+            None => self.behind.push_back(bytes)?,
+        }
+        Ok(())
+    }
+
+    /// Takes a frame of the recording.
+    fn record(&mut self, frame: Recorded) -> Result<(), AllocError>
+        ensures { OnOk result ((recorded : List ARecorded) (expected : List (List ℕ))
+            → Compares self.old recorded expected
+            → Compares self.new (recorded ++ frame ∷ []) expected) }
+    {
+        self.count = next(self.count)?;
+        if self.difference.is_some() {
+            return Ok(());
+        }
+        match self.behind.pop_front() {
+            Some(bytes) => self.compare(frame, bytes),
+            None => self.ahead.push_back(frame)?,
+        }
+        Ok(())
+    }
+
+    /// Takes the frames that the server sends with a line, and then the line's own, where it has one.
+    fn take(&mut self, sent: &[Sent], frame: Option<Recorded>) -> Result<(), AllocError>
+        ensures { OnOk result
+            (Takes self.old self.new (option_to_list frame) (map sent_bytes sent.now)) }
+    {
+        for next in sent {
+            self.expect(FrameBytes::from_slice(next.frame.bytes.as_slice()))?;
+        }
+        match frame {
+            Some(frame) => self.record(frame),
+            None => Ok(()),
+        }
+    }
+
+    /// The first difference, where the recording ends here.
+    fn difference(&self) -> Option<Difference>
+        ensures { (recorded : List ARecorded) (expected : List (List ℕ))
+            → Compares self.now recorded expected
+            → result ≡ difference recorded expected }
+    {
+        if let Some(settled) = &self.difference {
+            return Some(same_difference(settled));
+        }
+        match self.ahead.front() {
+            Some(frame) => Some(Difference {
+                line: frame.line,
+                sent: same_bytes(&frame.bytes),
+                expected: None,
+            }),
+            None => None,
+        }
+    }
+
+    /// The next frame that the recording lacks, where it differs nowhere.
+    fn lack(&self) -> Option<FrameBytes>
+        ensures { (recorded : List ARecorded) (expected : List (List ℕ))
+            → Compares self.now recorded expected
+            → difference recorded expected ≡ None
+            → result ≡ slice_get expected (length recorded) }
+    {
+        match self.behind.front() {
+            Some(bytes) => Some(same_bytes(bytes)),
+            None => None,
+        }
+    }
+}
+
+/// What is kept of all testers' frames.
+#[derive(Drop)]
+pub struct Comparisons {
+    /// How many lines the recording had.
+    pub lines: u64,
+    /// Of each tester, in order, where a verdict is wanted.
+    pub testers: Vec<Comparison>,
+}
+
+impl Comparisons {
+    /// Of so many testers nothing was recorded, and nothing sent.
+    pub fn new(alloc: Global, count: usize) -> Result<Comparisons, AllocError>
+        ensures lines { IfOk result (λ kept. kept.lines ≡ 0) }
+        ensures many { IfOk result (λ kept. length kept.testers.items ≡ count) }
+        ensures each { IfOk result (λ kept. (i : ℕ) (own : AComparison)
+            → slice_get kept.testers.items i ≡ Some own → Compares own [] []) }
+    {
+        let mut testers = Vec::with_capacity(alloc, count)?;
+        for made in 0..count {
+            testers.push(Comparison::new(alloc))?;
+        }
+        Ok(Comparisons { lines: 0, testers })
+    }
+
+    /// How many frames of a tester were recorded.
+    pub fn recorded(&self, who: Who) -> u64
+        ensures { (setup : RawSetup) (lines : List (List ℕ)) → ComparesLines setup self.now lines
+            → who ≤ length setup.testers → result ≡ length (recorded setup lines who) }
+    {
+        let index = usize::from(who.place()) - 1;
+        match self.testers.get(index) {
+            Some(own) => own.count,
+            None => 0,
+        }
+    }
+
+    /// Takes a line that says this and draws these frames.
+    pub fn take_line(
+        &mut self,
+        setup: &Setup,
+        said: &BusLine,
+        drawn: &[Vec<Sent>],
+    ) -> Result<(), AllocError>
+        requires in_setup { length self.old.testers.items ≤ length setup.now.testers }
+        requires lists { length drawn.now ≡ length setup.now.testers }
+        ensures ok { OnOk result (TakesLine setup.now self.old self.new said.now
+            (map (λ frames. frames.items) drawn.now)) }
+        ensures shape { length self.new.testers.items ≡ length self.old.testers.items }
+    {
+        let line = next(self.lines)?;
+        for index in 0..self.testers.len() {
+            let Some(who) = setup.who(index) else {
+                unreachable!()
+            };
+            let frame = reply_in(setup.ids(who).response, line, said);
+            self.testers[index].take(drawn[index].as_slice(), frame)?;
+        }
+        self.lines = line;
+        Ok(())
+    }
+
+    /// The first difference in the order of the lines, and its tester.
+    fn first_difference(&self, setup: &Setup) -> Option<(Who, Difference)>
+        requires { length self.now.testers.items ≤ length setup.now.testers }
+        ensures { (lines : List (List ℕ)) → ComparesLines setup.now self.now lines
+            → result ≡ first_difference setup.now lines }
+    {
+        let mut first = None;
+        for index in 0..self.testers.len() {
+            let Some(who) = setup.who(index) else {
+                unreachable!()
+            };
+            first = earlier(first, who, self.testers[index].difference());
+        }
+        first
+    }
+
+    /// What is to be said where no line differs: the first tester of whom frames are missing, if there is one.
+    fn first_lack(&self, setup: &Setup) -> Verdict
+        requires { length self.now.testers.items ≤ length setup.now.testers }
+        ensures { (lines : List (List ℕ)) → ComparesLines setup.now self.now lines
+            → first_difference setup.now lines ≡ None
+            → result ≡ verdict setup.now lines }
+    {
+        for index in 0..self.testers.len() {
+            let Some(who) = setup.who(index) else {
+                unreachable!()
+            };
+            let own = &self.testers[index];
+            if let Some(next) = own.lack() {
+                let count = own.count;
+                return Verdict::Lacks { who, count, next };
+            }
+        }
+        Verdict::Agrees
+    }
+
+    /// The verdict, where the recording ends here.
+    pub fn verdict(&self, setup: &Setup) -> Verdict
+        requires { length self.now.testers.items ≤ length setup.now.testers }
+        ensures { (lines : List (List ℕ)) → ComparesLines setup.now self.now lines
+            → result ≡ verdict setup.now lines }
+    {
+        match self.first_difference(setup) {
+            Some((who, difference)) => Verdict::Differs(who, difference),
+            None => self.first_lack(setup),
+        }
+    }
+}
+
+/// Whether a frame says response pending.
+fn is_pending(bytes: &[u8]) -> bool
+    ensures { result ≡ is_pending bytes.now }
+{
+    matches!(bytes, [0x03, 0x7F, _, 0x78, ..])
+}
+
+/// A line's frame, where it is one of the unit's with this identifier and doesn't say response pending.
+fn reply_in(response: CanId, line: u64, said: &BusLine) -> Option<Recorded>
+    ensures { result ≡ option_map (at_line line) (reply_said response (Ok said.now)) }
+{
+    let BusLine::Stamped {
+        frame: Some(frame),
+        ..
+    } = said
+    else {
+        return None;
+    };
+    let bytes = frame.bytes.as_slice();
+    if frame.id != response || is_pending(bytes) {
+        return None;
+    }
+    Some(Recorded {
+        line,
+        bytes: FrameBytes::from_slice(bytes),
+    })
+}
+
+/// The number behind this one.
+fn next(number: u64) -> Result<u64, AllocError>
+    ensures { IfOk result (λ next. next ≡ number + 1) }
+{
+    number.checked_add(1).ok_or(AllocError)
+}
