@@ -1,16 +1,16 @@
 -- What a run has read, step by step.
-use Rattle.std.proofs.Common.{◌≡◌, ℕ, ◌==◌, true, false, length, List, Result, Ok, Err, inl, inr, refl, ap, ◌∙◌, arith}
+use Rattle.std.proofs.Common.{◌≡◌, ◌≢◌, ◌⊎◌, ℕ, ◌==◌, true, false, length, List, Option, Result, Ok, Err, inl, inr, refl, ap, ◌∙◌, arith}
 use Rattle.std.proofs.lemmas.Bool.Decides.{nat_tests}
 use Rattle.diag_config.specs.declared.fault.ConfigFault.{ConfigFault}
 use Rattle.diag_config.specs.declared.fault.ConfigFault.TheVariants as config
 use Rattle.diag_setup.specs.declared.raw.RawSetup.{RawSetup}
 use Rattle.diag_config.specs.Key.{◌>>=◌}
-use Rattle.diag_run.specs.declared.fault.RunFault.{RunFault}
-use Rattle.diag_run.specs.declared.fault.RunFault.TheVariants.{Files, Config, ConfigLong, Log, JournalLine, FileLong, Memory, JournalFull, RecordsDisagree, Read, Write, Differs}
+use Rattle.diag_text.specs.declared.fault.RunFault.{RunFault}
+use Rattle.diag_text.specs.declared.fault.RunFault.TheVariants.{Files, Config, ConfigLong, Log, JournalLine, FileLong, Memory, JournalFull, RecordsDisagree, Read, Write, Differs, Capture, Otherwise}
 use Rattle.diag_run.specs.declared.whole.Job.{Job}
 use Rattle.diag_run.specs.declared.whole.Job.TheVariants.{Serial, Play, Replay}
-use Rattle.diag_run.specs.Files.{Refusal, wrong_count, Fails, ConfigFails, config_of, files_from}
-use Rattle.diag_run.specs.Run.{Inputs, wanted, limit, read_of, GivesRun}
+use Rattle.diag_run.specs.Files.{Refusal, wrong_count, Fails, ConfigFails, ReadEach, SaysSetup, config_of, files_from}
+use Rattle.diag_run.specs.Run.{Inputs, HasRead, ReadingStops, RunStops, AnswersFault, wanted, limit, read_of, GivesRun}
 
 -- a fault stays where what is read is only put into another shape
 module _ {A B : Type 0} (f : A → B) where
@@ -35,6 +35,8 @@ module _ {A B : Type 0} (f : A → B) where
   Fails-map (RecordsDisagree who) said h = absurd h
   Fails-map Write said h = absurd h
   Fails-map (Differs n) said h = absurd h
+  Fails-map (Capture n fault) said h = absurd h
+  Fails-map (Otherwise told) said h = absurd h
 
 -- what was read, of these parts
 abbrev pub inputs : RawSetup → List (List ℕ) → Inputs
@@ -59,6 +61,19 @@ module _ (job : Job) (bytes : List ℕ) (known : List (List ℕ)) (setup : RawSe
   pub read_fails : wanted job setup ≡ length known → (fault : RunFault) → Fails fault (files_from (limit job) 1 known) → Fails fault (read_of job bytes known)
   read_fails same fault h = rw (well_counted same) (Fails-map (inputs setup) fault (files_from (limit job) 1 known) h)
 
+-- ---- of any readers, by the bytes that were read
+
+-- all was read, and says this
+module _ {R : Type 0} (remaining : R → Option (List ℕ)) (job : Job) (config config' : R) (files files' : List R) where
+  pub has_read : (setup : RawSetup) (texts : List (List ℕ)) → SaysSetup (remaining config) (remaining config') setup → ReadEach remaining files files' texts → wanted job setup ≡ length texts
+      → files_from (limit job) 1 texts ≡ Ok texts → HasRead remaining job config config' files files' (λ said. said ≡ Ok (inputs setup texts))
+  has_read setup texts config each same within =
+      record { bytes = config.bytes; read = config.read; texts = texts; each = each; says = read_whole job config.bytes texts setup config.says same texts within }
+
+  pub HasRead-map : (P Q : Result Inputs Refusal → Type 0) → ((said : Result Inputs Refusal) → P said → Q said) → HasRead remaining job config config' files files' P
+      → HasRead remaining job config config' files files' Q
+  HasRead-map P Q more h = record { bytes = h.bytes; read = h.read; texts = h.texts; each = h.each; says = more (read_of job h.bytes h.texts) h.says }
+
 -- nothing is written before the text is whole
 pub no_write : (job : Job) (said : Result Inputs Refusal) → GivesRun job said (Err Write) → ⊥
 no_write job said (inl h) = h
@@ -66,3 +81,28 @@ no_write (Serial only_journal timing) (Ok i) (inr h) = h
 no_write (Play only_journal timing) (Ok i) (inr h) = h
 no_write Replay (Ok i) (inr h) = h
 no_write job (Err e) (inr h) = h
+
+-- the fault of what was read is what is answered, with nothing written
+answers_fault : (job : Job) (said : Result Inputs Refusal) (old new : Option (List ℕ)) (fault : RunFault) → GivesRun job said (Err fault) → AnswersFault job said old new fault
+answers_fault job said old new (Files w g) h = h
+answers_fault job said old new (Config f) h = h
+answers_fault job said old new ConfigLong h = h
+answers_fault job said old new (Log who f) h = h
+answers_fault job said old new (JournalLine n) h = h
+answers_fault job said old new (FileLong n) h = h
+answers_fault job said old new Memory h = h
+answers_fault job said old new JournalFull h = h
+answers_fault job said old new (RecordsDisagree who) h = h
+answers_fault job said old new (Read n) h = h
+answers_fault job said old new (Differs n) h = h
+answers_fault job said old new (Capture n f) h = h
+answers_fault job said old new (Otherwise told) h = h
+answers_fault job said old new Write h = absurd (no_write job said h)
+
+-- a run stops where the making of its text does
+pub run_stops : {R : Type 0} (remaining : R → Option (List ℕ)) (job : Job) (config config' : R) (files files' : List R) (old new : Option (List ℕ)) (fault : RunFault)
+    → ReadingStops remaining job config config' files files' fault ⊎ (((n : ℕ) → fault ≢ Read n) × HasRead remaining job config config' files files' (λ said. GivesRun job said (Err fault)))
+    → RunStops remaining job config config' files files' old new fault
+run_stops remaining job config config' files files' old new fault (inl reading) = inl reading
+run_stops remaining job config config' files files' old new fault (inr read) =
+    inr (read.0, HasRead-map remaining job config config' files files' _ _ (λ said. answers_fault job said old new fault) read.1)

@@ -1,9 +1,7 @@
-pub mod Codes
+pub mod Following
 pub mod Inputs
-pub mod Lines
 pub mod LogReading
 pub mod Order
+pub mod Pieces
 pub mod Reading
-pub mod Testers
 pub mod Threads
-pub mod Writing

@@ -14,8 +14,8 @@ use Rattle.diag_world.specs.Weaving.{weave}
 use Rattle.diag_workers.specs.Play as workers
 use Rattle.diag_run.specs.Files.{bad_log, or_bad_log, logs_of}
 use Rattle.diag_run.specs.Run.{GivesWoven, answered, played_text}
-use Rattle.diag_run.specs.declared.fault.RunFault.{RunFault}
-use Rattle.diag_run.specs.declared.fault.RunFault.TheVariants.{Memory}
+use Rattle.diag_text.specs.declared.fault.RunFault.{RunFault}
+use Rattle.diag_text.specs.declared.fault.RunFault.TheVariants.{Memory}
 
 -- there are as many logs as texts
 count_more : (n : ℕ) (log : Result (List Event) LogFault) (rest : Result (List (List Event)) (ℕ × LogFault)) (k : ℕ)

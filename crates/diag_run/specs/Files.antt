@@ -1,7 +1,6 @@
 -- What the files of a run say: the first fault in the order in which a run meets them, or what is read.
-use Rattle.std.specs.Prelude.{◌≡◌, ◌≤◌, ℕ, ◌+◌, ◌-◌, ◌==◌, nat_le, nat_lt, Bool, false, IfErr, if◌then◌else◌, List, [], ◌∷◌, length, map, take, drop, Option, Some, Result, Ok, Err}
-use Rattle.std.specs.Io.KnownBytes.{IsAtEnd}
-use Rattle.std.specs.List.{All}
+use Rattle.std.specs.Prelude.{◌≡◌, ◌≤◌, ◌<◌, ℕ, ◌+◌, ◌==◌, nat_le, nat_lt, Bool, false, IfErr, if◌then◌else◌, List, [], ◌∷◌, ◌++◌, length, map, Option, Some, Result, Ok, Err}
+use Rattle.std.specs.Io.KnownBytes.{Consumes}
 use Rattle.diag_can.specs.declared.fault.LogFault.{LogFault}
 use Rattle.diag_can.specs.declared.frame.Event.{Event}
 use Rattle.diag_can.specs.declared.log.Timing.{Timing}
@@ -11,8 +10,9 @@ use Rattle.diag_config.specs.Key.{Fault, syntax, missing, bad_value, refused, �
 use Rattle.diag_config.specs.Setup.{setup_of}
 use Rattle.diag_config.specs.declared.fault.ConfigFault.{ConfigFault}
 use Rattle.diag_config.specs.declared.fault.ConfigFault.TheVariants as config
-use Rattle.diag_run.specs.declared.fault.RunFault.{RunFault}
-use Rattle.diag_run.specs.declared.fault.RunFault.TheVariants.{Files, Config, ConfigLong, Log, JournalLine, FileLong, Memory, JournalFull, RecordsDisagree, Read, Write, Differs}
+use Rattle.diag_text.specs.Bytes.{ReadWhole, Takes}
+use Rattle.diag_text.specs.declared.fault.RunFault.{RunFault}
+use Rattle.diag_text.specs.declared.fault.RunFault.TheVariants.{Files, Config, ConfigLong, Log, JournalLine, FileLong, Memory, JournalFull, RecordsDisagree, Read, Write, Differs, Capture, Otherwise}
 
 -- what was read is refused; file 0 is the config, and a tester is its place from 1
 pub data Refusal : Type 0 where
@@ -54,6 +54,8 @@ Fails JournalFull said = ⊥
 Fails (RecordsDisagree who) said = ⊥
 Fails Write said = ⊥
 Fails (Differs n) said = ⊥
+Fails (Capture n fault) said = ⊥
+Fails (Otherwise told) said = ⊥
 
 abbrev pub Gives : {X Y : Type 0} → (X → Y) → Result X RunFault → Result Y Refusal → Type 0
 Gives view (Ok x) said = said ≡ Ok (view x)
@@ -71,6 +73,36 @@ or_bad_config (Err fault) = Err (bad_config fault)
 
 unfoldable pub config_of : List ℕ → Result RawSetup Refusal
 config_of bytes = within 1048576 config_long bytes >>= λ text. or_bad_config (setup_of text)
+
+-- the config was read whole, and says this setup
+pub record SaysSetup (old new : Option (List ℕ)) (setup : RawSetup) : Type 0 where
+  pub bytes : List ℕ
+  pub read : ReadWhole old new bytes
+  pub says : config_of bytes ≡ Ok setup
+
+-- bytes of the config were read that are refused for this fault
+pub record IsRefused (old new : Option (List ℕ)) (fault : RunFault) : Type 0 where
+  pub bytes : List ℕ
+  pub read : Consumes old new bytes
+  pub fails : Fails fault (config_of bytes)
+
+-- The fault came in reading the config. Before a failed read, and before memory was refused, no more than its limit
+-- was read.
+abbrev pub ConfigEnds : Option (List ℕ) → Option (List ℕ) → RunFault → Type 0
+ConfigEnds old new (Config fault) = IsRefused old new (Config fault)
+ConfigEnds old new ConfigLong = IsRefused old new ConfigLong
+ConfigEnds old new Memory = Takes old new (λ bytes. length bytes ≤ 1048576)
+ConfigEnds old new (Read n) = (n ≡ 0) × Takes old new (λ bytes. length bytes ≤ 1048576)
+ConfigEnds old new (Files wanted given) = ⊥
+ConfigEnds old new (Log who fault) = ⊥
+ConfigEnds old new (JournalLine n) = ⊥
+ConfigEnds old new (FileLong n) = ⊥
+ConfigEnds old new JournalFull = ⊥
+ConfigEnds old new (RecordsDisagree who) = ⊥
+ConfigEnds old new Write = ⊥
+ConfigEnds old new (Differs n) = ⊥
+ConfigEnds old new (Capture n fault) = ⊥
+ConfigEnds old new (Otherwise told) = ⊥
 
 abbrev pub counted : ℕ → ℕ → Result (Unit {0}) Refusal
 counted wanted given = if wanted == given then Ok tt else Err (wrong_count wanted given)
@@ -92,13 +124,55 @@ or_bad_log (Err first) = Err (bad_log first.0 first.1)
 unfoldable pub logs_of : Timing → RawSetup → List (List ℕ) → Result (List (List Event)) Refusal
 logs_of timing setup texts = or_bad_log (workers.logs_of setup timing texts)
 
--- reader n could not be read: those before it were read to their ends, and those behind it were not touched
-pub record FailsAt {R : Type 0} (remaining : R → Option (List ℕ)) (n : ℕ) (old new : List R)
-    : Type 0 where
-  pub within : n ≤ length old
-  pub ended : All (λ file. IsAtEnd (remaining file)) (take (n - 1) new)
-  pub untouched : drop n new ≡ drop n old
-
 -- the readers have exactly these bytes left
 abbrev pub AreKnown : {R : Type 0} → (R → Option (List ℕ)) → List R → List (List ℕ) → Type 0
 AreKnown remaining readers files = map remaining readers ≡ map Some files
+
+-- each reader was read whole: these texts, one of each
+abbrev pub ReadEach : {R : Type 0} → (R → Option (List ℕ)) → List R → List R → List (List ℕ) → Type 0
+ReadEach remaining [] [] [] = Unit {0}
+ReadEach remaining (r ∷ rs) (r' ∷ rs') (text ∷ texts) =
+    ReadWhole (remaining r) (remaining r') text × ReadEach remaining rs rs' texts
+ReadEach remaining olds news texts = ⊥
+
+-- The reading ended at file n: those before it were read whole and are within the limit, of it bytes were read of which
+-- P holds, and those behind it were not touched.
+pub record EndsAt {R : Type 0} (remaining : R → Option (List ℕ)) (limit n : ℕ) (old new : List R)
+    (P : List ℕ → Type 0) : Type 0 where
+  pub front : List R
+  pub front' : List R
+  pub file : R
+  pub file' : R
+  pub behind : List R
+  pub was : old ≡ front ++ file ∷ behind
+  pub is : new ≡ front' ++ file' ∷ behind
+  pub number : n ≡ length front + 1
+  pub texts : List (List ℕ)
+  pub each : ReadEach remaining front front' texts
+  pub within : files_from limit 1 texts ≡ Ok texts
+  pub seen : Takes (remaining file) (remaining file') P
+
+-- file n is longer than the limit
+abbrev pub IsTooLong : {R : Type 0} → (R → Option (List ℕ)) → ℕ → ℕ → List R → List R → Type 0
+IsTooLong remaining limit n old new = EndsAt remaining limit n old new (λ bytes. limit < length bytes)
+
+-- no more than the limit was read of file n when the fault came
+abbrev pub FailsAt : {R : Type 0} → (R → Option (List ℕ)) → ℕ → ℕ → List R → List R → Type 0
+FailsAt remaining limit n old new = EndsAt remaining limit n old new (λ bytes. length bytes ≤ limit)
+
+-- the fault came in reading the files
+abbrev pub FilesEnd : {R : Type 0} → (R → Option (List ℕ)) → ℕ → List R → List R → RunFault → Type 0
+FilesEnd remaining limit old new (FileLong n) = IsTooLong remaining limit n old new
+FilesEnd remaining limit old new (Read n) = FailsAt remaining limit n old new
+FilesEnd remaining limit old new Memory = (n : ℕ) × FailsAt remaining limit n old new
+FilesEnd remaining limit old new (Files wanted given) = ⊥
+FilesEnd remaining limit old new (Config fault) = ⊥
+FilesEnd remaining limit old new ConfigLong = ⊥
+FilesEnd remaining limit old new (Log who fault) = ⊥
+FilesEnd remaining limit old new (JournalLine n) = ⊥
+FilesEnd remaining limit old new JournalFull = ⊥
+FilesEnd remaining limit old new (RecordsDisagree who) = ⊥
+FilesEnd remaining limit old new Write = ⊥
+FilesEnd remaining limit old new (Differs n) = ⊥
+FilesEnd remaining limit old new (Capture n fault) = ⊥
+FilesEnd remaining limit old new (Otherwise told) = ⊥

@@ -1,5 +1,5 @@
-pub mod Bytes
-pub mod Faults
+pub mod Capture
+pub mod Capturing
+pub mod Ending
 pub mod Files
 pub mod Run
-pub mod Text

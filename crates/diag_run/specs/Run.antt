@@ -15,17 +15,24 @@ use Rattle.diag_desk.specs.Replay.{IsRun, DiffersAt}
 use Rattle.diag_world.specs.Headline.{IsPlay}
 use Rattle.diag_world.specs.Weaving.{steps_of, turns, weave}
 use Rattle.diag_config.specs.Key.{◌>>=◌}
-use Rattle.diag_run.specs.Bytes.{AppendsFront}
-use Rattle.diag_run.specs.Faults.{fault_text, status}
-use Rattle.diag_run.specs.Files.{Refusal, Fails, AreKnown, config_of, counted, files_from, logs_of}
-use Rattle.diag_run.specs.Text.{journal_part, whole_text, replay_text}
-use Rattle.diag_run.specs.declared.fault.RunFault.{RunFault}
-use Rattle.diag_run.specs.declared.fault.RunFault.TheVariants.{JournalLine, Memory, JournalFull, Read, Write, Differs}
+use Rattle.diag_text.specs.Bytes.{AppendsFront, ReadWhole}
+use Rattle.diag_text.specs.Faults.{fault_text, status}
+use Rattle.diag_run.specs.Files.{Refusal, Fails, AreKnown, ConfigEnds, FilesEnd, ReadEach, SaysSetup, config_of, counted, files_from, logs_of}
+use Rattle.diag_text.specs.Text.{journal_part, whole_text, replay_text}
+use Rattle.diag_text.specs.declared.fault.RunFault.{RunFault}
+use Rattle.diag_text.specs.declared.fault.RunFault.TheVariants.{Files, JournalLine, Memory, JournalFull, Read, Write, Differs}
 use Rattle.diag_run.specs.declared.whole.Given.{Given}
 use Rattle.diag_run.specs.declared.whole.Outcome.{Outcome}
 use Rattle.diag_run.specs.declared.whole.Outcome.TheVariants as outcome
+use Rattle.diag_run.specs.declared.whole.Alone.{Alone}
+use Rattle.diag_run.specs.declared.whole.Alone.TheVariants as alone
 use Rattle.diag_run.specs.declared.whole.Job.{Job}
 use Rattle.diag_run.specs.declared.whole.Job.TheVariants.{Serial, Play, Replay}
+
+-- what needs no thread of its own, as a job
+abbrev pub job_of : Alone → Job
+job_of (alone.Serial only_journal timing) = Serial only_journal timing
+job_of alone.Replay = Replay
 
 -- ---- what is read
 
@@ -56,6 +63,15 @@ read_of job config files = do
   _ ← counted (wanted job setup) (length files)
   texts ← files_from (limit job) 1 files
   Ok (record { setup = setup; texts = texts })
+
+-- the config and each file were read whole, and P holds of what the bytes say that were read
+pub record HasRead {R : Type 0} (remaining : R → Option (List ℕ)) (job : Job) (config config' : R)
+    (files files' : List R) (P : Result Inputs Refusal → Type 0) : Type 0 where
+  pub bytes : List ℕ
+  pub read : ReadWhole (remaining config) (remaining config') bytes
+  pub texts : List (List ℕ)
+  pub each : ReadEach remaining files files' texts
+  pub says : P (read_of job bytes texts)
 
 -- ---- what is answered for it
 
@@ -158,6 +174,25 @@ pub record WroteFront (job : Job) (said : Result Inputs Refusal) (old new : Opti
   pub gives : GivesRun job said (Ok text)
   pub appends : AppendsFront old new text
 
+-- ---- how a run of any readers ends by a fault
+
+-- the config was read whole, and there are not as many files as it wants, none of which was touched; or the fault came
+-- in reading them
+pub record FilesStop {R : Type 0} (remaining : R → Option (List ℕ)) (job : Job) (config config' : R)
+    (files files' : List R) (fault : RunFault) : Type 0 where
+  pub setup : RawSetup
+  pub says : SaysSetup (remaining config) (remaining config') setup
+  pub ends : ((fault ≡ Files (wanted job setup) (length files)) × (wanted job setup ≢ length files)
+      × (files' ≡ files))
+      ⊎ ((wanted job setup ≡ length files) × FilesEnd remaining (limit job) files files' fault)
+
+-- the fault came in reading: the config, and no file was touched, or the files
+abbrev pub ReadingStops : {R : Type 0} → (R → Option (List ℕ)) → Job → R → R → List R → List R → RunFault
+    → Type 0
+ReadingStops remaining job config config' files files' fault =
+    (ConfigEnds (remaining config) (remaining config') fault × (files' ≡ files))
+    ⊎ FilesStop remaining job config config' files files' fault
+
 -- ---- how it is told
 
 -- the fault of a writing comes after a front of the text, any other is that of what was read
@@ -165,6 +200,15 @@ abbrev pub AnswersFault : Job → Result Inputs Refusal → Option (List ℕ) �
     → Type 0
 AnswersFault job said old new Write = WroteFront job said old new
 AnswersFault job said old new fault = GivesRun job said (Err fault)
+
+-- The fault came in reading; or all was read whole, and the fault is that of what was read, or of the writing, and no
+-- failed read.
+abbrev pub RunStops : {R : Type 0} → (R → Option (List ℕ)) → Job → R → R → List R → List R
+    → Option (List ℕ) → Option (List ℕ) → RunFault → Type 0
+RunStops remaining job config config' files files' old new fault =
+    ReadingStops remaining job config config' files files' fault
+    ⊎ (((n : ℕ) → fault ≢ Read n)
+    × HasRead remaining job config config' files files' (λ said. AnswersFault job said old new fault))
 
 -- the fault is answered by a run of these readers, and before another than that of the writing nothing is written
 pub record IsFaultOf {R : Type 0} (remaining : R → Option (List ℕ)) (job : Job) (config : R)

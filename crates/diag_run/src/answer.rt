@@ -5,12 +5,11 @@ ghost use Rattle.std.specs.List.{concat};
 ghost use Rattle.diag_run.specs.Files.{logs_of};
 ghost use Rattle.diag_run.specs.Run.{GivesPlayed, GivesWoven, GivesReplayed, played_text, answered};
 
-use crate::fault::RunFault;
 use crate::logs::read_logs;
-use crate::text::{journal_part, one_part, play_parts, play_text, replay_text};
 use diag_can::Timing;
 use diag_desk::{JournalFault, ReplayFault, read_journal, replay};
 use diag_setup::Setup;
+use diag_text::{RunFault, journal_part, one_part, play_parts, play_text, replay_text};
 use diag_workers::{NoWatch, play};
 use diag_world::{Played, serial};
 use std::alloc::Global;

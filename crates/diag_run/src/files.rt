@@ -1,12 +1,11 @@
 //! Reading the files of a run, in order.
 
-ghost use Rattle.std.specs.Prelude.{◌≡◌, ◌≤◌, ℕ, ◌<◌, ◌^◌, List, map, length, IfOk, IfSome};
+ghost use Rattle.std.specs.Prelude.{◌≡◌, ◌≤◌, ℕ, ◌<◌, ◌^◌, List, map, length, IfOk, IfErr, IfSome, Ok};
 ghost use Rattle.std.specs.Io.KnownBytes.{IsAtEnd};
-ghost use Rattle.diag_run.specs.Files.{AreKnown, FailsAt, Gives, config_of, files_from};
+ghost use Rattle.diag_run.specs.Files.{AreKnown, ConfigEnds, FailsAt, FilesEnd, Gives, ReadEach, SaysSetup, config_of, files_from};
 
-use crate::device::{ReadFault, read_whole};
-use crate::fault::RunFault;
 use diag_config::{ConfigFault, Setup, read_setup};
+use diag_text::{ReadFault, RunFault, read_whole};
 use std::alloc::Global;
 use std::io::Read;
 
@@ -20,6 +19,8 @@ pub fn read_config<R: Read>(alloc: Global, config: &mut R) -> Result<Setup, RunF
         Gives (λ setup. setup) result (config_of bytes)) }
     ensures device { (n : ℕ) → result ≡ Err (RunFault.Read n) → n ≡ 0 }
     ensures end { IfOk result (λ _. IsAtEnd (R.remaining config.new)) }
+    ensures says { IfOk result (SaysSetup (R.remaining config.old) (R.remaining config.new)) }
+    ensures ends { IfErr result (ConfigEnds (R.remaining config.old) (R.remaining config.new)) }
 {
     let text = match read_whole(alloc, config, CONFIG_LIMIT) {
         Ok(text) => text,
@@ -46,7 +47,12 @@ pub fn read_files<R: Read>(
         → Gives (λ v. map (λ bytes. bytes.items) v.items) result (files_from limit 1 known) }
     ensures device { (n : ℕ)
         → result ≡ Err (RunFault.Read n)
-        → (1 ≤ n) × FailsAt R.remaining n files.old files.new }
+        → FailsAt R.remaining limit n files.old files.new }
+    ensures each { IfOk result (λ v.
+        ReadEach R.remaining files.old files.new (map (λ bytes. bytes.items) v.items)) }
+    ensures within { IfOk result (λ v. let texts = map (λ bytes. bytes.items) v.items in
+        files_from limit 1 texts ≡ Ok texts) }
+    ensures ends { IfErr result (FilesEnd R.remaining limit files.old files.new) }
 {
     let mut texts = Vec::new(alloc);
     for (index, file) in files.iter_mut().enumerate() {

@@ -2,14 +2,18 @@
 #![tactic(auto)]
 
 mod answer;
-mod device;
-mod fault;
+mod bus_run;
+mod capture;
+mod ending;
 mod files;
 mod logs;
-mod text;
 mod whole;
 
-pub use device::{ReadFault, WriteFault, read_whole, write_whole};
-pub use fault::{RunFault, fault_text, status};
-pub use text::{end_text, play_text, replay_text};
-pub use whole::{Job, Outcome, run, run_and_tell};
+pub use bus_run::{run_bus, run_bus_and_tell, run_fault};
+pub use capture::{Capture, CaptureFault};
+pub use diag_text::{
+    ReadFault, RunFault, WriteFault, agreement_text, end_text, fault_text, play_text, read_whole,
+    replay_text, status, verdict_text, write_text, write_whole,
+};
+pub use files::read_config;
+pub use whole::{Alone, Job, Outcome, run, run_alone, run_and_tell};

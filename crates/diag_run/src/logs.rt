@@ -3,9 +3,9 @@
 ghost use Rattle.std.specs.Prelude.{◌≡◌, ◌≢◌, ℕ, map, length, IfOk, Err};
 ghost use Rattle.diag_run.specs.Files.{Gives, logs_of};
 
-use crate::fault::RunFault;
 use diag_can::{Event, LogFault, Timing, read_log};
 use diag_config::Setup;
+use diag_text::RunFault;
 use std::alloc::Global;
 
 /// The events of each tester's log, or the first fault.

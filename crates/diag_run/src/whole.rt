@@ -1,17 +1,16 @@
 //! A whole run: the config and the files in, one text out.
 
-ghost use Rattle.std.specs.Prelude.{◌≡◌, ◌≢◌, ◌≤◌, ◌<◌, ◌^◌, ℕ, List, length, map, IfOk, IfErr, OnOk, Some, Err};
+ghost use Rattle.std.specs.Prelude.{◌≡◌, ◌≢◌, ◌≤◌, ◌<◌, ◌⊎◌, ◌^◌, ℕ, List, length, map, IfOk, IfErr, OnOk, Some, Ok, Err};
 ghost use Rattle.std.specs.Io.KnownBytes.{IsAtEnd, Keeps};
 ghost use Rattle.std.specs.List.{concat};
-ghost use Rattle.diag_run.specs.Files.{AreKnown, FailsAt, Gives};
-ghost use Rattle.diag_run.specs.Run.{wanted, limit, read_of, GivesText, GivesRun, Wrote, WroteFront, IsFaultOf, TellsOf, inputs_of, answered};
+ghost use Rattle.diag_run.specs.Files.{AreKnown, Gives};
+ghost use Rattle.diag_run.specs.Run.{job_of, wanted, limit, read_of, HasRead, ReadingStops, RunStops, GivesText, GivesRun, Wrote, WroteFront, IsFaultOf, TellsOf, inputs_of, answered};
 
 use crate::answer::{played_text, replayed_text, woven_text};
-use crate::device::write_whole;
-use crate::fault::{RunFault, fault_text, status};
 use crate::files::{read_config, read_files};
 use diag_can::Timing;
 use diag_setup::Setup;
+use diag_text::{RunFault, fault_text, status, write_whole};
 use std::alloc::Global;
 use std::io::{Read, Write};
 use std::sync::Wait;
@@ -51,6 +50,33 @@ impl Job {
     }
 }
 
+/// What a run does that needs no thread.
+#[derive(Clone, Copy, Debug, PartialEq, Eq)]
+pub enum Alone {
+    /// As `Job::Serial`.
+    Serial { only_journal: bool, timing: Timing },
+    /// As `Job::Replay`.
+    Replay,
+}
+
+impl Alone {
+    /// The same as a job.
+    fn job(self) -> Job
+        ensures { result ≡ job_of self }
+    {
+        match self {
+            Alone::Serial {
+                only_journal,
+                timing,
+            } => Job::Serial {
+                only_journal,
+                timing,
+            },
+            Alone::Replay => Job::Replay,
+        }
+    }
+}
+
 /// What a run has read.
 #[derive(Drop)]
 struct Given {
@@ -72,12 +98,17 @@ fn read_all<R: Read>(
         → Gives inputs_of result (read_of job bytes known) }
     ensures device { (n : ℕ)
         → result ≡ Err (RunFault.Read n)
-        → FailsAt R.remaining n files.old files.new }
+        → n ≤ length files.old }
     ensures config { (n : ℕ)
         → result ≡ Err (RunFault.Read n)
         → 1 ≤ n
         → IsAtEnd (R.remaining config.new) }
     ensures wanted { IfOk result (λ given. length given.texts.items ≡ wanted job given.setup) }
+    ensures reads { IfOk result (λ given.
+        HasRead R.remaining job config.old config.new files.old files.new
+        (λ said. said ≡ Ok (inputs_of given))) }
+    ensures stops { IfErr result
+        (ReadingStops R.remaining job config.old config.new files.old files.new) }
 {
     let setup = match read_config(alloc, config) {
         Ok(setup) => setup,
@@ -95,55 +126,207 @@ fn read_all<R: Read>(
 }
 
 /// The text that is written for what was read, in parts.
-fn text_for<R: Threads + Wait + Sync>(
-    rt: &R,
-    alloc: Global,
-    job: Job,
-    given: &Given,
-) -> Result<Vec<Vec<u8>>, RunFault>
-    requires { length given.now.texts.items ≡ wanted job given.now.setup }
-    ensures gives { GivesText job (inputs_of given.now)
+fn text_alone(alloc: Global, job: Alone, given: &Given) -> Result<Vec<Vec<u8>>, RunFault>
+    requires { length given.now.texts.items ≡ wanted (job_of job) given.now.setup }
+    ensures gives { GivesText (job_of job) (inputs_of given.now)
         (answered (λ parts. concat (map (λ part. part.items) parts.items)) result) }
     ensures device { (n : ℕ) → result ≢ Err (RunFault.Read n) }
 {
     let texts = given.texts.as_slice();
     match job {
-        Job::Serial {
+        Alone::Serial {
             only_journal,
             timing,
         } => played_text(alloc, &given.setup, texts, only_journal, timing),
-        Job::Play {
-            only_journal,
-            timing,
-        } => woven_text(rt, alloc, &given.setup, texts, only_journal, timing),
-        Job::Replay => replayed_text(alloc, &given.setup, texts[0].as_slice()),
+        Alone::Replay => replayed_text(alloc, &given.setup, texts[0].as_slice()),
     }
 }
 
-/// The whole text of a run, in parts.
-fn whole_text<T: Threads + Wait + Sync, R: Read>(
-    rt: &T,
+/// The whole text of a run that needs no thread, in parts.
+fn whole_alone<R: Read>(
     alloc: Global,
-    job: Job,
+    job: Alone,
     config: &mut R,
     files: &mut [R],
 ) -> Result<Vec<Vec<u8>>, RunFault>
     ensures answer { (bytes : List ℕ) (known : List (List ℕ))
         → R.remaining config.old ≡ Some bytes
         → AreKnown R.remaining files.old known
-        → GivesRun job (read_of job bytes known)
+        → GivesRun (job_of job) (read_of (job_of job) bytes known)
         (answered (λ parts. concat (map (λ part. part.items) parts.items)) result) }
     ensures device { (n : ℕ)
         → result ≡ Err (RunFault.Read n)
-        → FailsAt R.remaining n files.old files.new }
+        → n ≤ length files.old }
     ensures config { (n : ℕ)
         → result ≡ Err (RunFault.Read n)
         → 1 ≤ n
         → IsAtEnd (R.remaining config.new) }
+    ensures reads { IfOk result (λ parts.
+        HasRead R.remaining (job_of job) config.old config.new files.old files.new
+        (λ said. GivesRun (job_of job) said
+        (Ok (concat (map (λ part. part.items) parts.items))))) }
+    ensures stops { IfErr result (λ e.
+        ReadingStops R.remaining (job_of job) config.old config.new files.old files.new e
+        ⊎ (((n : ℕ) → e ≢ RunFault.Read n)
+        × HasRead R.remaining (job_of job) config.old config.new files.old files.new
+        (λ said. GivesRun (job_of job) said (Err e)))) }
 {
-    match read_all(alloc, job, config, files) {
-        Ok(given) => text_for(rt, alloc, job, &given),
+    match read_all(alloc, job.job(), config, files) {
+        Ok(given) => text_alone(alloc, job, &given),
         Err(fault) => Err(fault),
+    }
+}
+
+/// The whole text of a threaded play, in parts.
+fn whole_woven<T: Threads + Wait + Sync, R: Read>(
+    rt: &T,
+    alloc: Global,
+    only_journal: bool,
+    timing: Timing,
+    config: &mut R,
+    files: &mut [R],
+) -> Result<Vec<Vec<u8>>, RunFault>
+    ensures answer { (bytes : List ℕ) (known : List (List ℕ))
+        → R.remaining config.old ≡ Some bytes
+        → AreKnown R.remaining files.old known
+        → GivesRun (Job.Play only_journal timing)
+        (read_of (Job.Play only_journal timing) bytes known)
+        (answered (λ parts. concat (map (λ part. part.items) parts.items)) result) }
+    ensures device { (n : ℕ)
+        → result ≡ Err (RunFault.Read n)
+        → n ≤ length files.old }
+    ensures config { (n : ℕ)
+        → result ≡ Err (RunFault.Read n)
+        → 1 ≤ n
+        → IsAtEnd (R.remaining config.new) }
+    ensures reads { IfOk result (λ parts.
+        HasRead R.remaining (Job.Play only_journal timing) config.old config.new files.old files.new
+        (λ said. GivesRun (Job.Play only_journal timing) said
+        (Ok (concat (map (λ part. part.items) parts.items))))) }
+    ensures stops { IfErr result (λ e.
+        ReadingStops R.remaining (Job.Play only_journal timing)
+        config.old config.new files.old files.new e
+        ⊎ (((n : ℕ) → e ≢ RunFault.Read n)
+        × HasRead R.remaining (Job.Play only_journal timing) config.old config.new files.old files.new
+        (λ said. GivesRun (Job.Play only_journal timing) said (Err e)))) }
+{
+    let job = Job::Play {
+        only_journal,
+        timing,
+    };
+    match read_all(alloc, job, config, files) {
+        Ok(given) => woven_text(
+            rt,
+            alloc,
+            &given.setup,
+            given.texts.as_slice(),
+            only_journal,
+            timing,
+        ),
+        Err(fault) => Err(fault),
+    }
+}
+
+/// Reads the config and the files, plays on one thread or replays, and writes the text of the run and nothing else.
+/// Nothing is written before the text is whole. It starts no thread, waits for none, and returns.
+///
+/// # Errors
+/// As those of `run`.
+pub fn run_alone<R: Read + Drop, W: Write>(
+    alloc: Global,
+    job: Alone,
+    mut config: R,
+    mut files: Vec<R>,
+    out: &mut W,
+) -> Result<(), RunFault>
+    ensures done { OnOk result ((bytes : List ℕ) (known : List (List ℕ))
+        → R.remaining config ≡ Some bytes
+        → AreKnown R.remaining files.items known
+        → Wrote (job_of job) (read_of (job_of job) bytes known)
+        (W.contents out.old) (W.contents out.new)) }
+    ensures fault { IfErr result (λ e. e ≢ RunFault.Write
+        → (bytes : List ℕ) (known : List (List ℕ))
+        → R.remaining config ≡ Some bytes
+        → AreKnown R.remaining files.items known
+        → GivesRun (job_of job) (read_of (job_of job) bytes known) (Err e)) }
+    ensures device { (n : ℕ) → result ≡ Err (RunFault.Read n) → n ≤ length files.items }
+    ensures nothing { IfErr result (λ e.
+        e ≢ RunFault.Write → Keeps (W.contents out.old) (W.contents out.new)) }
+    ensures front { result ≡ Err RunFault.Write
+        → (bytes : List ℕ) (known : List (List ℕ))
+        → R.remaining config ≡ Some bytes
+        → AreKnown R.remaining files.items known
+        → WroteFront (job_of job) (read_of (job_of job) bytes known)
+        (W.contents out.old) (W.contents out.new) }
+    ensures reads { OnOk result ((config' : R) × (files' : List R)
+        × HasRead R.remaining (job_of job) config config' files.items files'
+        (λ said. Wrote (job_of job) said (W.contents out.old) (W.contents out.new))) }
+    ensures stops { IfErr result (λ e. (config' : R) × (files' : List R)
+        × RunStops R.remaining (job_of job) config config' files.items files'
+        (W.contents out.old) (W.contents out.new) e) }
+{
+    let parts = match whole_alone(alloc, job, &mut config, files.as_mut_slice()) {
+        Ok(parts) => parts,
+        Err(fault) => return Err(fault),
+    };
+    match write_whole(out, parts.as_slice()) {
+        Ok(()) => Ok(()),
+        Err(_) => Err(RunFault::Write),
+    }
+}
+
+/// The same of a threaded play.
+fn run_woven<T: Threads + Wait + Sync, R: Read + Drop, W: Write>(
+    rt: &T,
+    alloc: Global,
+    only_journal: bool,
+    timing: Timing,
+    mut config: R,
+    mut files: Vec<R>,
+    out: &mut W,
+) -> Result<(), RunFault>
+    ensures done { OnOk result ((bytes : List ℕ) (known : List (List ℕ))
+        → R.remaining config ≡ Some bytes
+        → AreKnown R.remaining files.items known
+        → Wrote (Job.Play only_journal timing) (read_of (Job.Play only_journal timing) bytes known)
+        (W.contents out.old) (W.contents out.new)) }
+    ensures fault { IfErr result (λ e. e ≢ RunFault.Write
+        → (bytes : List ℕ) (known : List (List ℕ))
+        → R.remaining config ≡ Some bytes
+        → AreKnown R.remaining files.items known
+        → GivesRun (Job.Play only_journal timing)
+        (read_of (Job.Play only_journal timing) bytes known) (Err e)) }
+    ensures device { (n : ℕ) → result ≡ Err (RunFault.Read n) → n ≤ length files.items }
+    ensures nothing { IfErr result (λ e.
+        e ≢ RunFault.Write → Keeps (W.contents out.old) (W.contents out.new)) }
+    ensures front { result ≡ Err RunFault.Write
+        → (bytes : List ℕ) (known : List (List ℕ))
+        → R.remaining config ≡ Some bytes
+        → AreKnown R.remaining files.items known
+        → WroteFront (Job.Play only_journal timing)
+        (read_of (Job.Play only_journal timing) bytes known)
+        (W.contents out.old) (W.contents out.new) }
+    ensures reads { OnOk result ((config' : R) × (files' : List R)
+        × HasRead R.remaining (Job.Play only_journal timing) config config' files.items files'
+        (λ said. Wrote (Job.Play only_journal timing) said (W.contents out.old) (W.contents out.new))) }
+    ensures stops { IfErr result (λ e. (config' : R) × (files' : List R)
+        × RunStops R.remaining (Job.Play only_journal timing) config config' files.items files'
+        (W.contents out.old) (W.contents out.new) e) }
+{
+    let parts = match whole_woven(
+        rt,
+        alloc,
+        only_journal,
+        timing,
+        &mut config,
+        files.as_mut_slice(),
+    ) {
+        Ok(parts) => parts,
+        Err(fault) => return Err(fault),
+    };
+    match write_whole(out, parts.as_slice()) {
+        Ok(()) => Ok(()),
+        Err(_) => Err(RunFault::Write),
     }
 }
 
@@ -157,8 +340,8 @@ pub fn run<T: Threads + Wait + Sync, R: Read + Drop, W: Write>(
     rt: &T,
     alloc: Global,
     job: Job,
-    mut config: R,
-    mut files: Vec<R>,
+    config: R,
+    files: Vec<R>,
     out: &mut W,
 ) -> Result<(), RunFault>
     ensures done { OnOk result ((bytes : List ℕ) (known : List (List ℕ))
@@ -178,14 +361,29 @@ pub fn run<T: Threads + Wait + Sync, R: Read + Drop, W: Write>(
         → R.remaining config ≡ Some bytes
         → AreKnown R.remaining files.items known
         → WroteFront job (read_of job bytes known) (W.contents out.old) (W.contents out.new) }
+    ensures reads { OnOk result ((config' : R) × (files' : List R)
+        × HasRead R.remaining job config config' files.items files'
+        (λ said. Wrote job said (W.contents out.old) (W.contents out.new))) }
+    ensures stops { IfErr result (λ e. (config' : R) × (files' : List R)
+        × RunStops R.remaining job config config' files.items files'
+        (W.contents out.old) (W.contents out.new) e) }
 {
-    let parts = match whole_text(rt, alloc, job, &mut config, files.as_mut_slice()) {
-        Ok(parts) => parts,
-        Err(fault) => return Err(fault),
-    };
-    match write_whole(out, parts.as_slice()) {
-        Ok(()) => Ok(()),
-        Err(_) => Err(RunFault::Write),
+    match job {
+        Job::Serial {
+            only_journal,
+            timing,
+        } => {
+            let job = Alone::Serial {
+                only_journal,
+                timing,
+            };
+            run_alone(alloc, job, config, files, out)
+        }
+        Job::Play {
+            only_journal,
+            timing,
+        } => run_woven(rt, alloc, only_journal, timing, config, files, out),
+        Job::Replay => run_alone(alloc, Alone::Replay, config, files, out),
     }
 }
 
@@ -212,9 +410,15 @@ pub fn run_and_tell<T: Threads + Wait + Sync, R: Read + Drop, W: Write>(
         → R.remaining config ≡ Some bytes
         → AreKnown R.remaining files.items known
         → Wrote job (read_of job bytes known) (W.contents out.old) (W.contents out.new) }
+    ensures reads { result ≡ Outcome.Done → (config' : R) × (files' : List R)
+        × HasRead R.remaining job config config' files.items files'
+        (λ said. Wrote job said (W.contents out.old) (W.contents out.new)) }
     ensures fault { TellsOf
         (IsFaultOf R.remaining job config files.items (W.contents out.old) (W.contents out.new))
         result }
+    ensures stops { TellsOf (λ fault. (config' : R) × (files' : List R)
+        × RunStops R.remaining job config config' files.items files'
+        (W.contents out.old) (W.contents out.new) fault) result }
 {
     match run(rt, alloc, job, config, files, out) {
         Ok(()) => Outcome::Done,

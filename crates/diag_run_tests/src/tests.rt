@@ -1,3 +1,4 @@
+mod captures;
 mod devices;
 mod faults;
 mod given;

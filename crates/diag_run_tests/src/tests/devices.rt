@@ -342,6 +342,25 @@ fn reads_of_a_long_file(rt: HostRuntime) -> Result<(), Trouble> {
     holds(Ok(reader.calls == 1_048_577))
 }
 
+/// Whether the reader is read whole, by one call more than it has bytes.
+fn is_read_once(alloc: Global, bytes: &[u8]) -> Result<bool, AllocError> {
+    let mut reader = Source::failing(bytes, 0);
+    match read_whole(alloc, &mut reader, 1_048_576) {
+        Err(ReadFault::Memory) => Err(AllocError),
+        Err(_) => Ok(false),
+        Ok(text) => {
+            Ok(text.as_slice() == bytes && reader.calls == bytes.len().saturating_add(1))
+        }
+    }
+}
+
+/// Nothing is read behind the end.
+#[test]
+fn reads_of_a_whole_file(rt: HostRuntime) -> Result<(), Trouble> {
+    holds(is_read_once(rt.alloc(), b""))?;
+    holds(is_read_once(rt.alloc(), config()))
+}
+
 /// A second log that is one byte past its limit.
 #[test]
 fn a_log_past_its_limit(rt: HostRuntime) -> Result<(), Trouble> {

@@ -1,8 +1,9 @@
 //! Faults of a run: the text and the status of each, and which one is answered.
 
 use super::given::{
-    End, PLAY, Run, SERIAL, Source, Trouble, config, ends_unwritten, holds, holds_at,
+    End, PLAY, Run, SERIAL, Source, Trouble, config, ends_unwritten, holds, holds_at, ticks,
 };
+use diag_bus::BusFault;
 use diag_can::{LineFault, LogFault};
 use diag_config::ConfigFault;
 use diag_run::{Job, RunFault, fault_text, status};
@@ -12,7 +13,7 @@ use std::sync::Wait;
 use std::thread::Threads;
 
 /// A fault, its line on standard error, and the status.
-#[derive(Clone, Copy)]
+#[derive(Drop)]
 struct Told(RunFault, &'static [u8], u8);
 
 /// Whether the fault has this line and this status.
@@ -141,6 +142,38 @@ fn faults_of_logs(rt: HostRuntime) -> Result<(), Trouble> {
     }
 }
 
+/// A fault of line 5 of a capture.
+const fn capture_fault(fault: BusFault, line: &'static [u8]) -> Told {
+    Told(RunFault::Capture(5, fault), line, 3)
+}
+
+#[test]
+fn faults_of_captures(rt: HostRuntime) -> Result<(), Trouble> {
+    let faults = [
+        capture_fault(
+            BusFault::Line(LineFault::BadLine),
+            b"uds_play: capture line 5: bad line\n",
+        ),
+        capture_fault(
+            BusFault::Line(LineFault::BadTick),
+            b"uds_play: capture line 5: bad tick\n",
+        ),
+        capture_fault(
+            BusFault::Line(LineFault::TooManyBytes),
+            b"uds_play: capture line 5: too many bytes\n",
+        ),
+        capture_fault(BusFault::Late, b"uds_play: capture line 5: too late\n"),
+    ];
+    are_told(rt.alloc(), &faults)
+}
+
+#[test]
+fn another_answer_than_the_servers(rt: HostRuntime) -> Result<(), Trouble> {
+    let told = Vec::from_slice(rt.alloc(), b"A sent 1 frames, expected 02 next")?;
+    let line = b"uds_play: A sent 1 frames, expected 02 next\n";
+    are_told(rt.alloc(), &[Told(RunFault::Otherwise(told), line, 8)])
+}
+
 const OTHERS: [Told; 8] = [
     Told(
         RunFault::Config(ConfigFault::Syntax),
@@ -206,6 +239,46 @@ fn tells_first<T: Threads + Wait + Sync + AllocGlobal>(rt: &T, job: Job) -> Resu
     tells(rt, job, b"s3_ms =", &[UNREAD], SYNTAX)?;
     tells(rt, job, config(), &[UNREAD], ONE_FILE)?;
     tells(rt, job, config(), &[Source::whole(b"7E0"), UNREAD], FILE_2)
+}
+
+const BAD_VALUE: End<'static> = End {
+    line: b"uds_play: config: bad value did.value\n",
+    status: 2,
+};
+
+/// A config whose identifier has this value.
+fn with_value(alloc: Global, value: &[u8]) -> Result<Vec<u8>, AllocError> {
+    let mut config = Vec::from_slice(alloc, b"delay_ms = 2000\n[[tester]]\nname = \"A\"\n")?;
+    config.extend_from_slice(b"request = 0x7E0\nresponse = 0x7E8\n")?;
+    config.extend_from_slice(b"[[did]]\nid = 0xF190\nvalue = \"")?;
+    config.extend_from_slice(value)?;
+    config.extend_from_slice(b"\"\n")?;
+    Ok(config)
+}
+
+/// Hex that is none, with an odd digit or with a sign that is none, is a bad value.
+#[test]
+fn bad_hex(rt: HostRuntime) -> Result<(), Trouble> {
+    let values: [&[u8]; 3] = [b"5", b"5G", b"g5"];
+    for value in values {
+        let config = with_value(rt.alloc(), value)?;
+        tells(&rt, SERIAL, config.as_slice(), &[UNREAD], BAD_VALUE)?;
+    }
+    Ok(())
+}
+
+const FULL: End<'static> = End {
+    line: b"uds_play: journal full\n",
+    status: 5,
+};
+
+/// 500,001 ticks of each of two testers are one step more than a journal has room for, on one thread and on two.
+#[test]
+fn a_full_journal(rt: HostRuntime) -> Result<(), Trouble> {
+    let log = ticks(rt.alloc(), 500_001)?;
+    let files = [Source::whole(log.as_slice()), Source::whole(log.as_slice())];
+    tells(&rt, SERIAL, config(), &files, FULL)?;
+    tells(&rt, PLAY, config(), &files, FULL)
 }
 
 /// The order in which faults are met: the config, the number of files, each file read, and what they say.

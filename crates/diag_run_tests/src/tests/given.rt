@@ -180,7 +180,7 @@ pub fn ends<T: Threads + Wait + Sync + AllocGlobal, W: Write>(
 }
 
 /// Whether this is the end of a run.
-fn is_end(outcome: &Outcome, end: End<'_>) -> Result<bool, AllocError> {
+pub fn is_end(outcome: &Outcome, end: End<'_>) -> Result<bool, AllocError> {
     match outcome {
         Outcome::Done => Ok(end.status == 0),
         Outcome::Fault { told, status } => is_fault(told, *status, end),
@@ -205,6 +205,15 @@ pub fn ends_unwritten<T: Threads + Wait + Sync + AllocGlobal>(
     let mut out = Vec::new(rt.alloc());
     let told = ends(rt, run, &mut out, end);
     Ok(told? && out.is_empty())
+}
+
+/// A log of so many ticks.
+pub fn ticks(alloc: Global, count: usize) -> Result<Vec<u8>, AllocError> {
+    let mut text = Vec::new(alloc);
+    for _ in 0..count {
+        text.extend_from_slice(b"tick\n")?;
+    }
+    Ok(text)
 }
 
 /// Why a test did not come to its end: memory was refused, or a run did what it must not.

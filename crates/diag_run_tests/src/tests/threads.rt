@@ -1,6 +1,6 @@
 //! Runs with a thread for each tester.
 
-use super::given::{PLAY, Run, SERIAL, Source, Trouble, WELL, config, ends, holds};
+use super::given::{PLAY, Run, SERIAL, Source, Trouble, WELL, config, ends, holds, ticks};
 use diag_can::Timing;
 use diag_run::Job;
 use std::alloc::{AllocError, Global};
@@ -50,15 +50,6 @@ fn writes_reply<T: Threads + Wait + Sync + AllocGlobal>(
 fn first_reply(rt: HostRuntime) -> Result<(), Trouble> {
     holds(writes_reply(&rt, SERIAL))?;
     holds(writes_reply(&rt, PLAY))
-}
-
-/// A log of so many ticks.
-fn ticks(alloc: Global, count: usize) -> Result<Vec<u8>, AllocError> {
-    let mut text = Vec::new(alloc);
-    for _ in 0..count {
-        text.extend_from_slice(b"tick\n")?;
-    }
-    Ok(text)
 }
 
 /// How often the tester of an entry is another than that of the entry before it.

@@ -4,7 +4,7 @@ use Rattle.diag_can.specs.Log.{events}
 use Rattle.diag_setup.specs.Setup.{ids_of}
 use Rattle.diag_run.specs.Files.{logs_of}
 use Rattle.diag_run.proofs.LogReading.{log_goes_on, log_stops, logs_done}
-use Rattle.diag_run.proofs.Testers.{seen_at, who_found}
+use Rattle.diag_text.proofs.Testers.{seen_at, who_found}
 use Rattle.diag_run.proofs.logs.read_logs.Goals as goal
 
 pub loop-index-preserved : goal.loop-index-preserved

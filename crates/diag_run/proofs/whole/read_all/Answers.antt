@@ -1,9 +1,9 @@
-use Rattle.std.proofs.Common.{◌≡◌, length, Ok, Err, ap, arith}
+use Rattle.std.proofs.Common.{◌≡◌, length, Ok, Err, ap, arith, inl, refl}
 use Rattle.diag_run.specs.Files.{config_of}
-use Rattle.diag_run.specs.declared.fault.RunFault.TheVariants.{Read}
+use Rattle.diag_text.specs.declared.fault.RunFault.TheVariants.{Read}
 use Rattle.diag_run.specs.Run.{wanted}
 use Rattle.diag_run.proofs.Inputs.{miscounted, read_whole, read_fails}
-use Rattle.diag_run.proofs.Reading.{AreKnown-length}
+use Rattle.diag_run.proofs.Reading.{AreKnown-length, ends_within}
 use Rattle.diag_run.proofs.whole.read_all.Goals as goal
 
 pub returns-then-wanted-given-clause-read : goal.returns-then-wanted-given-clause-read
@@ -32,4 +32,7 @@ returns-in-Err-read_files-clause-read g c bytes known config_is files_are =
 pub returns-in-Err-read_files-clause-device : goal.returns-in-Err-read_files-clause-device
 returns-in-Err-read_files-clause-device g c n is =
     let same : c.in-Err-read_files.fault ≡ Read n = cc in
-    (c.in-Err-read_files.ensures.device n (ap (λ f. Err f) same)).1
+    ends_within g.R.Read.remaining _ n _ _ _ (c.in-Err-read_files.ensures.device n (ap (λ f. Err f) same))
+
+pub returns-in-Err-clause-stops : goal.returns-in-Err-clause-stops
+returns-in-Err-clause-stops g c = inl (c.in-Err.ensures.ends, refl)

@@ -1,0 +1,24 @@
+use Rattle.std.proofs.Common.{sym, subst}
+use Rattle.std.proofs.lemmas.Result.{IfErr-weaker}
+use Rattle.diag_run.specs.declared.capture.CaptureFault.{CaptureFault}
+use Rattle.diag_run.proofs.Pieces.{HaltsEnded, close_front, end_halts}
+use Rattle.diag_run.proofs.capture.Capture.close.Goals as goal
+
+pub returns-in-Err-clause-err : goal.returns-in-Err-clause-err
+returns-in-Err-clause-err g c = (
+  c.stop.ensures.0,
+  c.stop.ensures.1,
+  end_halts c.args.self.now c.in-Err.fault c.stop.result c.add_end.new.text.items c.stop.ensures.0 c.in-Err.ensures.kept c.in-Err.ensures.err c.stop.ensures.2,
+)
+
+pub returns-clause-err : goal.returns-clause-err
+returns-clause-err g c =
+    let added = c.in_default.ensures.ok in
+    IfErr-weaker c.write_out.result _ _
+    (λ fault failed. (
+      failed.1.0,
+      failed.1.3,
+      subst (λ (f : CaptureFault). HaltsEnded c.args.self.now f failed.1.0) (sym failed.0)
+          (close_front c.args.self.now added.more added.holds c.add_end.new.text.items failed.1.0 added.grown (failed.1.1, failed.1.2)),
+    ))
+    c.write_out.ensures.err

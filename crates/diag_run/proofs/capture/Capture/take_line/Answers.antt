@@ -1,0 +1,31 @@
+use Rattle.std.proofs.Common.{◌∷◌, [], ◌++◌, refl, sym, subst}
+use Rattle.std.proofs.lemmas.Result.{IfErr-weaker, on_ok_weaker}
+use Rattle.diag_run.specs.declared.capture.CaptureFault.{CaptureFault}
+use Rattle.diag_run.specs.Capturing.{HaltsIn}
+use Rattle.diag_run.proofs.Pieces.{answered_halts, both_on_ok, sent_on, write_halts}
+use Rattle.diag_run.proofs.capture.Capture.take_line.Goals as goal
+
+pub returns-in-Err-clause-err : goal.returns-in-Err-clause-err
+returns-in-Err-clause-err g c = (
+  c.stop.ensures.0,
+  c.stop.ensures.1,
+  answered_halts c.args.self.now c.in-Err.fault c.stop.result (c.args.bytes.now ++ 10 ∷ []) c.end_line.new.self.text.items c.stop.ensures.0 c.in-Err.ensures.err c.stop.ensures.2,
+)
+
+pub returns-then-len-gt-TEXT_LIMIT-clause-ok : goal.returns-then-len-gt-TEXT_LIMIT-clause-ok
+returns-then-len-gt-TEXT_LIMIT-clause-ok g c =
+    let mid = c.end_line.new.self in
+    on_ok_weaker c.write_out.result
+    (λ w. (mid.text.items, w.0, sent_on c.args.self.now mid _ (c.args.bytes.now ++ 10 ∷ []) c.in_default.ensures.ok refl refl refl w.1))
+    (both_on_ok _ _ c.write_out.result c.write_out.ensures.ok c.write_out.ensures.none)
+
+pub returns-then-len-gt-TEXT_LIMIT-clause-err : goal.returns-then-len-gt-TEXT_LIMIT-clause-err
+returns-then-len-gt-TEXT_LIMIT-clause-err g c =
+    IfErr-weaker c.write_out.result _ _
+    (λ fault failed. (
+      failed.1.0,
+      failed.1.3,
+      subst (λ (f : CaptureFault). HaltsIn c.args.self.now f (c.args.bytes.now ++ 10 ∷ []) failed.1.0) (sym failed.0)
+          (write_halts c.args.self.now c.end_line.new.self (c.args.bytes.now ++ 10 ∷ []) failed.1.0 c.in_default.ensures.ok (failed.1.1, failed.1.2)),
+    ))
+    c.write_out.ensures.err

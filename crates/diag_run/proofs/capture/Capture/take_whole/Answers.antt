@@ -1,0 +1,16 @@
+use Rattle.std.proofs.Common.{◌≡◌, ◌++◌, List, ℕ, sym, ap, refl}
+use Rattle.diag_run.proofs.Pieces.{give_halts, line_goes_on}
+use Rattle.diag_run.proofs.capture.Capture.take_whole.Goals as goal
+
+pub returns-in-Err-clause-err : goal.returns-in-Err-clause-err
+returns-in-Err-clause-err c =
+    let line = c.args.line.now in
+    let whole : line ≡ c.args.self.now.kept.items ++ line = ap (λ (k : List ℕ). k ++ line) (sym c.requires.none) in
+    give_halts c.args.self.now line line c.give.new.text.items c.in-Err.fault c.requires.line whole c.in-Err.ensures.kept c.in-Err.ensures.err
+
+pub returns-clause-ok : goal.returns-clause-ok
+returns-clause-ok c =
+    let line = c.args.line.now in
+    let whole : line ≡ c.args.self.now.kept.items ++ line = ap (λ (k : List ℕ). k ++ line) (sym c.requires.none) in
+    let gave = c.in_default.ensures.ok in
+    line_goes_on c.args.self.now _ c.give.ensures.setup c.give.ensures.output line line gave.more c.requires.line whole gave.holds c.requires.none refl gave.grown

@@ -1,6 +1,0 @@
-use Rattle.std.proofs.Common.{◌≡◌, ◌++◌, drop}
-use Rattle.diag_run.specs.Text.{code_lines}
-use Rattle.diag_run.proofs.text.add_codes.Given as goal
-
-abbrev pub invariant-loop-index : goal.invariant-loop-index
-invariant-loop-index l = l.text.items ++ code_lines (drop l.index l.codes) ≡ l.initial.text.items ++ code_lines l.codes

@@ -1,7 +1,0 @@
-use Rattle.std.proofs.Common.{refl}
-use Rattle.std.proofs.lemmas.List.{map-append}
-use Rattle.std.proofs.lemmas.List.Folds.{concat-append}
-use Rattle.diag_run.proofs.text.both.Goals as goal
-
-pub returns : goal.returns
-returns c = rw (c.in_ok-append.ensures.items, map-append, concat-append) refl

@@ -1,8 +1,0 @@
-use Rattle.std.proofs.Common.{◌≡◌, ◌+◌, ◌++◌, map, drop}
-use Rattle.diag_run.specs.Text.{lines_from}
-use Rattle.diag_run.proofs.text.reply_lines.Given as goal
-
-abbrev pub invariant-loop-index : goal.invariant-loop-index
-invariant-loop-index l =
-    let sent = map (λ frames. frames.items) l.sent in
-    l.text.items ++ lines_from l.setup (l.index + 1) (drop l.index sent) ≡ lines_from l.setup 1 sent

@@ -1,0 +1,174 @@
+//! A run of a whole bus's recording: the config and the capture in, what is due out, as it falls due.
+
+ghost use Rattle.std.specs.Prelude.{◌≡◌, ◌+◌, ◌<◌, ◌≤◌, ◌^◌, [], ◌++◌, ℕ, List, length, take, IfOk, IfErr, OnOk};
+ghost use Rattle.std.specs.Io.KnownBytes.{Consumes, IsAtEnd, Keeps};
+ghost use Rattle.diag_bus.specs.Bus.{TookLines};
+ghost use Rattle.diag_text.specs.Bytes.{Sends, Takes};
+ghost use Rattle.diag_run.specs.Capture.{Followed, Stops};
+ghost use Rattle.diag_run.specs.Capturing.{GoesOn, StopsWithin, fault_of, FollowedFrom, StopsFrom};
+ghost use Rattle.diag_run.specs.Run.{TellsOf};
+
+use crate::capture::{Capture, CaptureFault};
+use crate::files::read_config;
+use crate::whole::Outcome;
+use diag_bus::{Bus, Output};
+use diag_text::{RunFault, fault_text, status};
+use std::alloc::Global;
+use std::io::{Read, Write};
+
+/// The most bytes of a read.
+const PIECE: usize = 65_536;
+
+/// The most lines before a read, so that those of the next piece can be counted.
+const LINES_BEFORE_A_READ: u64 = u64::MAX - 65_537;
+
+/// Reads a setup and then the recording of a whole bus, as it comes and to its end, and writes what is due as it falls
+/// due and nothing else: before each further read, what the whole lines so far write was written and flushed.
+///
+/// # Errors
+/// The first fault in this order: the config, the capture in the order of its bytes, and last, where a verdict is wanted,
+/// that the unit answered otherwise. After a fault of the config nothing was written, nor before `Otherwise`. Before a fault of a line, and after a read that failed, what the lines before write was
+/// written; after `Memory` and `Write` a front of it. `Read(0)` is the config, `Read(1)` the capture.
+pub fn run_bus<R: Read, W: Write>(
+    alloc: Global,
+    output: Output,
+    config: &mut R,
+    capture: &mut R,
+    out: &mut W,
+) -> Result<(), RunFault>
+    ensures done { OnOk result (Followed output (R.remaining config.old) (R.remaining config.new)
+        (R.remaining capture.old) (R.remaining capture.new)
+        (W.contents out.old) (W.contents out.new)) }
+    ensures fault { IfErr result (Stops R.remaining output config.old config.new
+        capture.old capture.new (W.contents out.old) (W.contents out.new)) }
+{
+    let setup = match read_config(alloc, config) {
+        Ok(setup) => setup,
+        Err(fault) => return Err(fault),
+    };
+    let bus = Bus::new(alloc, setup, output)?;
+    match run_capture(alloc, bus, capture, out) {
+        Ok(()) => Ok(()),
+        Err(fault) => Err(run_fault(fault)),
+    }
+}
+
+/// The fault of a capture as one of a run.
+pub fn run_fault(fault: CaptureFault) -> RunFault
+    ensures { result ≡ fault_of fault }
+{
+    match fault {
+        CaptureFault::Line(n, fault) => RunFault::Capture(n, fault),
+        CaptureFault::Memory => RunFault::Memory,
+        CaptureFault::Read => RunFault::Read(1),
+        CaptureFault::Write => RunFault::Write,
+        CaptureFault::Otherwise(told) => RunFault::Otherwise(told),
+    }
+}
+
+/// Runs a capture from its first read to its end.
+fn run_capture<R: Read, W: Write>(
+    alloc: Global,
+    bus: Bus,
+    capture: &mut R,
+    out: &mut W,
+) -> Result<(), CaptureFault>
+    requires { TookLines bus [] }
+    ensures done { OnOk result (FollowedFrom bus.output bus.setup
+        (R.remaining capture.old) (R.remaining capture.new)
+        (W.contents out.old) (W.contents out.new)) }
+    ensures fault { IfErr result (StopsFrom bus.output bus.setup
+        (R.remaining capture.old) (R.remaining capture.new)
+        (W.contents out.old) (W.contents out.new)) }
+{
+    let mut buffer = [0u8; PIECE];
+    let count = match read_piece(capture, &mut buffer) {
+        Ok(count) => count,
+        Err(fault) => return Err(fault),
+    };
+    let mut taking = Capture::begin(alloc, bus)?;
+    if let Err(fault) = taking.take_piece(&buffer[..count], out) {
+        return Err(fault);
+    }
+    if count == 0 {
+        return taking.finish(alloc, out);
+    }
+    if let Err(fault) = follow(&mut taking, capture, out) {
+        return Err(fault);
+    }
+    taking.finish(alloc, out)
+}
+
+/// Reads a capture further, to its end.
+fn follow<R: Read, W: Write>(
+    taking: &mut Capture,
+    capture: &mut R,
+    out: &mut W,
+) -> Result<(), CaptureFault>
+    requires { taking.old.text.items ≡ [] }
+    ensures ok { OnOk result (Takes (R.remaining capture.old) (R.remaining capture.new) (λ bytes.
+        Sends (W.contents out.old) (W.contents out.new) (GoesOn taking.old taking.new bytes))) }
+    ensures end { OnOk result (IsAtEnd (R.remaining capture.new)) }
+    ensures lines { OnOk result (taking.new.lines + 1 < 2 ^ 64) }
+    ensures err { IfErr result (λ fault.
+        Takes (R.remaining capture.old) (R.remaining capture.new) (λ bytes.
+        Sends (W.contents out.old) (W.contents out.new) (StopsWithin taking.old fault bytes))) }
+{
+    let mut buffer = [0u8; PIECE];
+    for _ in 0..u64::MAX {
+        if taking.lines() > LINES_BEFORE_A_READ {
+            break;
+        }
+        let count = match read_piece(capture, &mut buffer) {
+            Ok(count) => count,
+            Err(fault) => return Err(fault),
+        };
+        if count == 0 {
+            return Ok(());
+        }
+        if let Err(fault) = taking.take_piece(&buffer[..count], out) {
+            return Err(fault);
+        }
+    }
+    Err(CaptureFault::Read)
+}
+
+/// Reads a piece of the capture: no byte at its end.
+fn read_piece<R: Read>(capture: &mut R, buffer: &mut [u8]) -> Result<usize, CaptureFault>
+    requires { 0 < length buffer.old }
+    ensures read { IfOk result (λ count.
+        Consumes (R.remaining capture.old) (R.remaining capture.new) (take count buffer.new)) }
+    ensures within { IfOk result (λ count. count ≤ length buffer.new) }
+    ensures end { IfOk result (λ count. count ≡ 0 → IsAtEnd (R.remaining capture.new)) }
+    ensures err { IfErr result (λ fault. (fault ≡ CaptureFault.Read)
+        × Keeps (R.remaining capture.old) (R.remaining capture.new)) }
+{
+    match capture.read(buffer) {
+        Ok(count) => Ok(count),
+        Err(_) => Err(CaptureFault::Read),
+    }
+}
+
+/// Runs, and says how it ended: with the whole text written, or with the line and the status of the run's fault.
+pub fn run_bus_and_tell<R: Read + Drop, W: Write>(
+    alloc: Global,
+    output: Output,
+    mut config: R,
+    mut capture: R,
+    out: &mut W,
+) -> Outcome
+    ensures done { result ≡ Outcome.Done → (config' : R) × (capture' : R)
+        × Followed output (R.remaining config) (R.remaining config')
+        (R.remaining capture) (R.remaining capture') (W.contents out.old) (W.contents out.new) }
+    ensures fault { TellsOf (λ fault. (config' : R) × (capture' : R)
+        × Stops R.remaining output config config' capture capture'
+        (W.contents out.old) (W.contents out.new) fault) result }
+{
+    match run_bus(alloc, output, &mut config, &mut capture, out) {
+        Ok(()) => Outcome::Done,
+        Err(fault) => Outcome::Fault {
+            told: fault_text(alloc, &fault).ok(),
+            status: status(&fault),
+        },
+    }
+}

@@ -1,0 +1,324 @@
+//! A capture that comes piece by piece: its lines go to the bus, and what they write goes out.
+
+ghost use Rattle.std.specs.Prelude.{◌≡◌, ◌≢◌, ◌⊎◌, ◌+◌, ◌-◌, ◌<◌, ◌≤◌, ◌^◌, ◌∷◌, [], ◌++◌, ℕ, List, length, vec_len, IfOk, IfErr, OnOk, OnErr, Some, Err};
+ghost use Rattle.std.specs.Io.KnownBytes.{Appends, Keeps};
+ghost use Rattle.diag_can.specs.Bus.{HasNoFeed, ended_lines};
+ghost use Rattle.diag_bus.specs.Bus.{TookLines};
+ghost use Rattle.diag_bus.specs.Events.{line_fault};
+ghost use Rattle.diag_bus.specs.Text.{written};
+ghost use Rattle.diag_bus.specs.declared.fault.BusFault.{BusFault as ABusFault};
+ghost use Rattle.diag_world.specs.Port.{Grew};
+ghost use Rattle.diag_text.specs.Bytes.{AppendsFront, Sends};
+ghost use Rattle.diag_world.specs.Server.{quiet_of};
+ghost use Rattle.diag_run.specs.Capture.{IsBorneOut, IsFront, StopsOn, capture_text};
+
+use crate::ending::add_end;
+use diag_bus::{Bus, BusFault};
+use diag_can::LineFault;
+use diag_text::write_text;
+use memchr::memchr;
+use std::alloc::{AllocError, Global};
+use std::io::Write;
+
+/// The most bytes of a line, its LF not counted.
+const LINE_LIMIT: usize = 4096;
+
+/// The length of text from which on it is written before the piece ends.
+const TEXT_LIMIT: usize = 65_536;
+
+/// Why a capture could not be followed to its end.
+#[derive(Debug, PartialEq, Eq, Drop)]
+pub enum CaptureFault {
+    /// The line of that number, from 1, is the first at fault.
+    Line(u64, BusFault),
+    /// Memory was refused.
+    Memory,
+    /// The capture could not be read.
+    Read,
+    /// The text could not be written.
+    Write,
+    /// The unit in the recording answered otherwise than the server: what is told of the first difference.
+    Otherwise(Vec<u8>),
+}
+
+impl From<AllocError> for CaptureFault {
+    ghost use Rattle.diag_run.specs.declared.capture.CaptureFault.TheVariants as fault;
+
+    ghost from_gives = { λ _ f. f ≡ fault.Memory };
+
+    fn from(_refused: AllocError) -> CaptureFault {
+        CaptureFault::Memory
+    }
+}
+
+/// What is kept of a capture between two reads.
+#[derive(Drop)]
+pub struct Capture {
+    bus: Bus,
+    /// The line that is begun at the end of what was read.
+    kept: Vec<u8>,
+    /// What is still to be written.
+    text: Vec<u8>,
+    /// How many lines the bus took.
+    lines: u64,
+    ghost short: { vec_len kept ≤ 4096 },
+}
+
+impl Capture {
+    ghost use Rattle.diag_run.specs.Capturing.{Closes, GoesOn, HaltsAtEnd, HaltsIn, Stands, fault_of};
+
+    /// A capture of which nothing was read. What stands before its first line is still to be written.
+    pub fn begin(alloc: Global, bus: Bus) -> Result<Capture, AllocError>
+        requires { TookLines bus [] }
+        ensures stands { IfOk result (λ capture. Stands capture [] []) }
+        ensures bus { IfOk result (λ capture. capture.bus ≡ bus) }
+        ensures lines { IfOk result (λ capture. capture.lines ≡ 0) }
+    {
+        let mut text = Vec::new(alloc);
+        bus.begin(&mut text)?;
+        Ok(Capture {
+            bus,
+            kept: Vec::new(alloc),
+            text,
+            lines: 0,
+        })
+    }
+
+    /// How many lines were taken.
+    pub fn lines(&self) -> u64
+        ensures { result ≡ self.now.lines }
+    {
+        self.lines
+    }
+
+    /// For how many milliseconds of ticks nothing falls due and nothing ends before the last of them.
+    pub fn quiet(&self) -> u64
+        ensures is { result ≡ quiet_of self.now.bus.server.links }
+        ensures some { 1 ≤ result }
+    {
+        self.bus.quiet()
+    }
+
+    /// Takes a piece of the capture. Before it returns, what the whole lines so far write was written and flushed.
+    pub fn take_piece<W: Write>(
+        &mut self,
+        piece: &[u8],
+        out: &mut W,
+    ) -> Result<(), CaptureFault>
+        requires { self.old.lines + length piece.now + 1 < 2 ^ 64 }
+        ensures ok { OnOk result (Sends (W.contents out.old) (W.contents out.new)
+            (GoesOn self.old self.new piece.now)) }
+        ensures written { OnOk result (self.new.text.items ≡ []) }
+        ensures lines { OnOk result (self.new.lines ≤ self.old.lines + length piece.now) }
+        ensures err { IfErr result (λ fault. Sends (W.contents out.old) (W.contents out.new)
+            (HaltsIn self.old fault piece.now)) }
+    {
+        let mut rest = piece;
+        while let Some(end) = memchr(b'\n', rest) {
+            if let Err(fault) = self.take_line(&rest[..end], out) {
+                return Err(fault);
+            }
+            rest = &rest[end + 1..];
+        }
+        self.take_begun(rest, out)
+    }
+
+    /// Takes the line that these bytes and an LF end. What is to be written is written where it is much.
+    fn take_line<W: Write>(&mut self, bytes: &[u8], out: &mut W) -> Result<(), CaptureFault>
+        requires room { self.old.lines + 1 < 2 ^ 64 }
+        requires line { HasNoFeed bytes.now }
+        ensures ok { OnOk result (Sends (W.contents out.old) (W.contents out.new)
+            (GoesOn self.old self.new (bytes.now ++ 10 ∷ []))) }
+        ensures lines { OnOk result (self.new.lines ≡ self.old.lines + 1) }
+        ensures kept { OnOk result (self.new.kept.items ≡ []) }
+        ensures err { IfErr result (λ fault. Sends (W.contents out.old) (W.contents out.new)
+            (HaltsIn self.old fault (bytes.now ++ 10 ∷ []))) }
+    {
+        if let Err(fault) = self.end_line(bytes) {
+            return Err(stop(fault, &mut self.text, out));
+        }
+        if self.text.len() > TEXT_LIMIT {
+            return write_out(&mut self.text, out);
+        }
+        Ok(())
+    }
+
+    /// Keeps the bytes behind the last LF of a piece, and writes what is to be written.
+    fn take_begun<W: Write>(&mut self, bytes: &[u8], out: &mut W) -> Result<(), CaptureFault>
+        requires room { self.old.lines + 1 < 2 ^ 64 }
+        requires line { HasNoFeed bytes.now }
+        ensures ok { OnOk result (Sends (W.contents out.old) (W.contents out.new)
+            (GoesOn self.old self.new bytes.now)) }
+        ensures written { OnOk result (self.new.text.items ≡ []) }
+        ensures lines { OnOk result (self.new.lines ≡ self.old.lines) }
+        ensures err { IfErr result (λ fault. Sends (W.contents out.old) (W.contents out.new)
+            (HaltsIn self.old fault bytes.now)) }
+    {
+        let number = self.lines + 1;
+        if let Err(fault) = keep(&mut self.kept, bytes, number) {
+            return Err(stop(fault, &mut self.text, out));
+        }
+        write_out(&mut self.text, out)
+    }
+
+    /// Gives the bus the line that these bytes and an LF end, behind what is kept of it.
+    fn end_line(&mut self, bytes: &[u8]) -> Result<(), CaptureFault>
+        requires room { self.old.lines + 1 < 2 ^ 64 }
+        requires line { HasNoFeed bytes.now }
+        ensures ok { OnOk result (GoesOn self.old self.new (bytes.now ++ 10 ∷ []) []) }
+        ensures lines { OnOk result (self.new.lines ≡ self.old.lines + 1) }
+        ensures kept { OnOk result (self.new.kept.items ≡ []) }
+        ensures err { IfErr result (λ fault.
+            HaltsIn self.old fault (bytes.now ++ 10 ∷ []) self.new.text.items) }
+    {
+        if self.kept.is_empty() {
+            self.take_whole(bytes)
+        } else {
+            self.take_kept(bytes)
+        }
+    }
+
+    /// Gives the bus a line of which nothing is kept.
+    fn take_whole(&mut self, line: &[u8]) -> Result<(), CaptureFault>
+        requires room { self.old.lines + 1 < 2 ^ 64 }
+        requires line { HasNoFeed line.now }
+        requires none { self.old.kept.items ≡ [] }
+        ensures ok { OnOk result (GoesOn self.old self.new (line.now ++ 10 ∷ []) []) }
+        ensures lines { OnOk result (self.new.lines ≡ self.old.lines + 1) }
+        ensures kept { OnOk result (self.new.kept.items ≡ []) }
+        ensures err { IfErr result (λ fault.
+            HaltsIn self.old fault (line.now ++ 10 ∷ []) self.new.text.items) }
+    {
+        let number = self.lines + 1;
+        if let Err(fault) = give(&mut self.bus, line, number, &mut self.text) {
+            return Err(fault);
+        }
+        self.lines = number;
+        Ok(())
+    }
+
+    /// Gives the bus the line that is kept and that these bytes end.
+    fn take_kept(&mut self, bytes: &[u8]) -> Result<(), CaptureFault>
+        requires room { self.old.lines + 1 < 2 ^ 64 }
+        requires line { HasNoFeed bytes.now }
+        ensures ok { OnOk result (GoesOn self.old self.new (bytes.now ++ 10 ∷ []) []) }
+        ensures lines { OnOk result (self.new.lines ≡ self.old.lines + 1) }
+        ensures kept { OnOk result (self.new.kept.items ≡ []) }
+        ensures err { IfErr result (λ fault.
+            HaltsIn self.old fault (bytes.now ++ 10 ∷ []) self.new.text.items) }
+    {
+        let number = self.lines + 1;
+        if let Err(fault) = keep(&mut self.kept, bytes, number) {
+            return Err(fault);
+        }
+        if let Err(fault) = give(&mut self.bus, self.kept.as_slice(), number, &mut self.text) {
+            return Err(fault);
+        }
+        self.kept.clear();
+        self.lines = number;
+        Ok(())
+    }
+
+    /// Takes a line that is begun as the last, and writes what is to be written and what the capture's end adds.
+    pub fn finish<W: Write>(
+        &mut self,
+        alloc: Global,
+        out: &mut W,
+    ) -> Result<(), CaptureFault>
+        requires { self.old.lines + 1 < 2 ^ 64 }
+        ensures ok { OnOk result (Sends (W.contents out.old) (W.contents out.new) (Closes self.old)) }
+        ensures err { IfErr result (λ fault. Sends (W.contents out.old) (W.contents out.new)
+            (HaltsAtEnd self.old fault)) }
+    {
+        if self.kept.is_empty() {
+            return self.close(alloc, out);
+        }
+        if let Err(fault) = self.take_line(&[], out) {
+            return Err(fault);
+        }
+        self.close(alloc, out)
+    }
+
+    /// Writes what is to be written and what the capture's end adds.
+    fn close<W: Write>(&mut self, alloc: Global, out: &mut W) -> Result<(), CaptureFault>
+        ensures ok { OnOk result (Sends (W.contents out.old) (W.contents out.new) (λ sent.
+            (seen wrote : List ℕ) → Stands self.old seen wrote
+            → IsBorneOut self.old.bus.output self.old.bus.setup (ended_lines seen)
+            × (wrote ++ sent
+            ≡ capture_text self.old.bus.output self.old.bus.setup (ended_lines seen)))) }
+        ensures err { IfErr result (λ fault. Sends (W.contents out.old) (W.contents out.new) (λ sent.
+            (seen wrote : List ℕ) → Stands self.old seen wrote
+            → StopsOn self.old.bus.output self.old.bus.setup (fault_of fault) (ended_lines seen)
+            (wrote ++ sent))) }
+    {
+        if let Err(fault) = add_end(alloc, &self.bus, &mut self.text) {
+            return Err(stop(fault, &mut self.text, out));
+        }
+        write_out(&mut self.text, out)
+    }
+}
+
+/// Adds bytes to the line that is kept, whose number this is; refuses it where it is longer than a line may be.
+fn keep(kept: &mut Vec<u8>, bytes: &[u8], number: u64) -> Result<(), CaptureFault>
+    requires { vec_len kept.old ≤ 4096 }
+    ensures ok { OnOk result (kept.new.items ≡ kept.old.items ++ bytes.now) }
+    ensures short { vec_len kept.new ≤ 4096 }
+    ensures err { IfErr result (λ fault. (fault ≡ CaptureFault.Memory)
+        ⊎ ((fault ≡ CaptureFault.Line number (BusFault.Line LineFault.BadLine))
+        × (4096 < length kept.old.items + length bytes.now))) }
+{
+    if bytes.len() > LINE_LIMIT - kept.len() {
+        let fault = BusFault::Line(LineFault::BadLine);
+        return Err(CaptureFault::Line(number, fault));
+    }
+    kept.extend_from_slice(bytes)?;
+    Ok(())
+}
+
+/// Gives the bus a line, whose number this is.
+fn give(bus: &mut Bus, line: &[u8], number: u64, text: &mut Vec<u8>) -> Result<(), CaptureFault>
+    ensures ok { OnOk result (Grew text.old.items text.new.items (λ more.
+        (lines : List (List ℕ)) → TookLines bus.old lines
+        → TookLines bus.new (lines ++ line.now ∷ [])
+        × (written bus.old.output bus.old.setup (lines ++ line.now ∷ [])
+        ≡ written bus.old.output bus.old.setup lines ++ more))) }
+    ensures setup { bus.new.setup ≡ bus.old.setup }
+    ensures output { bus.new.output ≡ bus.old.output }
+    ensures err { IfErr result (λ fault. (fault ≡ CaptureFault.Memory)
+        ⊎ ((f : ABusFault) × (fault ≡ CaptureFault.Line number f)
+        × ((lines : List (List ℕ)) → TookLines bus.old lines
+        → line_fault lines line.now ≡ Some f))) }
+    ensures kept { OnErr result (text.new.items ≡ text.old.items) }
+{
+    match bus.take_line(line, text) {
+        Ok(()) => Ok(()),
+        Err(BusFault::Memory) => Err(CaptureFault::Memory),
+        Err(fault) => Err(CaptureFault::Line(number, fault)),
+    }
+}
+
+/// Writes what is to be written, and flushes.
+fn write_out<W: Write>(text: &mut Vec<u8>, out: &mut W) -> Result<(), CaptureFault>
+    ensures ok { OnOk result (Appends (W.contents out.old) (W.contents out.new) text.old.items) }
+    ensures none { OnOk result (text.new.items ≡ []) }
+    ensures err { IfErr result (λ fault. (fault ≡ CaptureFault.Write)
+        × AppendsFront (W.contents out.old) (W.contents out.new) text.old.items) }
+{
+    if write_text(out, text.as_slice()).is_err() {
+        return Err(CaptureFault::Write);
+    }
+    text.clear();
+    Ok(())
+}
+
+/// Writes what is to be written before a fault is answered; the fault of the writing goes before it.
+fn stop<W: Write>(fault: CaptureFault, text: &mut Vec<u8>, out: &mut W) -> CaptureFault
+    ensures { Sends (W.contents out.old) (W.contents out.new) (λ sent.
+        ((result ≡ fault) × (sent ≡ text.old.items))
+        ⊎ ((result ≡ CaptureFault.Write) × IsFront sent text.old.items)) }
+{
+    match write_out(text, out) {
+        Ok(()) => fault,
+        Err(fault) => fault,
+    }
+}

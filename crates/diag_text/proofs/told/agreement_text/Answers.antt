@@ -1,0 +1,30 @@
+use Rattle.std.proofs.Common.{◌≡◌, ◌+◌, ◌++◌, ℕ, List, [], ◌∷◌, codes, decimal, length, ap, ap₂, sym, ◌∙◌, arith}
+use Rattle.std.proofs.lemmas.Grind.{flat_map-append}
+use Rattle.std.proofs.lemmas.List.{append-nil}
+use Rattle.std.specs.List.{flat_map}
+use Rattle.diag_tp.specs.Moments.{counted_from}
+use Rattle.diag_setup.specs.Setup.{name_of}
+use Rattle.diag_world.proofs.Worlds.{who_found}
+use Rattle.diag_bus.specs.Verdict.{agreed_line, recorded}
+use Rattle.diag_bus.proofs.Batches.{counted_more}
+use Rattle.diag_text.proofs.told.agreement_text.Goals as goal
+
+line_more : (f : ℕ → List ℕ) (n : ℕ) → flat_map f (counted_from 1 (n + 1)) ≡ flat_map f (counted_from 1 n) ++ f (n + 1)
+line_more f n =
+    let next : 1 + n ≡ n + 1 = omega arith in
+    ap (flat_map f) (counted_more 1 n)
+    ∙ (flat_map-append f (counted_from 1 n) ((1 + n) ∷ [])
+    ∙ (ap (λ w. flat_map f (counted_from 1 n) ++ w) (append-nil (f (1 + n))) ∙ ap (λ k. flat_map f (counted_from 1 n) ++ f k) next))
+
+pub loop-index-preserved : goal.loop-index-preserved
+loop-index-preserved c = λ lines h.
+    let i = c.loop-index.index in
+    let bus = c.args.bus.now in
+    let who = who_found c.setup-setup.result.now i c.in-Some.who c.in-Some.ensures in
+    let name : c.name.result.now ≡ name_of bus.setup (i + 1) = c.name.ensures ∙ ap₂ name_of c.setup-setup.ensures who in
+    let count : c.recorded.result ≡ length (recorded bus.setup lines (i + 1)) = c.recorded.ensures lines h c.requires ∙ ap (λ t. length (recorded bus.setup lines t)) who in
+    let all = flat_map (agreed_line bus.setup lines) (counted_from 1 i) in
+    c.in_ok-add_agreement.ensures
+    ∙ (ap (λ (w : List ℕ). w ++ (c.name.result.now ++ codes " " ++ decimal c.recorded.result ++ codes " frames agree\n")) (c.loop-index.invariant lines h)
+    ∙ (ap₂ (λ (n : List ℕ) k. all ++ (n ++ codes " " ++ decimal k ++ codes " frames agree\n")) name count
+    ∙ sym (line_more (agreed_line bus.setup lines) i)))

@@ -1,0 +1,125 @@
+//! Reading a whole file and writing a whole text, by loops of their own.
+
+ghost use Rattle.std.specs.Prelude.{◌≡◌, ◌+◌, ◌<◌, ◌^◌, ◌≤◌, ℕ, List, length, map, take, IfOk, IfSome, OnOk, OnErr, IsOk, IsErr, Err, Some};
+ghost use Rattle.std.specs.Io.KnownBytes.{Appends, Consumes, IsAtEnd, Keeps};
+ghost use Rattle.std.specs.List.{concat};
+ghost use Rattle.diag_text.specs.Bytes.{AppendsFront, Takes};
+
+use std::alloc::{AllocError, Global};
+use std::io;
+use std::io::{Read, Write};
+use thiserror::Error;
+
+/// Why a file was not read whole.
+#[derive(Clone, Copy, Debug, PartialEq, Eq, Error)]
+pub enum ReadFault {
+    /// A read failed.
+    #[error("cannot read")]
+    Device,
+    /// The file is longer than its limit.
+    #[error("too long")]
+    Long,
+    /// There was no memory.
+    #[error("memory")]
+    Memory,
+}
+
+/// A write or a flush failed, or a write took no byte.
+#[derive(Clone, Copy, Debug, PartialEq, Eq, Error)]
+#[error("cannot write")]
+pub struct WriteFault;
+
+/// All that a reader has left, in at most limit + 1 reads.
+///
+/// # Errors
+/// `Long` where more than the limit was read, and only then; `Device` where a read failed before; `Memory`.
+pub fn read_whole<R: Read>(
+    alloc: Global,
+    reader: &mut R,
+    limit: usize,
+) -> Result<Vec<u8>, ReadFault>
+    requires { limit < 2 ^ 32 }
+    ensures whole { IfOk result (λ v. IfSome (R.remaining reader.old) (λ bytes. v.items ≡ bytes)) }
+    ensures within { IfOk result (λ v. length v.items ≤ limit) }
+    ensures end { OnOk result (IsAtEnd (R.remaining reader.new)) }
+    ensures long { result ≡ Err ReadFault.Long
+        → IfSome (R.remaining reader.old) (λ bytes. limit < length bytes) }
+    ensures read { IfOk result (λ v.
+        Consumes (R.remaining reader.old) (R.remaining reader.new) v.items) }
+    ensures seen { result ≡ Err ReadFault.Long
+        → Takes (R.remaining reader.old) (R.remaining reader.new) (λ bytes. limit < length bytes) }
+    ensures unread { result ≡ Err ReadFault.Device
+        → Takes (R.remaining reader.old) (R.remaining reader.new) (λ bytes. length bytes ≤ limit) }
+    ensures refused { result ≡ Err ReadFault.Memory
+        → Takes (R.remaining reader.old) (R.remaining reader.new) (λ bytes. length bytes ≤ limit) }
+{
+    let mut bytes = Vec::new(alloc);
+    let mut buffer = [0u8; 65_536];
+    for turn in 0..limit + 1 {
+        let Ok(count) = reader.read(&mut buffer) else {
+            return Err(ReadFault::Device);
+        };
+        if count == 0 {
+            return Ok(bytes);
+        }
+        if count > limit - bytes.len() {
+            return Err(ReadFault::Long);
+        }
+        if bytes.extend_from_slice(&buffer[..count]).is_err() {
+            return Err(ReadFault::Memory);
+        }
+    }
+    Err(ReadFault::Long)
+}
+
+/// Writes the parts of a text, one behind the other, and flushes. After a fault a front of the text went out.
+pub fn write_whole<W: Write>(out: &mut W, parts: &[Vec<u8>]) -> Result<(), WriteFault>
+    ensures whole { OnOk result (Appends (W.contents out.old) (W.contents out.new)
+        (concat (map (λ part. part.items) parts.now))) }
+    ensures front { OnErr result (AppendsFront (W.contents out.old) (W.contents out.new)
+        (concat (map (λ part. part.items) parts.now))) }
+{
+    for part in parts {
+        write_part(out, part.as_slice())?;
+    }
+    flushed(out.flush())
+}
+
+/// Writes a text and flushes. After a fault a front of the text went out.
+pub fn write_text<W: Write>(out: &mut W, text: &[u8]) -> Result<(), WriteFault>
+    ensures whole { OnOk result (Appends (W.contents out.old) (W.contents out.new) text.now) }
+    ensures front { OnErr result (AppendsFront (W.contents out.old) (W.contents out.new) text.now) }
+{
+    write_part(out, text)?;
+    flushed(out.flush())
+}
+
+/// What a flush said: well only where it was.
+fn flushed(said: io::Result<()>) -> Result<(), WriteFault>
+    ensures well { OnOk result (IsOk said) }
+    ensures fault { OnErr result (IsErr said) }
+{
+    match said {
+        Ok(()) => Ok(()),
+        Err(_) => Err(WriteFault),
+    }
+}
+
+/// Writes all of a part. After a fault a front of it went out.
+fn write_part<W: Write>(out: &mut W, text: &[u8]) -> Result<(), WriteFault>
+    ensures whole { OnOk result (Appends (W.contents out.old) (W.contents out.new) text.now) }
+    ensures front { OnErr result (AppendsFront (W.contents out.old) (W.contents out.new) text.now) }
+{
+    let mut written = 0;
+    while written < text.len() {
+        let count = match out.write(&text[written..]) {
+            Ok(count) => count,
+            Err(_) => return Err(WriteFault),
+        };
+        if count == 0 {
+            return Err(WriteFault);
+        }
+        written += count;
+    }
+    Ok(())
+}

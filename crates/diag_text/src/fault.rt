@@ -1,0 +1,180 @@
+//! Why a run could not be done, how it is told, and the status that the program ends with.
+
+ghost use Rattle.std.specs.Prelude.{◌≡◌, ◌++◌, codes, IfOk, Some};
+ghost use Rattle.diag_text.specs.Faults.{run_fault, step_fault, run_fault_text, fault_text, status};
+ghost use Rattle.diag_text.specs.declared.fault.RunFault.TheVariants.{Memory};
+
+use diag_bus::BusFault;
+use diag_can::LogFault;
+use diag_config::ConfigFault;
+use diag_desk::StepFault;
+use diag_setup::Who;
+use diag_workers::PlayFault;
+use std::alloc::{AllocError, AllocFailed, Global};
+use std::error::Error;
+use std::fmt;
+
+/// The first fault in the order of a run: the config, the number of files, the files in their order, what they say,
+/// the play or the replay, the writing. File 0 is the config.
+#[derive(Debug, PartialEq, Eq, Drop)]
+pub enum RunFault {
+    /// Another number of files than the setup has testers, or than the one journal of a replay.
+    Files { wanted: usize, given: usize },
+    /// The config says no setup.
+    Config(ConfigFault),
+    /// The config is longer than 1,048,576 bytes.
+    ConfigLong,
+    /// A tester's log is at fault.
+    Log(Who, LogFault),
+    /// The journal is at fault at the line of that number, from 1.
+    JournalLine(usize),
+    /// A log is longer than 67,108,864 bytes, or a journal than 268,435,456.
+    FileLong(usize),
+    /// Memory was refused.
+    Memory,
+    /// The journal has no room for another entry.
+    JournalFull,
+    /// A worker's record is not what the journal has of its tester.
+    RecordsDisagree(Who),
+    /// A file could not be read.
+    Read(usize),
+    /// The text could not be written.
+    Write,
+    /// The entry of that number, from 1, is the first that the replayed server does not give.
+    Differs(usize),
+    /// The capture's line of that number, from 1, is the first at fault.
+    Capture(u64, BusFault),
+    /// The unit in the recording answered otherwise than the server: what is told of the first difference.
+    Otherwise(Vec<u8>),
+}
+
+impl From<AllocError> for RunFault {
+    ghost from_gives = { λ _ e. e ≡ Memory };
+
+    fn from(_e: AllocError) -> RunFault {
+        RunFault::Memory
+    }
+}
+
+impl<T: Drop> From<AllocFailed<T>> for RunFault {
+    ghost from_gives = { λ _ e. e ≡ Memory };
+
+    fn from(_e: AllocFailed<T>) -> RunFault {
+        RunFault::Memory
+    }
+}
+
+impl From<PlayFault> for RunFault {
+    ghost from_gives = { λ fault e. e ≡ run_fault fault };
+
+    fn from(fault: PlayFault) -> RunFault {
+        match fault {
+            PlayFault::Memory => RunFault::Memory,
+            PlayFault::Log(who, fault) => RunFault::Log(who, fault),
+            PlayFault::JournalFull => RunFault::JournalFull,
+            PlayFault::RecordsDisagree(who) => RunFault::RecordsDisagree(who),
+        }
+    }
+}
+
+impl From<StepFault> for RunFault {
+    ghost from_gives = { λ fault e. e ≡ step_fault fault };
+
+    fn from(fault: StepFault) -> RunFault {
+        match fault {
+            StepFault::Memory => RunFault::Memory,
+            StepFault::JournalFull => RunFault::JournalFull,
+        }
+    }
+}
+
+impl fmt::Display for RunFault {
+    ghost output = { λ x. Some (run_fault_text x) };
+
+    fn fmt<W: fmt::Write>(&self, f: &mut fmt::Formatter<W>) -> fmt::Result {
+        match self {
+            RunFault::Files { wanted, given } => {
+                write!(f, "{wanted} files wanted, {given} given")
+            }
+            RunFault::Config(fault) => match fault {
+                ConfigFault::Memory => write!(f, "memory"),
+                fault => write!(f, "config: {fault}"),
+            },
+            RunFault::ConfigLong => write!(f, "config: too long"),
+            RunFault::Log(who, fault) => {
+                let tester = who.place();
+                match fault {
+                    LogFault::Line(n, fault) => write!(f, "log {tester} line {n}: {fault}"),
+                    LogFault::TooManyLines => write!(f, "log {tester}: too many lines"),
+                    LogFault::TooManyEvents => write!(f, "log {tester}: too many events"),
+                    LogFault::Memory => write!(f, "memory"),
+                }
+            }
+            RunFault::JournalLine(n) => write!(f, "journal line {n}"),
+            RunFault::FileLong(n) => write!(f, "file {n}: too long"),
+            RunFault::Memory => write!(f, "memory"),
+            RunFault::JournalFull => write!(f, "journal full"),
+            RunFault::RecordsDisagree(who) => {
+                let tester = who.place();
+                write!(f, "records of {tester} disagree")
+            }
+            RunFault::Read(n) => write!(f, "cannot read file {n}"),
+            RunFault::Write => write!(f, "cannot write"),
+            RunFault::Differs(n) => write!(f, "entry {n} differs"),
+            RunFault::Capture(n, fault) => match fault {
+                BusFault::Line(fault) => write!(f, "capture line {n}: {fault}"),
+                BusFault::Late => write!(f, "capture line {n}: too late"),
+                BusFault::Memory => write!(f, "memory"),
+            },
+            RunFault::Otherwise(_) => write!(f, "the unit answered otherwise"),
+        }
+    }
+}
+
+impl Error for RunFault {}
+
+/// The whole line that is printed for a fault.
+///
+/// # Errors
+/// `AllocError` where memory is refused.
+pub fn fault_text(alloc: Global, fault: &RunFault) -> Result<Vec<u8>, AllocError>
+    ensures { IfOk result (λ t. t.items ≡ fault_text fault.now) }
+{
+    match fault {
+        RunFault::Otherwise(told) => otherwise_text(alloc, told.as_slice()),
+        fault => {
+            let text = format!(in alloc; "uds_play: {fault}\n")?;
+            Ok(text.into_bytes())
+        }
+    }
+}
+
+/// The line that tells of a unit that answered otherwise.
+fn otherwise_text(alloc: Global, told: &[u8]) -> Result<Vec<u8>, AllocError>
+    ensures { IfOk result (λ t. t.items ≡ codes "uds_play: " ++ told.now ++ codes "\n") }
+{
+    let mut text = Vec::from_slice(alloc, b"uds_play: ")?;
+    text.extend_from_slice(told)?;
+    text.extend_from_slice(b"\n")?;
+    Ok(text)
+}
+
+/// The status that the program ends with.
+pub fn status(fault: &RunFault) -> u8
+    ensures { result ≡ status fault.now }
+{
+    match fault {
+        RunFault::Files { .. } => 1,
+        RunFault::Config(ConfigFault::Memory)
+        | RunFault::Log(_, LogFault::Memory)
+        | RunFault::Capture(_, BusFault::Memory) => 4,
+        RunFault::Config(_) | RunFault::ConfigLong => 2,
+        RunFault::Log(..) | RunFault::JournalLine(_) | RunFault::FileLong(_) => 3,
+        RunFault::Capture(..) => 3,
+        RunFault::Memory => 4,
+        RunFault::JournalFull => 5,
+        RunFault::RecordsDisagree(_) => 6,
+        RunFault::Read(_) | RunFault::Write => 7,
+        RunFault::Differs(_) | RunFault::Otherwise(_) => 8,
+    }
+}

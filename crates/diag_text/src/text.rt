@@ -1,0 +1,344 @@
+//! The texts that a run writes.
+
+ghost use Rattle.std.specs.Prelude.{◌≡◌, ◌+◌, ◌++◌, ◌≤◌, codes, length, map, IfOk, OnOk};
+ghost use Rattle.std.specs.List.{concat};
+ghost use Rattle.std.specs.Thread.{IsSync};
+ghost use Rattle.hex.specs.Hex.{encode_upper};
+ghost use Rattle.diag_store.specs.Dtcs.{row_pair};
+ghost use Rattle.diag_text.specs.Text.{lines_of, lines_from, journal_part, holder_name, extended_session, extended_lines, holder_lines, code_line, code_lines, end_text, whole_text, replay_text};
+
+use diag_can::{Timing, write_hex, write_line};
+use diag_desk::{Desk, Journal, journal_text, journal_text_at};
+use diag_ecu::Ecu;
+use diag_setup::{Setup, Who};
+use diag_store::DtcMemory;
+use diag_tp::Sent;
+use diag_world::Played;
+use std::alloc::{AllocError, Global};
+use std::thread::{Threads, join};
+
+/// All that a play writes: the reply lines of each tester, tester by tester, the journal, and the end.
+///
+/// # Errors
+/// `AllocError` where memory is refused.
+pub fn play_text(
+    alloc: Global,
+    setup: &Setup,
+    played: &Played,
+    timing: Timing,
+) -> Result<Vec<u8>, AllocError>
+    requires { length played.now.sent.items ≡ length setup.now.testers }
+    ensures { IfOk result (λ text. text.items ≡ whole_text timing setup.now played.now.desk
+        (map (λ sent. sent.items) played.now.sent.items)) }
+{
+    let mut text = reply_lines(alloc, setup, played.sent.as_slice())?;
+    let journal = journal_part(alloc, timing, played.desk.journal())?;
+    text.extend_from_slice(journal.as_slice())?;
+    let end = end_text(alloc, setup, played.desk.ecu())?;
+    text.extend_from_slice(end.as_slice())?;
+    Ok(text)
+}
+
+/// The parts of the same text, made beside each other: the reply lines of each tester, the journal, and the end.
+///
+/// # Errors
+/// `AllocError` where memory is refused.
+pub fn play_parts<R: Threads + Sync>(
+    rt: &R,
+    alloc: Global,
+    setup: &Setup,
+    played: &Played,
+    timing: Timing,
+) -> Result<Vec<Vec<u8>>, AllocError>
+    requires { length played.now.sent.items ≡ length setup.now.testers }
+    ensures { IfOk result (λ parts. concat (map (λ part. part.items) parts.items)
+        ≡ whole_text timing setup.now played.now.desk
+        (map (λ sent. sent.items) played.now.sent.items)) }
+{
+    let _at_most_8 = setup.testers();
+    let sent = played.sent.as_slice();
+    let journal = played.desk.journal();
+    let (lines, journal) = join(
+        rt,
+        move || -> Result<Vec<Vec<u8>>, AllocError>
+            requires { IsSync R.row
+                × (length sent.now ≡ length setup.now.testers)
+                × (length setup.now.testers ≤ 8) }
+            ensures { IfOk result (λ parts. concat (map (λ part. part.items) parts.items)
+                ≡ lines_from setup.entry.now 1 (map (λ frames. frames.items) sent.entry.now)) }
+        { lines_beside(rt, alloc, setup, 0, sent) },
+        move || -> Result<Vec<u8>, AllocError>
+            ensures { IfOk result (λ text.
+                text.items ≡ journal_part timing journal.entry.now.entries) }
+        { journal_part(alloc, timing, journal) },
+    );
+    let mut parts = lines?;
+    let journal = journal?;
+    let end = end_text(alloc, setup, played.desk.ecu())?;
+    add_part(&mut parts, journal)?;
+    add_part(&mut parts, end)?;
+    Ok(parts)
+}
+
+/// The reply lines of the testers from this index on, 0 for all, in parts that are made beside each other.
+fn lines_beside<R: Threads + Sync>(
+    rt: &R,
+    alloc: Global,
+    setup: &Setup,
+    index: usize,
+    sent: &[Vec<Sent>],
+) -> Result<Vec<Vec<u8>>, AllocError>
+    requires index { index + length sent.now ≡ length setup.now.testers }
+    requires few { length setup.now.testers ≤ 8 }
+    ensures { IfOk result (λ parts. concat (map (λ part. part.items) parts.items)
+        ≡ lines_from setup.now (index + 1) (map (λ frames. frames.items) sent.now)) }
+{
+    let Some((frames, rest)) = sent.split_first() else {
+        return Ok(Vec::new(alloc));
+    };
+    let Some(who) = setup.who(index) else {
+        unreachable!()
+    };
+    let name = setup.name(who);
+    let frames = frames.as_slice();
+    let (own, others) = join(
+        rt,
+        move || -> Result<Vec<Vec<u8>>, AllocError>
+            requires { IsSync R.row }
+            ensures { IfOk result (λ parts. concat (map (λ part. part.items) parts.items)
+                ≡ lines_of name.entry.now frames.entry.now) }
+        { lines_halved(rt, alloc, name, frames, MOST_PARTS) },
+        move || -> Result<Vec<Vec<u8>>, AllocError>
+            requires { IsSync R.row
+                × (index + 1 + length rest.now ≡ length setup.now.testers)
+                × (length setup.now.testers ≤ 8) }
+            ensures { IfOk result (λ parts. concat (map (λ part. part.items) parts.items)
+                ≡ lines_from setup.entry.now (index + 1 + 1)
+                (map (λ frames. frames.items) rest.entry.now)) }
+        { lines_beside(rt, alloc, setup, index + 1, rest) },
+    );
+    both(own?, others?)
+}
+
+/// The most parts that one tester's lines are made in.
+const MOST_PARTS: u8 = 4;
+
+/// So few lines are not worth a thread.
+const FEW_LINES: usize = 65_536;
+
+/// The reply lines of one tester; where there are many, in halves that are made beside each other, so many parts at
+/// most.
+fn lines_halved<R: Threads + Sync>(
+    rt: &R,
+    alloc: Global,
+    name: &[u8],
+    sent: &[Sent],
+    most: u8,
+) -> Result<Vec<Vec<u8>>, AllocError>
+    ensures { IfOk result (λ parts.
+        concat (map (λ part. part.items) parts.items) ≡ lines_of name.now sent.now) }
+{
+    if most < 2 || sent.len() <= FEW_LINES {
+        let lines = tester_lines(alloc, name, sent)?;
+        return one_part(alloc, lines);
+    }
+    let (front, back) = sent.split_at(sent.len() / 2);
+    let half = most / 2;
+    let (front, back) = join(
+        rt,
+        move || -> Result<Vec<Vec<u8>>, AllocError>
+            requires { IsSync R.row }
+            ensures { IfOk result (λ parts. concat (map (λ part. part.items) parts.items)
+                ≡ lines_of name.entry.now front.entry.now) }
+        { lines_halved(rt, alloc, name, front, half) },
+        move || -> Result<Vec<Vec<u8>>, AllocError>
+            requires { IsSync R.row }
+            ensures { IfOk result (λ parts. concat (map (λ part. part.items) parts.items)
+                ≡ lines_of name.entry.now back.entry.now) }
+        { lines_halved(rt, alloc, name, back, half) },
+    );
+    both(front?, back?)
+}
+
+/// The parts of one text and then those of another.
+fn both(mut parts: Vec<Vec<u8>>, mut others: Vec<Vec<u8>>) -> Result<Vec<Vec<u8>>, AllocError>
+    ensures { IfOk result (λ all. concat (map (λ part. part.items) all.items)
+        ≡ concat (map (λ part. part.items) parts.items)
+        ++ concat (map (λ part. part.items) others.items)) }
+{
+    parts.append(&mut others)?;
+    Ok(parts)
+}
+
+/// Adds a part.
+fn add_part(parts: &mut Vec<Vec<u8>>, part: Vec<u8>) -> Result<(), AllocError>
+    ensures { OnOk result (concat (map (λ part. part.items) parts.new.items)
+        ≡ concat (map (λ part. part.items) parts.old.items) ++ part.items) }
+{
+    parts.push(part)?;
+    Ok(())
+}
+
+/// A text in one part.
+///
+/// # Errors
+/// `AllocError` where memory is refused.
+pub fn one_part(alloc: Global, text: Vec<u8>) -> Result<Vec<Vec<u8>>, AllocError>
+    ensures { IfOk result (λ parts. concat (map (λ part. part.items) parts.items) ≡ text.items) }
+{
+    let mut parts = Vec::new(alloc);
+    parts.push(text)?;
+    Ok(parts)
+}
+
+/// The lines of the frames that one tester was sent.
+fn tester_lines(alloc: Global, name: &[u8], sent: &[Sent]) -> Result<Vec<u8>, AllocError>
+    ensures { IfOk result (λ text. text.items ≡ lines_of name.now sent.now) }
+{
+    let room = sent
+        .len()
+        .saturating_mul(name.len().saturating_add(USUAL_LINE));
+    let mut text = Vec::with_capacity(alloc, room)?;
+    add_lines(&mut text, name, sent)?;
+    Ok(text)
+}
+
+/// What a line of eight bytes has beside its name, where its time is below 10,000,000,000 seconds.
+const USUAL_LINE: usize = 42;
+
+/// The reply lines, tester by tester.
+fn reply_lines(alloc: Global, setup: &Setup, sent: &[Vec<Sent>]) -> Result<Vec<u8>, AllocError>
+    requires { length sent.now ≡ length setup.now.testers }
+    ensures { IfOk result (λ text.
+        text.items ≡ lines_from setup.now 1 (map (λ frames. frames.items) sent.now)) }
+{
+    let mut text = Vec::new(alloc);
+    for (index, frames) in sent.iter().enumerate() {
+        let Some(who) = setup.who(index) else {
+            unreachable!()
+        };
+        add_lines(&mut text, setup.name(who), frames.as_slice())?;
+    }
+    Ok(text)
+}
+
+/// Adds the lines of the frames that one tester was sent.
+fn add_lines(text: &mut Vec<u8>, name: &[u8], sent: &[Sent]) -> Result<(), AllocError>
+    ensures { OnOk result (text.new.items ≡ text.old.items ++ lines_of name.now sent.now) }
+{
+    for frame in sent {
+        write_line(text, name, frame.at, &frame.frame)?;
+    }
+    Ok(())
+}
+
+/// The journal's text: of version 2 where stamps carry time, else of version 1.
+///
+/// # Errors
+/// `AllocError` where memory is refused.
+pub fn journal_part(alloc: Global, timing: Timing, journal: &Journal) -> Result<Vec<u8>, AllocError>
+    ensures { IfOk result (λ text. text.items ≡ journal_part timing journal.now.entries) }
+{
+    match timing {
+        Timing::Lines => journal_text(alloc, journal),
+        Timing::Stamps => journal_text_at(alloc, journal),
+    }
+}
+
+/// The end of a run: the session, its holder, and each trouble code with its status as kept.
+///
+/// # Errors
+/// `AllocError` where memory is refused.
+#[tactic(auto, unfolding(crate::specs::Text::end_text))]
+pub fn end_text(alloc: Global, setup: &Setup, ecu: &Ecu) -> Result<Vec<u8>, AllocError>
+    ensures { IfOk result (λ text. text.items ≡ end_text setup.now ecu.now) }
+{
+    let mut text = Vec::new(alloc);
+    add_holder(&mut text, setup, ecu.holder())?;
+    add_codes(&mut text, ecu.codes())?;
+    Ok(text)
+}
+
+/// Adds the lines of the session and of its holder.
+fn add_holder(text: &mut Vec<u8>, setup: &Setup, holder: Option<Who>) -> Result<(), AllocError>
+    ensures { OnOk result (text.new.items ≡ text.old.items ++ holder_lines setup.now holder) }
+{
+    match holder {
+        None => text.extend_from_slice(b"session default\nholder none\n"),
+        Some(who) => add_extended(text, setup, who),
+    }
+}
+
+/// Adds the lines of the extended session and of its holder.
+fn add_extended(text: &mut Vec<u8>, setup: &Setup, who: Who) -> Result<(), AllocError>
+    ensures { OnOk result (text.new.items ≡ text.old.items ++ extended_lines setup.now who) }
+{
+    add_session(text)?;
+    add_name(text, setup, who)?;
+    text.extend_from_slice(b"\n")
+}
+
+/// Adds the line of the extended session, and what stands before its holder.
+#[tactic(auto, unfolding(crate::specs::Text::extended_session))]
+fn add_session(text: &mut Vec<u8>) -> Result<(), AllocError>
+    ensures { OnOk result (text.new.items ≡ text.old.items ++ extended_session) }
+{
+    text.extend_from_slice(b"session extended\nholder ")
+}
+
+/// Adds a tester's name; its place, where the setup has no such tester.
+fn add_name(text: &mut Vec<u8>, setup: &Setup, who: Who) -> Result<(), AllocError>
+    ensures { OnOk result (text.new.items ≡ text.old.items ++ holder_name setup.now who) }
+{
+    if usize::from(who.place()) <= setup.testers() {
+        text.extend_from_slice(setup.name(who))
+    } else {
+        text.push(b'0' + who.place())?;
+        Ok(())
+    }
+}
+
+/// Adds a line for each trouble code.
+fn add_codes(text: &mut Vec<u8>, codes: &DtcMemory) -> Result<(), AllocError>
+    ensures { OnOk result (text.new.items ≡ text.old.items ++ code_lines codes.now) }
+{
+    for index in 0..codes.len() {
+        let Some((code, status)) = codes.at(index) else {
+            unreachable!()
+        };
+        add_code(text, code, status)?;
+    }
+    Ok(())
+}
+
+/// Adds the line of one trouble code.
+fn add_code(text: &mut Vec<u8>, code: u32, status: u8) -> Result<(), AllocError>
+    ensures { OnOk result (text.new.items ≡ text.old.items ++ code_line code status) }
+{
+    let [_, high, middle, low] = code.to_be_bytes();
+    text.extend_from_slice(b"code ")?;
+    write_hex(text, &[high, middle, low])?;
+    text.extend_from_slice(b" ")?;
+    write_hex(text, &[status])?;
+    text.extend_from_slice(b"\n")
+}
+
+/// What a replay writes: the number of entries, and the end.
+///
+/// # Errors
+/// `AllocError` where memory is refused.
+pub fn replay_text(
+    alloc: Global,
+    setup: &Setup,
+    journal: &Journal,
+    ecu: &Ecu,
+) -> Result<Vec<u8>, AllocError>
+    ensures { IfOk result (λ text.
+        text.items ≡ replay_text setup.now (length journal.now.entries) ecu.now) }
+{
+    let count = journal.len();
+    let mut text = format!(in alloc; "entries {count}\n")?.into_bytes();
+    let end = end_text(alloc, setup, ecu)?;
+    text.extend_from_slice(end.as_slice())?;
+    Ok(text)
+}

@@ -1,0 +1,125 @@
+//! How a verdict is told.
+
+ghost use Rattle.std.specs.Prelude.{◌≡◌, ◌++◌, ℕ, List, codes, decimal, IfOk, OnOk};
+ghost use Rattle.hex.specs.Hex.{encode_upper};
+ghost use Rattle.diag_setup.specs.Setup.{name_of};
+ghost use Rattle.diag_bus.specs.Bus.{TookLines};
+ghost use Rattle.diag_bus.specs.Verdict.{agreement_text, expected_text, verdict_text};
+
+use diag_bus::{Bus, Difference, Output, Verdict};
+use diag_can::{FrameBytes, write_hex};
+use diag_setup::{Setup, Who};
+use std::alloc::{AllocError, Global};
+
+/// How many frames agree, a line a tester, where the verdict is that all do.
+///
+/// # Errors
+/// `AllocError` where memory is refused.
+pub fn agreement_text(alloc: Global, bus: &Bus) -> Result<Vec<u8>, AllocError>
+    requires { bus.now.output ≡ Output.Verdict }
+    ensures { IfOk result (λ text. (lines : List (List ℕ)) → TookLines bus.now lines
+        → text.items ≡ agreement_text bus.now.setup lines) }
+{
+    let setup = bus.setup();
+    let mut text = Vec::new(alloc);
+    for index in 0..setup.testers() {
+        let Some(who) = setup.who(index) else {
+            unreachable!()
+        };
+        add_agreement(&mut text, setup.name(who), bus.recorded(who))?;
+    }
+    Ok(text)
+}
+
+/// Adds the line of a tester of whom so many frames agree.
+fn add_agreement(text: &mut Vec<u8>, name: &[u8], count: u64) -> Result<(), AllocError>
+    ensures { OnOk result (text.new.items
+        ≡ text.old.items ++ (name.now ++ codes " " ++ decimal count ++ codes " frames agree\n")) }
+{
+    text.extend_from_slice(name)?;
+    text.extend_from_slice(b" ")?;
+    add_number(text, count)?;
+    text.extend_from_slice(b" frames agree\n")
+}
+
+/// Adds a number in decimal.
+fn add_number(text: &mut Vec<u8>, number: u64) -> Result<(), AllocError>
+    ensures { OnOk result (text.new.items ≡ text.old.items ++ decimal number) }
+{
+    let digits = format!(in *text.allocator(); "{number}")?;
+    text.extend_from_slice(digits.as_bytes())
+}
+
+/// What is told of a verdict: the first frame that differs or is missing. Nothing where all agree.
+///
+/// # Errors
+/// `AllocError` where memory is refused.
+pub fn verdict_text(alloc: Global, setup: &Setup, verdict: &Verdict) -> Result<Vec<u8>, AllocError>
+    ensures { IfOk result (λ text. text.items ≡ verdict_text setup.now verdict.now) }
+{
+    match verdict {
+        Verdict::Agrees => Ok(Vec::new(alloc)),
+        Verdict::Differs(who, difference) => difference_text(
+            alloc,
+            name_of(setup, *who),
+            difference,
+        ),
+        Verdict::Lacks { who, count, next } => lack_text(alloc, name_of(setup, *who), *count, next),
+    }
+}
+
+/// A tester's name; none where the setup has no such tester.
+fn name_of(setup: &Setup, who: Who) -> &[u8]
+    ensures { result.now ≡ name_of setup.now who }
+{
+    if usize::from(who.place()) <= setup.testers() {
+        setup.name(who)
+    } else {
+        &[]
+    }
+}
+
+/// What is told of a frame that differs.
+fn difference_text(
+    alloc: Global,
+    name: &[u8],
+    difference: &Difference,
+) -> Result<Vec<u8>, AllocError>
+    ensures { IfOk result (λ text. text.items
+        ≡ codes "line " ++ decimal difference.now.line ++ codes ": " ++ name.now ++ codes " sent "
+        ++ encode_upper difference.now.sent ++ codes ", expected "
+        ++ expected_text difference.now.expected) }
+{
+    let mut text = Vec::from_slice(alloc, b"line ")?;
+    add_number(&mut text, difference.line)?;
+    text.extend_from_slice(b": ")?;
+    text.extend_from_slice(name)?;
+    text.extend_from_slice(b" sent ")?;
+    write_hex(&mut text, difference.sent.as_slice())?;
+    text.extend_from_slice(b", expected ")?;
+    match &difference.expected {
+        Some(bytes) => write_hex(&mut text, bytes.as_slice())?,
+        None => text.extend_from_slice(b"nothing")?,
+    }
+    Ok(text)
+}
+
+/// What is told where frames are missing.
+fn lack_text(
+    alloc: Global,
+    name: &[u8],
+    count: u64,
+    next: &FrameBytes,
+) -> Result<Vec<u8>, AllocError>
+    ensures { IfOk result (λ text. text.items
+        ≡ name.now ++ codes " sent " ++ decimal count ++ codes " frames, expected "
+        ++ encode_upper next.now ++ codes " next") }
+{
+    let mut text = Vec::from_slice(alloc, name)?;
+    text.extend_from_slice(b" sent ")?;
+    add_number(&mut text, count)?;
+    text.extend_from_slice(b" frames, expected ")?;
+    write_hex(&mut text, next.as_slice())?;
+    text.extend_from_slice(b" next")?;
+    Ok(text)
+}
