@@ -1,0 +1,5 @@
+pub mod Bench
+pub mod Hearing
+pub mod Live
+pub mod Serving
+pub mod Stops

@@ -1,0 +1,119 @@
+-- What is kept of a live run between two calls of its bench, and how a call goes.
+use Rattle.std.specs.Prelude.{◌≡◌, ◌⊎◌, ◌<◌, ◌^◌, ℕ, ◌+◌, ◌-◌, min, max, Bool, true, false, List, [], ◌∷◌, ◌++◌, length, Option}
+use Rattle.std.specs.Io.KnownBytes.{Appends, Consumes, IsAtEnd, Keeps}
+use Rattle.diag_can.specs.Bus.{begun_line, bus_lines, ended_lines}
+use Rattle.diag_setup.specs.declared.raw.RawSetup.{RawSetup}
+use Rattle.diag_bus.specs.declared.bus.Output.TheVariants.{Replies}
+use Rattle.diag_run.specs.Capture.{IsFront}
+use Rattle.diag_text.specs.Bytes.{Sends, Takes}
+use Rattle.diag_run.specs.Capturing.{HaltsIn, fault_of}
+use Rattle.diag_run.specs.Capturing as run
+use Rattle.diag_run.specs.declared.capture.Capture.{Capture}
+use Rattle.diag_run.specs.declared.capture.CaptureFault.{CaptureFault}
+use Rattle.diag_run.specs.declared.capture.CaptureFault.TheVariants as capture
+use Rattle.diag_text.specs.declared.fault.RunFault.{RunFault}
+use Rattle.diag_text.specs.declared.fault.RunFault.TheVariants.{Capture as CaptureLine, Read}
+use Rattle.diag_live.specs.Hearing.{Follows}
+use Rattle.diag_live.specs.Live.{AreGood, Taken, capture_of, lines_of, record_text}
+use Rattle.diag_live.specs.Stops.{StopsOn}
+use Rattle.diag_live.specs.declared.serving.Serving.{Serving}
+
+-- These bytes were heard, these written, and those recorded: the lines that were ended were taken, with ticks between
+-- them, the record has them, and the capture that they are was followed to its end, with nothing left to be written.
+pub record Stands (serving : Serving) (seen wrote noted : List ℕ) : Type 0 where
+  pub taken : List Taken
+  pub heard : lines_of taken ≡ ended_lines seen
+  pub good : AreGood taken
+  pub follows : Follows serving.hearing seen
+  pub recorded : noted ≡ record_text (capture_of taken)
+  pub lines : ended_lines noted ≡ capture_of taken
+  pub closed : begun_line noted ≡ []
+  pub capture : run.Stands serving.capture noted wrote
+  pub sent : serving.capture.text.items ≡ []
+  pub output : serving.capture.bus.output ≡ Replies
+
+-- these bytes were heard further, these written, and those recorded
+pub record GoesOn (old new : Serving) (bytes sent noted : List ℕ) : Type 0 where
+  pub setup : new.capture.bus.setup ≡ old.capture.bus.setup
+  pub stands : (seen wrote before : List ℕ) → Stands old seen wrote before
+      → Stands new (seen ++ bytes) (wrote ++ sent) (before ++ noted)
+
+-- the fault came with these bytes, whatever follows them, behind which these were written, and those recorded
+abbrev pub Halts : Serving → RunFault → List ℕ → List ℕ → List ℕ → Type 0
+Halts old fault bytes sent noted = (seen wrote before : List ℕ) → Stands old seen wrote before
+    → (rest : List ℕ) → StopsOn old.capture.bus.setup fault (bus_lines ((seen ++ bytes) ++ rest))
+    (wrote ++ sent) (before ++ noted)
+
+-- the capture's text was recorded and taken
+pub record Delivered (old new : Capture) (text sent noted : List ℕ) : Type 0 where
+  pub whole : noted ≡ text
+  pub on : run.GoesOn old new text sent
+  pub none : new.text.items ≡ []
+
+-- it was recorded, and then the fault came in taking it
+pub record HaltsTaking (old : Capture) (text sent noted : List ℕ) (fault : CaptureFault) : Type 0 where
+  pub whole : noted ≡ text
+  pub countable : old.lines + length text + 1 < 2 ^ 64
+  pub halts : HaltsIn old fault text sent
+
+-- it was not recorded whole, and nothing of it was taken
+pub record HaltsRecording (text sent noted : List ℕ) (fault : CaptureFault) : Type 0 where
+  pub of : (fault ≡ capture.Write) ⊎ (fault ≡ capture.Memory)
+  pub none : sent ≡ []
+  pub front : IsFront noted text
+
+-- a line of the capture by its number in the input, of which so many lines had been heard when so many stood in the
+-- capture before those that are heard now; with ticks it is the next line
+abbrev pub input_number : ℕ → ℕ → ℕ → ℕ
+input_number heard first n = min (heard + max (n - first) 1) (2 ^ 64 - 1)
+
+-- the fault of the capture as one of the input
+abbrev pub numbered : ℕ → ℕ → CaptureFault → RunFault
+numbered heard first (capture.Line n fault) = CaptureLine (input_number heard first n) fault
+numbered heard first fault = fault_of fault
+
+-- the fault came in delivering the capture's text
+pub record Undelivered (old : Capture) (heard first : ℕ) (text sent noted : List ℕ) (fault : RunFault)
+    : Type 0 where
+  pub came : CaptureFault
+  pub told : fault ≡ numbered heard first came
+  pub how : HaltsTaking old text sent noted came ⊎ HaltsRecording text sent noted came
+
+-- ---- a turn: what was heard
+
+-- the line feed that ends a line that is begun
+abbrev pub last_feed : List ℕ → List ℕ
+last_feed [] = []
+last_feed (c ∷ kept) = 10 ∷ []
+
+-- so much was heard, written and recorded, and the run goes on; or the input has ended, and its last line was taken
+abbrev pub Turned : Serving → Serving → (input input' out out' noted noted' : Option (List ℕ)) → Bool → Type 0
+Turned old new input input' out out' noted noted' true = Takes input input' (λ bytes.
+    Sends out out' (λ sent. Sends noted noted' (λ recorded. GoesOn old new bytes sent recorded)))
+Turned old new input input' out out' noted noted' false = Keeps input input' × IsAtEnd input'
+    × Sends out out' (λ sent. Sends noted noted' (λ recorded.
+    GoesOn old new (last_feed old.hearing.kept.items) sent recorded))
+
+-- the fault came with these bytes; or at the end of the input
+abbrev pub HaltsWith : Serving → (input input' out out' noted noted' : Option (List ℕ)) → RunFault → Type 0
+HaltsWith old input input' out out' noted noted' fault = Takes input input' (λ bytes.
+    Sends out out' (λ sent. Sends noted noted' (λ recorded. Halts old fault bytes sent recorded)))
+    ⊎ (Keeps input input' × IsAtEnd input' × Sends out out' (λ sent. Sends noted noted' (λ recorded.
+    Halts old fault (last_feed old.hearing.kept.items) sent recorded)))
+
+-- the input can't be heard further: nothing was written or recorded
+abbrev pub CannotHear : (input input' out out' noted noted' : Option (List ℕ)) → RunFault → Type 0
+CannotHear input input' out out' noted noted' fault = (fault ≡ Read 1)
+    × Keeps input input' × Keeps out out' × Keeps noted noted'
+
+-- so much was heard, written and recorded since the run began
+pub record SoFar (setup : RawSetup) (serving : Serving) (input input' out out' noted noted' : Option (List ℕ))
+    : Type 0 where
+  pub set : serving.capture.bus.setup ≡ setup
+  pub seen : List ℕ
+  pub read : Consumes input input' seen
+  pub wrote : List ℕ
+  pub sent : Appends out out' wrote
+  pub recorded : List ℕ
+  pub kept : Appends noted noted' recorded
+  pub stands : Stands serving seen wrote recorded

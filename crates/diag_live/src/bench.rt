@@ -1,0 +1,33 @@
+//! Where the lines come from, and the time.
+
+ghost use Rattle.std.specs.Prelude.{◌≡◌, ℕ, List, Option, None};
+ghost use Rattle.diag_live.specs.Bench.{Hears};
+
+/// What was heard of the input.
+#[derive(Debug, Drop)]
+pub enum Heard {
+    /// These bytes of it came.
+    Piece(Vec<u8>),
+    /// No byte came until the moment that was named.
+    Silence,
+    /// It has ended.
+    End,
+    /// It could not be read.
+    Fault,
+    /// Memory was refused.
+    Memory,
+}
+
+/// A place at a bus: candump lines come there, and a clock goes.
+pub trait Bench {
+    /// The bytes that are still to come, where they are known.
+    ghost remaining: { Self → Option (List ℕ) } = { λ _. None };
+
+    /// What comes next, or silence once the clock tells this moment, in milliseconds; with 2^64 - 1, however long it takes.
+    fn hear(&mut self, until: u64) -> Heard
+        ensures { Hears (remaining self.old) (remaining self.new) result };
+
+    /// What the clock tells, in milliseconds from some start. Where it goes back, no time passes.
+    fn now(&mut self) -> u64
+        ensures { remaining self.new ≡ remaining self.old };
+}

@@ -1,0 +1,134 @@
+//! A live run: the config, then the bus as it goes.
+
+ghost use Rattle.std.specs.Prelude.{◌≡◌, ◌⊎◌, IfOk, IfErr, OnOk};
+ghost use Rattle.diag_live.specs.Serving.{CannotHear, HaltsWith, Stands, Turned};
+ghost use Rattle.diag_live.specs.Stops.{Lived, LivedWith, Stopped, StoppedWith};
+ghost use Rattle.diag_run.specs.Run.{TellsOf};
+
+use crate::bench::{Bench, Heard};
+use crate::serving::Serving;
+use diag_bus::{Bus, Output};
+use diag_config::Setup;
+use diag_run::{Outcome, RunFault, fault_text, read_config, status};
+use std::alloc::Global;
+use std::io::{Read, Write};
+
+/// Serves a bus until the input ends. The time passes as the bench's clock tells it, also while nothing is heard.
+///
+/// What was heard and how the time passed is one capture, which the recorder gets: each line with the null stamp in
+/// place of its own, and `tick` lines between them. What is written is what the bus writes of that capture. Before each
+/// `hear` the capture so far was recorded and flushed, and then what it draws.
+///
+/// # Errors
+/// `Capture` with the number of the first line of the input at fault, or of the line by which, or before which, a
+/// tester's clock would pass 2^63 ms; `Read(1)` where the bench can't hear further; `Memory`; and `Write` where the
+/// output or the record can't be written.
+pub fn live<B: Bench, W: Write, R: Write>(
+    alloc: Global,
+    setup: Setup,
+    bench: &mut B,
+    out: &mut W,
+    recorder: &mut R,
+) -> Result<(), RunFault>
+    ensures done { OnOk result (Lived setup (B.remaining bench.old) (B.remaining bench.new)
+        (W.contents out.old) (W.contents out.new) (R.contents recorder.old) (R.contents recorder.new)) }
+    ensures fault { IfErr result (Stopped setup (B.remaining bench.old) (B.remaining bench.new)
+        (W.contents out.old) (W.contents out.new) (R.contents recorder.old) (R.contents recorder.new)) }
+{
+    let bus = Bus::new(alloc, setup, Output::Replies)?;
+    let mut serving = Serving::begin(alloc, bus, bench.now())?;
+    for _ in 0..u64::MAX {
+        match turn(&mut serving, bench, out, recorder) {
+            Ok(true) => {}
+            Ok(false) => return Ok(()),
+            Err(fault) => return Err(fault),
+        }
+    }
+    Err(RunFault::Read(1))
+}
+
+/// Hears what comes next, and serves it; whether the run goes on.
+fn turn<B: Bench, W: Write, R: Write>(
+    serving: &mut Serving,
+    bench: &mut B,
+    out: &mut W,
+    recorder: &mut R,
+) -> Result<bool, RunFault>
+    ensures ok { IfOk result (Turned serving.old serving.new (B.remaining bench.old) (B.remaining bench.new)
+        (W.contents out.old) (W.contents out.new) (R.contents recorder.old) (R.contents recorder.new)) }
+    ensures err { IfErr result (λ fault. HaltsWith serving.old
+        (B.remaining bench.old) (B.remaining bench.new)
+        (W.contents out.old) (W.contents out.new)
+        (R.contents recorder.old) (R.contents recorder.new) fault
+        ⊎ CannotHear (B.remaining bench.old) (B.remaining bench.new)
+        (W.contents out.old) (W.contents out.new)
+        (R.contents recorder.old) (R.contents recorder.new) fault) }
+{
+    let heard = bench.hear(serving.due());
+    let now = bench.now();
+    match heard {
+        Heard::Piece(piece) => match serving.serve(now, piece.as_slice(), out, recorder) {
+            Ok(()) => Ok(true),
+            Err(fault) => Err(fault),
+        },
+        Heard::Silence => match serving.serve(now, &[], out, recorder) {
+            Ok(()) => Ok(true),
+            Err(fault) => Err(fault),
+        },
+        Heard::End => match serving.end(now, out, recorder) {
+            Ok(()) => Ok(false),
+            Err(fault) => Err(fault),
+        },
+        Heard::Fault => Err(RunFault::Read(1)),
+        Heard::Memory => Err(RunFault::Memory),
+    }
+}
+
+/// Reads a setup, and then serves a bus.
+///
+/// # Errors
+/// The first fault of the config, before which nothing is heard or written; then those of `live`.
+pub fn run_live<C: Read, B: Bench, W: Write, R: Write>(
+    alloc: Global,
+    config: &mut C,
+    bench: &mut B,
+    out: &mut W,
+    recorder: &mut R,
+) -> Result<(), RunFault>
+    ensures done { OnOk result (LivedWith (C.remaining config.old) (C.remaining config.new)
+        (B.remaining bench.old) (B.remaining bench.new)
+        (W.contents out.old) (W.contents out.new) (R.contents recorder.old) (R.contents recorder.new)) }
+    ensures fault { IfErr result (StoppedWith B.remaining (C.remaining config.old) (C.remaining config.new)
+        bench.old bench.new
+        (W.contents out.old) (W.contents out.new) (R.contents recorder.old) (R.contents recorder.new)) }
+{
+    match read_config(alloc, config) {
+        Ok(setup) => live(alloc, setup, bench, out, recorder),
+        Err(fault) => Err(fault),
+    }
+}
+
+/// Runs, and says how it ended: with the end of the input, or with the line and the status of the run's fault.
+pub fn run_live_and_tell<C: Read + Drop, B: Bench + Drop, W: Write, R: Write>(
+    alloc: Global,
+    mut config: C,
+    mut bench: B,
+    out: &mut W,
+    recorder: &mut R,
+) -> Outcome
+    ensures done { result ≡ Outcome.Done → (config' : C) × (bench' : B)
+        × LivedWith (C.remaining config) (C.remaining config') (B.remaining bench) (B.remaining bench')
+        (W.contents out.old) (W.contents out.new) (R.contents recorder.old) (R.contents recorder.new) }
+    ensures fault { TellsOf (λ fault. (config' : C) × (bench' : B)
+        × StoppedWith B.remaining (C.remaining config) (C.remaining config') bench bench'
+        (W.contents out.old) (W.contents out.new)
+        (R.contents recorder.old) (R.contents recorder.new) fault) result }
+{
+    match run_live(alloc, &mut config, &mut bench, out, recorder) {
+        Ok(()) => Outcome::Done,
+        Err(fault) => Outcome::Fault {
+            told: fault_text(alloc, &fault).ok(),
+            status: status(&fault),
+        },
+    }
+}

@@ -1,0 +1,92 @@
+//! Benches and writers that fail.
+
+use super::given::{Comes, End, Pipe, Script, Step, Trouble, holds, holds_at, is_end, serves};
+use diag_live::run_live_and_tell;
+use diag_stored::CONFIG;
+use std::alloc::{AllocError, Global};
+
+const STEPS: [Step; 3] = [
+    Step {
+        at: 700,
+        comes: Comes::Bytes("(1.000000) can0 7E0#023E00\n"),
+    },
+    Step {
+        at: 750,
+        comes: Comes::Bytes("(1.000000) can0 7E1#023E00\n"),
+    },
+    Step {
+        at: 800,
+        comes: Comes::Fault,
+    },
+];
+
+const RECORD: &str = "(0.000000) can0 7E0#023E00\ntick 50\n(0.000000) can0 7E1#023E00\n";
+
+const TEXT: &str =
+    "(0000000000.000000) A 7E8#027E00CCCCCCCCCC\n(0000000000.050000) B 7E9#027E00CCCCCCCCCC\n";
+
+const CANNOT_READ: End = End {
+    line: "uds_play: cannot read file 1\n",
+    status: 7,
+};
+
+const CANNOT_WRITE: End = End {
+    line: "uds_play: cannot write\n",
+    status: 7,
+};
+
+/// An input that fails is told, behind what was drawn.
+#[test]
+fn input_that_fails(rt: HostRuntime) -> Result<(), Trouble> {
+    holds(serves(rt.alloc(), &STEPS, CANNOT_READ, RECORD, TEXT))
+}
+
+/// The bytes that went to each of two writers of so much room, and how the run ended.
+fn is_cut(
+    alloc: Global,
+    room: usize,
+    record_room: usize,
+    takes_none: bool,
+) -> Result<bool, AllocError> {
+    let bench = Script {
+        alloc,
+        steps: &STEPS,
+        clock: 700,
+    };
+    let mut out = Pipe {
+        taken: Vec::new(alloc),
+        room,
+        takes_none,
+    };
+    let mut record = Pipe {
+        taken: Vec::new(alloc),
+        room: record_room,
+        takes_none,
+    };
+    let outcome = run_live_and_tell(alloc, CONFIG.as_bytes(), bench, &mut out, &mut record);
+    let ended = is_end(&outcome, CANNOT_WRITE);
+    let fronts = TEXT.as_bytes().starts_with(out.taken.as_slice())
+        && RECORD.as_bytes().starts_with(record.taken.as_slice());
+    Ok(ended? && fronts && is_first(&out, &record))
+}
+
+/// Whether the record has the lines whose replies were written.
+fn is_first(out: &Pipe, record: &Pipe) -> bool {
+    (out.taken.is_empty() || record.taken.len() >= 27)
+        && (out.taken.len() <= 43 || record.taken.len() == RECORD.len())
+}
+
+/// An output or a record that takes no more is told, and both have a front; the record is ahead of the replies.
+#[test]
+fn writers_that_fail(rt: HostRuntime) -> Result<(), Trouble> {
+    let alloc = rt.alloc();
+    for room in 0..TEXT.len() {
+        holds_at(room, is_cut(alloc, room, usize::MAX, false))?;
+        holds_at(room, is_cut(alloc, room, usize::MAX, true))?;
+    }
+    for room in 0..RECORD.len() {
+        holds_at(room, is_cut(alloc, usize::MAX, room, false))?;
+        holds_at(room, is_cut(alloc, usize::MAX, room, true))?;
+    }
+    Ok(())
+}

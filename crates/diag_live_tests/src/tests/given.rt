@@ -1,0 +1,188 @@
+//! What the tests run on: a script of what is heard and when, a writer that fails, and how a run ended.
+
+use diag_bus::Output;
+use diag_live::{Bench, Heard, run_live_and_tell};
+use diag_run::{Outcome, run_bus_and_tell};
+use diag_stored::CONFIG;
+use std::alloc::{AllocError, Global};
+use std::io;
+use std::io::{Error, ErrorKind, Write};
+
+/// What comes at a moment of the clock, in milliseconds.
+#[derive(Clone, Copy)]
+pub struct Step {
+    pub at: u64,
+    pub comes: Comes,
+}
+
+/// What comes.
+#[derive(Clone, Copy)]
+pub enum Comes {
+    Bytes(&'static str),
+    End,
+    Fault,
+    /// The clock is set back to this moment.
+    Back(u64),
+}
+
+/// A bench that plays a script. Its clock goes to the moment that is waited for, or to that of the next step.
+#[derive(Drop)]
+pub struct Script<'a> {
+    pub alloc: Global,
+    pub steps: &'a [Step],
+    pub clock: u64,
+}
+
+impl Bench for Script<'_> {
+    fn hear(&mut self, until: u64) -> Heard {
+        let Some((step, others)) = self.steps.split_first() else {
+            return Heard::End;
+        };
+        if until < step.at {
+            self.clock = until;
+            return Heard::Silence;
+        }
+        self.steps = others;
+        self.clock = self.clock.max(step.at);
+        match step.comes {
+            Comes::Bytes(text) => match Vec::from_slice(self.alloc, text.as_bytes()) {
+                Ok(piece) => Heard::Piece(piece),
+                Err(_) => Heard::Memory,
+            },
+            Comes::End => Heard::End,
+            Comes::Fault => Heard::Fault,
+            Comes::Back(moment) => {
+                self.clock = moment;
+                Heard::Silence
+            }
+        }
+    }
+
+    fn now(&mut self) -> u64 {
+        self.clock
+    }
+}
+
+/// A writer that takes so many bytes and then fails, or takes none.
+#[derive(Drop)]
+pub struct Pipe {
+    pub taken: Vec<u8>,
+    pub room: usize,
+    pub takes_none: bool,
+}
+
+impl Pipe {
+    /// A writer of so much room.
+    pub fn of(alloc: Global, room: usize) -> Pipe {
+        Pipe {
+            taken: Vec::new(alloc),
+            room,
+            takes_none: false,
+        }
+    }
+
+    /// A writer that takes all.
+    pub fn open(alloc: Global) -> Pipe {
+        Pipe::of(alloc, usize::MAX)
+    }
+}
+
+impl Write for Pipe {
+    fn write(&mut self, buf: &[u8]) -> io::Result<usize> {
+        let count = buf.len().min(self.room.saturating_sub(self.taken.len()));
+        if count == 0 && !self.takes_none {
+            return Err(Error::from(ErrorKind::BrokenPipe));
+        }
+        self.taken.extend_from_slice(&buf[..count])?;
+        Ok(count)
+    }
+
+    fn flush(&mut self) -> io::Result<()> {
+        Ok(())
+    }
+}
+
+/// How a run ends: the line that it tells of a fault, and its status.
+#[derive(Clone, Copy)]
+pub struct End {
+    pub line: &'static str,
+    pub status: u8,
+}
+
+/// The end of a run with no fault.
+pub const WELL: End = End {
+    line: "",
+    status: 0,
+};
+
+/// Whether this is the end of a run. Want of memory is an error.
+pub fn is_end(outcome: &Outcome, end: End) -> Result<bool, AllocError> {
+    match outcome {
+        Outcome::Done => Ok(end.status == 0),
+        Outcome::Fault { told, status } => match told {
+            Some(line) if *status != 4 => Ok(
+                *status == end.status && line.as_slice() == end.line.as_bytes(),
+            ),
+            _ => Err(AllocError),
+        },
+    }
+}
+
+/// Whether a script is served so: its end, the record, and what was written.
+pub fn serves(
+    alloc: Global,
+    steps: &[Step],
+    end: End,
+    record: &str,
+    text: &str,
+) -> Result<bool, AllocError> {
+    let bench = Script {
+        alloc,
+        steps,
+        clock: 700,
+    };
+    let mut out = Pipe::open(alloc);
+    let mut noted = Pipe::open(alloc);
+    let outcome = run_live_and_tell(alloc, CONFIG.as_bytes(), bench, &mut out, &mut noted);
+    let ended = is_end(&outcome, end);
+    let same = ended?
+        && noted.taken.as_slice() == record.as_bytes()
+        && out.taken.as_slice() == text.as_bytes();
+    Ok(same && is_drawn(alloc, noted.taken.as_slice(), text)?)
+}
+
+/// Whether the bus draws this text of a record.
+fn is_drawn(alloc: Global, record: &[u8], text: &str) -> Result<bool, AllocError> {
+    let mut out = Pipe::open(alloc);
+    let outcome = run_bus_and_tell(alloc, Output::Replies, CONFIG.as_bytes(), record, &mut out);
+    Ok(is_end(&outcome, WELL)? && out.taken.as_slice() == text.as_bytes())
+}
+
+/// Why a test did not come to its end: memory was refused, or a run did what it must not.
+#[derive(Clone, Copy, Debug)]
+pub enum Trouble {
+    Memory,
+    Wrong,
+    /// What is wrong is at this place of a table, from 0.
+    WrongAt(usize),
+}
+
+impl From<AllocError> for Trouble {
+    fn from(_refused: AllocError) -> Trouble {
+        Trouble::Memory
+    }
+}
+
+/// What was tried came to its end and holds.
+pub fn holds(tried: Result<bool, AllocError>) -> Result<(), Trouble> {
+    if tried? { Ok(()) } else { Err(Trouble::Wrong) }
+}
+
+/// The same of a place in a table.
+pub fn holds_at(at: usize, tried: Result<bool, AllocError>) -> Result<(), Trouble> {
+    if tried? {
+        Ok(())
+    } else {
+        Err(Trouble::WrongAt(at))
+    }
+}
