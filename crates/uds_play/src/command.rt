@@ -5,6 +5,7 @@ ghost use Rattle.uds_play.specs.declared.command.Refusal.TheVariants.{Memory};
 
 use clap::error::ErrorKind;
 use clap::{Arg, ArgAction, ArgMatches, Command, Error};
+use diag_bus::Output;
 use diag_can::Timing;
 use diag_run::Job;
 use std::alloc::{AllocError, Global};
@@ -15,12 +16,29 @@ const VERSION: &str = "0.1.0";
 /// What the words ask for.
 #[derive(Debug, Drop)]
 pub struct Request<'a> {
-    /// What to do with the files.
-    pub job: Job,
     /// The path of the setup.
     pub config: &'a str,
-    /// The paths of the logs or of the journal, in the testers' order.
-    pub files: Vec<&'a str>,
+    /// What to do, and over what.
+    pub task: Task<'a>,
+}
+
+/// What to do, and over what.
+#[derive(Debug, Drop)]
+pub enum Task<'a> {
+    /// A job over the logs, in the testers' order, or over the journal, by their paths.
+    Files {
+        job: Job,
+        paths: Vec<&'a str>,
+    },
+    /// To write this over a capture by its path; over standard input where there is none.
+    Bus {
+        output: Output,
+        capture: Option<&'a str>,
+    },
+    /// To serve the bus that comes by standard input, and to keep its capture in a new file of this path.
+    Live {
+        record: Option<&'a str>,
+    },
 }
 
 /// Why nothing is run.
@@ -96,12 +114,49 @@ fn replay_command<'a>(alloc: Global) -> Result<Command<'a>, AllocError> {
     ))
 }
 
+/// The capture behind the config, at most one.
+fn capture_arg<'a>(alloc: Global) -> Arg<'a> {
+    Arg::new(alloc, "CAPTURE")
+        .help("The recording of the bus; standard input where it is - or left out")
+        .action(ArgAction::Set)
+}
+
+/// The command that answers the recording of a bus, with its flags.
+fn bus_command<'a>(alloc: Global) -> Result<Command<'a>, AllocError> {
+    let about = "Answer the recording of a whole bus, as it comes";
+    let end = flag(alloc, "end", "Print the end alone").conflicts_with("journal")?;
+    job_command(alloc, "bus", about)?
+        .arg(capture_arg(alloc))?
+        .arg(flag(alloc, "journal", "Print the journal alone"))?
+        .arg(end)
+}
+
+/// The command that judges the recording of a bus.
+fn verify_command<'a>(alloc: Global) -> Result<Command<'a>, AllocError> {
+    let about = "Say whether the unit in the recording of a whole bus answered as the server";
+    job_command(alloc, "verify", about)?.arg(capture_arg(alloc))
+}
+
+/// The command that serves a bus as it goes.
+fn live_command<'a>(alloc: Global) -> Result<Command<'a>, AllocError> {
+    let about = "Serve the bus whose lines come by standard input, in the time of the clock";
+    let record = Arg::new(alloc, "record")
+        .long("record")
+        .value_name("FILE")
+        .help("Keep the capture in this file, which must not be there yet")
+        .action(ArgAction::Set);
+    job_command(alloc, "live", about)?.arg(record)
+}
+
 fn whole_command<'a>(alloc: Global) -> Result<Command<'a>, AllocError> {
     Command::new(alloc, "uds_play")
         .version(VERSION)
         .about("The diagnostic server of an ECU, played over the logs of its testers")
         .disable_help_subcommand(true)
         .subcommand_required(true)
+        .subcommand(bus_command(alloc)?)?
+        .subcommand(verify_command(alloc)?)?
+        .subcommand(live_command(alloc)?)?
         .subcommand(play_command(
             alloc,
             "serial",
@@ -150,28 +205,60 @@ fn job_of(name: &str, flags: &ArgMatches<'_>) -> Job {
     }
 }
 
+/// What is written while a capture goes by.
+fn output_of(flags: &ArgMatches<'_>) -> Output {
+    if flags.get_flag("journal") {
+        Output::Journal
+    } else if flags.get_flag("end") {
+        Output::End
+    } else {
+        Output::Replies
+    }
+}
+
+/// The capture, by its path; none where it is standard input.
+fn capture_of<'a>(words: &ArgMatches<'a>) -> Option<&'a str> {
+    match words.get_str("CAPTURE") {
+        Some("-") => None,
+        path => path,
+    }
+}
+
+/// What a command does, and over what.
+fn task_of<'a>(alloc: Global, name: &str, words: &ArgMatches<'a>) -> Result<Task<'a>, AllocError> {
+    let output = match name {
+        "bus" => output_of(words),
+        "verify" => Output::Verdict,
+        "live" => {
+            let record = words.get_str("record");
+            return Ok(Task::Live { record });
+        }
+        _ => return files_of(alloc, name, words),
+    };
+    let capture = capture_of(words);
+    Ok(Task::Bus { output, capture })
+}
+
+/// A job, and its files.
+fn files_of<'a>(alloc: Global, name: &str, words: &ArgMatches<'a>) -> Result<Task<'a>, AllocError> {
+    let job = job_of(name, words);
+    let mut paths = Vec::new(alloc);
+    paths.extend_from_slice(words.get_strs("FILE").unwrap_or(&[]))?;
+    Ok(Task::Files { job, paths })
+}
+
 /// What the words ask for, or why they are refused.
 pub fn read_words<'a>(alloc: Global, words: &'a [String]) -> Result<Request<'a>, Refusal> {
-    let Ok(command) = whole_command(alloc) else {
-        return Err(Refusal::Memory);
-    };
-    let matches = match command.try_get_matches_from(words) {
+    let matches = match whole_command(alloc)?.try_get_matches_from(words) {
         Ok(matches) => matches,
         Err(error) => return Err(refusal_of(alloc, &error)),
     };
     let Some((name, inner)) = matches.subcommand() else {
         return Err(Refusal::Usage);
     };
-    let job = job_of(name, inner);
     let Some(config) = inner.get_str("CONFIG") else {
         return Err(Refusal::Usage);
     };
-    let mut files = Vec::new(alloc);
-    if files
-        .extend_from_slice(inner.get_strs("FILE").unwrap_or(&[]))
-        .is_err()
-    {
-        return Err(Refusal::Memory);
-    }
-    Ok(Request { job, config, files })
+    let task = task_of(alloc, name, inner)?;
+    Ok(Request { config, task })
 }

@@ -3,19 +3,27 @@
 
 mod command;
 mod source;
+mod standard;
 
-use command::{Refusal, Request, read_words};
+use command::{Refusal, Request, Task, read_words};
+use diag_bus::Output;
 use diag_can::Timing;
-use diag_run::{Job, Outcome, run_and_tell};
+use crossbeam_channel::{Receiver, bounded};
+use diag_config::Setup;
+use diag_live::{Bench, Heard, live};
+use diag_run::{
+    Job, Outcome, RunFault, fault_text, read_config, run_and_tell, run_bus_and_tell, status,
+};
 use diag_stored::{CONFIG, LOG_A, LOG_B};
 use source::Source;
+use standard::{PIECES, Record, StandardBench, read_all};
 use std::alloc::{AllocError, Global};
-use std::io::{ErrorKind, Read};
+use std::io::{ErrorKind, Read, Write};
 use std::process::ExitCode;
-use std::rt::Files;
+use std::rt::{Clock, Files};
 use std::sync::Wait;
 use std::thread::Threads;
-use std::{env, fs, io};
+use std::{env, fs, io, thread};
 
 const USAGE: &str =
     "uds_play: usage: uds_play [serial|play|replay] [--journal] [--stamps] CONFIG FILE..";
@@ -26,8 +34,29 @@ fn main(rt: HostRuntime) -> ExitCode {
         Err(_) => refuse(&rt, &Refusal::Usage),
         Ok(words) => match words.collect::<Vec<String>>(rt.alloc()) {
             Err(AllocError) => refuse(&rt, &Refusal::Memory),
-            Ok(words) => run_words(&rt, words.as_slice()),
+            Ok(words) => {
+                let pieces = if is_live(words.as_slice()) {
+                    let Ok((to, pieces)) = bounded(rt.alloc(), PIECES) else {
+                        return refuse(&rt, &Refusal::Memory);
+                    };
+                    if thread::spawn(&rt, move || read_all(&rt, rt.alloc(), &to)).is_err() {
+                        return refuse(&rt, &Refusal::Memory);
+                    }
+                    Some(pieces)
+                } else {
+                    None
+                };
+                run_words(&rt, words.as_slice(), pieces)
+            }
         },
+    }
+}
+
+/// Whether the words name the command that hears standard input in a thread of its own.
+fn is_live(words: &[String]) -> bool {
+    match words {
+        [_, name, ..] => name.as_str() == "live",
+        _ => false,
     }
 }
 
@@ -49,48 +78,151 @@ fn refuse(rt: &(impl Print + Eprint), refusal: &Refusal) -> ExitCode {
     }
 }
 
-fn run_words<R: Print + Eprint + Files + AllocGlobal + Threads + Wait + Sync>(
-    rt: &R,
-    words: &[String],
-) -> ExitCode {
-    let alloc = rt.alloc();
+/// A file of a run, standard input, or bytes of the program's own.
+type RunSource<R> = Source<<R as Files>::File, <R as Input>::Reader>;
+
+fn run_words<
+    R: Print + Eprint + Files + Input + AllocGlobal + Clock + Threads + Wait + Sync,
+>(rt: &R, words: &[String], pieces: Option<Receiver<Heard>>) -> ExitCode {
     if words.len() < 2 {
         return run_stored(rt);
     }
-    match read_words(alloc, words) {
-        Ok(request) => match open_all(rt, &request) {
-            Ok((config, files)) => run_job(rt, request.job, config, files),
-            Err(AllocError) => refuse(rt, &Refusal::Memory),
+    match read_words(rt.alloc(), words) {
+        Ok(Request { config, task }) => match task {
+            Task::Files { job, paths } => run_files(rt, job, config, paths.as_slice()),
+            Task::Bus { output, capture } => run_bus(rt, output, config, capture),
+            Task::Live { record } => match pieces {
+                Some(pieces) => run_live(rt, config, record, pieces),
+                None => refuse(rt, &Refusal::Usage),
+            },
         },
         Err(refusal) => refuse(rt, &refusal),
     }
 }
 
 /// The run of the program's own config and logs.
-fn run_stored<R: Print + Eprint + Files + AllocGlobal + Threads + Wait + Sync>(rt: &R) -> ExitCode {
+fn run_stored<R: Print + Eprint + Files + Input + AllocGlobal + Threads + Wait + Sync>(
+    rt: &R,
+) -> ExitCode {
     let job = Job::Serial {
         only_journal: false,
         timing: Timing::Lines,
     };
-    match stored_files::<R::File>(rt.alloc()) {
+    match stored_files::<R>(rt.alloc()) {
         Ok(files) => run_job(rt, job, Source::Stored(CONFIG.as_bytes()), files),
         Err(AllocError) => refuse(rt, &Refusal::Memory),
     }
 }
 
 /// The program's own logs.
-fn stored_files<F>(alloc: Global) -> Result<Vec<Source<F>>, AllocError>
-where
-    F: Drop,
-{
+fn stored_files<R: Files + Input>(alloc: Global) -> Result<Vec<RunSource<R>>, AllocError> {
     let mut files = Vec::new(alloc);
     files.push(Source::Stored(LOG_A.as_bytes()))?;
     files.push(Source::Stored(LOG_B.as_bytes()))?;
     Ok(files)
 }
 
+/// The run of a job over the files at these paths.
+fn run_files<R: Print + Eprint + Files + Input + AllocGlobal + Threads + Wait + Sync>(
+    rt: &R,
+    job: Job,
+    config: &str,
+    paths: &[&str],
+) -> ExitCode {
+    match open_all(rt, config, paths) {
+        Ok((config, files)) => run_job(rt, job, config, files),
+        Err(AllocError) => refuse(rt, &Refusal::Memory),
+    }
+}
+
+/// The run over a capture: the file at its path, or standard input.
+fn run_bus<R: Print + Eprint + Files + Input + AllocGlobal>(
+    rt: &R,
+    output: Output,
+    config: &str,
+    capture: Option<&str>,
+) -> ExitCode {
+    let (Ok(config), Ok(capture)) = (open(rt, config), open_capture(rt, capture)) else {
+        return refuse(rt, &Refusal::Memory);
+    };
+    let mut out = io::writer(rt);
+    let outcome = run_bus_and_tell(rt.alloc(), output, config, capture, &mut out);
+    tell(rt, &outcome)
+}
+
+/// The live run of a bus: the record is made once the config was read well, and then standard input is heard.
+fn run_live<R: Print + Eprint + Files + Input + AllocGlobal + Clock + Wait>(
+    rt: &R,
+    config: &str,
+    record: Option<&str>,
+    pieces: Receiver<Heard>,
+) -> ExitCode {
+    let Ok(mut config) = open(rt, config) else {
+        return refuse(rt, &Refusal::Memory);
+    };
+    let setup = match setup_of(rt.alloc(), &mut config) {
+        Ok(setup) => setup,
+        Err(outcome) => return tell(rt, &outcome),
+    };
+    let mut record = match Record::create(rt, record) {
+        Ok(record) => record,
+        Err(e) => return refuse_record(rt, e.kind()),
+    };
+    let Ok(mut bench) = StandardBench::start(rt, pieces) else {
+        return refuse(rt, &Refusal::Memory);
+    };
+    let mut out = io::writer(rt);
+    let outcome = serve(rt.alloc(), setup, &mut bench, &mut out, &mut record);
+    tell(rt, &outcome)
+}
+
+/// The setup of a config, or how the run ends without one.
+fn setup_of<C: Read>(alloc: Global, config: &mut C) -> Result<Setup, Outcome> {
+    match read_config(alloc, config) {
+        Ok(setup) => Ok(setup),
+        Err(fault) => Err(stopped(alloc, &fault)),
+    }
+}
+
+/// Serves a bus until its input ends, and says how it ended.
+fn serve<B: Bench, W: Write, F: Write>(
+    alloc: Global,
+    setup: Setup,
+    bench: &mut B,
+    out: &mut W,
+    record: &mut F,
+) -> Outcome {
+    match live(alloc, setup, bench, out, record) {
+        Ok(()) => Outcome::Done,
+        Err(fault) => stopped(alloc, &fault),
+    }
+}
+
+/// How a run ends by a fault.
+fn stopped(alloc: Global, fault: &RunFault) -> Outcome {
+    Outcome::Fault {
+        told: fault_text(alloc, fault).ok(),
+        status: status(fault),
+    }
+}
+
+/// Prints why there is no record, and says the status.
+fn refuse_record(rt: &(impl Print + Eprint), why: ErrorKind) -> ExitCode {
+    match why {
+        ErrorKind::OutOfMemory => refuse(rt, &Refusal::Memory),
+        ErrorKind::AlreadyExists => {
+            let _ = eprintln!(rt; "uds_play: record exists");
+            ExitCode::from(7)
+        }
+        _ => {
+            let _ = eprintln!(rt; "uds_play: cannot write");
+            ExitCode::from(7)
+        }
+    }
+}
+
 /// The file at a path, or a source whose first read fails.
-fn open<R: Files>(rt: &R, path: &str) -> Result<Source<R::File>, AllocError> {
+fn open<R: Files + Input>(rt: &R, path: &str) -> Result<RunSource<R>, AllocError> {
     match fs::open(rt, path) {
         Ok(file) => Ok(Source::Opened(file)),
         Err(e) if e.kind() == ErrorKind::OutOfMemory => Err(AllocError),
@@ -98,37 +230,52 @@ fn open<R: Files>(rt: &R, path: &str) -> Result<Source<R::File>, AllocError> {
     }
 }
 
-type Sources<F> = (Source<F>, Vec<Source<F>>);
+/// The capture at a path; standard input where there is none.
+fn open_capture<R: Files + Input>(rt: &R, path: Option<&str>) -> Result<RunSource<R>, AllocError> {
+    match path {
+        Some(path) => open(rt, path),
+        None => Ok(Source::Standard(rt.reader())),
+    }
+}
 
-fn open_all<R: Files + AllocGlobal>(
+type Sources<R> = (RunSource<R>, Vec<RunSource<R>>);
+
+fn open_all<R: Files + Input + AllocGlobal>(
     rt: &R,
-    request: &Request<'_>,
-) -> Result<Sources<R::File>, AllocError> {
-    let config = open(rt, request.config)?;
+    config: &str,
+    paths: &[&str],
+) -> Result<Sources<R>, AllocError> {
+    let config = open(rt, config)?;
     let mut files = Vec::new(rt.alloc());
-    for path in &request.files {
+    for path in paths {
         files.push(open(rt, path)?)?;
     }
     Ok((config, files))
 }
 
 /// Runs, and says the status.
-fn run_job<R: Print + Eprint + AllocGlobal + Threads + Wait + Sync, F: Read + Drop>(
+fn run_job<R: Print + Eprint + Files + Input + AllocGlobal + Threads + Wait + Sync>(
     rt: &R,
     job: Job,
-    config: Source<F>,
-    files: Vec<Source<F>>,
+    config: RunSource<R>,
+    files: Vec<RunSource<R>>,
 ) -> ExitCode {
     let mut out = io::writer(rt);
-    match run_and_tell(rt, rt.alloc(), job, config, files, &mut out) {
+    let outcome = run_and_tell(rt, rt.alloc(), job, config, files, &mut out);
+    tell(rt, &outcome)
+}
+
+/// Prints the line of a fault, and says the status.
+fn tell(rt: &impl Eprint, outcome: &Outcome) -> ExitCode {
+    match outcome {
         Outcome::Done => ExitCode::SUCCESS,
         Outcome::Fault { told, status } => {
-            if let Some(told) = &told {
+            if let Some(told) = told {
                 if let Ok(line) = str::from_utf8(told.as_slice()) {
                     let _ = rt.eprint(line);
                 }
             }
-            ExitCode::from(status)
+            ExitCode::from(*status)
         }
     }
 }
