@@ -29,17 +29,26 @@ def setup(testers):
     return "".join(rows) + data
 
 
-def log(tester, lines):
-    """Yields the lines of one tester's log."""
+def turn(tester):
+    """Returns twelve lines around one tester, without their stamps."""
     own = f"{0x7E0 + tester:03X}"
-    turn = [
+    return [
         f"{own}#023E00", "123#0011223344556677", f"{own}#0322F190", f"{own}#300000", "tick", "7E8#065003003201F4CC",
         f"{own}#03220100", "3A0#00", f"{own}#10092E0100414243", f"{own}#2144454647", "tick 10", "7DF#023E80",
     ]
-    for i in range(lines):
-        text = turn[i % len(turn)]
-        stamp = i * 500
-        yield text if text.startswith("tick") else f"({stamp // 1000000:010d}.{stamp % 1000000:06d}) can0 {text}"
+
+
+def stamped(number, text):
+    """Returns a line by its number, which gives its stamp."""
+    stamp = number * 500
+    return text if text.startswith("tick") else f"({stamp // 1000000:010d}.{stamp % 1000000:06d}) can0 {text}"
+
+
+def log(tester, lines):
+    """Yields the lines of one tester's log."""
+    texts = turn(tester)
+    for number in range(lines):
+        yield stamped(number, texts[number % len(texts)])
 
 
 def run(words):
@@ -84,4 +93,5 @@ def main():
                     measure(room, command, testers, 1_000_000)
 
 
-main()
+if __name__ == "__main__":
+    main()

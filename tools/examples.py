@@ -162,8 +162,10 @@ def log_faults():
         ("tick 5 ", "bad tick"),
     ]:
         plays(f"a log's line {line}", log(["tick", line]), tells=f"log 1 line 2: {fault}", status=3)
+        check(f"a capture's line {line}", ["bus"], [SETUP, log(["tick", line])], tells=f"capture line 2: {fault}", status=3)
     for line in ["(0.00000) can0 7E0#00", "(0000000000000.000000) can0 7E0#00", "(0.000000) 7E0#00", b"\xff"]:
         plays("a log's whole line", line, tells="log 1 line 1: bad line", status=3)
+        check("a capture's whole line", ["bus"], [SETUP, line], tells="capture line 1: bad line", status=3)
     apart = "(0.000000) can0 7E0#023E00\n(59999880.001000) can0 7E0#023E00\n"
     for job in ("serial", "play"):
         check("stamps too far apart", [job, "--stamps"], [SETUP, apart, ""], tells="log 1: too many events", status=3)
@@ -205,7 +207,7 @@ def config_faults():
         (tester + "[[level]]\nsub = 1\n", "empty"),
         ("\n" * 1_048_577, "too long"),
     ]:
-        for job in ("serial", "play", "replay"):
+        for job in ("bus", "serial", "play", "replay"):
             check(f"a setup: {fault}", [job], [config, ""], tells=f"config: {fault}", status=2)
 
 

@@ -2,9 +2,11 @@
 # Refuses each request for memory in turn, in the executables that `rt ci`, `rt test` or `rt run` left in out/: the
 # program and, with the word `tests`, the executables of the tests, a test at a time; with `suite FILE` that one executable.
 # Usage: tools/refuse.sh [tests | suite FILE]
-# The program must answer want of memory (status 4, nothing on standard output) or, where it had no more need of the
-# memory, what it answers without a refusal; where there was no memory for its line on standard error, that is empty.
-# A test must end with the error of a refused allocation, or pass where it had no more need of the memory.
+# The program must answer want of memory (status 4, nothing on standard output, and of `bus` and `live`, which write as
+# they go, a front of the text) or, where it had no more need of the memory, what it answers without a refusal; where there was no
+# memory for its line on standard error, that is empty.
+# A test must end with the error of a refused allocation, or pass where it had no more need of the memory. NotMet is such
+# an error, too: a thread that found no memory at its start left its work to its caller's thread.
 # A request may fall in any thread; how many there are may then be another from run to run.
 # A test that makes many requests, or that takes long, has 200 of them refused, evenly chosen, or as many as fit in
 # REFUSE_TEST_SECONDS (default 3). REFUSE_SECONDS (default 600) bounds the runs of the program, and each suite anew; what
@@ -21,13 +23,14 @@ failed=0
 # late: whether the time is over
 late() { [ "$(date +%s)" -ge "$end" ]; }
 
-# refused N PROGRAM WORD..: runs the program with request N refused; sets status and asked
+# refused N PROGRAM WORD..: runs the program with request N refused, with the file of the variable input, or nothing, as
+# standard input; sets status and asked
 refused() {
   local n=$1
   shift
   status=0
   : > "$room/count"
-  timeout 60 env REFUSE_AT="$n" REFUSE_COUNT="$room/count" LD_PRELOAD="$room/refuse.so" "$@" > "$room/out" 2> "$room/err" || status=$?
+  timeout 60 env REFUSE_AT="$n" REFUSE_COUNT="$room/count" LD_PRELOAD="$room/refuse.so" "$@" < "${input:-/dev/null}" > "$room/out" 2> "$room/err" || status=$?
   asked=$(od -An -t d8 "$room/count" | tr -d ' ')
   asked=${asked:-0}
 }
@@ -38,6 +41,11 @@ bad() { failed=$((failed + 1)); echo "REFUSED WRONG: $*"; [ -f "$room/err" ] && 
 # is_whole FILE: whether the program wrote what the file has; with any_order=1 in any order of the lines
 is_whole() {
   if [ "${any_order:-0}" = 1 ]; then sort "$1" | cmp -s - <(sort "$room/out"); else cmp -s "$room/out" "$1"; fi
+}
+
+# is_front FILE: whether the program wrote nothing; with writes_as_it_goes=1 whether it wrote a front of what the file has
+is_front() {
+  if [ "${writes_as_it_goes:-0}" = 1 ]; then head -c "$(stat -c %s "$room/out")" "$1" | cmp -s - "$room/out"; else [ ! -s "$room/out" ]; fi
 }
 
 # tells LINE: whether the program told this line, or nothing, where there was no memory for a line
@@ -58,7 +66,7 @@ sweep_run() {
     refused "$n" "$@"
     [ "$n" -gt "$asked" ] && break
     if [ "$status" = 4 ]; then
-      [ -s "$room/out" ] && { bad "$name: request $n: something was written"; return; }
+      is_front "$whole" || { bad "$name: request $n: something was written"; return; }
       tells 'uds_play: memory' || { bad "$name: request $n: another line on standard error"; return; }
     elif [ "$status" != "$wanted" ] || ! is_whole "$whole"; then
       bad "$name: request $n: status $status"
@@ -85,7 +93,7 @@ sweep_test() {
   while [ "$n" -le "$total" ]; do
     if late; then bad "$name: no time after $((n - 1)) requests"; return; fi
     refused "$n" "$program" "$name"
-    if [ "$status" != 0 ] && ! grep -Eq '[Ee]rror: .*(Memory|Alloc(Error|Failed))' "$room/err"; then bad "$name: request $n: status $status"; return; fi
+    if [ "$status" != 0 ] && ! grep -Eq '[Ee]rror: .*(Memory|Alloc(Error|Failed)|NotMet)' "$room/err"; then bad "$name: request $n: status $status"; return; fi
     n=$((n + step))
   done
   good "$name: $total requests, one of each $step"
@@ -115,6 +123,20 @@ sweep_program() {
     any_order=1 sweep_run "play of two testers" 0 runs/threaded_play/lines '' \
       "$program" play runs/setup.toml runs/threaded_play/a.log runs/threaded_play/b.log
     sweep_run "replay" 0 "$room/replayed" '' "$program" replay "$room/config" "$room/journal"
+    writes_as_it_goes=1 sweep_run "bus" 0 runs/bus_merge/stdout '' "$program" bus runs/setup.toml runs/bus_merge/capture.log
+    writes_as_it_goes=1 sweep_run "the journal of a bus" 0 runs/bus_functional_journal/stdout '' \
+      "$program" bus --journal runs/setup.toml runs/bus_functional/capture.log
+    writes_as_it_goes=1 sweep_run "the end of a bus" 0 runs/bus_order_end/stdout '' \
+      "$program" bus --end runs/setup.toml runs/bus_order/capture.log
+    writes_as_it_goes=1 sweep_run "a capture at fault" 3 runs/bus_fault/stdout 'uds_play: capture line 5: bad tick' \
+      "$program" bus runs/setup.toml runs/bus_fault/capture.log
+    input=runs/live_at_once/bus.log writes_as_it_goes=1 sweep_run "live" 0 runs/live_at_once/stdout '' "$program" live runs/setup.toml
+    sweep_run "a verdict" 0 runs/verify_agrees/stdout '' "$program" verify runs/setup.toml runs/verify_agrees/capture.log
+    sweep_run "a verdict on a frame" 8 "$room/nothing" 'uds_play: line 3: B sent 037F1022CCCCCCCC, expected 037F1021CCCCCCCC' \
+      "$program" verify runs/setup.toml runs/verify_second_first/capture.log
+    sweep_run "a verdict on what is missing" 8 "$room/nothing" 'uds_play: A sent 1 frames, expected 065001003201F4CC next' \
+      "$program" verify runs/setup.toml runs/bus_order/capture.log
+    sweep_run "a capture that is not there" 7 "$room/nothing" 'uds_play: cannot read file 1' "$program" bus "$room/config" "$room/none"
     sweep_run "a usage fault" 1 "$room/nothing" "$usage" "$program" replay --journal "$room/config" "$room/journal"
     sweep_run "a config at fault" 2 "$room/nothing" 'uds_play: config: syntax' "$program" serial "$room/bad" "$room/log"
     sweep_run "a log at fault" 3 "$room/nothing" 'uds_play: log 1 line 1: bad line' "$program" serial "$room/config" "$room/bad"

@@ -1,7 +1,8 @@
 #!/usr/bin/env bash
 # Runs the built program over the folders of runs/ and compares all that it writes, and its status. A folder has the
-# file `commands`, a command of the program on each line, which is run in that folder; `stdout`, or `lines` where the
-# order of the lines isn't fixed (with neither nothing is written); `stderr` and `status`, where they aren't empty and 0.
+# file `commands`, a command of the program on each line, which is run in that folder, with `< FILE` at its end where a
+# file of the folder is standard input; `stdout`, or `lines` where the order of the lines isn't fixed (with neither
+# nothing is written); `stderr` and `status`, where they aren't empty and 0.
 # Then come runs over files that are made here. The last line is 'N passed, M failed'.
 set -uo pipefail
 cd "$(dirname "$0")/.." || exit 2
@@ -16,12 +17,17 @@ failed=0
 good() { passed=$((passed + 1)); echo "run: $*"; }
 bad() { failed=$((failed + 1)); echo "RUN WRONG: $*"; head -n 5 "$room/out" "$room/err"; }
 
-# ran FOLDER WORD..: runs the program in the folder; what it writes is in out and err, its status in status
+# ran FOLDER WORD.. [< FILE]: runs the program in the folder, where `<` is a word too; what it writes is in out and err,
+# its status in status
 ran() {
-  local folder=$1
+  local folder=$1 input=/dev/null
   shift
+  if [ $# -ge 2 ] && [ "${*: -2:1}" = '<' ]; then
+    input=${!#}
+    set -- "${@:1:$#-2}"
+  fi
   status=0
-  (cd "$folder" && exec timeout 120 "$program" "$@") > "$room/out" 2> "$room/err" < /dev/null || status=$?
+  (cd "$folder" && exec timeout 120 "$program" "$@" < "$input") > "$room/out" 2> "$room/err" || status=$?
 }
 
 # same FILE OTHER: whether the file, or nothing where there is none, is the other
@@ -92,6 +98,15 @@ if [ "$status" = 0 ] && cmp -s "$room/out" "$room/want"; then good "the journal 
 
 ran . serial --stamps demo/setup.toml demo/workshop.log demo/end_of_line.log
 if [ "$status" = 0 ] && cmp -s "$room/out" demo/output.txt; then good "the demo"; else bad "the demo: status $status"; fi
+ran . bus demo/setup.toml demo/bus.log
+if [ "$status" = 0 ] && cmp -s "$room/out" demo/bus_output.txt; then good "the demo's bus"; else bad "the demo's bus: status $status"; fi
+ran . verify demo/setup.toml demo/bus.log
+printf 'workshop 11 frames agree\nend_of_line 9 frames agree\n' > "$room/want"
+if [ "$status" = 0 ] && cmp -s "$room/out" "$room/want"; then good "the demo's unit"; else bad "the demo's unit: status $status"; fi
+ran . verify demo/setup.toml demo/other_unit.log
+ends "the demo's other unit" 8 'line 42: workshop sent 0154CCCCCCCCCCCC, expected 037F1421CCCCCCCC'
+ran . bus --end demo/setup.toml '<' demo/bus.log
+if [ "$status" = 0 ] && sed -n '/^session/,$p' demo/output.txt | cmp -s - "$room/out"; then good "the end of the demo's bus"; else bad "the end of the demo's bus: status $status"; fi
 
 ran "$room" serial "$(printf '\377')" "$empty"
 ends "a word that isn't UTF-8" 1 "$usage"

@@ -1,0 +1,248 @@
+#!/usr/bin/env python3
+"""Looks at a setup file and tells all that is wrong with it, each with its key and its row, and the keys that the
+program passes over without a word. It is no part of what is proved: the program alone decides, and names the first fault.
+Usage: tools/setup.py SETUP
+A line each: the kind of the fault as the program tells it, or 'unknown key', then where it is. The status is 1 where
+the program refuses the setup, and 0 else. Needs Python 3.11 or later and its standard library alone."""
+import sys
+import tomllib
+from dataclasses import dataclass, replace
+
+# the order in which the program looks; keys that are missing and values that aren't of their kind are found in one go
+PHASES = {"syntax": 0, "missing": 1, "bad value": 1, "range": 2, "empty": 3, "duplicate": 4, "unknown code": 5, "unknown level": 6}
+MOST_NUMBER = 0xFFFFFFFF
+
+
+@dataclass(frozen=True)
+class Key:
+    """A key: how its value is read (a number, a truth value, a name or hex text), what it may be, and whether it has to
+    be there. `may` is a test of the value (of a name or hex text: of its characters or bytes), and `range` its words."""
+
+    read: str
+    may: object = None
+    range: str = ""
+    required: bool = False
+
+
+def number(least, most, required=False, shown=str):
+    return Key("number", lambda n: least <= n <= most, f"{shown(least)} to {shown(most)}", required)
+
+
+def identifier(most, required=True):
+    return number(0, most, required, lambda n: f"0x{n:X}" if n else "0")
+
+
+def hex_text(least, most, required=True):
+    return Key("hex", lambda data: least <= len(data) <= most, f"{least} to {most} bytes", required)
+
+
+TRUTH = Key("truth value")
+# a reference to a level or a code is looked at last, so any number passes here
+REFERENCE = Key("number", lambda n: True)
+UNIT = {
+    "p2_ms": number(0, 65535),
+    "p2_star_10ms": number(0, 65535),
+    "s3_ms": number(1, 600000),
+    "n_bs_ms": number(1, 60000),
+    "n_cr_ms": number(1, 60000),
+    "block_size": number(0, 255),
+    "st_min": Key("number", lambda n: n <= 127 or 241 <= n <= 249, "0 to 127 or 241 to 249"),
+    "max_request": number(8, 65535),
+    "pad": TRUTH,
+    "pad_byte": number(0, 255),
+    "availability": number(0, 255),
+    "functional": identifier(0x7FF, False),
+    "attempts": number(1, 255),
+    "delay_ms": number(1, 600000),
+}
+NAME = Key("text", lambda s: 1 <= len(s) <= 16 and s.isascii() and s.replace("_", "a").isalnum(), "1 to 16 letters, digits or _", True)
+SEED = Key("hex", lambda data: 1 <= len(data) <= 16 and any(data), "1 to 16 bytes, not all zero", True)
+ROWS = {"seed": SEED, "key": hex_text(1, 16)}
+LISTS = {
+    "tester": {"name": NAME, "request": identifier(0x7FF), "response": identifier(0x7FF)},
+    "did": {"id": identifier(0xFFFF), "value": hex_text(1, 255), "read_level": REFERENCE, "write": TRUTH, "write_level": REFERENCE},
+    "code": {"code": identifier(0xFFFFFE), "status": number(0, 255, True)},
+    "routine": {"id": identifier(0xFFFF), "time_ms": number(1, 600000, True), "result": hex_text(0, 32, False), "level": REFERENCE, "code": REFERENCE, "status": number(0, 255)},
+    "level": {"sub": Key("number", lambda n: 1 <= n <= 65 and n % 2 == 1, "an odd number from 1 to 65", True)},
+}
+MOST_ROWS = {"tester": 8, "did": 64, "code": 256, "routine": 16, "level": 4, "level.row": 64}
+
+
+class Wrong(Exception):
+    """A value that isn't of its kind."""
+
+
+def value_of(key, value):
+    """The value as it is read."""
+    if key.read == "truth value":
+        if not isinstance(value, bool):
+            raise Wrong("it is true or false")
+        return value
+    if key.read == "number":
+        if not isinstance(value, int) or isinstance(value, bool) or not 0 <= value <= MOST_NUMBER:
+            raise Wrong("it is a whole number, 0 or above")
+        return value
+    if not isinstance(value, str):
+        raise Wrong("it is a text in quotes")
+    if key.read == "text":
+        return value
+    if len(value) % 2 or any(c not in "0123456789abcdefABCDEF" for c in value):
+        raise Wrong("it is bytes in hex, two digits each, and nothing between them")
+    return bytes.fromhex(value)
+
+
+class Look:
+    """What was found in a setup so far: pairs of a kind of fault and where it is; and the keys passed over."""
+
+    def __init__(self):
+        self.found = []
+        self.unknown = []
+
+    def tell(self, kind, where):
+        self.found.append((kind, where))
+
+    def table(self, table, keys, path, row, inner=()):
+        """The values of a table that are well, by key."""
+        place = f" of [[{path}]] {row}" if path else ""
+        known = {}
+        for name, key in keys.items():
+            if name not in table:
+                if key.required:
+                    self.tell("missing", f"{name}{place}")
+                continue
+            try:
+                known[name] = value_of(key, table[name])
+            except Wrong as fault:
+                self.tell("bad value", f"{name}{place}: {fault}")
+                continue
+            if key.may and not key.may(known[name]):
+                self.tell("range", f"{name}{place} is {shown(table[name])}: {key.range}")
+        self.unknown += [f"{name}{place}" + self.hint(name, path) for name in table if name not in keys and name not in inner]
+        return known
+
+    @staticmethod
+    def hint(name, path):
+        """Where a key belongs that stands in the wrong table."""
+        if path and name in UNIT:
+            return ": it belongs to the whole unit, before the first [[..]]"
+        return ": it counts beside a code alone" if path == "routine" and name == "status" else ""
+
+    def rows(self, tree, path, place=""):
+        """The tables of a list."""
+        name = path.split(".")[-1]
+        rows = tree.get(name, [])
+        if not isinstance(rows, list) or not all(isinstance(row, dict) for row in rows):
+            self.tell("bad value", f"{name}{place}: each of its tables begins with [[{path}]]")
+            return []
+        if len(rows) > MOST_ROWS[path]:
+            self.tell("range", f"[[{path}]] stands {len(rows)} times: at most {MOST_ROWS[path]}")
+        return rows
+
+
+def shown(value):
+    return f"{value} (0x{value:X})" if isinstance(value, int) and not isinstance(value, bool) and value > 9 else repr(value)
+
+
+def level_rows(look, table, row):
+    """The rows of a level, whose seeds and keys have one length each."""
+    rows = look.rows(table, "level.row", f" of [[level]] {row}")
+    known = [look.table(it, ROWS, "level.row", f"{n} of level {row}") for n, it in enumerate(rows, 1)]
+    for name in ROWS:
+        lengths = sorted({len(it[name]) for it in known if name in it})
+        if len(lengths) > 1:
+            look.tell("range", f"{name} of [[level.row]] of level {row}: all have one length, and not {' and '.join(map(str, lengths))} bytes")
+    if "row" not in table or table["row"] == []:
+        look.tell("empty", f"[[level]] {row} has no [[level.row]]")
+
+
+def keys_of(path, table, keys):
+    """The keys that count in a table: the status of a routine does beside its code alone, and has to be there then."""
+    if path != "routine":
+        return keys
+    return {name: replace(key, required=key.required or name == "status") for name, key in keys.items() if name != "status" or "code" in table}
+
+
+def read_lists(look, tree):
+    """The tables of all lists, as they are read."""
+    lists = {}
+    for path, keys in LISTS.items():
+        lists[path] = []
+        for row, table in enumerate(look.rows(tree, path), 1):
+            lists[path].append(look.table(table, keys_of(path, table, keys), path, row, ("row",) if path == "level" else ()))
+            if path == "level":
+                level_rows(look, table, row)
+    if tree.get("tester", []) == []:
+        look.tell("empty", "there is no [[tester]]")
+    return lists
+
+
+def look_for_doubles(look, lists, functional):
+    """Names, identifiers and numbers that stand twice."""
+    seen = {functional: "the functional identifier"}
+    for row, tester in enumerate(lists["tester"], 1):
+        for name in ("request", "response"):
+            if name not in tester:
+                continue
+            where = f"{name} of [[tester]] {row}"
+            if tester[name] in seen:
+                look.tell("duplicate", f"{where} is {tester[name]:#x}, as {seen[tester[name]]}")
+            seen.setdefault(tester[name], where)
+    for path, name in (("tester", "name"), ("did", "id"), ("code", "code"), ("routine", "id"), ("level", "sub")):
+        first = {}
+        for row, known in enumerate(lists[path], 1):
+            if known.get(name) in first:
+                look.tell("duplicate", f"{name} of [[{path}]] {row} is {shown(known[name])}, as that of [[{path}]] {first[known[name]]}")
+            elif name in known:
+                first[known[name]] = row
+
+
+def look_for_references(look, lists):
+    """Codes and levels that are named and aren't there."""
+    codes = {it.get("code") for it in lists["code"]}
+    levels = {it.get("sub") for it in lists["level"]} | {0}
+    for row, routine in enumerate(lists["routine"], 1):
+        if "code" in routine and routine["code"] not in codes:
+            look.tell("unknown code", f"code of [[routine]] {row} is 0x{routine['code']:06X}, which no [[code]] has")
+    for path, name in (("did", "read_level"), ("did", "write_level"), ("routine", "level")):
+        for row, known in enumerate(lists[path], 1):
+            if known.get(name, 0) not in levels:
+                look.tell("unknown level", f"{name} of [[{path}]] {row} is {shown(known[name])}, which no [[level]] has as its sub")
+
+
+def look_at(data):
+    """All that is wrong with a setup file of these bytes."""
+    look = Look()
+    try:
+        tree = tomllib.loads(data.decode())
+    except (UnicodeDecodeError, tomllib.TOMLDecodeError) as fault:
+        look.tell("syntax", str(fault))
+        return look
+    unit = look.table(tree, UNIT, "", 0, LISTS)
+    lists = read_lists(look, tree)
+    look_for_doubles(look, lists, unit.get("functional", 0x7DF))
+    look_for_references(look, lists)
+    look.found.sort(key=lambda it: PHASES[it[0]])
+    return look
+
+
+def main():
+    if len(sys.argv) != 2 or sys.argv[1] in ("-h", "--help"):
+        print("usage: tools/setup.py SETUP", file=sys.stderr)
+        return 2
+    try:
+        with open(sys.argv[1], "rb") as file:
+            look = look_at(file.read())
+    except OSError as fault:
+        print(f"setup: {fault}", file=sys.stderr)
+        return 2
+    for kind, where in look.found:
+        print(f"{kind}: {where}")
+    for where in look.unknown:
+        print(f"unknown key: {where}")
+    if not look.found and not look.unknown:
+        print("nothing is wrong")
+    return 1 if look.found else 0
+
+
+if __name__ == "__main__":
+    sys.exit(main())

@@ -1,0 +1,134 @@
+#!/usr/bin/env python3
+"""Holds tools/setup.py against the built program: setups with one thing wrong, each in turn, and with several, of a
+seed. The first fault that the tool tells is of the kind that the program tells, of the same key where the program names
+one, and the tool finds none where the program takes the setup. The last line is 'N passed, M failed'."""
+import copy
+import os
+import random
+import subprocess
+import sys
+import tempfile
+
+sys.dont_write_bytecode = True
+from setup import LISTS, MOST_ROWS, ROWS, UNIT, look_at
+
+TOP = os.path.dirname(os.path.dirname(os.path.abspath(__file__)))
+PROGRAM = os.path.join(TOP, "crates", "uds_play", "out", "uds_play")
+SEVERAL = 400
+GOOD = {
+    "s3_ms": 4000,
+    "pad": True,
+    "tester": [{"name": "A", "request": 0x7E0, "response": 0x7E8}, {"name": "B", "request": 0x7E1, "response": 0x7E9}],
+    "did": [{"id": 0xF190, "value": "4142", "read_level": 1, "write": True, "write_level": 3}, {"id": 1, "value": "00"}],
+    "code": [{"code": 0x012345, "status": 0x2F}, {"code": 5, "status": 0}],
+    "routine": [{"id": 0x0203, "time_ms": 100, "result": "01", "level": 1, "code": 0x012345, "status": 1}, {"id": 4, "time_ms": 1}],
+    "level": [{"sub": 1, "row": [{"seed": "11", "key": "2222"}, {"seed": "33", "key": "4444"}]}, {"sub": 3, "row": [{"seed": "1100", "key": "22"}]}],
+}
+# values of a wrong kind, and numbers at the borders of the ranges
+ODD = (-1, 4294967296, 1.5, "text", "0", "0 ", True, [], [1], {"a": 1})
+BORDERS = (0, 1, 2, 7, 8, 64, 65, 66, 67, 127, 128, 240, 241, 249, 250, 255, 256, 2047, 2048, 60000, 60001, 65535, 65536, 600000, 600001, 16777214, 16777215, 4294967295)
+TEXTS = ("", "A", "a_1", "a b", "é", "abcdefghijklmnop", "abcdefghijklmnopq", "00", "00" * 16, "01" * 16, "01" * 17, "01" * 32, "01" * 33, "01" * 255, "01" * 256, "Ff", "0g")
+counts = {True: 0, False: 0}
+
+
+def value_text(value):
+    if isinstance(value, bool):
+        return str(value).lower()
+    if isinstance(value, dict):
+        return "{ " + ", ".join(f"{key} = {value_text(it)}" for key, it in value.items()) + " }"
+    if isinstance(value, list):
+        return "[" + ", ".join(map(value_text, value)) + "]"
+    return '"' + value + '"' if isinstance(value, str) else str(value)
+
+
+def toml_of(tree):
+    return "".join(f"{key} = {value_text(value)}\n" for key, value in tree.items()).encode()
+
+
+def places(tree):
+    """Each table of a setup, with its keys."""
+    yield tree, [*UNIT, *LISTS]
+    for path, keys in LISTS.items():
+        for table in tree[path]:
+            yield table, [*keys, "row"] if path == "level" else list(keys)
+            for row in table.get("row", []):
+                yield row, list(ROWS)
+
+
+def changes():
+    """Each way to spoil a setup: the number of a table, a key, and its new value; None leaves the key out."""
+    for at, (_, keys) in enumerate(places(GOOD)):
+        for key in keys:
+            for value in (None, *ODD, *(BORDERS if key not in ("name", "value", "seed", "key", "result") else TEXTS)):
+                yield at, key, value
+        yield at, "other", 1
+    for path in LISTS:
+        for count in (0, 1, MOST_ROWS[path], MOST_ROWS[path] + 1):
+            yield 0, path, [other_row(path, n) for n in range(count)]
+    for count in (0, 1, 64, 65):
+        yield 9, "row", [{"seed": "01", "key": "00"}] * count
+
+
+def other_row(path, n):
+    row = {key: value for key, value in GOOD[path][-1].items() if key not in ("read_level", "write_level", "level")}
+    row.update({"tester": {"name": f"T{n}", "request": 2 * n, "response": 2 * n + 1}, "did": {"id": n}, "code": {"code": n}, "routine": {"id": n}, "level": {"sub": 2 * n + 1}}[path])
+    return row
+
+
+def spoilt(changes):
+    """The good setup with these changes."""
+    tree = copy.deepcopy(GOOD)
+    tables = [table for table, _ in places(tree)]
+    for at, key, value in changes:
+        if value is None:
+            tables[at].pop(key, None)
+        else:
+            tables[at][key] = value
+    return toml_of(tree)
+
+
+def program_says(folder, data):
+    """What the program says of a setup: its fault, or none."""
+    path = os.path.join(folder, "setup.toml")
+    with open(path, "wb") as file:
+        file.write(data)
+    done = subprocess.run([PROGRAM, "bus", path, os.devnull], capture_output=True, timeout=60)
+    return done.stderr.decode().strip().removeprefix("uds_play: config: ")
+
+
+def tool_says(data):
+    """The first fault of the tool, in the program's words."""
+    found = look_at(data).found
+    if not found:
+        return ""
+    kind, where = found[0]
+    if kind not in ("missing", "bad value"):
+        return kind
+    name, _, place = where.partition(":")[0].partition(" of [[")
+    return f"{kind} {place.partition(']]')[0]}.{name}" if place else f"{kind} {name}"
+
+
+def compare(folder, name, data):
+    said, told = program_says(folder, data), tool_says(data)
+    counts[said == told] += 1
+    if said != told:
+        print(f"SETUP WRONG: {name}: the program says {said!r}, the tool {told!r}\n{data.decode()}")
+
+
+def main():
+    every = list(changes())
+    chance = random.Random(7)
+    with tempfile.TemporaryDirectory() as folder:
+        compare(folder, "good", toml_of(GOOD))
+        compare(folder, "no toml", b"a = \n")
+        for change in every:
+            compare(folder, change, spoilt([change]))
+        for _ in range(SEVERAL):
+            some = chance.sample(every, 3)
+            compare(folder, some, spoilt(some))
+    print(f"{counts[True]} passed, {counts[False]} failed")
+    return 1 if counts[False] else 0
+
+
+if __name__ == "__main__":
+    sys.exit(main())

@@ -1,0 +1,300 @@
+"""Reads a setup and what the program wrote of a run, and follows the session through the journal: who holds it, which
+level is unlocked, which routines run. For tools/view.py; no part of what is proved."""
+import re
+import tomllib
+from dataclasses import dataclass, field
+
+from uds_names import SERVICES
+
+REPLY_LINE = re.compile(r"\((\d{10,})\.(\d{3})000\) (\S+) ([0-9A-F]{3})#((?:[0-9A-F]{2}){0,8})")
+ENTRY = re.compile(r"(?:(\d+) )?([1-8]) (?:T (\d+)|([PF]) ((?:[0-9A-F]{2})+) (-|(?:[0-9A-F]{2})+))")
+END = re.compile(r"session (default|extended)|holder \S+|code [0-9A-F]{6} [0-9A-F]{2}|entries \d+")
+
+
+class Wrong(Exception):
+    """A text that isn't of a setup or of a run, told in one line."""
+
+
+# ---- the setup
+
+
+@dataclass
+class Setup:
+    """What of a setup the pages name: the testers' names and response identifiers, in order, the time of S3, the length
+    of each data identifier's value, the time of each routine, and the levels. Times are milliseconds."""
+
+    names: list
+    responses: list
+    s3: int
+    lengths: dict
+    routines: dict
+    levels: set
+
+
+def read_setup(text):
+    """The setup of a TOML text. The program looks at all of it; here only what is used is read."""
+    try:
+        tree = tomllib.loads(text)
+        return Setup(
+            [str(it["name"]) for it in tree["tester"]],
+            [int(it["response"]) for it in tree["tester"]],
+            int(tree.get("s3_ms", 5000)),
+            {it["id"]: len(bytes.fromhex(it["value"])) for it in tree.get("did", [])},
+            {it["id"]: int(it["time_ms"]) for it in tree.get("routine", [])},
+            {it["sub"] for it in tree.get("level", [])},
+        )
+    except (KeyError, TypeError, ValueError, AttributeError) as fault:
+        raise Wrong(f"config: {type(fault).__name__}: {fault}") from None
+
+
+# ---- the texts of a run
+
+
+@dataclass(slots=True)
+class Entry:
+    """An entry of the journal: the tester's time in milliseconds with it, its place from 0, `P`, `F` or `T`, the ticks
+    of a `T`, else the request and the reply, which is None where nothing is sent."""
+
+    time: int
+    place: int
+    kind: str
+    ticks: int
+    request: bytes
+    reply: bytes
+
+
+@dataclass(slots=True)
+class Frame:
+    """A frame that was sent, with its stamp in milliseconds and its tester's place from 0."""
+
+    time: int
+    place: int
+    data: bytes
+
+
+@dataclass
+class Run:
+    """The frames, the journal and the end of a run, as far as they were given. `shows` says which of them were."""
+
+    frames: list = field(default_factory=list)
+    entries: list = field(default_factory=list)
+    end: list = field(default_factory=list)
+    shows: set = field(default_factory=set)
+
+
+def read_entry(found, version, clocks):
+    """The entry of a line that matched; `clocks` has each tester's ticks so far."""
+    stamp, place, ticks, kind, request, reply = found.groups()
+    if (stamp is None) != (version == 1):
+        raise Wrong("an entry of the journal's other version")
+    place = int(place) - 1
+    clocks[place] += int(ticks or 0)
+    time = clocks[place] if stamp is None else int(stamp)
+    answer = None if reply in (None, "-") else bytes.fromhex(reply)
+    return Entry(time, place, kind or "T", int(ticks or 0), bytes.fromhex(request or ""), answer)
+
+
+def read_frame(found, setup):
+    """The frame of a reply line that matched."""
+    seconds, parts, name, identifier, data = found.groups()
+    if name not in setup.names or setup.responses[setup.names.index(name)] != int(identifier, 16):
+        raise Wrong(f"no tester of the setup is {name} with the response identifier {identifier}")
+    return Frame(int(seconds) * 1000 + int(parts), setup.names.index(name), bytes.fromhex(data))
+
+
+class Reader:
+    """Reads what the program wrote, line by line, into a run."""
+
+    def __init__(self, setup, run):
+        self.setup, self.run = setup, run
+        self.version, self.clocks = 0, [0] * 8
+
+    def take(self, line):
+        """Takes a line in: of the frames, the journal or the end."""
+        if line.startswith("("):
+            self.frame(line)
+        elif line in ("diag-journal 1", "diag-journal 2"):
+            self.header(int(line[-1]))
+        elif line[:1].isdigit():
+            self.entry(line)
+        elif END.fullmatch(line):
+            self.run.end.append(line)
+            self.run.shows.add("end")
+        else:
+            raise Wrong("no line of a run")
+
+    def frame(self, line):
+        found = REPLY_LINE.fullmatch(line)
+        if not found:
+            raise Wrong("no reply line")
+        self.run.frames.append(read_frame(found, self.setup))
+        self.run.shows.add("frames")
+
+    def header(self, version):
+        if "journal" in self.run.shows:
+            raise Wrong("a second journal")
+        self.version = version
+        self.run.shows.add("journal")
+
+    def entry(self, line):
+        found = ENTRY.fullmatch(line)
+        if not found or not self.version:
+            raise Wrong("no entry of a journal")
+        entry = read_entry(found, self.version, self.clocks)
+        if entry.place >= len(self.setup.names):
+            raise Wrong("the setup has no such tester")
+        self.run.entries.append(entry)
+
+
+def read_run(setup, texts):
+    """The run of the texts, each a pair of a name and the text: a whole output, or its frames and its journal apart."""
+    run = Run()
+    for name, text in texts:
+        reader = Reader(setup, run)
+        for number, line in enumerate(text.split("\n")[:-1], 1):
+            try:
+                reader.take(line)
+            except Wrong as fault:
+                raise Wrong(f"{name} line {number}: {fault}") from None
+        if not text.endswith("\n") and text:
+            raise Wrong(f"{name}: the last line has no end")
+    return run
+
+
+# ---- frames as messages
+
+
+@dataclass
+class Message:
+    """A message or a flow control frame that the unit sent: its frames, the bytes that they carry, and the length that
+    the first one tells, None for flow control."""
+
+    place: int
+    frames: list
+    carried: bytes
+    length: int
+
+    def is_whole(self):
+        return self.length is None or len(self.carried) == self.length
+
+
+def first_of(frame):
+    """The message that begins with the frame, or None where the frame begins none."""
+    data = frame.data
+    high = data[0] >> 4 if data else None
+    if high == 0 and 0 < data[0] < 8:
+        return Message(frame.place, [frame], data[1 : 1 + data[0]], data[0])
+    if high == 1 and len(data) == 8:
+        short = (data[0] & 15) << 8 | data[1]
+        length, carried = (short, data[2:]) if short else (int.from_bytes(data[2:6], "big"), data[6:])
+        return Message(frame.place, [frame], carried[:length], length)
+    return Message(frame.place, [frame], b"", None) if high == 3 else None
+
+
+def messages(frames):
+    """The messages of the frames, in the order in which they begin. Flow control may stand among a message's frames."""
+    found, open_ones = [], {}
+    for frame in frames:
+        begun = first_of(frame)
+        if begun:
+            found.append(begun)
+            if begun.length is not None:
+                open_ones[frame.place] = begun
+        elif frame.place in open_ones:
+            it = open_ones[frame.place]
+            it.frames.append(frame)
+            it.carried += frame.data[1 : 1 + it.length - len(it.carried)]
+        else:
+            raise Wrong(f"a Consecutive frame of no message: {frame.data.hex().upper()}")
+    return found
+
+
+# ---- the session
+
+
+@dataclass(frozen=True)
+class Held:
+    """The session at a point of a run: its holder's place or None, the unlocked level or None, the running routines."""
+
+    holder: int = None
+    level: int = None
+    routines: tuple = ()
+
+
+class Session:
+    """The session through a journal, entry by entry, as docs/FORMATS.md tells it under Services."""
+
+    def __init__(self, setup):
+        self.setup = setup
+        self.left = 0
+        self.clean()
+
+    def clean(self):
+        self.holder, self.level, self.routines = None, None, {}
+
+    def held(self):
+        return Held(self.holder, self.level, tuple(sorted(self.routines)))
+
+    def take(self, entry):
+        """Takes an entry in; says of a request what became of it: `done`, `refused`, `suppressed` or `silent`, which is
+        a refusal that isn't sent; of ticks `passed`."""
+        if entry.kind == "T":
+            if entry.place == self.holder:
+                self.wait(entry.ticks)
+            return "passed"
+        outcome = self.outcome(entry)
+        if outcome in ("done", "suppressed"):
+            self.work(entry)
+        if entry.place == self.holder:
+            self.left = self.setup.s3
+        return outcome
+
+    def wait(self, ticks):
+        """The holder's ticks."""
+        self.routines = {it: left - ticks for it, left in self.routines.items() if left > ticks}
+        self.left -= ticks
+        if self.left <= 0:
+            self.clean()
+
+    def outcome(self, entry):
+        if entry.reply is not None:
+            return "refused" if entry.reply[0] == 0x7F else "done"
+        return "silent" if entry.kind == "F" and self.is_refused(entry) else "suppressed"
+
+    def is_refused(self, entry):
+        """Whether a functional request without a reply was refused (0x11, 0x12, 0x31, 0x7F): else its bit 7 asked for
+        none."""
+        request, sid = entry.request, entry.request[0]
+        if sid in (0x27, 0x2E, 0x31, 0x85) and entry.place != self.holder:
+            return True
+        if len(request) < 2 or not request[1] & 0x80 or request[1] & 0x7F not in self.subs(sid):
+            return True
+        if sid == 0x31:
+            return int.from_bytes(request[2:4], "big") not in self.setup.routines
+        return sid == 0x85 and len(request) == 5 and request[2:] != b"\xff\xff\xff"
+
+    def subs(self, sid):
+        """The sub-functions that the unit has of a service."""
+        if sid == 0x27:
+            return self.setup.levels | {it + 1 for it in self.setup.levels}
+        if sid == 0x10:
+            return {1, 3}
+        return SERVICES[sid].subs if sid in SERVICES else {}
+
+    def work(self, entry):
+        """What a request that was taken does to the session."""
+        sid, sub = entry.request[0], (entry.request[1:2] or b"\0")[0] & 0x7F
+        if sid == 0x11 or (sid == 0x10 and sub == 1 and entry.place == self.holder):
+            self.clean()
+        elif sid == 0x10 and sub == 3:
+            self.holder, self.level = entry.place, None
+        elif sid == 0x27 and sub % 2 == 0:
+            self.level = sub - 1
+        elif sid == 0x31:
+            self.control(int.from_bytes(entry.request[2:4], "big"), sub)
+
+    def control(self, routine, sub):
+        if sub == 1:
+            self.routines[routine] = self.setup.routines.get(routine, 0)
+        elif sub == 2:
+            self.routines.pop(routine, None)

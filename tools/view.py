@@ -1,0 +1,264 @@
+#!/usr/bin/env python3
+"""Shows a run: who asked what, what came back, who held the session when. No part of what is proved.
+
+    tools/view.py SETUP RUN.. > PAGE.html    one page with a chart and the journal, which opens from a file
+    tools/view.py --text SETUP RUN..         the journal in words, a line a step
+
+RUN is what `serial`, `play`, `bus` or `bus --journal` wrote. The frames and the journal of one run may stand in two
+files, as `bus` writes them; without a journal the messages of the frames are shown. `-` is standard input.
+"""
+import argparse
+import html
+import json
+import os
+import signal
+import sys
+from bisect import bisect_left
+
+from uds_names import service_name
+from uds_run import Held, Session, Wrong, messages, read_run, read_setup
+from uds_words import answer_words, changes, held_words, message_words, request_words, seconds
+
+PARTS = os.path.join(os.path.dirname(os.path.abspath(__file__)), "view")
+KINDS = {"T": 0, "P": 1, "F": 2}
+OUTCOMES = {"passed": 0, "done": 1, "refused": 2, "suppressed": 3, "silent": 4}
+# a message of more bytes has several frames
+ONE_FRAME = 7
+
+
+# ---- the text
+
+
+def plain(name):
+    """A tester's name without what would steer a terminal."""
+    return "".join(it if it.isprintable() else "?" for it in name)
+
+
+def step_words(entry, outcome, setup):
+    """An entry of the journal in words."""
+    if entry.kind == "T":
+        return f"{entry.ticks} ms pass"
+    functional = ", functional" if entry.kind == "F" else ""
+    return f"{request_words(entry.request)}{functional} -> {answer_words(entry, outcome, setup)}"
+
+
+def journal_text(setup, run):
+    """The journal, a line a step, with what it changes about the session behind `*`."""
+    wide = max((len(seconds(it.time)) for it in run.entries), default=0)
+    names = max(map(len, setup.names))
+    session, before = Session(setup), Held()
+    for entry in run.entries:
+        outcome = session.take(entry)
+        held = session.held()
+        notes = "".join(f"  * {it}" for it in changes(before, held, setup))
+        step = step_words(entry, outcome, setup)
+        yield f"{seconds(entry.time):>{wide}} {plain(setup.names[entry.place]):<{names}}  {step}{notes}\n"
+        before = held
+
+
+def frames_text(setup, run):
+    """The messages of the frames, a line a message, of several frames with the time that they took."""
+    sent = messages(run.frames)
+    wide = max((len(seconds(it.frames[0].time)) for it in sent), default=0)
+    names = max(map(len, setup.names))
+    for it in sent:
+        first, last = it.frames[0].time, it.frames[-1].time
+        more = f"  * {len(it.frames)} frames in {last - first} ms" if len(it.frames) > 1 else ""
+        yield f"{seconds(first):>{wide}} {plain(setup.names[it.place]):<{names}}  {message_words(it, setup)}{more}\n"
+
+
+# ---- the page
+
+
+class Words:
+    """Texts of a page, each once."""
+
+    def __init__(self):
+        self.places = {}
+
+    def place(self, words, data=b""):
+        """Where the words stand, with the bytes of a message of several frames."""
+        return self.places.setdefault((words, data.hex().upper() if len(data) > ONE_FRAME else ""), len(self.places))
+
+
+def columns(setup, run, words):
+    """The journal by columns, and the states of the session, each once."""
+    found = {it: [] for it in ("time", "place", "kind", "ask", "answer", "outcome", "held")}
+    session, states = Session(setup), {Held(): 0}
+    for entry in run.entries:
+        outcome = session.take(entry)
+        asked = entry.kind != "T"
+        found["time"].append(entry.time)
+        found["place"].append(entry.place)
+        found["kind"].append(KINDS[entry.kind])
+        found["ask"].append(words.place(request_words(entry.request), entry.request) if asked else entry.ticks)
+        found["answer"].append(words.place(answer_words(entry, outcome, setup), entry.reply or b"") if asked else -1)
+        found["outcome"].append(OUTCOMES[outcome])
+        found["held"].append(states.setdefault(session.held(), len(states)))
+    return found, list(states)
+
+
+def pair(run, sent):
+    """The entry of each message, None of flow control: a tester's replies are sent in the order of the journal."""
+    waiting = {}
+    for at, entry in enumerate(run.entries):
+        if entry.reply is not None:
+            waiting.setdefault(entry.place, []).append(at)
+    queues = {place: iter(found) for place, found in waiting.items()}
+    found = [None if it.length is None else next(queues.get(it.place, iter(())), None) for it in sent]
+    for it, at in zip(sent, found):
+        if it.length is not None and not is_of(it, run.entries, at):
+            raise Wrong("the frames aren't those of the journal")
+    return found
+
+
+def is_of(message, entries, at):
+    """Whether the message is the reply of this entry, so far as it was sent."""
+    if at is None:
+        return False
+    reply = entries[at].reply
+    return len(reply) == message.length and reply.startswith(message.carried)
+
+
+def offset(run, sent, pairs):
+    """What the stamps of the frames are ahead of the journal's times: the first reply of a run goes at once."""
+    return min((it.frames[0].time - run.entries[at].time for it, at in zip(sent, pairs) if at is not None), default=0)
+
+
+class Order:
+    """Finds for a flow control frame the request that it let come: the tester's next one of several frames."""
+
+    def __init__(self, run):
+        self.entries = run.entries
+        self.long, self.last = {}, {}
+        for at, entry in enumerate(run.entries):
+            if len(entry.request) > ONE_FRAME:
+                self.long.setdefault(entry.place, []).append(at)
+
+    def before(self, message, ahead):
+        """The entry before which the frame is shown; without such a request, the end."""
+        found = self.long.get(message.place, [])
+        time = message.frames[0].time - ahead
+        at = max(
+            bisect_left(found, self.last.get(message.place, 0)),
+            bisect_left(found, time, key=lambda it: self.entries[it].time),
+        )
+        return found[at] if at < len(found) else len(self.entries)
+
+
+def shown_frames(message, base):
+    """A message's frames for the page: the stamp, the milliseconds since `base`, the bytes."""
+    return [[seconds(it.time), it.time - base, it.data.hex().upper()] for it in message.frames]
+
+
+def service_of(message):
+    """The service identifier to which a message belongs, in hex; empty of flow control."""
+    data = message.carried
+    if message.length is None:
+        return ""
+    return f"{data[1] if data[0] == 0x7F and len(data) > 1 else data[0] & 0xBF:02X}"
+
+
+def lone(message, before, ahead, setup):
+    """A message without an entry, for the page; its stamp is so much ahead of the journal's times."""
+    data = message.carried
+    kind = "flow" if message.length is None else "refused" if data[0] == 0x7F else "done"
+    return {
+        "before": before,
+        "time": max(message.frames[0].time - ahead, 0),
+        "place": message.place,
+        "kind": kind,
+        "service": service_of(message),
+        "words": message_words(message, setup),
+        "frames": shown_frames(message, message.frames[0].time),
+        "length": message.length,
+    }
+
+
+def chart(setup, run):
+    """The frames of replies, by entry; the entries of whose replies not all were sent; the messages of no entry."""
+    sent = messages(run.frames)
+    if "journal" not in run.shows:
+        return {}, [], [lone(it, 0, 0, setup) for it in sent]
+    pairs, order = pair(run, sent), Order(run)
+    ahead = offset(run, sent, pairs)
+    replies, cut, rest = {}, [], []
+    for it, at in zip(sent, pairs):
+        if at is None:
+            rest.append(lone(it, order.before(it, ahead), ahead, setup))
+        else:
+            replies[at] = shown_frames(it, run.entries[at].time + ahead)
+            order.last[it.place] = at
+            cut += [] if it.is_whole() else [at]
+    return replies, cut, sorted(rest, key=lambda it: it["before"])
+
+
+def services(run, rest):
+    """The names of the services that were asked for, by their identifiers in hex."""
+    asked = {it.request[0] for it in run.entries if it.request}
+    asked |= {int(it["service"], 16) for it in rest if it["service"]}
+    return {f"{it:02X}": service_name(it) for it in sorted(asked)}
+
+
+def page_data(setup, run, title):
+    """All that the page shows."""
+    words = Words()
+    entries, states = columns(setup, run, words)
+    replies, cut, rest = chart(setup, run)
+    return {
+        "title": title,
+        "names": setup.names,
+        "shows": sorted(run.shows),
+        "entries": entries,
+        "texts": [list(it) for it in words.places],
+        "states": [[it.holder, it.level, list(it.routines), held_words(it, setup)] for it in states],
+        "replies": replies,
+        "cut": cut,
+        "lone": rest,
+        "services": services(run, rest),
+        "end": run.end,
+    }
+
+
+def part(name):
+    with open(os.path.join(PARTS, name), encoding="ascii") as it:
+        return it.read()
+
+
+def page(data):
+    """The page, which needs nothing beside itself. No text of the run can end the data's element."""
+    text = json.dumps(data, separators=(",", ":")).replace("<", "\\u003c")
+    title = html.escape(data["title"]).encode("ascii", "xmlcharrefreplace").decode()
+    found = part("page.html").replace("{{style}}", part("page.css")).replace("{{script}}", part("page.js"))
+    before, after = found.split("{{data}}")
+    return before.replace("{{title}}", title) + text + after
+
+
+def read(path):
+    with sys.stdin.buffer if path == "-" else open(path, "rb") as it:
+        return it.read().decode("utf-8", "replace")
+
+
+def main(given=None):
+    """Runs the tool by these words, or by those of the command line; returns its status."""
+    words = argparse.ArgumentParser(description=__doc__, formatter_class=argparse.RawDescriptionHelpFormatter)
+    words.add_argument("--text", action="store_true", help="the journal in words, in place of the page")
+    words.add_argument("setup", metavar="SETUP")
+    words.add_argument("run", metavar="RUN", nargs="+")
+    given = words.parse_args(given)
+    try:
+        setup = read_setup(read(given.setup))
+        run = read_run(setup, [(it, read(it)) for it in given.run])
+        if not given.text:
+            sys.stdout.write(page(page_data(setup, run, " ".join(map(os.path.basename, given.run)))))
+        else:
+            sys.stdout.writelines((journal_text if "journal" in run.shows else frames_text)(setup, run))
+    except (Wrong, OSError) as fault:
+        print(f"view: {fault}", file=sys.stderr)
+        return 1
+    return 0
+
+
+if __name__ == "__main__":
+    signal.signal(signal.SIGPIPE, signal.SIG_DFL)
+    sys.exit(main())

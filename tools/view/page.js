@@ -1,0 +1,559 @@
+"use strict";
+// Draws what is in sight of the run: on the left the chart, time downwards, on the right the journal.
+// An item is an entry of the journal by its number from 0, or behind them all a message that belongs to no entry.
+
+const run = JSON.parse(document.getElementById("data").textContent);
+const { names, texts, states, entries, lone, replies } = run;
+const COUNT = entries.kind.length;
+const HAS_JOURNAL = run.shows.includes("journal"), HAS_FRAMES = run.shows.includes("frames");
+// the entries of whose replies not all frames were sent
+const cut = new Set(run.cut);
+const [TICKS, , FUNCTIONAL] = [0, 1, 2];
+const OUTCOMES = ["passed", "done", "refused", "suppressed", "silent"];
+const COLOURS = ["#1f6fb4", "#b5541c", "#2b8a3e", "#8a3ea8", "#0b7f8a", "#7a6a00", "#5a52c4", "#8c3b5e"];
+const SVG = "http://www.w3.org/2000/svg";
+// heights of the chart's rows and of the journal's lines, in pixels
+const STEP = 46, WAIT = 18, LONE = 26, FRAME = 17, LINE = 20;
+// the most that a browser lets an element be high
+const HIGHEST = 10_000_000;
+const BYTES_OF_A_LINE = 32;
+
+// ---- the items
+
+const isEntry = (item) => item < COUNT;
+const isTicks = (item) => isEntry(item) && entries.kind[item] === TICKS;
+const placeOf = (item) => (isEntry(item) ? entries.place[item] : lone[item - COUNT].place);
+const stateAfter = (item) => (item < 0 ? states[0] : states[entries.held[item]]);
+const seconds = (ms) => `${Math.floor(ms / 1000)}.${String(ms % 1000).padStart(3, "0")}`;
+const timeOf = (item) => seconds(isEntry(item) ? entries.time[item] : lone[item - COUNT].time);
+const framesOf = (item) => (isEntry(item) ? replies[item] || [] : lone[item - COUNT].frames);
+
+function serviceOf(item) {
+  return isEntry(item) ? texts[entries.ask[item]][0].slice(0, 2) : lone[item - COUNT].service;
+}
+
+function kindOf(item) {
+  return isEntry(item) ? OUTCOMES[entries.outcome[item]] : lone[item - COUNT].kind;
+}
+
+function askOf(item) {
+  if (!isEntry(item)) return "";
+  if (isTicks(item)) return `${entries.ask[item]} ms pass`;
+  return texts[entries.ask[item]][0] + (entries.kind[item] === FUNCTIONAL ? ", functional" : "");
+}
+
+function answerOf(item) {
+  if (!isEntry(item)) return lone[item - COUNT].words;
+  return isTicks(item) ? "" : texts[entries.answer[item]][0];
+}
+
+const isUnsent = (item) => HAS_FRAMES && framesOf(item).length === 0 && ["done", "refused"].includes(kindOf(item));
+
+// How many of a message's frames were sent, and in which time; empty of one that is its only frame.
+function sentInWords(item) {
+  const frames = framesOf(item);
+  if (isUnsent(item)) return "not sent";
+  if (cut.has(item) && frames.length === 1) return "the first frame alone was sent";
+  if (frames.length < 2) return "";
+  const took = `${frames.length} frames in ${frames[frames.length - 1][1] - frames[0][1]} ms`;
+  return cut.has(item) ? `${took}, the rest wasn't sent` : took;
+}
+
+// The lines that an item opens to, each with a frame's bytes or those of a message.
+function detailsOf(item) {
+  const found = [];
+  if (isTicks(item)) return found;
+  const frames = framesOf(item);
+  if (isEntry(item)) found.push(...bytesOf(texts[entries.ask[item]][1], "request", "ask"));
+  for (const [stamp, after, bytes] of frames.length > 1 ? frames : []) {
+    found.push({ text: `(${stamp})  ${after < 0 ? "" : "+"}${after} ms  ${bytes}`, isFrame: true, side: "answer" });
+  }
+  if (isEntry(item) && frames.length < 2) found.push(...bytesOf(texts[entries.answer[item]][1], "reply", "answer"));
+  return found;
+}
+
+function bytesOf(hex, name, side) {
+  const found = [];
+  for (let at = 0; at < hex.length; at += 2 * BYTES_OF_A_LINE) {
+    const text = `${at === 0 ? name : ""}  ${hex.slice(at, at + 2 * BYTES_OF_A_LINE)}`;
+    found.push({ text, isFrame: false, side });
+  }
+  return found;
+}
+
+// ---- what is shown: the filter, the rows of the chart, the lines of the journal
+
+const opened = new Set();
+let rows = [], lines = [], lit = -1;
+
+function filter() {
+  const chosen = names.map((_, place) => document.getElementById(`tester${place}`).checked);
+  const service = document.getElementById("service").value;
+  const waits = document.getElementById("waits").checked;
+  return (item) => {
+    if (!chosen[placeOf(item)]) return false;
+    return isTicks(item) ? waits : service === "" || serviceOf(item) === service;
+  };
+}
+
+// All items in order: a message without an entry stands before the one that it tells.
+function ordered(shown) {
+  const found = [];
+  let next = 0;
+  for (let at = 0; at <= COUNT; at++) {
+    for (; next < lone.length && lone[next].before <= at; next++) if (shown(COUNT + next)) found.push(COUNT + next);
+    if (at < COUNT && shown(at)) found.push(at);
+  }
+  return found;
+}
+
+// The rows: one for a step or a message, one for ticks that stand together. `before` is the entry before the row.
+function rowsOf(items) {
+  const found = [];
+  let before = -1;
+  for (const item of items) {
+    const last = found[found.length - 1];
+    if (isTicks(item) && last && last.kind === "wait") last.items.push(item);
+    else if (isTicks(item)) found.push({ kind: "wait", items: [item], before });
+    else found.push({ kind: isEntry(item) ? "step" : "lone", items: [item], before });
+    if (isEntry(item)) before = item;
+  }
+  return found;
+}
+
+function heightOf(row) {
+  if (row.kind === "wait") return WAIT;
+  const item = row.items[0];
+  const base = row.kind === "step" ? STEP : LONE;
+  return opened.has(item) ? base + FRAME * detailsOf(item).length + 4 : base;
+}
+
+// Gives each row its place; returns the height of all.
+function placeRows() {
+  let y = 0;
+  for (const row of rows) {
+    row.y = y;
+    row.height = heightOf(row);
+    y += row.height;
+  }
+  return y;
+}
+
+function show() {
+  const items = ordered(filter());
+  rows = rowsOf(items);
+  lines = HAS_JOURNAL ? items.filter(isEntry) : items;
+  chart.total = placeRows() + HEAD;
+  journal.total = lines.length * LINE;
+  chart.fit();
+  journal.fit();
+}
+
+// The last index whose value is at or below `most`, where values rise.
+function lastAt(list, value, most) {
+  let low = 0, high = list.length;
+  while (low < high) {
+    const middle = (low + high) >> 1;
+    if (value(list[middle]) <= most) low = middle + 1;
+    else high = middle;
+  }
+  return low - 1;
+}
+
+// ---- a strip that scrolls over more than a browser lets be high
+
+class Strip {
+  constructor(id, draw) {
+    this.scroller = document.getElementById(id);
+    [this.room] = this.scroller.getElementsByClassName("room");
+    [this.sight] = this.scroller.getElementsByClassName("sight");
+    this.total = 0;
+    this.draw = draw;
+    this.scroller.addEventListener("scroll", () => this.redraw());
+  }
+
+  get view() {
+    return this.scroller.clientHeight;
+  }
+
+  // What a pixel of the scroll bar's way stands for.
+  get scale() {
+    const way = Math.min(this.total, HIGHEST) - this.view;
+    return way > 0 ? (this.total - this.view) / way : 1;
+  }
+
+  get top() {
+    return this.scroller.scrollTop * this.scale;
+  }
+
+  set top(y) {
+    this.scroller.scrollTop = Math.max(y, 0) / this.scale;
+    this.redraw();
+  }
+
+  fit() {
+    this.sight.style.height = `${this.view}px`;
+    this.room.style.height = `${Math.max(Math.min(this.total, HIGHEST), this.view)}px`;
+    this.redraw();
+  }
+
+  redraw() {
+    this.draw(this.top, this.view);
+  }
+
+  // Brings a place of some height into sight, where it isn't.
+  reveal(y, height) {
+    if (y < this.top || y + height > this.top + this.view) this.top = y - this.view / 2;
+  }
+}
+
+// ---- the chart
+
+const usedLevels = [...new Set(states.map(([, level]) => level).filter((it) => it !== null))].sort((a, b) => a - b);
+const usedRoutines = [...new Set(states.flatMap(([, , routines]) => routines))].sort((a, b) => a - b);
+const hex = (number, digits) => number.toString(16).toUpperCase().padStart(digits, "0");
+const colour = (place) => COLOURS[place % COLOURS.length];
+
+// The bars beside the unit: each with its name, its place, and what it is in a state.
+const bars = [
+  { name: "session", wide: 16, fill: ([holder]) => (holder === null ? "" : colour(holder)), title: (it) => it[3] },
+  ...usedLevels.map((level) => narrow(`level ${hex(level, 2)}`, "#d4a017", (it) => it[1] === level)),
+  ...usedRoutines.map((id) => narrow(`routine ${hex(id, 4)}`, "#4a9d8e", (it) => it[2].includes(id))),
+];
+
+function narrow(name, fill, isOn) {
+  return { name, wide: 9, fill: (it) => (isOn(it) ? fill : ""), title: (it) => it[3] };
+}
+
+const HEAD = 96, BARS = 112;
+let right = BARS;
+for (const bar of HAS_JOURNAL ? bars : []) {
+  bar.x = right;
+  right += bar.wide + 9;
+}
+const UNIT = right + 24, FIRST = UNIT + 240, MARGIN = 70, LEAST_APART = 64, MOST_APART = 210;
+let apart = MOST_APART;
+const testerX = (place) => FIRST + place * apart;
+
+// Sets the testers as far apart as the window has room; returns how wide the chart is.
+function setApart() {
+  const room = (chart.scroller.clientWidth - FIRST - MARGIN) / Math.max(names.length - 1, 1);
+  apart = Math.round(Math.min(Math.max(room, LEAST_APART), MOST_APART));
+  return Math.max(testerX(names.length - 1) + MARGIN, chart.scroller.clientWidth);
+}
+
+function element(name, attributes, text) {
+  const it = document.createElementNS(SVG, name);
+  for (const [key, value] of Object.entries(attributes)) it.setAttribute(key, value);
+  if (text !== undefined) it.textContent = text;
+  return it;
+}
+
+// An arrow from x to another x, its head at the other.
+function arrow(from, to, y, attributes) {
+  const back = to > from ? -7 : 7;
+  const d = `M${from} ${y}L${to} ${y}M${to + back} ${y - 4}L${to} ${y}L${to + back} ${y + 4}`;
+  return element("path", { d, ...attributes });
+}
+
+function label(text, y, kind) {
+  return element("text", { x: UNIT + 10, y, class: kind }, text);
+}
+
+// Its tester's colour, for each tester has a clock of its own.
+function timeElement(item, y) {
+  const it = element("text", { x: BARS - 12, y: y + 22, class: "time" }, timeOf(item));
+  it.style.fill = colour(placeOf(item));
+  return it;
+}
+
+function drawStep(group, row, y) {
+  const item = row.items[0], place = placeOf(item), kind = kindOf(item), x = testerX(place);
+  const functional = entries.kind[item] === FUNCTIONAL ? " functional" : "";
+  group.append(
+    timeElement(item, y),
+    arrow(x, UNIT, y + 18, { class: `request${functional}`, stroke: colour(place) }),
+    label(askOf(item) + opening(item, "ask"), y + 14, "request"),
+  );
+  if (kind === "suppressed" || kind === "silent") {
+    group.append(element("path", { d: `M${UNIT} ${y + 38}H${UNIT + 60}`, class: `none ${kind}` }));
+  } else {
+    const style = isUnsent(item) ? " unsent" : "";
+    group.append(arrow(UNIT, x, y + 38, { class: `reply ${kind}${style}`, stroke: colour(place) }));
+  }
+  group.append(label(answerOf(item) + opening(item, "answer"), y + 34, kind));
+  drawDetails(group, item, y + STEP);
+}
+
+function drawLone(group, row, y) {
+  const item = row.items[0], kind = kindOf(item), x = testerX(placeOf(item));
+  group.append(
+    timeElement(item, y),
+    arrow(UNIT, x, y + 18, { class: kind === "flow" ? "flow frame" : `reply ${kind}`, stroke: colour(placeOf(item)) }),
+    label(answerOf(item) + opening(item, "answer"), y + 14, kind),
+  );
+  drawDetails(group, item, y + LONE);
+}
+
+// What a message that opens says of itself behind its words.
+function opening(item, side) {
+  const sent = side === "answer" ? sentInWords(item) : "";
+  const bytes = isEntry(item) ? texts[entries[side][item]][1].length / 2 : 0;
+  const more = sent || (bytes > 0 ? `${bytes} bytes` : "");
+  const opens = detailsOf(item).some((it) => it.side === side);
+  return more && ` ${opens ? (opened.has(item) ? "\u25be" : "\u25b8") : "\u00b7"} ${more}`;
+}
+
+function drawDetails(group, item, y) {
+  if (!opened.has(item)) return;
+  const place = placeOf(item);
+  detailsOf(item).forEach(({ text, isFrame }, at) => {
+    const middle = y + FRAME * at + 12;
+    group.append(element("text", { x: UNIT + 24, y: middle, class: "frame" }, text));
+    if (isFrame) group.append(arrow(UNIT, testerX(place), middle + 3, { class: "frame", stroke: colour(place) }));
+  });
+}
+
+function drawWait(group, row, y) {
+  group.append(element("text", { x: UNIT + 10, y: y + 13, class: "wait" }, waitInWords(row.items)));
+}
+
+// The ticks of some entries: once, where all testers have the same.
+function waitInWords(items) {
+  const sums = new Map();
+  for (const item of items) sums.set(placeOf(item), (sums.get(placeOf(item)) || 0) + entries.ask[item]);
+  const different = new Set(sums.values());
+  if (names.length > 1 && sums.size === names.length && different.size === 1) return `${[...different][0]} ms pass`;
+  return [...sums].map(([place, sum]) => `${sum} ms pass for ${names[place]}`).join(", ");
+}
+
+const DRAWN = { step: drawStep, lone: drawLone, wait: drawWait };
+
+function drawRow(svg, row, y) {
+  const opens = row.kind !== "wait" && detailsOf(row.items[0]).length > 0;
+  const group = element("g", { class: `${opens ? "opens" : ""}${row.items.includes(lit) ? " lit" : ""}` });
+  DRAWN[row.kind](group, row, y);
+  svg.append(group);
+}
+
+// The pieces of a bar within the rows: each half of a row has the state before or behind it.
+function pieces(bar, seen, top) {
+  const found = [];
+  for (const row of seen) {
+    const middle = row.y + row.height / 2, last = row.items[row.items.length - 1];
+    const after = isEntry(last) ? last : row.before;
+    for (const [from, to, item] of [[row.y, middle, row.before], [middle, row.y + row.height, after]]) {
+      const state = stateAfter(item), fill = bar.fill(state), end = found[found.length - 1];
+      if (end && end.fill === fill && end.title === bar.title(state)) end.to = to - top;
+      else found.push({ from: from - top, to: to - top, fill, title: bar.title(state) });
+    }
+  }
+  return found.filter((it) => it.fill !== "");
+}
+
+function drawBars(svg, seen, top) {
+  if (!HAS_JOURNAL) return;
+  for (const bar of bars) {
+    for (const { from, to, fill, title } of pieces(bar, seen, top)) {
+      const it = element("rect", { x: bar.x, y: from, width: bar.wide, height: to - from, fill, class: "bar" });
+      it.append(element("title", {}, title));
+      svg.append(it);
+    }
+  }
+}
+
+function drawLives(svg, view) {
+  svg.append(element("path", { d: `M${UNIT} ${HEAD}V${view}`, class: "life unit" }));
+  names.forEach((_, place) => {
+    svg.append(element("path", { d: `M${testerX(place)} ${HEAD}V${view}`, class: "life", stroke: colour(place) }));
+  });
+}
+
+function drawHead(svg, width) {
+  svg.append(
+    element("rect", { x: 0, y: 0, width, height: HEAD - 4, class: "head" }),
+    element("path", { d: `M0 ${HEAD - 4}H${width}`, class: "rule" }),
+    element("text", { x: BARS - 12, y: HEAD - 12, class: "time" }, "seconds"),
+    element("text", { x: UNIT, y: HEAD - 12, class: "name" }, "unit"),
+  );
+  for (const bar of HAS_JOURNAL ? bars : []) {
+    const turned = `rotate(-90 ${bar.x + bar.wide / 2 + 4} ${HEAD - 10})`;
+    svg.append(element("text", { x: bar.x + bar.wide / 2 + 4, y: HEAD - 10, transform: turned, class: "track" }, bar.name));
+  }
+  names.forEach((name, place) => {
+    const x = testerX(place);
+    const it = element("text", { x, y: HEAD - 12 - (names.length > 3 ? (place % 2) * 16 : 0), class: "name" }, name);
+    it.style.fill = colour(place);
+    svg.append(it);
+  });
+}
+
+function drawChart(top, view) {
+  const width = setApart();
+  const svg = element("svg", { width, height: view });
+  const first = Math.max(lastAt(rows, (row) => row.y, top), 0);
+  let end = first;
+  while (end < rows.length && rows[end].y < top + view - HEAD) end++;
+  const seen = rows.slice(first, end);
+  const marked = seen.find((row) => row.items.includes(lit));
+  if (marked) svg.append(element("rect", { x: 0, y: marked.y - top + HEAD, width, height: marked.height, class: "lit" }));
+  drawLives(svg, view);
+  drawBars(svg, seen, top - HEAD);
+  for (const row of seen) drawRow(svg, row, row.y - top + HEAD);
+  drawHead(svg, width);
+  chart.sight.replaceChildren(svg);
+}
+
+function rowAt(y) {
+  const row = rows[lastAt(rows, (it) => it.y, y)];
+  return row && y < row.y + row.height ? row : undefined;
+}
+
+function rowOfEvent(event) {
+  const y = event.clientY - chart.sight.getBoundingClientRect().top;
+  return y < HEAD ? undefined : rowAt(y - HEAD + chart.top);
+}
+
+// ---- the journal
+
+const NAME_WIDE = Math.max(...names.map((it) => it.length)) + 1;
+const NUMBER_WIDE = String(COUNT + lone.length).length + 1;
+const TIME_WIDE = seconds(Math.max(...names.map(lastTime))).length + 2;
+
+// A tester's last time; times of a tester rise.
+function lastTime(_, place) {
+  const at = entries.place.lastIndexOf(place);
+  return lone.reduce((most, it) => Math.max(most, it.time), at < 0 ? 0 : entries.time[at]);
+}
+
+// The letters of the longest line, beside those of its number, time and name.
+function longestLine() {
+  let most = 0;
+  for (let item = 0; item < COUNT + lone.length; item++) {
+    most = Math.max(most, askOf(item).length + answerOf(item).length);
+  }
+  return most + NAME_WIDE + NUMBER_WIDE + TIME_WIDE + 16;
+}
+
+function cell(kind, text, wide) {
+  const it = document.createElement("span");
+  if (wide) it.style.width = `${wide}ch`;
+  it.className = kind;
+  it.textContent = text;
+  return it;
+}
+
+function lineElement(item, y) {
+  const it = document.createElement("div");
+  it.className = `line ${kindOf(item)}${item === lit ? " lit" : ""}`;
+  it.style.top = `${y}px`;
+  const name = cell("tester", names[placeOf(item)], NAME_WIDE);
+  name.style.color = colour(placeOf(item));
+  const number = isEntry(item) ? item + 1 : item - COUNT + 1;
+  it.append(cell("number", number, NUMBER_WIDE), cell("time", timeOf(item), TIME_WIDE), name, cell("ask", askOf(item)));
+  if (!isTicks(item)) it.append(cell("answer", isEntry(item) ? ` \u2192 ${answerOf(item)}` : answerOf(item)));
+  it.dataset.item = item;
+  return it;
+}
+
+function drawJournal(top, view) {
+  const found = [];
+  const first = Math.floor(top / LINE);
+  for (let at = first; at < lines.length && at * LINE < top + view; at++) {
+    found.push(lineElement(lines[at], at * LINE - top));
+  }
+  journal.sight.replaceChildren(...found);
+}
+
+// ---- the mouse
+
+// Marks an item on both sides, and says what the unit's session was behind it.
+function light(item) {
+  if (item === lit) return;
+  lit = item;
+  chart.redraw();
+  journal.redraw();
+  document.getElementById("told").textContent = item < 0 ? "" : told(item);
+}
+
+function told(item) {
+  const held = isEntry(item) ? stateAfter(item)[3] || "no session" : "";
+  const words = [timeOf(item), names[placeOf(item)], askOf(item), answerOf(item)].filter((it) => it !== "");
+  return [words.join("  "), held].filter((it) => it !== "").join("  \u00b7  ");
+}
+
+function follow(event) {
+  const row = rowOfEvent(event);
+  if (!row || row.items.includes(lit)) return;
+  const item = row.items[0];
+  light(item);
+  const at = lines.indexOf(item);
+  if (at >= 0) journal.reveal(at * LINE, LINE);
+}
+
+function toggle(event) {
+  const row = rowOfEvent(event);
+  if (!row || row.kind === "wait" || detailsOf(row.items[0]).length === 0) return;
+  const item = row.items[0];
+  if (!opened.delete(item)) opened.add(item);
+  chart.total = placeRows() + HEAD;
+  chart.fit();
+}
+
+function itemOfEvent(event) {
+  const line = event.target.closest(".line");
+  return line ? Number(line.dataset.item) : -1;
+}
+
+function goTo(event) {
+  const item = itemOfEvent(event);
+  const row = rows.find((it) => it.items.includes(item));
+  if (row) chart.reveal(row.y, row.height + HEAD);
+}
+
+// ---- the page's head
+
+function countsInWords() {
+  const asked = entries.kind.filter((it) => it !== TICKS).length;
+  const outcomes = OUTCOMES.map((_, kind) => entries.outcome.filter((it) => it === kind).length);
+  const frames = Object.values(replies).concat(lone.map((it) => it.frames)).reduce((sum, it) => sum + it.length, 0);
+  const words = [];
+  if (HAS_JOURNAL) {
+    const [, done, refused, suppressed, silent] = outcomes;
+    words.push(`${COUNT} journal lines`, `${asked} requests`, `${done} done`, `${refused} refused`);
+    words.push(`${suppressed + silent} without a reply`);
+  }
+  if (run.shows.includes("frames")) words.push(`${frames} frames of the unit`);
+  if (!HAS_JOURNAL) words.push("no journal was given: no requests and no session are shown");
+  return words.concat(run.end.filter((it) => !it.startsWith("code"))).join(" \u00b7 ");
+}
+
+function testerBox(name, place) {
+  const label = document.createElement("label");
+  const box = document.createElement("input");
+  Object.assign(box, { type: "checkbox", id: `tester${place}`, checked: true });
+  label.style.color = colour(place);
+  label.append(box, ` ${name}`);
+  return label;
+}
+
+function fillHead() {
+  document.getElementById("counts").textContent = countsInWords();
+  document.getElementById("testers").append(...names.map(testerBox));
+  for (const [sid, name] of Object.entries(run.services).sort()) {
+    document.getElementById("service").append(new Option(`${sid} ${name}`, sid));
+  }
+  document.getElementById("filter").addEventListener("change", show);
+  document.getElementById("filter").addEventListener("submit", (event) => event.preventDefault());
+}
+
+const chart = new Strip("chart", drawChart);
+const journal = new Strip("journal", drawJournal);
+chart.scroller.addEventListener("mousemove", follow);
+chart.scroller.addEventListener("click", toggle);
+journal.scroller.addEventListener("mousemove", (event) => light(itemOfEvent(event)));
+journal.scroller.addEventListener("click", goTo);
+window.addEventListener("resize", () => [chart, journal].forEach((it) => it.fit()));
+journal.sight.style.minWidth = `${longestLine()}ch`;
+fillHead();
+show();
