@@ -100,11 +100,7 @@ impl Capture {
     }
 
     /// Takes a piece of the capture. Before it returns, what the whole lines so far write was written and flushed.
-    pub fn take_piece<W: Write>(
-        &mut self,
-        piece: &[u8],
-        out: &mut W,
-    ) -> Result<(), CaptureFault>
+    pub fn take_piece<W: Write>(&mut self, piece: &[u8], out: &mut W) -> Result<(), CaptureFault>
         requires { self.old.lines + length piece.now + 1 < 2 ^ 64 }
         ensures ok { OnOk result (Sends (W.contents out.old) (W.contents out.new)
             (GoesOn self.old self.new piece.now)) }
@@ -220,11 +216,7 @@ impl Capture {
     }
 
     /// Takes a line that is begun as the last, and writes what is to be written and what the capture's end adds.
-    pub fn finish<W: Write>(
-        &mut self,
-        alloc: Global,
-        out: &mut W,
-    ) -> Result<(), CaptureFault>
+    pub fn finish<W: Write>(&mut self, alloc: Global, out: &mut W) -> Result<(), CaptureFault>
         requires { self.old.lines + 1 < 2 ^ 64 }
         ensures ok { OnOk result (Sends (W.contents out.old) (W.contents out.new) (Closes self.old)) }
         ensures err { IfErr result (λ fault. Sends (W.contents out.old) (W.contents out.new)

@@ -6,9 +6,9 @@ mod source;
 mod standard;
 
 use command::{Refusal, Request, Task, read_words};
+use crossbeam_channel::{Receiver, bounded};
 use diag_bus::Output;
 use diag_can::Timing;
-use crossbeam_channel::{Receiver, bounded};
 use diag_config::Setup;
 use diag_live::{Bench, Heard, live};
 use diag_run::{
@@ -81,9 +81,11 @@ fn refuse(rt: &(impl Print + Eprint), refusal: &Refusal) -> ExitCode {
 /// A file of a run, standard input, or bytes of the program's own.
 type RunSource<R> = Source<<R as Files>::File, <R as Input>::Reader>;
 
-fn run_words<
-    R: Print + Eprint + Files + Input + AllocGlobal + Clock + Threads + Wait + Sync,
->(rt: &R, words: &[String], pieces: Option<Receiver<Heard>>) -> ExitCode {
+fn run_words<R: Print + Eprint + Files + Input + AllocGlobal + Clock + Threads + Wait + Sync>(
+    rt: &R,
+    words: &[String],
+    pieces: Option<Receiver<Heard>>,
+) -> ExitCode {
     if words.len() < 2 {
         return run_stored(rt);
     }

@@ -4,11 +4,11 @@ use crossbeam_channel::{Receiver, RecvTimeoutError, Sender};
 use diag_live::{Bench, Heard};
 use std::alloc::{AllocError, Global};
 use std::fs::OpenOptions;
+use std::io;
 use std::io::{Read, Write};
 use std::rt::{Clock, Files};
 use std::sync::Wait;
 use std::time::{Duration, Instant};
-use std::io;
 
 /// The most bytes of a read.
 const PIECE: usize = 65_536;
