@@ -1,20 +1,25 @@
 #!/usr/bin/env python3
 """Runs the commands that stand in the documents, as they stand there, each document in a folder of its own with a copy
-of what the commands need. The last line is 'N passed, M failed'.
+of what the commands need; and sees that the files and the names that a document tells of are there. The last line is
+'N passed, M failed'.
 
     tools/docs.py               all documents
     tools/docs.py docs/USE.md   this one
 
 In a document a block is what is indented by four spaces, or stands between lines of three backticks. What it is:
 
-- the lines of a command, where the first one begins with one of RUN;
+- the lines of a command, where the first one begins with one of RUN or of OTHERS; a program of OTHERS that isn't there is
+  installed, where that may be done, and else the block is passed over, and a line says so;
+- a program, where the word `python` stands behind the backticks;
 - what stands in a file, where the text before it ends with the file's name in backticks and a colon; after `Add to`
   it is put behind what the file has;
 - what the command before it prints, its faults included, where the text before it ends with `prints:`; where the text
   before says `status N` that is the command's status, else 0 is; `...` for the lines that are left out at the end;
-- else something that is only shown, with no command of the program in it. Commands that want a bus or another program
-  begin with one of NOT_RUN.
+- lines that the command before it prints, where the text before it ends with `in it:`;
+- commands that can't be run here, where the first one begins with one of NOT_RUN, which says why; a line tells of each;
+- else something that is only shown, with no command of the program in it.
 """
+import glob
 import os
 import re
 import shutil
@@ -24,12 +29,23 @@ import tempfile
 
 TOP = os.path.dirname(os.path.dirname(os.path.abspath(__file__)))
 PROGRAM = "crates/uds_play/out/uds_play"
-DOCUMENTS = ["README.md", "docs/USE.md", "docs/VIEW.md", "demo/README.md"]
-RUN = ("./uds_play", "tools/", "sort ", "sed ", "diff ")
-NOT_RUN = ("./check", "candump ", "mergecap ", "can_logconvert ", "asc2log ", "rt ")
-# folders and files that the commands need
+# those whose commands are run
+DOCUMENTS = ["README.md", "docs/USE.md", "docs/VIEW.md", "demo/README.md", "CONTRIBUTING.md"]
+# those that tell of the names of crates
+NAMING = ["README.md", "CONTRIBUTING.md", *(f"docs/{it}.md" for it in
+          ("ARCHITECTURE", "DECISIONS", "DEFINITIONS", "EVIDENCE", "PROMISES"))]
+RUN = ("./uds_play", "tools/", "sort ", "sed ", "diff ", "grep ", "rt lemma ")
+# programs that a machine may not have, with Debian's packages of them
+OTHERS = {"asc2log": "can-utils", "log2asc": "can-utils", "can_logconvert": "python3-can"}
+NOT_RUN = {
+    "candump ": "it wants a CAN bus",
+    "mergecap ": "it wants Wireshark, which is much to install",
+    "bench/": "it wants the executables of two states of the repository",
+}
+# files and folders that the commands need
 NEEDED = ["uds_play", "crates.txt", "demo", "tools"]
 SECONDS = 120
+SET_UP_PATIENCE = 300
 counts = {True: 0, False: 0}
 
 
@@ -38,19 +54,36 @@ def told(good, name, more=""):
     print(f"docs: {name}" if good else f"DOCS WRONG: {name}: {more}"[:2000], flush=True)
 
 
-class Block:
-    """A block of a document: the number of its first line, its lines, and the text between it and the block before."""
+def whole(path):
+    with open(path, encoding="utf-8", errors="replace") as it:
+        return it.read()
 
-    def __init__(self, number, before):
+
+# ---- the blocks of a document
+
+
+class Block:
+    """A block of a document: the number of its first line, its lines, the word behind its backticks, and the text
+    between it and the block before."""
+
+    def __init__(self, number, before, language=""):
         self.number = number
         self.before = " ".join(before.split())
+        self.language = language
         self.lines = []
 
     def is_command(self):
-        return self.lines[0].startswith(RUN)
+        return bool(self.language) or self.lines[0].startswith(RUN) or first_word(self.lines[0]) in OTHERS
 
     def has_command(self):
         return any(line.startswith(("./uds_play", "tools/")) for line in self.lines)
+
+    def why_not(self):
+        """Why the commands can't be run here."""
+        return next((why for begin, why in NOT_RUN.items() if self.lines[0].startswith(begin)), None)
+
+    def commands(self):
+        return ["\n".join(self.lines)] if self.language else self.lines
 
     def file(self):
         """The name of the file whose lines these are."""
@@ -58,7 +91,7 @@ class Block:
         return found and found[1]
 
     def is_added(self):
-        return bool(re.search(r"Add to `[^`]*`:$", self.before))
+        return bool(re.search(r"Add to `[^`]*`:$", self.before, re.IGNORECASE))
 
     def is_printed(self):
         return self.before.endswith("prints:")
@@ -74,17 +107,21 @@ class Block:
         return "".join(f"{line}\n" for line in self.lines)
 
 
+def first_word(line):
+    return line.split(" ", 1)[0]
+
+
 def blocks_of(text):
     """The blocks of a document, in order."""
-    found, before, is_open, is_fenced = [], [], False, False
+    found, before, is_open, fence = [], [], False, None
     for number, line in enumerate(text.splitlines(), 1):
         if line.startswith("```"):
-            is_fenced, is_open = not is_fenced, False
-        elif is_fenced or line.startswith("    "):
+            fence, is_open = line[3:] if fence is None else None, False
+        elif fence is not None or line.startswith("    "):
             if not is_open:
-                found.append(Block(number, "\n".join(before)))
+                found.append(Block(number, "\n".join(before), fence or ""))
                 before, is_open = [], True
-            found[-1].lines.append(line if is_fenced else line[4:])
+            found[-1].lines.append(line if fence is not None else line[4:])
         elif is_open and not line.strip():
             found[-1].lines.append("")
         else:
@@ -96,6 +133,9 @@ def blocks_of(text):
     return found
 
 
+# ---- the commands
+
+
 def make_room(room):
     """Copies what the commands need into the folder."""
     for name in NEEDED:
@@ -105,10 +145,32 @@ def make_room(room):
     shutil.copy(f"{TOP}/{PROGRAM}", f"{room}/{PROGRAM}")
 
 
-def run(room, command):
-    """Runs a line of a block in the folder; returns all that it prints, and its status."""
-    it = subprocess.run(["bash", "-o", "pipefail", "-c", command], cwd=room, stdin=subprocess.DEVNULL,
-                        stdout=subprocess.PIPE, stderr=subprocess.STDOUT, timeout=SECONDS)
+def lacks(block):
+    """The programs of OTHERS that the block wants and that are not there and can't be installed."""
+    wanted = {first_word(line) for line in block.lines} & set(OTHERS)
+    return sorted(it for it in wanted if not shutil.which(it) and not (set_up(OTHERS[it]) and shutil.which(it)))
+
+
+def set_up(package):
+    """Whether the package could be installed."""
+    if os.geteuid() != 0 or not shutil.which("apt-get"):
+        return False
+    print(f"docs: {package} is installed for the commands of the documents (apt-get install {package})", flush=True)
+    quiet = {"stdin": subprocess.DEVNULL, "stdout": subprocess.DEVNULL, "stderr": subprocess.DEVNULL}
+    try:
+        for words in (["update"], ["install", "-y", "--no-install-recommends", package]):
+            subprocess.run(["apt-get", "-q", *words], check=True, timeout=SET_UP_PATIENCE, **quiet)
+    except (OSError, subprocess.SubprocessError):
+        return False
+    return True
+
+
+def run(room, command, language=""):
+    """Runs a line of a block, or a program, in the folder; returns all that it prints, and its status."""
+    words = [sys.executable, "-c"] if language else ["bash", "-o", "pipefail", "-c"]
+    folder = f"{TOP}/crates/diag_can" if command.startswith("rt ") else room
+    it = subprocess.run([*words, command], cwd=folder, stdin=subprocess.DEVNULL, stdout=subprocess.PIPE,
+                        stderr=subprocess.STDOUT, timeout=SECONDS)
     return it.stdout.decode(), it.returncode
 
 
@@ -121,38 +183,89 @@ def is_as_shown(shown, printed):
 
 def play(name, room):
     """Runs the commands of a document in the folder."""
-    with open(f"{TOP}/{name}", encoding="utf-8") as it:
-        blocks = blocks_of(it.read())
+    blocks = blocks_of(whole(f"{TOP}/{name}"))
     make_room(room)
     printed = ""
-    for block, after in zip(blocks, [*blocks[1:], None]):
+    for before, block, after in zip([None, *blocks], blocks, [*blocks[1:], None]):
         place = f"{name}:{block.number}"
         if block.file():
             told(not block.has_command(), f"{place}: {block.file()}", "a command stands in it")
             with open(f"{room}/{block.file()}", "a" if block.is_added() else "w", encoding="utf-8") as it:
                 it.write(block.text())
-        elif block.is_command():
-            is_shown = after is not None and after.is_printed()
-            printed = play_command(place, room, block, after if is_shown else None)
+        elif block.is_printed():
+            if before is None or not before.is_command():
+                told(False, f"{place}: what is printed", "there is no command before it")
         elif block.is_part():
             told(set(block.lines) <= set(printed.splitlines()), f"{place}: what is shown is printed", printed)
-        elif not block.is_printed() and not block.lines[0].startswith(NOT_RUN):
+        elif block.is_command():
+            shown = after if after is not None and after.is_printed() else None
+            printed = play_command(place, room, block, shown)
+        elif block.why_not():
+            print(f"docs: {place}: not run, for {block.why_not()}: {block.lines[0]}", flush=True)
+        else:
             told(not block.has_command(), f"{place}: only shown: {block.lines[0]}", "a command stands in it")
 
 
 def play_command(place, room, block, shown):
-    """Runs the lines of a block; the last one has the status and the output that the next block says.
+    """Runs the commands of a block; the last one has the status and the output that the next block says.
     Returns what the last one prints."""
-    for line in block.lines[:-1]:
+    missing = lacks(block)
+    if missing:
+        print(f"docs: {place}: not run, for {', '.join(missing)} isn't here", flush=True)
+        return ""
+    *others, last = block.commands()
+    for line in others:
         printed, status = run(room, line)
         told(status == 0, f"{place}: {line}", f"status {status}: {printed}")
-    line = block.lines[-1]
-    printed, status = run(room, line)
+    printed, status = run(room, last, block.language)
     wanted = shown.status() if shown else 0
-    told(status == wanted, f"{place}: {line}", f"status {status} and not {wanted}: {printed}")
+    told(status == wanted, f"{place}: {last.splitlines()[0]}", f"status {status} and not {wanted}: {printed}")
     if shown:
         told(is_as_shown(shown.text(), printed), f"{place}: it prints what is shown", printed)
     return printed
+
+
+# ---- the files and the names
+
+
+def words_of(text):
+    return set(re.findall(r"[A-Za-z_][A-Za-z_0-9]*", text))
+
+
+def known_names():
+    """All words of the sources, the proofs, the edits and the tools, and of the names of their files."""
+    found = set()
+    for part in ("crates/*/src", "crates/*/specs", "crates/*/proofs", "crates/*/must-fail", "tools", "runs", "bench"):
+        for path in glob.glob(f"{TOP}/{part}/**/*", recursive=True):
+            if path.endswith((".rt", ".antt", ".py", ".sh")):
+                found |= words_of(whole(path))
+            found |= words_of(path.removeprefix(TOP))
+    return found | words_of(whole(f"{TOP}/crates.txt"))
+
+
+def missing_files(text):
+    """The paths that a text tells of and that are not there; CRATE and NAME stand for any word."""
+    paths = re.findall(r"(?<![\w/.])((?:crates|docs|tools|runs|bench|demo)/[\w./*-]*[\w*/])", text)
+    return sorted({it for it in paths if not glob.glob(f"{TOP}/{re.sub('NAME|CRATE', '*', it)}")})
+
+
+def missing_names(text, known):
+    """The names of two words or more in backticks, as `two_words` and `TwoWords`, that stand nowhere."""
+    spans = re.findall(r"`([^`\n]+)`", text)
+    names = {it for span in spans for it in words_of(span) if re.search(r"[a-z]_[a-z]|[a-z][A-Z]", it)}
+    return sorted(names - known - set(OTHERS))
+
+
+def look():
+    """Sees that what the documents tell of is there."""
+    known = known_names()
+    for path in sorted([*glob.glob(f"{TOP}/*.md"), *glob.glob(f"{TOP}/docs/*.md"), f"{TOP}/demo/README.md"]):
+        name, text = os.path.relpath(path, TOP), whole(path)
+        missing = missing_files(text)
+        told(not missing, f"{name}: the files that it tells of are there", ", ".join(missing))
+        if name in NAMING:
+            missing = missing_names(text, known)
+            told(not missing, f"{name}: the names that it tells of are there", ", ".join(missing))
 
 
 def main():
@@ -164,6 +277,8 @@ def main():
                 before = counts[True] + counts[False]
                 play(name, room)
                 told(counts[True] + counts[False] > before, f"{name} has commands")
+    if not sys.argv[1:]:
+        look()
     print(f"{counts[True]} passed, {counts[False]} failed")
     return counts[False] > 0 or counts[True] == 0
 
