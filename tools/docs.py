@@ -8,8 +8,9 @@ of what the commands need; and sees that the files and the names that a document
 
 In a document a block is what is indented by four spaces, or stands between lines of three backticks. What it is:
 
-- the lines of a command, where the first one begins with one of RUN or of OTHERS; a program of OTHERS that isn't there is
-  installed, where that may be done, and else the block is passed over, and a line says so;
+- the lines of a command, where the first one begins with one of RUN, OTHERS or STAND_INS; a program of OTHERS that isn't
+  there is installed, where that may be done, and else the block is passed over, and a line says so; those of STAND_INS
+  want a CAN bus, and a script of two lines stands in for each;
 - a program, where the word `python` stands behind the backticks;
 - what stands in a file, where the text before it ends with the file's name in backticks and a colon; after `Add to`
   it is put behind what the file has;
@@ -35,10 +36,10 @@ DOCUMENTS = ["README.md", "docs/USE.md", "docs/VIEW.md", "demo/README.md", "CONT
 NAMING = ["README.md", "CONTRIBUTING.md", *(f"docs/{it}.md" for it in
           ("ARCHITECTURE", "DECISIONS", "DEFINITIONS", "EVIDENCE", "PROMISES"))]
 RUN = ("./uds_play", "tools/", "sort ", "sed ", "diff ", "grep ", "rt lemma ")
+STAND_INS = {"candump": "sed -n 1,10p demo/bus.log", "canplayer": "cat"}
 # programs that a machine may not have, with Debian's packages of them
 OTHERS = {"asc2log": "can-utils", "log2asc": "can-utils", "can_logconvert": "python3-can"}
 NOT_RUN = {
-    "candump ": "it wants a CAN bus",
     "mergecap ": "it wants Wireshark, which is much to install",
     "bench/": "it wants the executables of two states of the repository",
 }
@@ -73,7 +74,8 @@ class Block:
         self.lines = []
 
     def is_command(self):
-        return bool(self.language) or self.lines[0].startswith(RUN) or first_word(self.lines[0]) in OTHERS
+        word = first_word(self.lines[0])
+        return bool(self.language) or self.lines[0].startswith(RUN) or word in OTHERS or word in STAND_INS
 
     def has_command(self):
         return any(line.startswith(("./uds_play", "tools/")) for line in self.lines)
@@ -143,6 +145,10 @@ def make_room(room):
         copy(f"{TOP}/{name}", f"{room}/{name}")
     os.makedirs(os.path.dirname(f"{room}/{PROGRAM}"))
     shutil.copy(f"{TOP}/{PROGRAM}", f"{room}/{PROGRAM}")
+    os.mkdir(f"{room}/stand_ins")
+    for name, command in STAND_INS.items():
+        with open(f"{room}/stand_ins/{name}", "w", encoding="utf-8", opener=lambda path, how: os.open(path, how, 0o755)) as it:
+            it.write(f"#!/bin/sh\nexec {command}\n")
 
 
 def lacks(block):
@@ -169,7 +175,8 @@ def run(room, command, language=""):
     """Runs a line of a block, or a program, in the folder; returns all that it prints, and its status."""
     words = [sys.executable, "-c"] if language else ["bash", "-o", "pipefail", "-c"]
     folder = f"{TOP}/crates/diag_can" if command.startswith("rt ") else room
-    it = subprocess.run([*words, command], cwd=folder, stdin=subprocess.DEVNULL, stdout=subprocess.PIPE,
+    paths = {**os.environ, "PATH": f"{room}/stand_ins:{os.environ['PATH']}"}
+    it = subprocess.run([*words, command], cwd=folder, env=paths, stdin=subprocess.DEVNULL, stdout=subprocess.PIPE,
                         stderr=subprocess.STDOUT, timeout=SECONDS)
     return it.stdout.decode(), it.returncode
 
