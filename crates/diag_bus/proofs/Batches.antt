@@ -134,7 +134,7 @@ found_at [] i h = absurd (omega (arith, h))
 found_at (x ∷ xs) zero h = (x, refl)
 found_at (x ∷ xs) (suc i) h = found_at xs i (omega (arith, h))
 
-some_of : {X : Type 0} (P : X → Type 0) (o : Option X) (x : X) → o ≡ Some x → IfSome o P → P x
+pub some_of : {X : Type 0} (P : X → Type 0) (o : Option X) (x : X) → o ≡ Some x → IfSome o P → P x
 some_of P None x is h = absurd (clash is)
   where
     clash : None ≡ Some x → ⊥

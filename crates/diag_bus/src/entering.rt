@@ -1,12 +1,14 @@
 //! The entries of the run's journal, as they are written.
 
-ghost use Rattle.std.specs.Prelude.{◌≡◌, ◌≤◌, ◌++◌, option_copied, OnOk};
+ghost use Rattle.std.specs.Prelude.{◌≡◌, ◌≤◌, ◌++◌, Some, option_copied, OnOk};
 ghost use Rattle.diag_desk.specs.Text.{ticks_in};
-ghost use Rattle.diag_world.specs.Server.{closing_time};
+ghost use Rattle.diag_world.specs.Server.{closing_time, entry_of_ticks};
 ghost use Rattle.diag_bus.specs.Batch.{entry_added};
 
 use crate::bus::Output;
+use diag_can::TickCount;
 use diag_desk::{Entry, Step, write_entry_at};
+use diag_setup::Who;
 use std::alloc::AllocError;
 
 /// Adds the line of an entry, where a journal is wanted; `now` is what its tester's clock tells before it.
@@ -25,6 +27,31 @@ pub(crate) fn enter(
             write_entry_at(text, now + ticks_in(&entry.step), entry)
         }
         _ => Ok(()),
+    }
+}
+
+/// The same of the entry of ticks.
+pub(crate) fn enter_ticks(
+    output: Output,
+    now: u64,
+    who: Who,
+    count: TickCount,
+    text: &mut Vec<u8>,
+) -> Result<(), AllocError>
+    requires { now ≤ closing_time }
+    ensures { OnOk result (text.new.items
+        ≡ text.old.items ++ entry_added output now (Some (entry_of_ticks who count))) }
+{
+    match output {
+        Output::Journal => {
+            let entry = Entry {
+                who,
+                step: Step::Ticks(count),
+                reply: None,
+            };
+            enter(output, now, Some(&entry), text)
+        }
+        Output::Replies | Output::End | Output::Verdict => Ok(()),
     }
 }
 

@@ -3,6 +3,7 @@
 ghost use Rattle.std.specs.Prelude.{◌≡◌, ◌≤◌, ℕ, List, [], ◌∷◌, ◌++◌, Some, length, map, slice_get, OnOk};
 ghost use Rattle.std.specs.List.{flat_map};
 ghost use Rattle.diag_can.specs.Bus.{frame_for};
+ghost use Rattle.diag_can.specs.declared.frame.Event.{Event as AnEvent};
 ghost use Rattle.diag_can.specs.Log.{waited};
 ghost use Rattle.diag_tp.specs.Moments.{counted_from};
 ghost use Rattle.diag_tp.specs.declared.sent.Sent.{Sent as ASent};
@@ -10,7 +11,7 @@ ghost use Rattle.diag_bus.specs.Events.{frame_to, said_gives, to_each};
 
 use crate::bus::Output;
 use crate::clock::{Start, silence};
-use crate::entering::enter;
+use crate::entering::{enter, enter_ticks};
 use crate::writing::{Drawn, write_drawn};
 use diag_can::{BusLine, Event, Frame, FrameBytes, Ids, TickCount};
 use diag_setup::{Setup, Who};
@@ -85,19 +86,34 @@ impl MidLine {
         Ok(())
     }
 
-    /// Gives the server an event of each tester, in order.
-    fn give_each(&mut self, setup: &Setup, event: &Event) -> Result<(), ServerFault>
+    /// Gives the server ticks of a tester.
+    fn give_ticks(&mut self, who: Who, count: TickCount) -> Result<(), ServerFault>
+        requires in_setup { who ≤ length self.old.server.links }
+        requires lists { length self.old.drawn.items ≡ length self.old.server.links }
+        ensures ok { OnOk result (Gave self.old self.new ((who, AnEvent.Ticks count) ∷ [])) }
+        ensures shape { SameShape self.old self.new }
+    {
+        let index = usize::from(who.place()) - 1;
+        let now = self.server.now(who);
+        let out = &mut self.drawn[index];
+        self.server.ticks(who, count, out)?;
+        enter_ticks(self.output, now, who, count, &mut self.text)?;
+        Ok(())
+    }
+
+    /// Gives the server so many ticks of each tester, in order.
+    fn give_each(&mut self, setup: &Setup, count: TickCount) -> Result<(), ServerFault>
         requires in_setup { length self.old.server.links ≡ length setup.now.testers }
         requires lists { length self.old.drawn.items ≡ length setup.now.testers }
         ensures ok { OnOk result
-            (Gave self.old self.new (to_each (length setup.now.testers) event.now)) }
+            (Gave self.old self.new (to_each (length setup.now.testers) (AnEvent.Ticks count))) }
         ensures shape { SameShape self.old self.new }
     {
         for index in 0..setup.testers() {
             let Some(who) = setup.who(index) else {
                 unreachable!()
             };
-            self.give(who, event)?;
+            self.give_ticks(who, count)?;
         }
         Ok(())
     }
@@ -110,13 +126,12 @@ impl MidLine {
             (flat_map (to_each (length setup.now.testers)) (waited ms))) }
         ensures shape { SameShape self.old self.new }
     {
-        let longest = Event::Ticks(TickCount::longest());
         for part in 0..ms / 60000 {
-            self.give_each(setup, &longest)?;
+            self.give_each(setup, TickCount::longest())?;
         }
         match TickCount::new((ms % 60000) as u16) {
             None => Ok(()),
-            Some(rest) => self.give_each(setup, &Event::Ticks(rest)),
+            Some(rest) => self.give_each(setup, rest),
         }
     }
 
@@ -154,7 +169,7 @@ impl MidLine {
     {
         match said {
             BusLine::Empty => Ok(()),
-            BusLine::Ticks(count) => self.give_each(setup, &Event::Ticks(*count)),
+            BusLine::Ticks(count) => self.give_each(setup, *count),
             BusLine::Stamped { moment, frame } => {
                 self.pass(setup, silence(reference, *moment))?;
                 match frame {

@@ -59,7 +59,7 @@ goes_on_quiet s who E K e reply link link' more h none quiet sent =
     )
 
 -- where it gives a step, with that step's entry
-goes_on_step : (s : LinkSetup) (E : List Event) (K : List Entry) (e : Event) (k : Entry) (link link' : LinkState) (more : List Sent)
+pub goes_on_step : (s : LinkSetup) (E : List Event) (K : List Entry) (e : Event) (k : Entry) (link link' : LinkState) (more : List Sent)
     → PortStands s link E K → gives s E e ≡ Some k.step
     → HandedOut s link' (E ++ e ∷ []) (placed s E (replies K) ++ placed_at (last_moment (E ++ e ∷ [])) k.reply) (drawn s E (replies K) ++ more)
     → PortStands s link' (E ++ e ∷ []) (K ++ k ∷ []) × (drawn s (E ++ e ∷ []) (replies (K ++ k ∷ [])) ≡ drawn s E (replies K) ++ more)

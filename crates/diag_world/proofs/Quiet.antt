@@ -1,7 +1,6 @@
 -- The least quiet time of the links.
-use Rattle.std.proofs.Common.{◌≡◌, ◌≤◌, ℕ, min, List, [], ◌∷◌, ◌++◌, arith}
+use Rattle.std.proofs.Common.{◌≡◌, min, List, [], ◌∷◌, ◌++◌, arith}
 use Rattle.diag_tp.specs.Link.{quiet}
-use Rattle.diag_tp.specs.Quiet.{always}
 use Rattle.diag_tp.specs.State.{LinkState}
 use Rattle.diag_world.specs.Server.{quiet_of}
 

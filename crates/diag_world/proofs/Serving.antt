@@ -1,6 +1,6 @@
 -- How a server goes on with one event more.
-use Rattle.std.proofs.Common.{◌≡◌, ◌≤◌, ℕ, ◌+◌, ◌*◌, false, Option, Some, None, List, [], ◌∷◌, ◌++◌, length, map, refl, ap, ap₂, subst, sym, ◌∙◌, arith, inl, inr}
-use Rattle.std.proofs.lemmas.List.{map-append, append-nil, length-set}
+use Rattle.std.proofs.Common.{◌≡◌, ◌≤◌, ℕ, ◌+◌, ◌-◌, ◌*◌, false, Option, Some, None, List, [], ◌∷◌, ◌++◌, length, map, refl, ap, ap₂, subst, sym, ◌∙◌, arith, inl, inr}
+use Rattle.std.proofs.lemmas.List.{map-append, append-nil, length-set, map-set}
 use Rattle.std.specs.Prelude.{◌==◌, slice_get, slice_set, IfSome, IsSome, IsTrue, Result, Ok, Err, IfOk}
 use Rattle.std.proofs.lemmas.Option.{slice_get-map}
 use Rattle.std.specs.Option.{option_map, option_to_list}
@@ -16,7 +16,7 @@ use Rattle.diag_tp.proofs.Lists.{length-zero}
 use Rattle.diag_tp.specs.Gives.{gives}
 use Rattle.diag_tp.specs.Placing.{drawn}
 use Rattle.diag_tp.specs.State.{LinkState, LinkView, due}
-use Rattle.diag_tp.specs.Link.{StandsFor, pending}
+use Rattle.diag_tp.specs.Link.{EachHistory, StandsFor, pending}
 use Rattle.diag_setup.specs.Setup.{link_of}
 use Rattle.diag_setup.specs.declared.raw.RawSetup.{RawSetup}
 use Rattle.diag_ecu.specs.State.{State, opening}
@@ -26,7 +26,7 @@ use Rattle.diag_desk.specs.Entries.{asked_by, own, replies}
 use Rattle.diag_desk.specs.Legal.{Legal, after, reply_to}
 use Rattle.diag_desk.proofs.Runs.{legal_more, after_more}
 use Rattle.diag_world.specs.Port.{PortStands, entries_of, time_after}
-use Rattle.diag_world.specs.Server.{ServerState, ServerView, server_of, Serves, Served}
+use Rattle.diag_world.specs.Server.{PortSettled, ServerState, ServerView, server_of, Serves, Served, Settled}
 use Rattle.diag_world.specs.Weaving.{items_of, all_by}
 use Rattle.diag_world.proofs.Weaves.{steps_of_after-append}
 use Rattle.diag_world.proofs.Worlds.{set_cases, own-append, own_mine, own_none, items_mine, items_other, other_place}
@@ -148,3 +148,33 @@ set_here xs i j v x same at = elim (set_cases xs i j v x at) [ inl p ↦ p.1 | i
 pub if_ok : {X Y : Type 0} (P Q : X → Type 0) (r : Result X Y) → ((x : X) → P x → Q x) → IfOk r P → IfOk r Q
 if_ok P Q (Ok x) f h = f x h
 if_ok P Q (Err y) f h = h
+
+-- a server settles an event as the link of the tester does
+pub server_settles : (old new : ServerView) (who i : ℕ) (e : Event) (asked : Option Entry) (link link' : LinkView) (more : List Sent)
+    → who ≡ i + 1 → slice_get old.links i ≡ Some link → new.links ≡ slice_set old.links i link' → new.ecu ≡ after old.ecu (option_to_list asked)
+    → (IsTrue (is_tick e) → IsSome asked) → EachHistory link.state (λ s E A Q. option_map (λ k. k.step) asked ≡ gives s E e)
+    → IfSome asked (λ k. k.who ≡ who) → IfSome asked (λ k. k.reply ≡ reply_to old.ecu k.who k.step)
+    → PortSettled link link' who e asked more
+    → Settled (server_of old) (server_of new) who e asked more
+server_settles old new who i e asked link link' more is found links ecu ticks step by reply took =
+    let state = λ (l : LinkView). l.state in
+    let place : i ≡ who - 1 = omega (arith, is) in
+    let written : (server_of new).links ≡ slice_set (server_of old).links i link'.state = ap (map state) links ∙ map-set state old.links i link' in
+    record {
+      answer = reply;
+      ecu = ecu;
+      moved = record {
+        before = link.state;
+        after = link'.state;
+        found = subst (λ k. slice_get (server_of old).links k ≡ Some link.state) place (slice_get-map state old.links i ∙ ap (option_map state) found);
+        set = subst (λ k. (server_of new).links ≡ slice_set (server_of old).links k link'.state) place written;
+        time = took.time;
+        pace = paced e asked link.state.now link'.state.now took.time took.most ticks;
+        within = took.within;
+      };
+      served = λ setup M K h.
+          let port = port_at setup old M K who i link h is found in
+          server_takes setup (server_of old) (server_of new) M K who e asked i link'.state more h is written ecu
+          (step (link_of setup who) (items_of M who) _ _ port.stands) by reply
+          (took.stands (link_of setup who) (items_of M who) (own K who) port);
+    }

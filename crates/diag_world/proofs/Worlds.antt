@@ -3,7 +3,7 @@ use Rattle.std.proofs.Common.{◌≡◌, ◌≢◌, ℕ, zero, suc, ◌+◌, Boo
 use Rattle.std.proofs.lemmas.List.{append-nil}
 use Rattle.std.proofs.lemmas.Bool.{eq-eqb}
 use Rattle.std.proofs.lemmas.Bool.Decides.{nat_tests}
-use Rattle.std.specs.Prelude.{◌==◌, ◌⊎◌, nat_lt, slice_get, slice_set, Result, Ok, Err, OnOk}
+use Rattle.std.specs.Prelude.{◌==◌, ◌⊎◌, nat_lt, slice_get, slice_set, Result, Ok, Err, OnOk, OnErr}
 use Rattle.diag_can.specs.declared.frame.Event.{Event}
 use Rattle.diag_tp.specs.declared.step.Step.{Step}
 use Rattle.diag_desk.specs.declared.entry.Entry.{Entry}
@@ -85,6 +85,16 @@ who_found setup i who h = pick (nat_lt i (length setup.testers)) h
 pub on_ok : {X Y : Type 0} (P Q : Type 0) (r : Result X Y) → (P → Q) → OnOk r P → OnOk r Q
 on_ok P Q (Ok x) f h = f h
 on_ok P Q (Err y) f h = h
+
+-- the same of two clauses
+pub on_both : {X Y : Type 0} (P Q Z : Type 0) (r : Result X Y) → (P → Q → Z) → OnOk r P → OnOk r Q → OnOk r Z
+on_both P Q Z (Ok x) f p q = f p q
+on_both P Q Z (Err y) f p q = tt
+
+-- and of what an Err says
+pub on_err : {X Y : Type 0} (P Q : Type 0) (r : Result X Y) → (P → Q) → OnErr r P → OnErr r Q
+on_err P Q (Ok x) f h = h
+on_err P Q (Err y) f h = f h
 
 -- what stands in a list after one more item
 pub push_cases : {X : Type 0} (xs : List X) (j : ℕ) (v x : X) → slice_get (xs ++ v ∷ []) j ≡ Some x → ((j ≡ length xs) × (x ≡ v)) ⊎ (slice_get xs j ≡ Some x)

@@ -6,6 +6,7 @@ use Rattle.diag_can.specs.declared.frame.Event.TheVariants.{Physical, Functional
 use Rattle.diag_tp.specs.declared.setup.LinkSetup.{LinkSetup}
 use Rattle.diag_tp.specs.declared.sent.Sent.{Sent}
 use Rattle.diag_tp.specs.Gives.{gives, steps}
+use Rattle.diag_tp.specs.Moments.{last_time}
 use Rattle.diag_tp.specs.Placing.{placed, drawn}
 use Rattle.diag_tp.specs.Wire.{Placed, wire}
 use Rattle.diag_tp.specs.State.{LinkState, LinkView}
@@ -51,6 +52,15 @@ pub record HandedOut (s : LinkSetup) (link : LinkState) (E : List Event) (A : Li
     (Q : List Sent) : Type 0 where
   pub stands : StandsFor s link E A Q
   pub all : Q ≡ wire s E A
+
+-- so many ticks passed on the link, in which these frames were handed out
+abbrev pub Passed : LinkState → LinkState → ℕ → List Sent → Type 0
+Passed old new count more =
+    AreWithin old.now new.now more
+    × ((s : LinkSetup) (E : List Event) (A : List Placed) (Q : List Sent)
+    → StandsFor s old E A Q
+    → last_time E + count ≤ last_tick
+    → HandedOut s new (E ++ Ticks count ∷ []) A (Q ++ more))
 
 -- The link took the events E, to which the journal has the entries K: it stands for both, all that they draw was handed
 -- out, and K asks what E gives.

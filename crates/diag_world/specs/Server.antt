@@ -1,9 +1,10 @@
 -- What a server stands for: an interleaving of the testers' events, and the journal of its run. It keeps neither.
-use Rattle.std.specs.Prelude.{◌≡◌, ◌<◌, ◌≤◌, ◌-◌, ◌^◌, ℕ, ◌+◌, ◌*◌, ◌==◌, false, min, List, [], ◌∷◌, ◌++◌, length, map, Option, Some, IfSome, IsSome, IsTrue, slice_get, slice_set}
+use Rattle.std.specs.Prelude.{◌≡◌, ◌<◌, ◌≤◌, ◌-◌, ◌^◌, ℕ, ◌+◌, ◌*◌, ◌==◌, false, min, List, [], ◌∷◌, ◌++◌, length, map, Option, Some, None, IfSome, IsSome, IsTrue, slice_get, slice_set}
 use Rattle.std.specs.Option.{option_map, option_to_list}
 use Rattle.diag_can.specs.declared.frame.Event.{Event}
 use Rattle.diag_tp.specs.declared.setup.LinkSetup.{LinkSetup}
 use Rattle.diag_tp.specs.declared.sent.Sent.{Sent}
+use Rattle.diag_tp.specs.declared.step.Step.TheVariants as step
 use Rattle.diag_tp.specs.Gives.{gives}
 use Rattle.diag_tp.specs.Moments.{is_tick}
 use Rattle.diag_tp.specs.Placing.{drawn}
@@ -14,7 +15,7 @@ use Rattle.diag_setup.specs.declared.raw.RawSetup.{RawSetup}
 use Rattle.diag_setup.specs.Setup.{link_of}
 use Rattle.diag_ecu.specs.State.{State, opening}
 use Rattle.diag_desk.specs.declared.entry.Entry.{Entry}
-use Rattle.diag_desk.specs.Entries.{asked_by, own, replies}
+use Rattle.diag_desk.specs.Entries.{asked_by, entry, own, replies}
 use Rattle.diag_desk.specs.Legal.{Legal, after, reply_to}
 use Rattle.diag_world.specs.Port.{AreWithin, HasRoomFor, PortStands, time_after}
 use Rattle.diag_world.specs.Weaving.{items_of, steps_of}
@@ -75,6 +76,10 @@ pub record PortAsked (ecu : State) (link : LinkView) (who : ℕ) (e : Event) (as
   pub by : IfSome asked (λ k. k.who ≡ who)
   pub answer : IfSome asked (λ k. k.reply ≡ reply_to ecu k.who k.step)
   pub framed : IfSome asked (λ k. IsSome k.reply → IsTrue (is_frame e))
+
+-- the entry of so many ticks, which have no reply
+abbrev pub entry_of_ticks : ℕ → ℕ → Entry
+entry_of_ticks who count = entry who (step.Ticks count) None
 
 -- a link took an event with its entry, by which it moved on in time, and sent these frames
 pub record PortSettled (old new : LinkView) (who : ℕ) (e : Event) (asked : Option Entry)

@@ -1,31 +1,107 @@
 //! How ticks pass on a link, and how a frame comes in, with all frames handed out that fall due.
 
-ghost use Rattle.std.specs.Prelude.{◌≡◌, ◌+◌, ◌≤◌, List, [], ◌∷◌, ◌++◌, IsTrue, None, min, vec_len, vec_capacity};
+ghost use Rattle.std.specs.Prelude.{
+  ◌≡◌,
+  ◌+◌,
+  ◌≤◌,
+  ◌<◌,
+  ◌↔◌,
+  List,
+  [],
+  ◌∷◌,
+  ◌++◌,
+  IsTrue,
+  OnOk,
+  OnErr,
+  None,
+  min,
+  vec_len,
+  vec_capacity,
+};
 ghost use Rattle.diag_can.specs.declared.frame.Event.{Event as AnEvent};
 ghost use Rattle.diag_tp.specs.declared.setup.LinkSetup.{LinkSetup as ALinkSetup};
 ghost use Rattle.diag_tp.specs.declared.sent.Sent.{Sent as ASent};
 ghost use Rattle.diag_tp.specs.Moments.{last_moment, last_time};
 ghost use Rattle.diag_tp.specs.Placing.{placed_at};
 ghost use Rattle.diag_tp.specs.Wire.{Placed};
-ghost use Rattle.diag_tp.specs.Link.{StandsFor, has_room, has_reply_room, is_frame, last_tick, pending, unsent, waiting_count};
-ghost use Rattle.diag_world.specs.Port.{AreWithin, Grew, HandedOut};
+ghost use Rattle.diag_tp.specs.Link.{StandsFor, has_room, has_reply_room, is_frame, last_tick, pending, quiet, unsent, waiting_count};
+ghost use Rattle.diag_world.specs.Port.{AreWithin, Grew, HandedOut, Passed};
 
 use diag_can::{Event, TickCount};
 use diag_tp::{Link, Message, Sent, moments_law, time_law};
+use std::alloc::AllocError;
 
-/// Lets so many ticks pass, in moves before whose last tick nothing falls due.
+/// Lets so many ticks pass, and hands out what falls due. Refused, nothing has changed: room is asked for where a frame may
+/// fall due.
+pub(crate) fn let_pass(
+    link: &mut Link,
+    count: TickCount,
+    out: &mut Vec<Sent>,
+) -> Result<(), AllocError>
+    requires drained { pending link.old.state ≡ 0 }
+    ensures passed { OnOk result
+        (Grew out.old.items out.new.items (Passed link.old.state link.new.state count)) }
+    ensures time { OnOk result
+        (link.new.state.now ≡ min (link.old.state.now + count) last_tick) }
+    ensures most { count ≤ 60000 }
+    ensures drained { pending link.new.state ≡ 0 }
+    ensures err { OnErr result
+        ((link.new.state ≡ link.old.state) × (out.new.items ≡ out.old.items)) }
+{
+    if is_quiet_for(link, count) {
+        pass_quiet(link, count);
+        return Ok(());
+    }
+    out.reserve(link.backlog() as usize)?;
+    pass_in_moves(link, count, out);
+    Ok(())
+}
+
+/// The same with room for the frames.
 pub(crate) fn pass(link: &mut Link, count: TickCount, out: &mut Vec<Sent>)
     requires drained { pending link.old.state ≡ 0 }
     requires room { vec_len out.old + unsent link.old.state ≤ vec_capacity out.old }
-    ensures passed { Grew out.old.items out.new.items (λ more. AreWithin link.old.state.now link.new.state.now more
-        × ((s : ALinkSetup) (E : List AnEvent) (A : List Placed) (Q : List ASent)
-        → StandsFor s link.old.state E A Q
-        → last_time E + count ≤ last_tick
-        → HandedOut s link.new.state (E ++ Event.Ticks count ∷ []) A (Q ++ more))) }
+    ensures passed { Grew out.old.items out.new.items (Passed link.old.state link.new.state count) }
     ensures time { link.new.state.now ≡ min (link.old.state.now + count) last_tick }
     ensures drained { pending link.new.state ≡ 0 }
     ensures waiting { waiting_count link.new.state ≤ waiting_count link.old.state }
     ensures most { count ≤ 60000 }
+{
+    if is_quiet_for(link, count) {
+        pass_quiet(link, count)
+    } else {
+        pass_in_moves(link, count, out)
+    }
+}
+
+/// Whether nothing falls due and nothing ends in so many ticks.
+fn is_quiet_for(link: &Link, count: TickCount) -> bool
+    ensures is { IsTrue result ↔ (count < quiet link.now.state) }
+    ensures most { count ≤ 60000 }
+{
+    u64::from(count.get()) < link.quiet()
+}
+
+/// Lets so many ticks pass, in which nothing falls due.
+fn pass_quiet(link: &mut Link, count: TickCount)
+    requires drained { pending link.old.state ≡ 0 }
+    requires quiet { count < quiet link.old.state }
+    ensures passed { Passed link.old.state link.new.state count [] }
+    ensures time { link.new.state.now ≡ min (link.old.state.now + count) last_tick }
+    ensures drained { pending link.new.state ≡ 0 }
+    ensures waiting { waiting_count link.new.state ≤ waiting_count link.old.state }
+{
+    link.advance(count);
+}
+
+/// Lets so many ticks pass, in moves before whose last tick nothing falls due.
+fn pass_in_moves(link: &mut Link, count: TickCount, out: &mut Vec<Sent>)
+    requires drained { pending link.old.state ≡ 0 }
+    requires room { vec_len out.old + unsent link.old.state ≤ vec_capacity out.old }
+    ensures passed { Grew out.old.items out.new.items (Passed link.old.state link.new.state count) }
+    ensures time { link.new.state.now ≡ min (link.old.state.now + count) last_tick }
+    ensures drained { pending link.new.state ≡ 0 }
+    ensures waiting { waiting_count link.new.state ≤ waiting_count link.old.state }
 {
     moments_law();
     time_law();

@@ -13,6 +13,7 @@ ghost use Rattle.std.specs.Prelude.{
   ◌++◌,
   length,
   Option,
+  Some,
   Err,
   IfOk,
   IfSome,
@@ -24,6 +25,7 @@ ghost use Rattle.std.specs.Prelude.{
   slice_get,
 };
 ghost use Rattle.std.specs.Option.{option_to_list};
+ghost use Rattle.diag_can.specs.declared.frame.Event.{Event as AnEvent};
 ghost use Rattle.diag_tp.specs.Gives.{gives};
 ghost use Rattle.diag_tp.specs.Link.{pending};
 ghost use Rattle.diag_tp.specs.Moments.{last_time};
@@ -32,10 +34,11 @@ ghost use Rattle.diag_desk.specs.declared.entry.Entry.{Entry as AnEntry};
 ghost use Rattle.diag_desk.specs.Legal.{after, reply_to};
 ghost use Rattle.diag_world.specs.Weaving.{items_of};
 ghost use Rattle.diag_world.specs.Port.{Grew};
-ghost use Rattle.diag_world.specs.Server.{closing_time, quiet_of, server_of, EachRun, IsAsked, IsClosed, PortAsked, PortSettled, Serves, Settled};
+ghost use Rattle.diag_world.specs.Server.{closing_time, entry_of_ticks, quiet_of, server_of, EachRun, IsAsked, IsClosed, PortAsked, PortSettled, Serves, Settled};
 
+use crate::passing::let_pass;
 use crate::port::{gives_step, prepare, settle};
-use diag_can::Event;
+use diag_can::{Event, TickCount};
 use diag_desk::{Entry, reply_of, settle_step};
 use diag_ecu::Ecu;
 use diag_store::{Setup, Who};
@@ -156,6 +159,33 @@ impl Server {
         settle_at(link, &mut self.ecu, who, event, asked, out);
     }
 
+    /// Takes ticks of a tester, and hands out the frames that fall due. The entry that they give has no reply, and isn't
+    /// made: whoever keeps a journal enters it. Refused, nothing has changed.
+    pub fn ticks(
+        &mut self,
+        who: Who,
+        count: TickCount,
+        out: &mut Vec<Sent>,
+    ) -> Result<(), ServerFault>
+        requires in_setup { who ≤ length self.old.links }
+        ensures ok { OnOk result (Grew out.old.items out.new.items (λ more.
+            Settled (server_of self.old) (server_of self.new) who (AnEvent.Ticks count)
+            (Some (entry_of_ticks who count)) more)) }
+        ensures early { OnOk result (IfSome (slice_get self.old.links (who - 1)) (λ link.
+            link.state.now ≤ closing_time)) }
+        ensures err { OnErr result
+            ((server_of self.new ≡ server_of self.old) × (out.new.items ≡ out.old.items)) }
+        ensures clock { result ≡ Err ServerFault.Clock
+            → EachRun (server_of self.old) (λ setup M K.
+            closing_time < last_time (items_of M who)) }
+        ensures closed { result ≡ Err ServerFault.Clock
+            → IsClosed (server_of self.old).links (who - 1) }
+    {
+        let index = usize::from(who.place()) - 1;
+        let link = &mut self.links[index];
+        ticks_at(link, &mut self.ecu, who, count, out)
+    }
+
     /// Takes an event of a tester, and hands out the frames that it draws. Refused, nothing has changed.
     pub fn event(&mut self, who: Who, event: &Event, out: &mut Vec<Sent>) -> Result<(), ServerFault>
         requires in_setup { who ≤ length self.old.links }
@@ -213,6 +243,17 @@ impl Server {
     }
 }
 
+/// Refuses where a link has come to its closing time.
+fn look_at_clock(link: &Link) -> Result<(), ServerFault>
+    ensures open { OnOk result (link.now.state.now ≤ closing_time) }
+    ensures closed { OnErr result (closing_time < link.now.state.now) }
+{
+    if link.now() > CLOSING_TIME {
+        return Err(ServerFault::Clock);
+    }
+    Ok(())
+}
+
 /// Makes room for an event at a link, and answers the entry that it gives.
 fn ask_at(
     link: &mut Link,
@@ -228,9 +269,7 @@ fn ask_at(
         PortAsked ecu.now link.new who event.now asked (vec_len out.new) (vec_capacity out.new)) }
     ensures clock { result ≡ Err ServerFault.Clock → closing_time < link.old.state.now }
 {
-    if link.now() > CLOSING_TIME {
-        return Err(ServerFault::Clock);
-    }
+    look_at_clock(link)?;
     match prepare(link, event, out)? {
         Some(step) => {
             let reply = reply_of(ecu, who, &step)?;
@@ -238,6 +277,32 @@ fn ask_at(
         }
         None => Ok(None),
     }
+}
+
+/// Takes ticks at a link. Refused, nothing has changed.
+fn ticks_at(
+    link: &mut Link,
+    ecu: &mut Ecu,
+    who: Who,
+    count: TickCount,
+    out: &mut Vec<Sent>,
+) -> Result<(), ServerFault>
+    requires drained { pending link.old.state ≡ 0 }
+    ensures took { OnOk result (Grew out.old.items out.new.items (λ more.
+        PortSettled link.old link.new who (AnEvent.Ticks count) (Some (entry_of_ticks who count))
+        more)) }
+    ensures early { OnOk result (link.old.state.now ≤ closing_time) }
+    ensures drained { pending link.new.state ≡ 0 }
+    ensures ecu { OnOk result (ecu.new ≡ after ecu.old (entry_of_ticks who count ∷ [])) }
+    ensures err { OnErr result ((link.new.state ≡ link.old.state)
+        × (ecu.new ≡ ecu.old)
+        × (out.new.items ≡ out.old.items)) }
+    ensures clock { result ≡ Err ServerFault.Clock → closing_time < link.old.state.now }
+{
+    look_at_clock(link)?;
+    let_pass(link, count, out)?;
+    ecu.ticks(who, count);
+    Ok(())
 }
 
 /// Takes an event at a link, with the entry that it gives.

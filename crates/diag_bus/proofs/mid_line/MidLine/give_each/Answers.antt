@@ -1,4 +1,5 @@
 use Rattle.std.proofs.Common.{◌≡◌, length, subst, sym, arith}
+use Rattle.diag_can.specs.declared.frame.Event.TheVariants.{Ticks}
 use Rattle.diag_world.proofs.Worlds.{who_found}
 use Rattle.diag_bus.specs.Batch.{Gave}
 use Rattle.diag_bus.specs.Events.{to_each}
@@ -8,28 +9,28 @@ use Rattle.diag_bus.proofs.mid_line.MidLine.give_each.Goals as goal
 pub loop-index-init : goal.loop-index-init
 loop-index-init c = record { shape = same_none c.args.self.now; gave = gave_none c.args.self.now }
 
-pub give-requires-clause-in_setup : goal.give-requires-clause-in_setup
-give-requires-clause-in_setup c =
+pub give_ticks-requires-clause-in_setup : goal.give_ticks-requires-clause-in_setup
+give_ticks-requires-clause-in_setup c =
     let who = who_found c.args.setup.now c.loop-index.index c.in-Some.who c.in-Some.ensures in
     omega (arith, who, c.loop-index.invariant.shape.links, c.requires.in_setup, c.testers-index-end.ensures.same)
 
-pub give-requires-clause-lists : goal.give-requires-clause-lists
-give-requires-clause-lists c = omega (arith, c.loop-index.invariant.shape.links, c.loop-index.invariant.shape.lists, c.requires.in_setup, c.requires.lists)
+pub give_ticks-requires-clause-lists : goal.give_ticks-requires-clause-lists
+give_ticks-requires-clause-lists c = omega (arith, c.loop-index.invariant.shape.links, c.loop-index.invariant.shape.lists, c.requires.in_setup, c.requires.lists)
 
 pub loop-index-preserved : goal.loop-index-preserved
 loop-index-preserved c =
     let inv = c.loop-index.invariant in
     let who = who_found c.args.setup.now c.loop-index.index c.in-Some.who c.in-Some.ensures in
     record {
-      shape = same_more c.args.self.now c.loop-index.self c.give.new.self inv.shape c.give.ensures.shape;
-      gave = subst (λ L. Gave c.args.self.now c.give.new.self L) (sym (each_more c.loop-index.index c.args.event.now c.in-Some.who who))
-          (gave_more c.args.self.now c.loop-index.self c.give.new.self _ _ inv.gave c.in_ok-give.ensures.ok);
+      shape = same_more c.args.self.now c.loop-index.self c.give_ticks.new.self inv.shape c.give_ticks.ensures.shape;
+      gave = subst (λ L. Gave c.args.self.now c.give_ticks.new.self L) (sym (each_more c.loop-index.index (Ticks c.args.count) c.in-Some.who who))
+          (gave_more c.args.self.now c.loop-index.self c.give_ticks.new.self _ _ inv.gave c.in_ok-give_ticks.ensures.ok);
     }
 
 pub returns-clause-ok : goal.returns-clause-ok
 returns-clause-ok c =
     let ended : c.loop-index.index ≡ length c.args.setup.now.testers = omega (arith, c.testers-index-end.ensures.same) in
-    subst (λ n. Gave c.args.self.now c.loop-index.self (to_each n c.args.event.now)) ended c.loop-index.invariant.gave
+    subst (λ n. Gave c.args.self.now c.loop-index.self (to_each n (Ticks c.args.count))) ended c.loop-index.invariant.gave
 
-pub returns-in_err-give-clause-shape : goal.returns-in_err-give-clause-shape
-returns-in_err-give-clause-shape c = same_more c.args.self.now c.loop-index.self c.give.new.self c.loop-index.invariant.shape c.give.ensures.shape
+pub returns-in_err-give_ticks-clause-shape : goal.returns-in_err-give_ticks-clause-shape
+returns-in_err-give_ticks-clause-shape c = same_more c.args.self.now c.loop-index.self c.give_ticks.new.self c.loop-index.invariant.shape c.give_ticks.ensures.shape

@@ -1,3 +1,4 @@
+use Rattle.diag_can.specs.declared.frame.Event.TheVariants.{Ticks}
 use Rattle.diag_bus.specs.Batch.{Gave, SameShape}
 use Rattle.diag_bus.specs.Events.{to_each}
 use Rattle.diag_bus.proofs.mid_line.MidLine.give_each.Given as goal
@@ -5,5 +6,5 @@ use Rattle.diag_bus.proofs.mid_line.MidLine.give_each.Given as goal
 abbrev pub invariant-loop-index : goal.invariant-loop-index
 invariant-loop-index l = record {
   shape : SameShape l.initial.self l.self;
-  gave : Gave l.initial.self l.self (to_each l.index l.event);
+  gave : Gave l.initial.self l.self (to_each l.index (Ticks l.count));
 }

@@ -7,7 +7,7 @@ use Rattle.diag_tp.specs.Moments.{last_time}
 use Rattle.diag_tp.specs.Wire.{Placed, wire}
 use Rattle.diag_tp.specs.Link.{StandsFor, pending, unsent, waiting_count, last_tick}
 use Rattle.diag_world.specs.Port.{AreWithin, Grew}
-use Rattle.diag_world.proofs.passing.pass.Given as goal
+use Rattle.diag_world.proofs.passing.pass_in_moves.Given as goal
 
 abbrev pub invariant-loop-left : goal.invariant-loop-left
 invariant-loop-left l = record {

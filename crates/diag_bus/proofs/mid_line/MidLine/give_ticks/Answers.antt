@@ -1,0 +1,45 @@
+use Rattle.std.proofs.Common.{◌≡◌, ◌≤◌, ◌<◌, ◌+◌, ◌-◌, Some, List, length, map, refl, ap, ◌∙◌, arith}
+use Rattle.std.proofs.lemmas.List.{map-set}
+use Rattle.std.proofs.lemmas.Option.{slice_get_read, slice_get-map}
+use Rattle.std.specs.Prelude.{slice_get, slice_set}
+use Rattle.std.specs.Option.{option_map}
+use Rattle.std.specs.Vec.{with_item}
+use Rattle.diag_can.specs.declared.frame.Event.TheVariants.{Ticks}
+use Rattle.diag_tp.specs.State.{LinkView}
+use Rattle.diag_tp.specs.declared.sent.Sent.{Sent}
+use Rattle.diag_world.specs.Server.{closing_time, entry_of_ticks}
+use Rattle.diag_bus.specs.declared.mid_line.MidLine.{MidLine}
+use Rattle.diag_bus.proofs.Batches.{clock_told, drew_more, early_now, some_of}
+use Rattle.diag_bus.proofs.mid_line.MidLine.give_ticks.Goals as goal
+
+pub enter_ticks-requires : goal.enter_ticks-requires
+enter_ticks-requires c =
+    let links = c.args.self.now.server.links in
+    let at = c.args.who - 1 in
+    let within : at < length links = omega (arith, c.requires.in_setup, c.place.ensures.same, c.place.ensures.fits.0) in
+    early_now links at c.now-now.result within c.now-now.ensures (λ link there. some_of (λ (l : LinkView). l.state.now ≤ closing_time) (slice_get links at) link there c.in_ok-ticks.ensures.early)
+
+pub returns-clause-ok : goal.returns-clause-ok
+returns-clause-ok c = λ setup base before M h.
+    let old = c.args.self.now in
+    let new : MidLine = record { server = c.ticks.new.self; output = old.output; drawn = with_item old.drawn (c.from-index.result - 1) c.ticks.new.out; text = c.enter_ticks.new.text } in
+    let drawn = old.drawn.items in
+    let links = old.server.links in
+    let i = c.from-index.result - 1 in
+    let who = c.args.who in
+    let now = c.now-now.result in
+    let asked = Some (entry_of_ticks who c.args.count) in
+    let is : who ≡ i + 1 = omega (arith, c.from-index.ensures, c.place.ensures.same, c.place.ensures.fits.0) in
+    let within : i < length drawn = omega (arith, is, c.requires.in_setup, c.requires.lists) in
+    let list = c.index_mut-out.result.now in
+    let here : slice_get drawn i ≡ Some list = slice_get_read drawn (length drawn) i list refl within c.index_mut-out.ensures.value in
+    let found : slice_get (map (λ f. f.items) drawn) i ≡ Some list.items = slice_get-map (λ f. f.items) drawn i ∙ ap (option_map (λ f. f.items)) here in
+    let grew = c.in_ok-ticks.ensures.ok in
+    let lists = map-set (λ f. f.items) drawn i c.ticks.new.out ∙ ap (λ (w : List Sent). slice_set (map (λ f. f.items) drawn) i w) grew.grown in
+    let place : who ≡ (who - 1) + 1 = omega (arith, is) in
+    let there : who - 1 < length links = omega (arith, is, c.requires.in_setup) in
+    let early = early_now links (who - 1) now there c.now-now.ensures (λ link at. some_of (λ (l : LinkView). l.state.now ≤ closing_time) (slice_get links (who - 1)) link at c.in_ok-ticks.ensures.early) in
+    drew_more setup old new base before M who i now (Ticks c.args.count) asked list.items grew.more
+    grew.holds is found lists refl c.in_ok-enter_ticks.ensures
+    (λ K served. clock_told setup old.server M K who (who - 1) now asked served place there c.now-now.ensures early refl)
+    h
