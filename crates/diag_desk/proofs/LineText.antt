@@ -14,8 +14,8 @@ use Rattle.diag_desk.proofs.HexText.{encode-decode_sized, upper-encode}
 use Rattle.diag_desk.proofs.CutText.{Above, above-free, cut-there, same_cut}
 use Rattle.diag_desk.specs.Cut.{cut}
 use Rattle.diag_desk.specs.Entry.{IsEntry, IsMessage, IsReply, IsStep}
-use Rattle.diag_desk.specs.Text.{IsNoReply, entry_line, is_upper_digit, kind_text, reply_text, step_text}
-use Rattle.diag_desk.specs.Line.{HasBody, IsHex, decoded, kind_code, request_kind}
+use Rattle.diag_desk.specs.Text.{IsNoReply, entry_line, is_upper_digit, reply_text, step_text}
+use Rattle.diag_desk.specs.Line.{HasBody, IsHex, decoded, fronted, kind_code, request_kind}
 use Rattle.diag_tp.specs.declared.step.Step.{Step}
 use Rattle.diag_tp.specs.declared.step.Step.TheVariants.{Request, Ticks}
 use Rattle.diag_desk.specs.declared.entry.Entry.{Entry}
@@ -126,25 +126,16 @@ pub record LineParts (e : Entry) : Type 0 where
   pub the_kind : Kind
   pub body : List ℕ
   pub has : HasBody the_kind e.step e.reply body
-  pub first : cut 32 (entry_line e) ≡ Some ((48 + e.who) ∷ [], kind_code the_kind ∷ 32 ∷ body)
-  pub second : cut 32 (kind_code the_kind ∷ 32 ∷ body) ≡ Some (kind_code the_kind ∷ [], body)
-
-code_above : (k : Kind) → 32 < kind_code k
-code_above kind.Physical = omega arith
-code_above kind.Functional = omega arith
-code_above kind.Ticks = omega arith
+  pub front : fronted (48 + e.who) (kind_code the_kind) body ≡ entry_line e
 
 pub line_parts : (e : Entry) → LineParts e
 line_parts e =
     let parts = has_body e.step e.reply in
-    let above = code_above parts.0 in
-    let place : 32 < 48 + e.who = omega arith in
     record {
       the_kind = parts.0;
       body = parts.1;
       has = parts.2;
-      first = ap (λ l. cut 32 ((48 + e.who) ∷ l)) parts.2 ∙ cut-there 32 ((48 + e.who) ∷ []) (kind_code parts.0 ∷ 32 ∷ parts.1) (above-free 32 ((48 + e.who) ∷ []) (place, tt));
-      second = cut-there 32 (kind_code parts.0 ∷ []) parts.1 (above-free 32 (kind_code parts.0 ∷ []) (above, tt));
+      front = ap (λ l. (48 + e.who) ∷ l) (sym parts.2);
     }
 
 step_same : (s t : Step) (p q : Option (List ℕ)) → IsStep s p → IsStep t q → step_text s p ≡ step_text t q → (s ≡ t) × (p ≡ q)
@@ -197,11 +188,11 @@ pub line_above : (e : Entry) → IsEntry e → Above 10 (entry_line e)
 line_above e h = (omega arith, step_above e.step e.reply h.2)
 
 -- an entry's line is put together from its parts
-pub line_joined : (line : List ℕ) (who : ℕ) (place rest kind_text body : List ℕ) (k : Kind) (s : Step) (r : Option (List ℕ))
-    → line ≡ place ++ 32 ∷ rest → (48 + who) ∷ [] ≡ place → rest ≡ kind_text ++ 32 ∷ body → kind_code k ∷ [] ≡ kind_text → HasBody k s r body
+pub line_joined : (line : List ℕ) (who place letter : ℕ) (body : List ℕ) (k : Kind) (s : Step) (r : Option (List ℕ))
+    → line ≡ fronted place letter body → 48 + who ≡ place → kind_code k ≡ letter → HasBody k s r body
     → (48 + who) ∷ step_text s r ≡ line
-line_joined line who place rest kind_text body k s r e p f q has =
-    ap (λ l. (48 + who) ∷ l) has ∙ (λ i. p i ++ (32 ∷ (q i ++ (32 ∷ body)))) ∙ ap (λ l. place ++ (32 ∷ l)) (sym f) ∙ sym e
+line_joined line who place letter body k s r e p q has =
+    ap (λ l. (48 + who) ∷ l) has ∙ (λ i. fronted (p i) (q i) body) ∙ sym e
 
 -- hex text is twice as long as its bytes
 pub hex_length : (s : List ℕ) → IsHex s → length s ≡ 2 * length (decoded s)

@@ -1,15 +1,16 @@
 //! Reading one line of a journal's text.
-ghost use Rattle.std.specs.Prelude.{◌≡◌, ◌≢◌, ℕ, ◌≤◌, ◌<◌, ◌^◌, ◌+◌, ◌∷◌, [], length, IfSome, IfNone, IsTrue, IsNone, Some, None, MatchOption, slice_index, ◌↔◌, decimal, option_copied};
+ghost use Rattle.std.specs.Prelude.{◌≡◌, ◌≢◌, ℕ, ◌≤◌, ◌<◌, ◌^◌, ◌+◌, length, IfSome, IfNone, IsTrue, IsNone, Some, None, MatchOption, slice_index, ◌↔◌, decimal, option_copied};
 ghost use Rattle.std.specs.Bool.{OnTrue, OnFalse};
 ghost use Rattle.std.specs.List.{list_all};
 ghost use Rattle.diag_desk.specs.Text.{IsNoMessage, IsNoReply, IsNoCount, IsNoNumber, IsNoEntry, is_upper_digit, reply_text};
 ghost use Rattle.diag_desk.specs.Cut.{cut};
-ghost use Rattle.diag_desk.specs.Line.{IsHex, IsHexReply, IsRead, IsReadStep, IsNoStep, IsReadReply, request_kind, kind_code, decoded};
+ghost use Rattle.diag_desk.specs.Line.{IsHex, IsHexReply, IsRead, IsReadStep, IsNoStep, IsReadReply, request_kind, kind_code, decoded, fronted, IsNoFront};
 ghost use Rattle.diag_desk.specs.declared.line.Kind.{Kind as IsKind};
 
 use diag_can::TickCount;
 use diag_store::Who;
 use diag_tp::Message;
+use memchr::memchr;
 
 /// What kind of line it is.
 #[derive(Clone, Copy, Drop)]
@@ -42,12 +43,10 @@ pub(crate) fn cut(text: &[u8], byte: u8) -> Option<(&[u8], &[u8])>
     ensures { MatchOption result (cut byte text.now ≡ None) (λ parts.
         cut byte text.now ≡ Some (parts.0.now, parts.1.now)) }
 {
-    for (i, c) in text.iter().enumerate() {
-        if *c == byte {
-            return Some((&text[..i], &text[i + 1..]));
-        }
+    match memchr(byte, text) {
+        None => None,
+        Some(end) => Some((&text[..end], &text[end + 1..])),
     }
-    None
 }
 
 /// The entry of a line, without a stamp and its end.
@@ -55,13 +54,10 @@ pub(crate) fn entry_in(line: &[u8]) -> Option<Line<'_>>
     ensures some { IfSome result (IsRead line.now) }
     ensures none { IfNone result (IsNoEntry line.now) }
 {
-    let Some((place, rest)) = cut(line, b' ') else {
+    let Some((place, kind, body)) = front_of(line) else {
         return None;
     };
     let Some(who) = place_in(place) else {
-        return None;
-    };
-    let Some((kind, body)) = cut(rest, b' ') else {
         return None;
     };
     let Some(kind) = kind_in(kind) else {
@@ -73,26 +69,37 @@ pub(crate) fn entry_in(line: &[u8]) -> Option<Line<'_>>
     Some(Line { who, step })
 }
 
-/// The tester whose place is a text.
-fn place_in(text: &[u8]) -> Option<Who>
-    ensures some { IfSome result (λ who. ((48 + who) ∷ [] ≡ text.now) × (1 ≤ who) × (who ≤ 8)) }
-    ensures none { IfNone result ((who : ℕ) → 1 ≤ who → who ≤ 8 → (48 + who) ∷ [] ≢ text.now) }
+/// The place and the kind of a line, one byte each, and what follows the space after them.
+fn front_of(line: &[u8]) -> Option<(u8, u8, &[u8])>
+    ensures { MatchOption result (IsNoFront line.now) (λ parts.
+        line.now ≡ fronted parts.0 parts.1 parts.2.now) }
 {
-    match text {
-        [digit @ b'1'..=b'8'] => Who::new(*digit - b'0'),
+    match line {
+        [place, b' ', kind, b' ', body @ ..] => Some((*place, *kind, body)),
         _ => None,
     }
 }
 
-/// The kind whose letter is a text.
-fn kind_in(text: &[u8]) -> Option<Kind>
-    ensures some { IfSome result (λ kind. kind_code kind ∷ [] ≡ text.now) }
-    ensures none { IfNone result ((kind : IsKind) → kind_code kind ∷ [] ≢ text.now) }
+/// The tester whose place is a digit.
+fn place_in(digit: u8) -> Option<Who>
+    ensures some { IfSome result (λ who. (48 + who ≡ digit) × (1 ≤ who) × (who ≤ 8)) }
+    ensures none { IfNone result ((who : ℕ) → 1 ≤ who → who ≤ 8 → 48 + who ≢ digit) }
 {
-    match text {
-        [b'P'] => Some(Kind::Physical),
-        [b'F'] => Some(Kind::Functional),
-        [b'T'] => Some(Kind::Ticks),
+    match digit {
+        b'1'..=b'8' => Who::new(digit - b'0'),
+        _ => None,
+    }
+}
+
+/// The kind whose letter this is.
+fn kind_in(letter: u8) -> Option<Kind>
+    ensures some { IfSome result (λ kind. kind_code kind ≡ letter) }
+    ensures none { IfNone result ((kind : IsKind) → kind_code kind ≢ letter) }
+{
+    match letter {
+        b'P' => Some(Kind::Physical),
+        b'F' => Some(Kind::Functional),
+        b'T' => Some(Kind::Ticks),
         _ => None,
     }
 }
