@@ -39,6 +39,7 @@ ghost use Rattle.diag_tp.specs.Link.{
   single_only,
   needed,
   asked_of,
+  ask_of,
   partial_after,
   grant_after,
   step_after,
@@ -146,18 +147,47 @@ impl Link {
         ensures { IfOk result (λ request.
             asked_of request ≡ step_after self.now.state.setup self.now.state.partial event.now) }
     {
+        match event {
+            Event::Physical(bytes) => self.peek_kind(false, &self.kind(bytes)),
+            Event::Functional(bytes) => self.peek_kind(true, &only_single(self.kind(bytes))),
+            Event::Ticks(_) => Ok(None),
+        }
+    }
+
+    /// What feeding a frame of this kind would answer.
+    fn peek_kind(&self, functional: bool, kind: &Pci) -> Result<Option<Request>, AllocError>
+        requires read { IsRead 65535 kind.now }
+        ensures { IfOk result (λ request. asked_of request
+            ≡ ask_of functional (completed_by self.now.state.partial kind.now)) }
+    {
+        match self.receiver.peek(kind)? {
+            Some(message) => Ok(Some(Request {
+                functional,
+                message,
+            })),
+            None => Ok(None),
+        }
+    }
+
+    /// Makes room, and says what feeding this event would answer, from the fields.
+    pub(crate) fn reserve_and_peek(&mut self, event: &Event) -> Result<Option<Request>, AllocError>
+        requires frame { IsTrue (is_frame event.now) }
+        ensures same { self.new.state ≡ self.old.state }
+        ensures room { OnOk result ((needed self.new.state.setup event.now ≤ self.new.room)
+            × (0 < self.new.reply_room)) }
+        ensures request { IfOk result (λ request.
+            asked_of request ≡ step_after self.old.state.setup self.old.state.partial event.now) }
+        ensures kept { self.old.room ≤ self.new.room }
+        ensures reply_kept { self.old.reply_room ≤ self.new.reply_room }
+    {
         let (functional, kind) = match event {
             Event::Physical(bytes) => (false, self.kind(bytes)),
             Event::Functional(bytes) => (true, only_single(self.kind(bytes))),
             Event::Ticks(_) => return Ok(None),
         };
-        let Some(message) = self.receiver.peek(&kind)? else {
-            return Ok(None);
-        };
-        Ok(Some(Request {
-            functional,
-            message,
-        }))
+        self.receiver.make_room(&kind)?;
+        self.sender.make_room()?;
+        self.peek_kind(functional, &kind)
     }
 
     /// Takes a frame, field by field.

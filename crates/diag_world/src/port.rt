@@ -70,10 +70,10 @@ pub(crate) fn prepare(
             Ok(Some(Step::Ticks(*count)))
         }
         Event::Physical(_) | Event::Functional(_) => {
-            link.make_room(event)?;
+            let request = link.prepare(event)?;
             let most = link.backlog().saturating_add(2) as usize;
             out.reserve(most)?;
-            match link.peek(event)? {
+            match request {
                 Some(request) => Ok(Some(Step::Request {
                     functional: request.functional,
                     message: request.message,
