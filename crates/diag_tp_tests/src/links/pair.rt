@@ -130,13 +130,16 @@ impl Pair {
     {
         let completes = self.link.completes(event);
         let peeked = self.link.peek(event)?;
-        self.link.make_room(event)?;
+        let prepared = self.link.prepare(event)?;
         if !self.link.is_drained() {
             return Err(Trouble::State);
         }
         let request = self.link.feed(event);
         let is_answered = self.answer(reply);
-        if is_answered && request.is_some() == completes && are_same(&request, &peeked) {
+        let is_as_told = request.is_some() == completes
+            && are_same(&request, &peeked)
+            && are_same(&request, &prepared);
+        if is_answered && is_as_told {
             Ok(request)
         } else {
             Err(Trouble::Request)
