@@ -16,4 +16,4 @@ pub use diag_text::{
     replay_text, status, verdict_text, write_text, write_whole,
 };
 pub use files::read_config;
-pub use whole::{Alone, Job, Outcome, run, run_alone, run_and_tell};
+pub use whole::{Alone, Job, Outcome, run, run_alone, run_and_tell, run_text};

@@ -227,6 +227,59 @@ fn whole_woven<T: Threads + Wait + Sync, R: Read>(
     }
 }
 
+/// Reads the config and the files, plays or replays, and answers the text of the run in parts, in their order. It writes
+/// nothing: whatever then writes the parts, they are the text of a legal run over what was read.
+///
+/// # Errors
+/// As those of `run` but `Write`.
+pub fn run_text<T: Threads + Wait + Sync, R: Read>(
+    rt: &T,
+    alloc: Global,
+    job: Job,
+    config: &mut R,
+    files: &mut [R],
+) -> Result<Vec<Vec<u8>>, RunFault>
+    ensures answer { (bytes : List ℕ) (known : List (List ℕ))
+        → R.remaining config.old ≡ Some bytes
+        → AreKnown R.remaining files.old known
+        → GivesRun job (read_of job bytes known)
+        (answered (λ parts. concat (map (λ part. part.items) parts.items)) result) }
+    ensures device { (n : ℕ)
+        → result ≡ Err (RunFault.Read n)
+        → n ≤ length files.old }
+    ensures config { (n : ℕ)
+        → result ≡ Err (RunFault.Read n)
+        → 1 ≤ n
+        → IsAtEnd (R.remaining config.new) }
+    ensures reads { IfOk result (λ parts.
+        HasRead R.remaining job config.old config.new files.old files.new
+        (λ said. GivesRun job said
+        (Ok (concat (map (λ part. part.items) parts.items))))) }
+    ensures stops { IfErr result (λ e.
+        ReadingStops R.remaining job config.old config.new files.old files.new e
+        ⊎ (((n : ℕ) → e ≢ RunFault.Read n)
+        × HasRead R.remaining job config.old config.new files.old files.new
+        (λ said. GivesRun job said (Err e)))) }
+{
+    match job {
+        Job::Serial {
+            only_journal,
+            timing,
+        } => {
+            let job = Alone::Serial {
+                only_journal,
+                timing,
+            };
+            whole_alone(alloc, job, config, files)
+        }
+        Job::Play {
+            only_journal,
+            timing,
+        } => whole_woven(rt, alloc, only_journal, timing, config, files),
+        Job::Replay => whole_alone(alloc, Alone::Replay, config, files),
+    }
+}
+
 /// Reads the config and the files, plays on one thread or replays, and writes the text of the run and nothing else.
 /// Nothing is written before the text is whole. It starts no thread, waits for none, and returns.
 ///
@@ -275,61 +328,6 @@ pub fn run_alone<R: Read + Drop, W: Write>(
     }
 }
 
-/// The same of a threaded play.
-fn run_woven<T: Threads + Wait + Sync, R: Read + Drop, W: Write>(
-    rt: &T,
-    alloc: Global,
-    only_journal: bool,
-    timing: Timing,
-    mut config: R,
-    mut files: Vec<R>,
-    out: &mut W,
-) -> Result<(), RunFault>
-    ensures done { OnOk result ((bytes : List ℕ) (known : List (List ℕ))
-        → R.remaining config ≡ Some bytes
-        → AreKnown R.remaining files.items known
-        → Wrote (Job.Play only_journal timing) (read_of (Job.Play only_journal timing) bytes known)
-        (W.contents out.old) (W.contents out.new)) }
-    ensures fault { IfErr result (λ e. e ≢ RunFault.Write
-        → (bytes : List ℕ) (known : List (List ℕ))
-        → R.remaining config ≡ Some bytes
-        → AreKnown R.remaining files.items known
-        → GivesRun (Job.Play only_journal timing)
-        (read_of (Job.Play only_journal timing) bytes known) (Err e)) }
-    ensures device { (n : ℕ) → result ≡ Err (RunFault.Read n) → n ≤ length files.items }
-    ensures nothing { IfErr result (λ e.
-        e ≢ RunFault.Write → Keeps (W.contents out.old) (W.contents out.new)) }
-    ensures front { result ≡ Err RunFault.Write
-        → (bytes : List ℕ) (known : List (List ℕ))
-        → R.remaining config ≡ Some bytes
-        → AreKnown R.remaining files.items known
-        → WroteFront (Job.Play only_journal timing)
-        (read_of (Job.Play only_journal timing) bytes known)
-        (W.contents out.old) (W.contents out.new) }
-    ensures reads { OnOk result ((config' : R) × (files' : List R)
-        × HasRead R.remaining (Job.Play only_journal timing) config config' files.items files'
-        (λ said. Wrote (Job.Play only_journal timing) said (W.contents out.old) (W.contents out.new))) }
-    ensures stops { IfErr result (λ e. (config' : R) × (files' : List R)
-        × RunStops R.remaining (Job.Play only_journal timing) config config' files.items files'
-        (W.contents out.old) (W.contents out.new) e) }
-{
-    let parts = match whole_woven(
-        rt,
-        alloc,
-        only_journal,
-        timing,
-        &mut config,
-        files.as_mut_slice(),
-    ) {
-        Ok(parts) => parts,
-        Err(fault) => return Err(fault),
-    };
-    match write_whole(out, parts.as_slice()) {
-        Ok(()) => Ok(()),
-        Err(_) => Err(RunFault::Write),
-    }
-}
-
 /// Reads the config and the files, plays or replays, and writes the text of the run and nothing else. Nothing is
 /// written before the text is whole.
 ///
@@ -340,8 +338,8 @@ pub fn run<T: Threads + Wait + Sync, R: Read + Drop, W: Write>(
     rt: &T,
     alloc: Global,
     job: Job,
-    config: R,
-    files: Vec<R>,
+    mut config: R,
+    mut files: Vec<R>,
     out: &mut W,
 ) -> Result<(), RunFault>
     ensures done { OnOk result ((bytes : List ℕ) (known : List (List ℕ))
@@ -368,22 +366,13 @@ pub fn run<T: Threads + Wait + Sync, R: Read + Drop, W: Write>(
         × RunStops R.remaining job config config' files.items files'
         (W.contents out.old) (W.contents out.new) e) }
 {
-    match job {
-        Job::Serial {
-            only_journal,
-            timing,
-        } => {
-            let job = Alone::Serial {
-                only_journal,
-                timing,
-            };
-            run_alone(alloc, job, config, files, out)
-        }
-        Job::Play {
-            only_journal,
-            timing,
-        } => run_woven(rt, alloc, only_journal, timing, config, files, out),
-        Job::Replay => run_alone(alloc, Alone::Replay, config, files, out),
+    let parts = match run_text(rt, alloc, job, &mut config, files.as_mut_slice()) {
+        Ok(parts) => parts,
+        Err(fault) => return Err(fault),
+    };
+    match write_whole(out, parts.as_slice()) {
+        Ok(()) => Ok(()),
+        Err(_) => Err(RunFault::Write),
     }
 }
 

@@ -12,7 +12,8 @@ use diag_can::Timing;
 use diag_config::Setup;
 use diag_live::{Bench, Heard, live};
 use diag_run::{
-    Job, Outcome, RunFault, fault_text, read_config, run_and_tell, run_bus_and_tell, status,
+    Job, Outcome, RunFault, fault_text, read_config, run_bus_and_tell, run_text, status,
+    write_whole,
 };
 use diag_stored::{CONFIG, LOG_A, LOG_B};
 use source::Source;
@@ -255,16 +256,26 @@ fn open_all<R: Files + Input + AllocGlobal>(
     Ok((config, files))
 }
 
-/// Runs, and says the status.
+/// Makes the whole text of a run, then writes it, and says the status.
 fn run_job<R: Print + Eprint + Files + Input + AllocGlobal + Threads + Wait + Sync>(
     rt: &R,
     job: Job,
-    config: RunSource<R>,
-    files: Vec<RunSource<R>>,
+    mut config: RunSource<R>,
+    mut files: Vec<RunSource<R>>,
 ) -> ExitCode {
-    let mut out = io::writer(rt);
-    let outcome = run_and_tell(rt, rt.alloc(), job, config, files, &mut out);
+    let outcome = match run_text(rt, rt.alloc(), job, &mut config, files.as_mut_slice()) {
+        Ok(parts) => print_parts(rt, parts.as_slice()),
+        Err(fault) => stopped(rt.alloc(), &fault),
+    };
     tell(rt, &outcome)
+}
+
+/// Prints the parts of a run's text, and says how that ended.
+fn print_parts(rt: &(impl Print + AllocGlobal), parts: &[Vec<u8>]) -> Outcome {
+    match write_whole(&mut io::writer(rt), parts) {
+        Ok(()) => Outcome::Done,
+        Err(_) => stopped(rt.alloc(), &RunFault::Write),
+    }
 }
 
 /// Prints the line of a fault, and says the status.

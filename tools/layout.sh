@@ -1,0 +1,23 @@
+#!/usr/bin/env bash
+# Whether each crate is laid out as `rt fmt` lays it out, which the gate asks for and `rt check` doesn't say, and whether
+# each wrong edit still finds its text. Looks at a copy, so nothing is changed; takes a few seconds.
+# The last line is 'N passed, M failed'; the status is 0 where M is 0.
+set -uo pipefail
+cd "$(dirname "$0")/.." || exit 2
+copy=$(mktemp -d)
+trap 'rm -rf "$copy"' EXIT
+tar -c --exclude=out crates crates.txt HANDLES | tar -x -C "$copy" && git init -q "$copy" || exit 2
+
+passed=0
+failed=0
+for crate in "$copy"/crates/*/; do
+  if said=$(cd "$crate" && rt fmt 2>&1) && ! grep -qE 'formatted|cannot be applied|is not read' <<< "$said"; then
+    passed=$((passed + 1))
+  else
+    failed=$((failed + 1))
+    echo "WRONG: $(basename "$crate"):"
+    echo "$said"
+  fi
+done
+echo "$passed passed, $failed failed"
+[ "$failed" = 0 ] && [ "$passed" -gt 0 ]
