@@ -8,6 +8,7 @@ pub mod Lines
 pub mod Examples
 pub mod Meaning
 pub mod Order
+pub mod Paces
 pub mod Recordings
 pub mod Runs
 pub mod Taking

@@ -1,13 +1,14 @@
 -- What the server stands for in the midst of a line, beside what the line has drawn so far; and between two lines.
-use Rattle.std.specs.Prelude.{◌≡◌, ℕ, ◌+◌, true, List, [], ◌∷◌, ◌++◌, length, map, Option, Some, None, Ok, slice_get}
+use Rattle.std.specs.Prelude.{◌≡◌, ◌≤◌, ◌⊎◌, ℕ, ◌+◌, true, List, [], ◌∷◌, ◌++◌, length, map, Option, Some, None, Ok, slice_get}
 use Rattle.diag_can.specs.declared.bus.BusLine.{BusLine}
 use Rattle.diag_can.specs.declared.frame.Event.{Event}
 use Rattle.diag_can.specs.Reading.{later}
 use Rattle.diag_tp.specs.declared.sent.Sent.{Sent}
+use Rattle.diag_tp.specs.State.{LinkState}
 use Rattle.diag_setup.specs.declared.raw.RawSetup.{RawSetup}
 use Rattle.diag_desk.specs.declared.entry.Entry.{Entry}
 use Rattle.diag_desk.specs.Text.{ended, entry_line, journal_text_at, stamped_line, ticks_in}
-use Rattle.diag_world.specs.Server.{ServerState, Serves, sent_to, server_of}
+use Rattle.diag_world.specs.Server.{ServerState, ServerView, Serves, closing_time, sent_to, server_of}
 use Rattle.diag_bus.specs.Events.{clock_of, events_of, moment_said, reference, span_said}
 use Rattle.diag_bus.specs.Text.{drawn_text, sent_of, start_after, start_said}
 use Rattle.diag_bus.specs.declared.bus.Output.{Output}
@@ -62,6 +63,36 @@ abbrev pub Gave : MidLine → MidLine → List (ℕ × Event) → Type 0
 Gave old new more = (setup : RawSetup) (base : ℕ → List Sent) (before : List ℕ) (M : List (ℕ × Event))
     → Drew setup old base before M
     → Drew setup new base before (M ++ more)
+
+-- ---- time
+
+-- no tester's clock tells more than this
+abbrev pub IsBy : ServerView → ℕ → Type 0
+IsBy server time = (i : ℕ) (link : LinkState) → slice_get (server_of server).links i ≡ Some link → link.now ≤ time
+
+-- so much may pass before a tester's clock runs out
+pub record HasTime (server : ServerView) (span : ℕ) : Type 0 where
+  pub time : ℕ
+  pub by : IsBy server time
+  pub early : time + span ≤ closing_time
+
+-- the clocks went on by at most so much
+abbrev pub TookTime : ServerView → ServerView → ℕ → Type 0
+TookTime old new span = (time : ℕ) → IsBy old time → IsBy new (time + span)
+
+-- the clock at this place went on by at most so much, and no other did
+abbrev pub OneWentOn : ServerView → ServerView → ℕ → ℕ → Type 0
+OneWentOn old new place span = (i : ℕ) (link : LinkState)
+    → slice_get (server_of new).links i ≡ Some link
+    → (before : LinkState)
+    × (slice_get (server_of old).links i ≡ Some before)
+    × (((i ≡ place) × (link.now ≤ before.now + span)) ⊎ (link.now ≤ before.now))
+
+-- the clock at this place hasn't run out
+abbrev pub IsEarly : ServerView → ℕ → Type 0
+IsEarly server place = (link : LinkState)
+    → slice_get (server_of server).links place ≡ Some link
+    → link.now ≤ closing_time
 
 -- as many testers as before, and the same output
 pub record SameShape (old new : MidLine) : Type 0 where

@@ -52,6 +52,7 @@ pub struct Bus {
 impl Model for Bus {
     ghost use Rattle.std.specs.Prelude.{◌≡◌, ◌≤◌, length};
     ghost use Rattle.diag_world.specs.Server.{server_of};
+    ghost use Rattle.diag_bus.specs.Batch.{IsBy};
     ghost use Rattle.diag_bus.specs.Bus.{BusState};
 
     ghost Value = { BusState };
@@ -66,7 +67,8 @@ impl Model for Bus {
 
     ghost invariant = { λ b. (length b.line.server.links ≡ length b.setup.testers)
         × (length b.line.drawn.items ≡ length b.setup.testers)
-        × (length b.compared.testers.items ≤ length b.setup.testers) };
+        × (length b.compared.testers.items ≤ length b.setup.testers)
+        × IsBy b.line.server b.clock.time };
 }
 
 impl Bus {
@@ -127,16 +129,16 @@ impl Bus {
         ensures output { self.new.output ≡ self.old.output }
     {
         let (said, time) = next_said(&self.clock, line)?;
+        let reference = self.clock.reference;
+        let clock = clock_after(self.clock, &said, time);
+        self.clock = clock;
         self.line.begin();
-        self.line
-            .take_said(&self.setup, self.clock.reference, &said)?;
+        self.line.take_said(&self.setup, reference, &said)?;
         self.compared
             .take_line(&self.setup, &said, self.line.drawn.as_slice())?;
-        let clock = clock_after(self.clock, &said, time);
         self.line
             .write_drawn(&self.setup, clock.start, &mut self.batch)?;
         text.extend_from_slice(self.line.text.as_slice())?;
-        self.clock = clock;
         Ok(())
     }
 

@@ -3,7 +3,6 @@
 ghost use Rattle.std.specs.Prelude.{◌≡◌};
 
 use diag_can::LineFault;
-use diag_world::ServerFault;
 use std::alloc::AllocError;
 use thiserror::Error;
 
@@ -27,17 +26,6 @@ impl From<AllocError> for BusFault {
     ghost from_gives = { λ e f. f ≡ fault.Memory };
 
     fn from(_refused: AllocError) -> BusFault {
-        BusFault::Memory
-    }
-}
-
-impl From<ServerFault> for BusFault {
-    ghost use Rattle.diag_bus.specs.declared.fault.BusFault.TheVariants as fault;
-
-    ghost from_gives = { λ e f. f ≡ fault.Memory };
-
-    // A clock that runs out is told before the line is taken, as `Late`: the server has no more to say of it.
-    fn from(_refused: ServerFault) -> BusFault {
         BusFault::Memory
     }
 }

@@ -1,13 +1,14 @@
 //! A line of a capture, given to the server: its time to every tester, and its frame to those it is for.
 
-ghost use Rattle.std.specs.Prelude.{◌≡◌, ◌≤◌, ℕ, List, [], ◌∷◌, ◌++◌, Some, length, map, slice_get, OnOk};
+ghost use Rattle.std.specs.Prelude.{◌≡◌, ◌≤◌, ◌-◌, ℕ, List, [], ◌∷◌, ◌++◌, Ok, Some, length, map, slice_get, IfSome, IsTrue, OnOk};
 ghost use Rattle.std.specs.List.{flat_map};
 ghost use Rattle.diag_can.specs.Bus.{frame_for};
 ghost use Rattle.diag_can.specs.declared.frame.Event.{Event as AnEvent};
 ghost use Rattle.diag_can.specs.Log.{waited};
+ghost use Rattle.diag_tp.specs.Link.{is_frame};
 ghost use Rattle.diag_tp.specs.Moments.{counted_from};
 ghost use Rattle.diag_tp.specs.declared.sent.Sent.{Sent as ASent};
-ghost use Rattle.diag_bus.specs.Events.{frame_to, said_gives, to_each};
+ghost use Rattle.diag_bus.specs.Events.{frame_to, said_gives, span_said, to_each};
 
 use crate::bus::Output;
 use crate::clock::{Start, silence};
@@ -33,7 +34,7 @@ pub struct MidLine {
 }
 
 impl MidLine {
-    ghost use Rattle.diag_bus.specs.Batch.{Gave, SameShape, lists_of, replied};
+    ghost use Rattle.diag_bus.specs.Batch.{Gave, HasTime, IsEarly, OneWentOn, SameShape, TookTime, lists_of, replied};
 
     /// Begins a line: nothing was drawn and nothing written.
     pub fn begin(&mut self)
@@ -66,16 +67,23 @@ impl MidLine {
         }
     }
 
-    /// Gives the server an event of a tester.
-    fn give(&mut self, who: Who, event: &Event) -> Result<(), ServerFault>
+    /// Gives the server a frame of a tester.
+    fn give(&mut self, who: Who, event: &Event) -> Result<(), AllocError>
         requires in_setup { who ≤ length self.old.server.links }
         requires lists { length self.old.drawn.items ≡ length self.old.server.links }
+        requires frame { IsTrue (is_frame event.now) }
+        requires early { IsEarly self.old.server (who - 1) }
         ensures ok { OnOk result (Gave self.old self.new ((who, event.now) ∷ [])) }
         ensures shape { SameShape self.old self.new }
+        ensures pace { OneWentOn self.old.server self.new.server (who - 1) 0 }
     {
         let index = usize::from(who.place()) - 1;
         let out = &mut self.drawn[index];
-        let asked = self.server.ask(who, event, out)?;
+        let asked = match self.server.ask(who, event, out) {
+            Ok(asked) => asked,
+            Err(ServerFault::Memory) => return Err(AllocError),
+            Err(ServerFault::Clock) => unreachable!(),
+        };
         enter(
             self.output,
             self.server.now(who),
@@ -87,27 +95,33 @@ impl MidLine {
     }
 
     /// Gives the server ticks of a tester.
-    fn give_ticks(&mut self, who: Who, count: TickCount) -> Result<(), ServerFault>
+    fn give_ticks(&mut self, who: Who, count: TickCount) -> Result<(), AllocError>
         requires in_setup { who ≤ length self.old.server.links }
         requires lists { length self.old.drawn.items ≡ length self.old.server.links }
+        requires early { IsEarly self.old.server (who - 1) }
         ensures ok { OnOk result (Gave self.old self.new ((who, AnEvent.Ticks count) ∷ [])) }
         ensures shape { SameShape self.old self.new }
+        ensures pace { OneWentOn self.old.server self.new.server (who - 1) count }
     {
         let index = usize::from(who.place()) - 1;
         let now = self.server.now(who);
         let out = &mut self.drawn[index];
-        self.server.ticks(who, count, out)?;
-        enter_ticks(self.output, now, who, count, &mut self.text)?;
-        Ok(())
+        match self.server.ticks(who, count, out) {
+            Ok(()) => enter_ticks(self.output, now, who, count, &mut self.text),
+            Err(ServerFault::Memory) => Err(AllocError),
+            Err(ServerFault::Clock) => unreachable!(),
+        }
     }
 
     /// Gives the server so many ticks of each tester, in order.
-    fn give_each(&mut self, setup: &Setup, count: TickCount) -> Result<(), ServerFault>
+    fn give_each(&mut self, setup: &Setup, count: TickCount) -> Result<(), AllocError>
         requires in_setup { length self.old.server.links ≡ length setup.now.testers }
         requires lists { length self.old.drawn.items ≡ length setup.now.testers }
+        requires early { HasTime self.old.server count }
         ensures ok { OnOk result
             (Gave self.old self.new (to_each (length setup.now.testers) (AnEvent.Ticks count))) }
         ensures shape { SameShape self.old self.new }
+        ensures pace { TookTime self.old.server self.new.server count }
     {
         for index in 0..setup.testers() {
             let Some(who) = setup.who(index) else {
@@ -119,12 +133,14 @@ impl MidLine {
     }
 
     /// Lets so many milliseconds pass for each tester: 60000 each, and last the rest.
-    fn pass(&mut self, setup: &Setup, ms: u64) -> Result<(), ServerFault>
+    fn pass(&mut self, setup: &Setup, ms: u64) -> Result<(), AllocError>
         requires in_setup { length self.old.server.links ≡ length setup.now.testers }
         requires lists { length self.old.drawn.items ≡ length setup.now.testers }
+        requires early { HasTime self.old.server ms }
         ensures ok { OnOk result (Gave self.old self.new
             (flat_map (to_each (length setup.now.testers)) (waited ms))) }
         ensures shape { SameShape self.old self.new }
+        ensures pace { TookTime self.old.server self.new.server ms }
     {
         for part in 0..ms / 60000 {
             self.give_each(setup, TickCount::longest())?;
@@ -136,13 +152,15 @@ impl MidLine {
     }
 
     /// Gives the server a frame, for each tester that it is for.
-    fn give_frame(&mut self, setup: &Setup, frame: &Frame) -> Result<(), ServerFault>
+    fn give_frame(&mut self, setup: &Setup, frame: &Frame) -> Result<(), AllocError>
         requires in_setup { length self.old.server.links ≡ length setup.now.testers }
         requires lists { length self.old.drawn.items ≡ length setup.now.testers }
+        requires early { HasTime self.old.server 0 }
         ensures ok { OnOk result (Gave self.old self.new
             (flat_map (frame_to setup.now (Some frame.now))
             (counted_from 1 (length setup.now.testers)))) }
         ensures shape { SameShape self.old self.new }
+        ensures pace { TookTime self.old.server self.new.server 0 }
     {
         for index in 0..setup.testers() {
             let Some(who) = setup.who(index) else {
@@ -161,11 +179,14 @@ impl MidLine {
         setup: &Setup,
         reference: Option<u64>,
         said: &BusLine,
-    ) -> Result<(), ServerFault>
+    ) -> Result<(), AllocError>
         requires in_setup { length self.old.server.links ≡ length setup.now.testers }
         requires lists { length self.old.drawn.items ≡ length setup.now.testers }
+        requires early { HasTime self.old.server (span_said reference (Ok said.now)) }
         ensures ok { OnOk result (Gave self.old self.new (said_gives setup.now reference said.now)) }
         ensures shape { SameShape self.old self.new }
+        ensures pace { TookTime self.old.server self.new.server
+            (span_said reference (Ok said.now)) }
     {
         match said {
             BusLine::Empty => Ok(()),
@@ -194,7 +215,8 @@ fn clear(drawn: &mut Vec<Vec<Sent>>)
 
 /// What a frame is to the tester of these identifiers.
 fn frame_for(ids: &Ids, frame: &Frame) -> Option<Event>
-    ensures { result ≡ frame_for ids.now (Some frame.now) }
+    ensures is { result ≡ frame_for ids.now (Some frame.now) }
+    ensures frame { IfSome result (λ event. IsTrue (is_frame event)) }
 {
     if frame.id == ids.request {
         Some(Event::Physical(copy_of(&frame.bytes)))

@@ -1,15 +1,17 @@
-use Rattle.std.proofs.Common.{◌≡◌, ◌<◌, ◌+◌, ◌-◌, ◌++◌, Some, List, length, map, refl, ap, subst, sym, ◌∙◌, arith}
+use Rattle.std.proofs.Common.{Err, ◌≡◌, ◌<◌, ◌+◌, ◌-◌, ◌++◌, Some, List, length, map, refl, ap, subst, sym, ◌∙◌, arith}
 use Rattle.std.proofs.lemmas.List.{length-map, map-set}
 use Rattle.std.proofs.lemmas.Option.{slice_get_read, slice_get-map}
 use Rattle.std.specs.Prelude.{slice_get, slice_set}
 use Rattle.std.specs.Option.{option_map}
 use Rattle.diag_tp.specs.State.{LinkView}
 use Rattle.diag_tp.specs.declared.sent.Sent.{Sent}
+use Rattle.diag_world.specs.declared.server.ServerFault.TheVariants as fault
 use Rattle.diag_world.specs.Server.{ServerState, Serves, Settled, server_of}
 use Rattle.std.specs.Vec.{with_item}
 use Rattle.diag_bus.specs.Batch.{entry_added}
 use Rattle.diag_bus.specs.declared.mid_line.MidLine.{MidLine}
 use Rattle.diag_bus.proofs.Batches.{clock_told, drew_more, early_now, found_at}
+use Rattle.diag_bus.proofs.Paces.{frame_time, stays, went_on}
 use Rattle.diag_bus.proofs.mid_line.MidLine.give.Goals as goal
 
 pub enter-requires : goal.enter-requires
@@ -17,9 +19,9 @@ enter-requires c =
     let links = c.ask.new.self.links in
     let state = λ (l : LinkView). l.state in
     let many : length links ≡ length c.args.self.now.server.links =
-    sym (length-map links state) ∙ (ap (λ (s : ServerState). length s.links) c.in_ok-asked.ensures.same ∙ length-map c.args.self.now.server.links state) in
+    sym (length-map links state) ∙ (ap (λ (s : ServerState). length s.links) c.in-Ok.ensures.same ∙ length-map c.args.self.now.server.links state) in
     let within : c.args.who - 1 < length links = omega (arith, many, c.requires.in_setup, c.place.ensures.same, c.place.ensures.fits.0) in
-    early_now links (c.args.who - 1) c.now.result within c.now.ensures (λ link at. (c.in_ok-asked.ensures.asked link at).early)
+    early_now links (c.args.who - 1) c.now.result within c.now.ensures (λ link at. (c.in-Ok.ensures.asked link at).early)
 
 pub returns-clause-ok : goal.returns-clause-ok
 returns-clause-ok c = λ setup base before M h.
@@ -28,17 +30,17 @@ returns-clause-ok c = λ setup base before M h.
     let drawn = old.drawn.items in
     let i = c.from-index.result - 1 in
     let who = c.args.who in
-    let asked = c.in_ok-asked.asked in
+    let asked = c.in-Ok.asked in
     let is : who ≡ i + 1 = omega (arith, c.from-index.ensures, c.place.ensures.same, c.place.ensures.fits.0) in
     let within : i < length drawn = omega (arith, is, c.requires.in_setup, c.requires.lists) in
     let list = c.index_mut-out.result.now in
     let here : slice_get drawn i ≡ Some list = slice_get_read drawn (length drawn) i list refl within c.index_mut-out.ensures.value in
     let found : slice_get (map (λ f. f.items) drawn) i ≡ Some list.items = slice_get-map (λ f. f.items) drawn i ∙ ap (option_map (λ f. f.items)) here in
     let grew = c.settle.ensures.took in
-    let same = c.in_ok-asked.ensures.same in
+    let same = c.in-Ok.ensures.same in
     let settled = subst (λ (s : ServerState). Settled s (server_of c.settle.new.self) who c.args.event.now asked grew.more) same grew.holds in
     let lists = map-set (λ f. f.items) drawn i c.settle.new.out
-    ∙ ap (λ (w : List Sent). slice_set (map (λ f. f.items) drawn) i w) (grew.grown ∙ ap (λ w. w ++ grew.more) c.in_ok-asked.ensures.out) in
+    ∙ ap (λ (w : List Sent). slice_set (map (λ f. f.items) drawn) i w) (grew.grown ∙ ap (λ w. w ++ grew.more) c.in-Ok.ensures.out) in
     let text = c.in_ok-enter.ensures ∙ ap (λ a. old.text.items ++ entry_added old.output c.now.result a) c.as_ref.ensures.value in
     let links = c.ask.new.self.links in
     let state = λ (l : LinkView). l.state in
@@ -47,9 +49,28 @@ returns-clause-ok c = λ setup base before M h.
     let place : who ≡ (who - 1) + 1 = omega (arith, is) in
     let there : who - 1 < length links = omega (arith, many, is, c.requires.in_setup) in
     let link = found_at links (who - 1) there in
-    let early = early_now links (who - 1) c.now.result there c.now.ensures (λ l at. (c.in_ok-asked.ensures.asked l at).early) in
-    let by = (c.in_ok-asked.ensures.asked link.0 link.1).by in
+    let early = early_now links (who - 1) c.now.result there c.now.ensures (λ l at. (c.in-Ok.ensures.asked l at).early) in
+    let by = (c.in-Ok.ensures.asked link.0 link.1).by in
     drew_more setup old new base before M who i c.now.result c.args.event.now asked list.items grew.more
     settled is found lists refl text
     (λ K served. clock_told setup c.ask.new.self M K who (who - 1) c.now.result asked (subst (λ (s : ServerState). Serves setup s M K) (sym same) served) place there c.now.ensures early by)
     h
+
+pub unreachable-requires : goal.unreachable-requires
+unreachable-requires c =
+    let is : c.ask.result ≡ Err fault.Clock = cc in
+    let closed = c.ask.ensures.closed is in
+    let early = c.requires.early closed.link closed.found in
+    omega (arith, early, closed.late)
+
+pub returns-clause-pace : goal.returns-clause-pace
+returns-clause-pace c =
+    let grew = c.settle.ensures.took in
+    let settled = subst (λ (s : ServerState). Settled s (server_of c.settle.new.self) c.args.who c.args.event.now c.in-Ok.asked grew.more) c.in-Ok.ensures.same grew.holds in
+    went_on c.args.self.now.server c.settle.new.self (c.args.who - 1) 0 c.args.event.now c.in-Ok.asked grew.more settled.moved (frame_time c.args.event.now c.requires.frame)
+
+pub returns-in-Err-Memory-clause-pace : goal.returns-in-Err-Memory-clause-pace
+returns-in-Err-Memory-clause-pace c = stays c.args.self.now.server c.ask.new.self (c.args.who - 1) 0 c.ask.ensures.same
+
+pub returns-in_err-enter-clause-pace : goal.returns-in_err-enter-clause-pace
+returns-in_err-enter-clause-pace c = stays c.args.self.now.server c.ask.new.self (c.args.who - 1) 0 c.in-Ok.ensures.same

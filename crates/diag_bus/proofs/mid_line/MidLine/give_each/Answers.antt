@@ -1,13 +1,14 @@
-use Rattle.std.proofs.Common.{◌≡◌, length, subst, sym, arith}
+use Rattle.std.proofs.Common.{◌≡◌, ◌+◌, ◌-◌, length, subst, sym, arith}
 use Rattle.diag_can.specs.declared.frame.Event.TheVariants.{Ticks}
 use Rattle.diag_world.proofs.Worlds.{who_found}
 use Rattle.diag_bus.specs.Batch.{Gave}
 use Rattle.diag_bus.specs.Events.{to_each}
 use Rattle.diag_bus.proofs.Batches.{each_more, gave_more, gave_none, same_more, same_none}
+use Rattle.diag_bus.proofs.Paces.{some_all, some_more, some_none}
 use Rattle.diag_bus.proofs.mid_line.MidLine.give_each.Goals as goal
 
 pub loop-index-init : goal.loop-index-init
-loop-index-init c = record { shape = same_none c.args.self.now; gave = gave_none c.args.self.now }
+loop-index-init c = record { shape = same_none c.args.self.now; gave = gave_none c.args.self.now; pace = some_none c.args.self.now.server c.args.count }
 
 pub give_ticks-requires-clause-in_setup : goal.give_ticks-requires-clause-in_setup
 give_ticks-requires-clause-in_setup c =
@@ -17,6 +18,13 @@ give_ticks-requires-clause-in_setup c =
 pub give_ticks-requires-clause-lists : goal.give_ticks-requires-clause-lists
 give_ticks-requires-clause-lists c = omega (arith, c.loop-index.invariant.shape.links, c.loop-index.invariant.shape.lists, c.requires.in_setup, c.requires.lists)
 
+pub give_ticks-requires-clause-early : goal.give_ticks-requires-clause-early
+give_ticks-requires-clause-early c = λ link at.
+    let who = who_found c.args.setup.now c.loop-index.index c.in-Some.who c.in-Some.ensures in
+    let time = c.requires.early in
+    let low = (c.loop-index.invariant.pace time.time time.by (c.in-Some.who - 1) link at).1 (omega (arith, who)) in
+    omega (arith, low, time.early)
+
 pub loop-index-preserved : goal.loop-index-preserved
 loop-index-preserved c =
     let inv = c.loop-index.invariant in
@@ -25,6 +33,7 @@ loop-index-preserved c =
       shape = same_more c.args.self.now c.loop-index.self c.give_ticks.new.self inv.shape c.give_ticks.ensures.shape;
       gave = subst (λ L. Gave c.args.self.now c.give_ticks.new.self L) (sym (each_more c.loop-index.index (Ticks c.args.count) c.in-Some.who who))
           (gave_more c.args.self.now c.loop-index.self c.give_ticks.new.self _ _ inv.gave c.in_ok-give_ticks.ensures.ok);
+      pace = some_more c.args.self.now.server c.loop-index.self.server c.give_ticks.new.self.server c.loop-index.index (c.in-Some.who - 1) c.args.count (omega (arith, who)) inv.pace c.give_ticks.ensures.pace;
     }
 
 pub returns-clause-ok : goal.returns-clause-ok
@@ -34,3 +43,12 @@ returns-clause-ok c =
 
 pub returns-in_err-give_ticks-clause-shape : goal.returns-in_err-give_ticks-clause-shape
 returns-in_err-give_ticks-clause-shape c = same_more c.args.self.now c.loop-index.self c.give_ticks.new.self c.loop-index.invariant.shape c.give_ticks.ensures.shape
+
+pub returns-clause-pace : goal.returns-clause-pace
+returns-clause-pace c = some_all c.args.self.now.server c.loop-index.self.server c.loop-index.index c.args.count c.loop-index.invariant.pace
+
+pub returns-in_err-give_ticks-clause-pace : goal.returns-in_err-give_ticks-clause-pace
+returns-in_err-give_ticks-clause-pace c =
+    let who = who_found c.args.setup.now c.loop-index.index c.in-Some.who c.in-Some.ensures in
+    some_all c.args.self.now.server c.give_ticks.new.self.server (c.loop-index.index + 1) c.args.count
+    (some_more c.args.self.now.server c.loop-index.self.server c.give_ticks.new.self.server c.loop-index.index (c.in-Some.who - 1) c.args.count (omega (arith, who)) c.loop-index.invariant.pace c.give_ticks.ensures.pace)

@@ -1,4 +1,4 @@
-use Rattle.std.proofs.Common.{◌≡◌, Some, None, ◌++◌, length, ap, subst, sym, ◌∙◌, arith}
+use Rattle.std.proofs.Common.{◌≡◌, ◌-◌, Some, None, ◌++◌, length, ap, subst, sym, ◌∙◌, arith}
 use Rattle.std.proofs.lemmas.List.{append-nil}
 use Rattle.std.specs.List.{flat_map}
 use Rattle.diag_tp.specs.Moments.{counted_from}
@@ -7,11 +7,12 @@ use Rattle.diag_world.proofs.Worlds.{who_found}
 use Rattle.diag_bus.specs.Batch.{Gave}
 use Rattle.diag_bus.specs.Events.{frame_to}
 use Rattle.diag_bus.proofs.Batches.{frame_given, frames_more, gave_none, gave_more, same_more, same_none}
+use Rattle.diag_bus.proofs.Paces.{took_none, took_one}
 use Rattle.diag_bus.proofs.mid_line.MidLine.give_frame.Goals.{in-Some-frame_for+in_ok-give, in_default-frame_for}
 use Rattle.diag_bus.proofs.mid_line.MidLine.give_frame.Goals as goal
 
 pub loop-index-init : goal.loop-index-init
-loop-index-init c = record { shape = same_none c.args.self.now; gave = gave_none c.args.self.now }
+loop-index-init c = record { shape = same_none c.args.self.now; gave = gave_none c.args.self.now; pace = took_none c.args.self.now.server 0 }
 
 pub give-requires-clause-in_setup : goal.give-requires-clause-in_setup
 give-requires-clause-in_setup c =
@@ -20,6 +21,18 @@ give-requires-clause-in_setup c =
 
 pub give-requires-clause-lists : goal.give-requires-clause-lists
 give-requires-clause-lists c = omega (arith, c.loop-index.invariant.shape.links, c.loop-index.invariant.shape.lists, c.requires.in_setup, c.requires.lists)
+
+pub give-requires-clause-early : goal.give-requires-clause-early
+give-requires-clause-early c = λ link at.
+    let time = c.requires.early in
+    let low = c.loop-index.invariant.pace time.time time.by (c.in-Some.who - 1) link at in
+    omega (arith, low, time.early)
+
+pub give-requires-clause-frame : goal.give-requires-clause-frame
+give-requires-clause-frame c = c.in-Some-frame_for.ensures.frame
+
+pub returns-in_err-give-clause-pace : goal.returns-in_err-give-clause-pace
+returns-in_err-give-clause-pace c = took_one c.args.self.now.server c.loop-index.self.server c.give.new.self.server 0 (c.in-Some.who - 1) 0 0 (omega arith) c.loop-index.invariant.pace c.give.ensures.pace
 
 pub loop-index-preserved : goal.loop-index-preserved
 loop-index-preserved c =
@@ -31,17 +44,19 @@ loop-index-preserved c =
     let L = flat_map (frame_to c.args.setup.now (Some frame)) (counted_from 1 c.loop-index.index) in
     elim c.match-frame_for.branch [
       | in-Some-frame_for+in_ok-give w ↦ (
-          let is = given (Some w.in-Some-frame_for.event) c.ids.ensures c.frame_for.ensures w.in-Some-frame_for.is in
+          let is = given (Some w.in-Some-frame_for.event) c.ids.ensures c.frame_for.ensures.is w.in-Some-frame_for.is in
           rw w.self-is (record {
             shape = same_more c.args.self.now c.loop-index.self w.give.new.self inv.shape w.give.ensures.shape;
             gave = subst (λ N. Gave c.args.self.now w.give.new.self N) (sym (more ∙ ap (λ x. L ++ x) is))
                 (gave_more c.args.self.now c.loop-index.self w.give.new.self _ _ inv.gave w.in_ok-give.ensures.ok);
+            pace = took_one c.args.self.now.server c.loop-index.self.server w.give.new.self.server 0 (c.in-Some.who - 1) 0 0 (omega arith) inv.pace w.give.ensures.pace;
           }))
       | in_default-frame_for w ↦ (
-          let is = given None c.ids.ensures c.frame_for.ensures (none_of c.frame_for.result w.in_default-frame_for.not-Some) in
+          let is = given None c.ids.ensures c.frame_for.ensures.is (none_of c.frame_for.result w.in_default-frame_for.not-Some) in
           rw w.self-is (record {
             shape = inv.shape;
             gave = subst (λ N. Gave c.args.self.now c.loop-index.self N) (sym (more ∙ (ap (λ x. L ++ x) is ∙ append-nil L))) inv.gave;
+            pace = inv.pace;
           }))
     ]
 

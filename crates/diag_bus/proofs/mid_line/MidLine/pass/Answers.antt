@@ -1,4 +1,4 @@
-use Rattle.std.proofs.Common.{◌≡◌, ◌≤◌, true, false, ◌++◌, length, refl, ap, subst, sym, ◌∙◌, arith}
+use Rattle.std.proofs.Common.{◌≡◌, ◌≤◌, ◌<◌, ◌+◌, ◌*◌, ℕ, true, false, ◌++◌, length, refl, ap, subst, sym, ◌∙◌, arith}
 use Rattle.std.specs.List.{flat_map}
 use Rattle.std.specs.Prelude.{replicate, ◌/◌, ◌%◌}
 use Rattle.diag_can.specs.declared.frame.Event.TheVariants.{Ticks}
@@ -6,16 +6,53 @@ use Rattle.diag_world.proofs.Worlds.{on_ok}
 use Rattle.diag_bus.specs.Batch.{Gave}
 use Rattle.diag_bus.specs.Events.{to_each}
 use Rattle.diag_bus.proofs.Batches.{parts_more, rest_more, waited_whole, waited_rest, gave_none, gave_more, same_more, same_none}
+use Rattle.diag_bus.proofs.Paces.{has_left, took_more, took_none}
 use Rattle.diag_bus.proofs.mid_line.MidLine.pass.Goals as goal
 
 pub loop-part-init : goal.loop-part-init
-loop-part-init c = record { shape = same_none c.args.self.now; gave = gave_none c.args.self.now }
+loop-part-init c = record { shape = same_none c.args.self.now; gave = gave_none c.args.self.now; pace = took_none c.args.self.now.server (60000 * 0) }
 
 pub give_each-requires-clause-in_setup : goal.give_each-requires-clause-in_setup
 give_each-requires-clause-in_setup c = c.loop-part.invariant.shape.links ∙ c.requires.in_setup
 
 pub give_each-requires-clause-lists : goal.give_each-requires-clause-lists
 give_each-requires-clause-lists c = c.loop-part.invariant.shape.lists ∙ c.requires.lists
+
+-- one part more fits
+parts_fit : (part ms : ℕ) → part < ms / 60000 → 60000 * part + 60000 ≤ ms
+parts_fit part ms less = omega arith
+
+pub give_each-requires-clause-early : goal.give_each-requires-clause-early
+give_each-requires-clause-early c =
+    let fits = parts_fit c.loop-part.part c.args.ms (omega (arith, c.loop-part-test.true)) in
+    has_left c.args.self.now.server c.loop-part.self.server c.args.ms (60000 * c.loop-part.part) c.longest.result (omega (arith, c.longest.ensures, fits)) c.requires.early c.loop-part.invariant.pace
+
+pub returns-in_err-give_each-clause-pace : goal.returns-in_err-give_each-clause-pace
+returns-in_err-give_each-clause-pace c =
+    let fits = parts_fit c.loop-part.part c.args.ms (omega (arith, c.loop-part-test.true)) in
+    took_more c.args.self.now.server c.loop-part.self.server c.give_each.new.self.server (60000 * c.loop-part.part) c.longest.result c.args.ms (omega (arith, c.longest.ensures, fits)) c.loop-part.invariant.pace c.give_each.ensures.pace
+
+-- what is left behind the parts
+rest_fits : (part ms : ℕ) → part ≡ ms / 60000 → 60000 * part + ms % 60000 ≤ ms
+rest_fits part ms is = omega arith
+
+pub give_each-requires-in-Some-clause-early : goal.give_each-requires-in-Some-clause-early
+give_each-requires-in-Some-clause-early c =
+    let ended : c.loop-part.part ≡ c.args.ms / 60000 = omega (arith, c.loop-part.auto.part-end, c.loop-part-test.false) in
+    let fits = rest_fits c.loop-part.part c.args.ms ended in
+    has_left c.args.self.now.server c.loop-part.self.server c.args.ms (60000 * c.loop-part.part) c.in-Some.rest (omega (arith, c.in-Some.ensures.value, fits)) c.requires.early c.loop-part.invariant.pace
+
+pub returns-in-None-clause-pace : goal.returns-in-None-clause-pace
+returns-in-None-clause-pace c =
+    let ended : c.loop-part.part ≡ c.args.ms / 60000 = omega (arith, c.loop-part.auto.part-end, c.loop-part-test.false) in
+    let fits = rest_fits c.loop-part.part c.args.ms ended in
+    took_more c.args.self.now.server c.loop-part.self.server c.loop-part.self.server (60000 * c.loop-part.part) 0 c.args.ms (omega (arith, fits)) c.loop-part.invariant.pace (took_none c.loop-part.self.server 0)
+
+pub returns-in-Some-clause-pace : goal.returns-in-Some-clause-pace
+returns-in-Some-clause-pace c =
+    let ended : c.loop-part.part ≡ c.args.ms / 60000 = omega (arith, c.loop-part.auto.part-end, c.loop-part-test.false) in
+    let fits = rest_fits c.loop-part.part c.args.ms ended in
+    took_more c.args.self.now.server c.loop-part.self.server c.give_each-in-Some.new.self.server (60000 * c.loop-part.part) c.in-Some.rest c.args.ms (omega (arith, c.in-Some.ensures.value, fits)) c.loop-part.invariant.pace c.give_each-in-Some.ensures.pace
 
 pub loop-part-preserved : goal.loop-part-preserved
 loop-part-preserved c =
@@ -27,6 +64,7 @@ loop-part-preserved c =
       gave = subst (λ L. Gave c.args.self.now c.give_each.new.self L)
           (ap (λ w. flat_map (to_each n) (replicate c.loop-part.part (Ticks 60000)) ++ w) long ∙ sym (parts_more n c.loop-part.part (Ticks 60000)))
           (gave_more c.args.self.now c.loop-part.self c.give_each.new.self _ _ inv.gave c.in_ok-give_each.ensures.ok);
+      pace = took_more c.args.self.now.server c.loop-part.self.server c.give_each.new.self.server (60000 * c.loop-part.part) c.longest.result (60000 * (c.loop-part.part + 1)) (omega (arith, c.longest.ensures)) inv.pace c.give_each.ensures.pace;
     }
 
 clash : false ≡ true → ⊥

@@ -1,12 +1,13 @@
-use Rattle.std.proofs.Common.{◌∙◌, ◌++◌, Some, ap, length, subst}
+use Rattle.std.proofs.Common.{◌∙◌, ◌++◌, Ok, Some, ap, length, subst, sym, arith}
 use Rattle.std.specs.List.{flat_map}
 use Rattle.diag_can.specs.Log.{waited}
 use Rattle.diag_tp.specs.Moments.{counted_from}
-use Rattle.diag_bus.specs.Events.{frame_to, to_each}
+use Rattle.diag_bus.specs.Events.{frame_to, span_said, to_each}
 use Rattle.diag_world.proofs.Worlds.{on_ok}
-use Rattle.diag_bus.specs.Batch.{Gave}
+use Rattle.diag_bus.specs.Batch.{Gave, HasTime, TookTime}
 use Rattle.diag_bus.proofs.Batches.{gave_more, gave_none}
 use Rattle.diag_bus.proofs.Lines.{said_empty, said_frame, said_ticks, said_quiet}
+use Rattle.diag_bus.proofs.Paces.{has_left, took_more, took_none}
 use Rattle.diag_bus.proofs.mid_line.MidLine.take_said.Goals as goal
 
 pub returns-in-Empty-clause-ok : goal.returns-in-Empty-clause-ok
@@ -37,3 +38,45 @@ returns-in-Some-clause-ok c =
     ∙ said_frame c.args.setup.now c.args.reference c.args.said.now c.in-Stamped.moment c.in-Stamped.frame c.in-Some.frame c.in-Stamped.is c.in-Some.is)
     (gave_more c.args.self.now c.pass.new.self c.give_frame.new.self _ _ c.in_ok-pass-in-Stamped.ensures.ok gave))
     c.give_frame.ensures.ok
+
+-- ---- time
+
+pub returns-in-Empty-clause-pace : goal.returns-in-Empty-clause-pace
+returns-in-Empty-clause-pace c = took_none c.args.self.now.server (span_said c.args.reference (Ok c.args.said.now))
+
+pub give_each-requires-clause-early : goal.give_each-requires-clause-early
+give_each-requires-clause-early c =
+    let span = ap (λ s. span_said c.args.reference (Ok s)) c.in-Ticks.is in
+    subst (HasTime c.args.self.now.server) span c.requires.early
+
+pub returns-in-Ticks-clause-pace : goal.returns-in-Ticks-clause-pace
+returns-in-Ticks-clause-pace c =
+    let span = ap (λ s. span_said c.args.reference (Ok s)) c.in-Ticks.is in
+    subst (TookTime c.args.self.now.server c.give_each.new.self.server) (sym span) c.give_each.ensures.pace
+
+pub pass-requires-clause-early : goal.pass-requires-clause-early
+pass-requires-clause-early c =
+    let span = ap (λ s. span_said c.args.reference (Ok s)) c.in-Stamped.is ∙ sym c.silence.ensures in
+    subst (HasTime c.args.self.now.server) span c.requires.early
+
+pub give_frame-requires-clause-early : goal.give_frame-requires-clause-early
+give_frame-requires-clause-early c =
+    let span = ap (λ s. span_said c.args.reference (Ok s)) c.in-Stamped.is ∙ sym c.silence.ensures in
+    has_left c.args.self.now.server c.pass.new.self.server c.silence.result c.silence.result 0 (omega arith)
+    (subst (HasTime c.args.self.now.server) span c.requires.early) c.pass.ensures.pace
+
+pub returns-in-None-clause-pace : goal.returns-in-None-clause-pace
+returns-in-None-clause-pace c =
+    let span = ap (λ s. span_said c.args.reference (Ok s)) c.in-Stamped.is ∙ sym c.silence.ensures in
+    subst (TookTime c.args.self.now.server c.pass.new.self.server) (sym span) c.pass.ensures.pace
+
+pub returns-in-Some-clause-pace : goal.returns-in-Some-clause-pace
+returns-in-Some-clause-pace c =
+    let span = ap (λ s. span_said c.args.reference (Ok s)) c.in-Stamped.is ∙ sym c.silence.ensures in
+    subst (TookTime c.args.self.now.server c.give_frame.new.self.server) (sym span)
+    (took_more c.args.self.now.server c.pass.new.self.server c.give_frame.new.self.server c.silence.result 0 c.silence.result (omega arith) c.pass.ensures.pace c.give_frame.ensures.pace)
+
+pub returns-in_err-pass-in-Stamped-clause-pace : goal.returns-in_err-pass-in-Stamped-clause-pace
+returns-in_err-pass-in-Stamped-clause-pace c =
+    let span = ap (λ s. span_said c.args.reference (Ok s)) c.in-Stamped.is ∙ sym c.silence.ensures in
+    subst (TookTime c.args.self.now.server c.pass.new.self.server) (sym span) c.pass.ensures.pace

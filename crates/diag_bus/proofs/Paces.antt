@@ -1,0 +1,91 @@
+-- How the testers' clocks go on in a line.
+use Rattle.std.proofs.Common.{◌≡◌, ◌≤◌, ℕ, ◌+◌, Option, Ok, Some, List, subst, sym, ap, arith, inl, inr}
+use Rattle.std.specs.Prelude.{IsTrue, slice_get}
+use Rattle.diag_can.specs.declared.bus.BusLine.{BusLine}
+use Rattle.diag_can.specs.declared.frame.Event.{Event}
+use Rattle.diag_can.specs.declared.frame.Event.TheVariants.{Physical, Functional, Ticks}
+use Rattle.diag_tp.specs.declared.sent.Sent.{Sent}
+use Rattle.diag_tp.specs.Link.{is_frame}
+use Rattle.diag_tp.specs.State.{LinkState}
+use Rattle.diag_desk.specs.declared.entry.Entry.{Entry}
+use Rattle.diag_world.specs.Port.{time_after}
+use Rattle.diag_world.specs.Server.{MovedOn, ServerState, ServerView, server_of}
+use Rattle.diag_world.proofs.Worlds.{set_cases}
+use Rattle.diag_bus.specs.Batch.{GoesOn, HasTime, IsBy, OneWentOn, TookTime}
+use Rattle.diag_bus.specs.Events.{span_said}
+use Rattle.diag_bus.specs.declared.clock.Clock.{Clock}
+
+-- ---- one tester
+
+pub frame_time : (e : Event) → IsTrue (is_frame e) → (now : ℕ) → time_after now e ≤ now + 0
+frame_time (Physical bytes) frame now = omega arith
+frame_time (Functional bytes) frame now = omega arith
+frame_time (Ticks n) frame now = absurd (no_frame frame)
+  where
+    no_frame : IsTrue (is_frame (Ticks n)) → ⊥
+    no_frame h = cc
+
+pub ticks_time : (n now : ℕ) → time_after now (Ticks n) ≤ now + n
+ticks_time n now = omega arith
+
+-- a server that took an event of the tester
+pub went_on : (old new : ServerView) (place span : ℕ) (e : Event) (asked : Option Entry) (more : List Sent) → MovedOn (server_of old).links (server_of new).links place e asked more
+    → ((now : ℕ) → time_after now e ≤ now + span) → OneWentOn old new place span
+went_on old new place span e asked more moved most = λ i link at. elim (set_cases (server_of old).links place i moved.after link (subst (λ ls. slice_get ls i ≡ Some link) moved.set at)) [
+  | inl p ↦ (
+      let same : link.now ≡ moved.after.now = ap (λ (l : LinkState). l.now) p.1 in
+      let fits : link.now ≤ moved.before.now + span = omega (arith, same, moved.time, most moved.before.now) in
+      (moved.before, subst (λ k. slice_get (server_of old).links k ≡ Some moved.before) (sym p.0) moved.found, inl (p.0, fits)))
+  | inr p ↦ (let same : link.now ≤ link.now = omega arith in (link, p.1, inr same))
+]
+
+-- a server that is as it was
+pub stays : (old new : ServerView) (place span : ℕ) → server_of new ≡ server_of old → OneWentOn old new place span
+stays old new place span is = λ i link at. (let same : link.now ≤ link.now = omega arith in (link, subst (λ (s : ServerState). slice_get s.links i ≡ Some link) is at, inr same))
+
+-- ---- one tester behind the other
+
+-- the clocks of so many testers went on by at most so much, and no others
+abbrev pub SomeWentOn : ServerView → ServerView → ℕ → ℕ → Type 0
+SomeWentOn old new count span = (time : ℕ) → IsBy old time → (i : ℕ) (link : LinkState)
+    → slice_get (server_of new).links i ≡ Some link → (link.now ≤ time + span) × (count ≤ i → link.now ≤ time)
+
+pub some_none : (a : ServerView) (span : ℕ) → SomeWentOn a a 0 span
+some_none a span = λ time by i link at. (let low = by i link at in (omega (arith, low), λ above. low))
+
+pub some_more : (a b c : ServerView) (n place span : ℕ) → place ≡ n → SomeWentOn a b n span → OneWentOn b c place span → SomeWentOn a c (n + 1) span
+some_more a b c n place span is some one = λ time by i link at.
+    let went = one i link at in
+    let before = some time by i went.0 went.1 in
+    elim went.2 [
+      | inl p ↦ (
+          let low = before.1 (omega (arith, is, p.0)) in
+          (omega (arith, p.1, low), λ above. absurd (omega (arith, above, is, p.0))))
+      | inr p ↦ (omega (arith, p, before.0), λ above. (let low = before.1 (omega (arith, above)) in omega (arith, p, low)))
+    ]
+
+pub some_all : (a b : ServerView) (n span : ℕ) → SomeWentOn a b n span → TookTime a b span
+some_all a b n span some = λ time by i link at. (some time by i link at).0
+
+-- ---- all testers
+
+pub took_none : (a : ServerView) (span : ℕ) → TookTime a a span
+took_none a span = λ time by i link at. (let low = by i link at in omega (arith, low))
+
+pub took_more : (a b c : ServerView) (n m all : ℕ) → n + m ≤ all → TookTime a b n → TookTime b c m → TookTime a c all
+took_more a b c n m all fits first second = λ time by i link at. (let low = second (time + n) (first time by) i link at in omega (arith, low, fits))
+
+-- one tester's clock went on
+pub took_one : (a b c : ServerView) (n place m all : ℕ) → n + m ≤ all → TookTime a b n → OneWentOn b c place m → TookTime a c all
+took_one a b c n place m all fits first one = λ time by i link at.
+    let went = one i link at in
+    let before = first time by i went.0 went.1 in
+    elim went.2 [ inl p ↦ omega (arith, p.1, before, fits) | inr p ↦ omega (arith, p, before, fits) ]
+
+-- what is left of the time
+pub has_left : (a b : ServerView) (all n m : ℕ) → n + m ≤ all → HasTime a all → TookTime a b n → HasTime b m
+has_left a b all n m fits h took = record { time = h.time + n; by = took h.time h.by; early = omega (arith, h.early, fits) }
+
+-- the bus's clock goes on by as much
+pub line_paced : (old new : ServerView) (clock clock' : Clock) (said : BusLine) → GoesOn clock said clock' → IsBy old clock.time → TookTime old new (span_said clock.reference (Ok said)) → IsBy new clock'.time
+line_paced old new clock clock' said on by took = λ i link at. (let low = took clock.time by i link at in omega (arith, low, on.time))

@@ -1,0 +1,11 @@
+use Rattle.std.proofs.Common.{sym, ◌∙◌, arith}
+use Rattle.std.proofs.lemmas.List.{length-map}
+use Rattle.diag_bus.proofs.bus.Bus.new.Goals as goal
+
+pub invariant_of-result : goal.invariant_of-result
+invariant_of-result c = (
+  sym (length-map c.in_ok-server.server.links (λ l. l.state)) ∙ c.in_ok-server.ensures.testers,
+  omega (arith, c.in_ok-drawn.ensures, c.testers.ensures.same),
+  c.in_ok-compared.ensures.in_setup,
+  λ i link at. omega (arith, (c.in_ok-server.ensures.ports i link at).stands.now),
+)
