@@ -1,5 +1,5 @@
 -- What is written in upper-case hex.
-use Rattle.std.proofs.Common.{◌≡◌, ℕ, ◌+◌, ◌/◌, ◌%◌, ◌<◌, true, List, [], ◌∷◌, ◌++◌, take, slice_get, slice_index, Some, refl, sym, ap, ◌∙◌, append_assoc, append-nil}
+use Rattle.std.proofs.Common.{◌≡◌, ℕ, ◌+◌, ◌/◌, ◌%◌, ◌<◌, true, List, [], ◌∷◌, ◌++◌, take, get_or, slice_get, slice_index, Some, refl, sym, ap, ◌∙◌, append_assoc, append-nil}
 use Rattle.std.proofs.lemmas.List.{take_more}
 use Rattle.std.proofs.lemmas.Option.{slice_get_within, get_or_from_slice_get}
 use Rattle.std.proofs.lemmas.Bool.{agree_below_at}
@@ -8,22 +8,34 @@ use Rattle.std.specs.Fmt.{digits}
 use Rattle.std.specs.Str.{bytes_eq}
 use Rattle.hex.specs.Hex.{encode_upper, encode_with, upper_digits}
 use Rattle.diag_can.specs.Reply.{zero_filled}
+use Rattle.diag_can.specs.declared.table.TheConstants.{DIGITS}
 
-upper-append : (bytes : List ℕ) (b : ℕ) → encode_upper (bytes ++ b ∷ []) ≡ encode_upper bytes ++ slice_index upper_digits (b / 16) ∷ slice_index upper_digits (b % 16) ∷ []
+upper-append : (bytes : List ℕ) (b : ℕ) → encode_upper (bytes ++ b ∷ []) ≡ encode_upper bytes ++ encode_upper (b ∷ [])
 unfolding encode_with
 upper-append [] b = refl
 upper-append (x ∷ bytes) b = ap (λ text. slice_index upper_digits (x / 16) ∷ slice_index upper_digits (x % 16) ∷ text) (upper-append bytes b)
 
+-- two digits, one by one
+pub two_digits : (pair : List ℕ) (b : ℕ) → pair ≡ encode_upper (b ∷ []) → get_or pair 0 0 ∷ get_or pair 1 0 ∷ [] ≡ encode_upper (b ∷ [])
+unfolding encode_with
+two_digits pair b is = rw is refl
+
 -- the hex of one byte more, after a text
-pub upper_more : (old bytes text next : List ℕ) (i b high low : ℕ) → slice_get bytes i ≡ Some b → text ≡ old ++ encode_upper (take i bytes) → next ≡ text ++ high ∷ low ∷ []
-    → high ≡ slice_index upper_digits (b / 16) → low ≡ slice_index upper_digits (b % 16) → next ≡ old ++ encode_upper (take (i + 1) bytes)
-upper_more old bytes text next i b high low at t n h l =
+pub upper_more : (old bytes text next pair : List ℕ) (i b : ℕ) → slice_get bytes i ≡ Some b → text ≡ old ++ encode_upper (take i bytes) → next ≡ text ++ pair
+    → pair ≡ encode_upper (b ∷ []) → next ≡ old ++ encode_upper (take (i + 1) bytes)
+upper_more old bytes text next pair i b at t n p =
     let taken : take (i + 1) bytes ≡ take i bytes ++ b ∷ [] = take_more bytes i b (slice_get_within bytes i b at) ∙ ap (λ x. take i bytes ++ x ∷ []) (get_or_from_slice_get bytes i b b at) in
-    n ∙ (λ j. t j ++ h j ∷ l j ∷ []) ∙ append_assoc old (encode_upper (take i bytes)) _ ∙ ap (λ x. old ++ x) (sym (ap encode_upper taken ∙ upper-append (take i bytes) b))
+    n ∙ (λ j. t j ++ p j) ∙ append_assoc old (encode_upper (take i bytes)) _ ∙ ap (λ x. old ++ x) (sym (ap encode_upper taken ∙ upper-append (take i bytes) b))
 
 pub upper_none : (old : List ℕ) → old ≡ old ++ encode_upper []
 unfolding encode_with
 upper_none old = sym (append-nil old)
+
+-- the table's digits of a byte
+pub digits_at : (b : ℕ) → b < 256 → get_or DIGITS b [] ≡ encode_upper (b ∷ [])
+unfolding encode_with
+digits_at b byte =
+    (bytes_eq-Decides (get_or DIGITS b []) (encode_upper (b ∷ []))).0 (agree_below_at (λ b. bytes_eq (get_or DIGITS b []) (encode_upper (b ∷ []))) (λ b. true) 256 b refl byte)
 
 -- the three digits of an identifier
 abbrev three : ℕ → List ℕ

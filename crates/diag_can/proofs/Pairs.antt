@@ -1,5 +1,6 @@
 -- Hex digits that are read by a table, and pairs of them.
-use Rattle.std.proofs.Common.{◌≡◌, ℕ, ◌+◌, ◌*◌, ◌%◌, ◌<◌, ◌≤◌, eqb, nat_le, true, false, cond, List, [], ◌∷◌, ◌++◌, length, take, drop, get_or, slice_index, length-append, length-drop, unwrap_or, is_some, Option, Some, None, Result, Ok, Err, refl, sym, ap, ◌∙◌, arith}
+use Rattle.std.proofs.Common.{◌≡◌, ℕ, ◌+◌, ◌*◌, ◌%◌, ◌<◌, ◌≤◌, eqb, nat_le, true, false, cond, List, [], ◌∷◌, ◌++◌, length, take, drop, get_or, slice_index, append_assoc, append-nil, length-append, length-drop, unwrap_or, is_some, Option, Some, None, Result, Ok, Err, refl, sym, ap, ◌∙◌, arith}
+use Rattle.std.specs.Prelude.{IsOk, IsSome}
 use Rattle.std.specs.List.{prefix_len}
 use Rattle.std.proofs.lemmas.Bool.{agree_below_at, eqb-true}
 use Rattle.std.proofs.lemmas.Bool.Decides.{nat_tests}
@@ -7,7 +8,7 @@ use Rattle.std.proofs.Math.Seq.{take-add}
 use Rattle.std.proofs.lemmas.List.{length-take-le}
 use Rattle.hex.specs.Hex.{is_hex_digit, hex_digit_value, decode_of, decode_pairs, digit_or_error, pair_value, value_at, ◌>>=◌}
 use Rattle.hex.specs.declared.error.FromHexError.{FromHexError}
-use Rattle.hex.proofs.HexLemmas.{decode_of-even}
+use Rattle.hex.proofs.HexLemmas.{decode_of-even, decode_of-ok}
 use Rattle.hex.proofs.Pairs.{cons_byte, drop-pair}
 use Rattle.diag_can.specs.Line.{byte_of, pair}
 use Rattle.diag_can.specs.declared.table.TheConstants.{VALUES}
@@ -162,6 +163,47 @@ pairs-more text bytes count b r is =
       written = even (2 * (count + 1)) (omega arith) (omega arith) ∙ ap (decode_pairs 0) taken ∙ more ∙ ap (λ (n : ℕ). Ok (bytes ++ n ∷ [])) (sym value);
       run = (let next = ap (prefix_len is_hex_digit) here ∙ run-more c d v w rest h l in omega (arith, r.run));
     }
+
+-- ---- pairs that are appended
+
+-- the bytes of so many pairs stand behind what was there
+pub record IsAppended (text old new : List ℕ) (count : ℕ) : Type 0 where
+  pub past : List ℕ
+  pub pairs : IsPairs text past count
+  pub is : new ≡ old ++ past
+
+pub appended-none : (text old : List ℕ) → IsAppended text old old 0
+appended-none text old = record { past = []; pairs = pairs-none text; is = sym (append-nil old) }
+
+-- one pair more
+pub appended-more : (text old new next : List ℕ) (count b : ℕ) → IsAppended text old new count → 2 * count + 1 < length text
+    → pair (slice_index text (2 * count) ∷ slice_index text (2 * count + 1) ∷ []) ≡ Some b → next ≡ new ++ b ∷ []
+    → IsAppended text old next (count + 1)
+appended-more text old new next count b a enough is more =
+    let here : pair (drop (2 * count) text) ≡ Some b = ap pair (drop-pair text count enough) ∙ is in
+    record {
+      past = a.past ++ b ∷ [];
+      pairs = pairs-more text a.past count b a.pairs here;
+      is = more ∙ ap (λ (xs : List ℕ). xs ++ b ∷ []) a.is ∙ append_assoc old a.past (b ∷ []);
+    }
+
+is_ok-value : (r : Result (List ℕ) FromHexError) → IsOk r → (bytes : List ℕ) × (r ≡ Ok bytes)
+is_ok-value (Ok bytes) ok = (bytes, refl)
+is_ok-value (Err e) ok = cc ok
+
+two_digits : (o p : Option ℕ) → is_some o ≡ true → is_some p ≡ true → IsSome (byte_of o p)
+two_digits None p o-is p-is = cc o-is
+two_digits (Some v) None o-is p-is = cc p-is
+two_digits (Some v) (Some w) o-is p-is = refl
+
+-- each of its pairs writes a byte
+pub decodes-pair : (text : List ℕ) (count : ℕ) → IsOk (decode_of text) → 2 * count + 1 < length text
+    → IsSome (pair (slice_index text (2 * count) ∷ slice_index text (2 * count + 1) ∷ []))
+decodes-pair text count ok enough =
+    let value = is_ok-value (decode_of text) ok in
+    let all = (decode_of-ok text value.0 value.1).1 in
+    two_digits (hex_digit_value (slice_index text (2 * count))) (hex_digit_value (slice_index text (2 * count + 1)))
+    (all (2 * count) 0 (omega arith)) (all (2 * count + 1) 0 enough)
 
 -- ---- an identifier
 

@@ -3,6 +3,7 @@
 ghost use Rattle.std.specs.Prelude.{◌≡◌, ◌<◌, ◌≤◌, ◌+◌, ◌*◌, ◌++◌, length, OnOk, OnErr, slice_index, vec_len, vec_capacity};
 ghost use Rattle.hex.specs.Hex.{encode_upper, upper_digits};
 
+use crate::table::digits;
 use std::alloc::AllocError;
 
 const UPPER_DIGITS: [u8; 16] = *b"0123456789ABCDEF";
@@ -36,7 +37,8 @@ pub(crate) fn add_hex(text: &mut Vec<u8>, bytes: &[u8])
     ensures capacity { vec_capacity text.new ≡ vec_capacity text.old }
 {
     for byte in bytes {
-        text.push_reserved(upper_digit(*byte / 16));
-        text.push_reserved(upper_digit(*byte % 16));
+        let [high, low] = digits(*byte);
+        text.push_reserved(high);
+        text.push_reserved(low);
     }
 }

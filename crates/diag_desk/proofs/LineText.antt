@@ -1,6 +1,6 @@
 -- What lines say has one spelling.
 use Rattle.std.proofs.Common.{◌≡◌, ℕ, ◌+◌, ◌*◌, ◌%◌, ◌^◌, ◌<◌, ◌≤◌, ◌==◌, Bool, true, false, List, [], ◌∷◌, ◌++◌, length, get_or, drop, Option, Some, None, Result, refl, sym, ap, ◌∙◌, arith, decimal, eq-eqb}
-use Rattle.std.specs.Prelude.{codes}
+use Rattle.std.specs.Prelude.{codes, IsOk}
 use Rattle.std.specs.List.{list_all}
 use Rattle.std.specs.Result.{result_unwrap_or}
 use Rattle.std.specs.Str.Parse.{AllDigits}
@@ -197,6 +197,10 @@ line_joined line who place letter body k s r e p q has =
 -- hex text is twice as long as its bytes
 pub hex_length : (s : List ℕ) → IsHex s → length s ≡ 2 * length (decoded s)
 hex_length s h = ap length (sym h.1) ∙ length-encode_with upper_digits (decoded s)
+
+-- and it decodes
+pub hex_decodes : (s : List ℕ) → IsHex s → IsOk (decode_of s)
+hex_decodes s h = rw (ap decode_of (sym h.1) ∙ decode_of-encode_upper (decoded s) h.0.2) refl
 
 -- the text of a stamped line is cut after its stamp
 pub cut_stamp : (n : ℕ) (line text : List ℕ) → n < 2 ^ 64 → decimal n ++ (32 ∷ line) ≡ text → cut 32 text ≡ Some (decimal n, line)

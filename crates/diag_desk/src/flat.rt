@@ -8,7 +8,7 @@ ghost use Rattle.diag_desk.specs.Line.{HasHex, IsHex, IsHexReply, decoded, line_
 
 use crate::entry::{EntryRef, StepRef};
 use crate::line::{Line, LineStep};
-use diag_can::TickCount;
+use diag_can::{TickCount, read_hex};
 use diag_store::Who;
 use diag_tp::{Message, Step};
 use std::alloc::AllocError;
@@ -208,26 +208,14 @@ fn reply_len(text: Option<&[u8]>) -> usize
     }
 }
 
-/// Appends the bytes of hex text where there is room.
+/// Appends the bytes of a message's hex text where there is room.
 fn append_hex(bytes: &mut Vec<u8>, text: &[u8])
     requires hex { IsHex text.now }
     requires room { vec_len bytes.old + length (decoded text.now) ≤ vec_capacity bytes.old }
     ensures items { bytes.new.items ≡ bytes.old.items ++ decoded text.now }
     ensures room { vec_capacity bytes.old ≤ vec_capacity bytes.new }
 {
-    let start = bytes.len();
-    let end = start + decoded_len(text);
-    let _ = bytes.resize(end, 0);
-    decode_into(text, &mut bytes[start..]);
-}
-
-/// Decodes hex text into a slice of its length.
-fn decode_into(text: &[u8], out: &mut [u8])
-    requires hex { IsHex text.now }
-    requires len { length text.now / 2 ≡ length out.old }
-    ensures { out.new ≡ decoded text.now }
-{
-    let _ = hex::decode_to_slice(text, out);
+    read_hex(bytes, text);
 }
 
 /// The entry of a head.

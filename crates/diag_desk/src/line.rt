@@ -163,11 +163,46 @@ fn is_hex(text: &[u8]) -> bool
     true
 }
 
+/// Whether each byte is an upper-case digit. (No byte is a reason to stop: nearly each text is hex to its end.)
 fn has_upper_digits(text: &[u8]) -> bool
     ensures { result ≡ list_all is_upper_digit text.now }
 {
-    text.iter().all(|c| matches!(*c, b'0'..=b'9' | b'A'..=b'F'))
+    let mut all = true;
+    for c in text {
+        all &= is_upper_digit(*c);
+    }
+    all
 }
+
+fn is_upper_digit(c: u8) -> bool
+    ensures { result ≡ is_upper_digit c }
+{
+    IS_UPPER_DIGIT[usize::from(c)]
+}
+
+/// Whether each byte is a hex digit, in upper case.
+static IS_UPPER_DIGIT: [bool; 256] = [
+    false, false, false, false, false, false, false, false, false, false, false, false, false,
+    false, false, false, false, false, false, false, false, false, false, false, false, false,
+    false, false, false, false, false, false, false, false, false, false, false, false, false,
+    false, false, false, false, false, false, false, false, false, true, true, true, true, true,
+    true, true, true, true, true, false, false, false, false, false, false, false, true, true,
+    true, true, true, true, false, false, false, false, false, false, false, false, false, false,
+    false, false, false, false, false, false, false, false, false, false, false, false, false,
+    false, false, false, false, false, false, false, false, false, false, false, false, false,
+    false, false, false, false, false, false, false, false, false, false, false, false, false,
+    false, false, false, false, false, false, false, false, false, false, false, false, false,
+    false, false, false, false, false, false, false, false, false, false, false, false, false,
+    false, false, false, false, false, false, false, false, false, false, false, false, false,
+    false, false, false, false, false, false, false, false, false, false, false, false, false,
+    false, false, false, false, false, false, false, false, false, false, false, false, false,
+    false, false, false, false, false, false, false, false, false, false, false, false, false,
+    false, false, false, false, false, false, false, false, false, false, false, false, false,
+    false, false, false, false, false, false, false, false, false, false, false, false, false,
+    false, false, false, false, false, false, false, false, false, false, false, false, false,
+    false, false, false, false, false, false, false, false, false, false, false, false, false,
+    false, false, false, false, false, false,
+];
 
 /// The count of ticks of a text in decimal.
 fn count_in(text: &[u8]) -> Option<TickCount>
