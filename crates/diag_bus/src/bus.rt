@@ -131,6 +131,7 @@ impl Bus {
         let (said, time) = next_said(&self.clock, line)?;
         let reference = self.clock.reference;
         let clock = clock_after(self.clock, &said, time);
+        // (first: no link's clock is ahead of the bus's, also where the line is refused)
         self.clock = clock;
         self.line.begin();
         self.line.take_said(&self.setup, reference, &said)?;
