@@ -1,10 +1,14 @@
 -- Numbers in decimal, with zeros before them.
-use Rattle.std.proofs.Common.{◌≡◌, ℕ, zero, suc, ◌+◌, ◌-◌, ◌/◌, ◌%◌, ◌^◌, ◌<◌, ◌≤◌, List, [], ◌∷◌, ◌++◌, length, replicate, length-append, append_assoc, inl, inr, refl, sym, ap, ◌∙◌, arith}
+use Rattle.std.proofs.Common.{◌≡◌, ℕ, zero, suc, ◌+◌, ◌-◌, ◌/◌, ◌%◌, ◌^◌, ◌<◌, ◌≤◌, true, List, [], ◌∷◌, ◌++◌, length, get_or, replicate, length-append, append_assoc, inl, inr, refl, sym, ap, ◌∙◌, arith}
 use Rattle.std.specs.Fmt.{decimal}
-use Rattle.std.proofs.lemmas.Bool.{cases_lt}
+use Rattle.std.specs.Prelude.{codes}
+use Rattle.std.specs.Str.{bytes_eq}
+use Rattle.std.proofs.lemmas.Bool.{agree_below_at, cases_lt}
+use Rattle.std.proofs.lemmas.Slice.Eq.{bytes_eq-Decides}
 use Rattle.std.proofs.lemmas.Fmt.{decimal_digit, decimal_nonempty, decimal_step}
 use Rattle.diag_can.proofs.Digits.{pow-suc}
 use Rattle.diag_can.specs.Reply.{zero_filled}
+use Rattle.diag_can.specs.declared.table.TheConstants.{DECIMALS}
 
 -- so many of a number's last digits
 abbrev pub last_digits : ℕ → ℕ → List ℕ
@@ -66,3 +70,48 @@ pub zero_filled-long : (n : ℕ) → 10 ^ 10 ≤ n → n < 2 ^ 64 → zero_fille
 zero_filled-long n le small =
     let none : 10 - length (decimal n) ≡ 0 = (let long = more_digits 10 n le small in omega arith) in
     rw none refl
+
+-- a long stamp is put together from its parts
+pub stamp_parts : (old seconds thousandths a b c d e : List ℕ) → a ≡ old ++ 40 ∷ [] → b ≡ a ++ seconds → c ≡ b ++ 46 ∷ [] → d ≡ c ++ thousandths → e ≡ d ++ codes "000) "
+    → e ≡ old ++ (codes "(" ++ seconds ++ codes "." ++ thousandths ++ codes "000)" ++ codes " ")
+stamp_parts old seconds thousandths a b c d e p q r s t = rw (t, s, r, q, p) (simp append_assoc)
+
+-- ---- two digits at a time
+
+-- the two digits of a number below 100
+abbrev pub two : ℕ → List ℕ
+two n = (48 + n / 10) ∷ (48 + n % 10) ∷ []
+
+pub decimals_at : (n : ℕ) → n < 100 → get_or DECIMALS n [] ≡ two n
+decimals_at n below =
+    (bytes_eq-Decides (get_or DECIMALS n []) (two n)).0 (agree_below_at (λ n. bytes_eq (get_or DECIMALS n []) (two n)) (λ n. true) 100 n refl below)
+
+-- so many pairs of a number's last digits
+abbrev pub last_pairs : ℕ → ℕ → List ℕ
+last_pairs zero n = []
+last_pairs (suc count) n = last_pairs count (n / 100) ++ two (n % 100)
+
+abbrev double : ℕ → ℕ
+double zero = zero
+double (suc n) = suc (suc (double n))
+
+pub last_two : (width n : ℕ) → last_digits (suc (suc width)) n ≡ last_digits width (n / 100) ++ two (n % 100)
+last_two width n =
+    let front : n / 10 / 10 ≡ n / 100 = omega arith in
+    let tens : n / 10 % 10 ≡ n % 100 / 10 = omega arith in
+    let ones : n % 10 ≡ n % 100 % 10 = omega arith in
+    rw (front, tens, ones) (append_assoc (last_digits width (n / 100)) ((48 + n % 100 / 10) ∷ []) ((48 + n % 100 % 10) ∷ []))
+
+by_pairs : (count n : ℕ) → last_digits (double count) n ≡ last_pairs count n
+by_pairs zero n = refl
+by_pairs (suc count) n = last_two (double count) n ∙ ap (λ (xs : List ℕ). xs ++ two (n % 100)) (by_pairs count (n / 100))
+
+-- the five pairs of ten digits
+pub ten_by_pairs : (n : ℕ) → n < 10 ^ 10 → n < 2 ^ 64 → zero_filled 10 (decimal n) ≡ last_pairs 5 n
+ten_by_pairs n few small = zero_filled-digits 9 n few small ∙ by_pairs 5 n
+
+-- a digit and a pair
+pub three_by_pairs : (n : ℕ) → n < 1000 → zero_filled 3 (decimal n) ≡ (48 + n / 100) ∷ two (n % 100)
+three_by_pairs n few =
+    let digit : n / 100 % 10 ≡ n / 100 = omega arith in
+    zero_filled-digits 2 n few (omega arith) ∙ last_two 1 n ∙ ap (λ (d : ℕ). (48 + d) ∷ two (n % 100)) digit

@@ -1,20 +1,10 @@
 //! Upper-case hex, appended to a text. (The library `hex` makes a text of its own of each call.)
 
-ghost use Rattle.std.specs.Prelude.{◌≡◌, ◌<◌, ◌≤◌, ◌+◌, ◌*◌, ◌++◌, length, OnOk, OnErr, slice_index, vec_len, vec_capacity};
-ghost use Rattle.hex.specs.Hex.{encode_upper, upper_digits};
+ghost use Rattle.std.specs.Prelude.{◌≡◌, ◌≤◌, ◌+◌, ◌*◌, ◌++◌, length, OnOk, OnErr, vec_len, vec_capacity};
+ghost use Rattle.hex.specs.Hex.{encode_upper};
 
 use crate::table::digits;
 use std::alloc::AllocError;
-
-const UPPER_DIGITS: [u8; 16] = *b"0123456789ABCDEF";
-
-/// The digit of a value below 16.
-pub(crate) fn upper_digit(value: u8) -> u8
-    requires { value < 16 }
-    ensures { result ≡ slice_index upper_digits value }
-{
-    UPPER_DIGITS[usize::from(value)]
-}
 
 /// Appends bytes in upper-case hex, two digits a byte.
 ///

@@ -1,6 +1,6 @@
-use Rattle.std.proofs.Common.{sym, arith}
-use Rattle.diag_can.proofs.Decimals.{zero_filled-digits}
+use Rattle.std.proofs.Common.{sym}
+use Rattle.diag_can.proofs.Decimals.{three_by_pairs}
 use Rattle.diag_can.proofs.reply.three_digits.Goals as goal
 
 pub returns : goal.returns
-returns c = sym (zero_filled-digits 2 c.args.number c.requires (omega (arith, c.ranges.number.fits)))
+returns c = rw c.decimals.ensures (sym (three_by_pairs c.args.number c.requires))
