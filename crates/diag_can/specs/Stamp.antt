@@ -38,6 +38,10 @@ digits_of least most text =
     then Some (take count text, drop count text)
     else None
 
+-- digits as the number that they write, and what stands behind them
+abbrev pub numbered : List ℕ × List ℕ → ℕ × List ℕ
+numbered digits = (decimal_value digits.0, digits.1)
+
 -- the moment of a stamp in milliseconds
 abbrev pub moment_of : List ℕ → List ℕ → ℕ
 moment_of seconds fraction = decimal_value seconds * 1000 + decimal_value (take 3 fraction)

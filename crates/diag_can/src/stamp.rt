@@ -1,8 +1,8 @@
 //! The stamp and the name in front of a frame in candump's log format: `(SECONDS.FRACTION) NAME `.
 
-ghost use Rattle.std.specs.Prelude.{◌≡◌, ◌≤◌, ◌-◌, ◌^◌, length, min, option_map, option_copied, IfSome};
+ghost use Rattle.std.specs.Prelude.{◌≡◌, ◌<◌, ◌≤◌, ◌-◌, ◌^◌, length, min, take, option_map, option_copied, IfSome};
 ghost use Rattle.std.specs.List.{AllPass, prefix_len};
-ghost use Rattle.diag_can.specs.Stamp.{is_digit, decimal_value, is_space, is_no_space, behind, behind_run, digits_of, moment_of, stamp_of, behind_name};
+ghost use Rattle.diag_can.specs.Stamp.{is_digit, decimal_value, is_space, is_no_space, behind, behind_run, digits_of, numbered, stamp_of, behind_name};
 
 /// Whether this is a decimal digit.
 pub fn is_digit(c: u8) -> bool
@@ -94,38 +94,56 @@ fn digits_of(least: usize, most: usize, text: &[u8]) -> Option<(&[u8], &[u8])>
     }
 }
 
-/// The number that at most 12 digits write.
-fn short_value(digits: &[u8]) -> u64
-    requires digits { AllPass is_digit digits.now }
-    requires few { length digits.now ≤ 12 }
-    ensures { result ≡ decimal_value digits.now }
+/// How many digits stand at the front, and the number that they write where they are at most 12.
+fn number_run(text: &[u8]) -> (usize, u64)
+    ensures count { result.0 ≡ prefix_len is_digit text.now }
+    ensures fits { result.0 ≤ length text.now }
+    ensures value { result.0 ≤ 12 → result.1 ≡ decimal_value (take result.0 text.now) }
 {
     let mut value: u64 = 0;
-    for c in digits {
-        value = value * 10 + u64::from(*c - b'0');
+    for (count, c) in text.iter().enumerate() {
+        if !is_digit(*c) {
+            return (count, value);
+        }
+        value = value.wrapping_mul(10).wrapping_add(u64::from(*c - b'0'));
     }
-    value
+    (text.len(), value)
 }
 
-/// The moment of a stamp in milliseconds.
-fn moment_of(seconds: &[u8], fraction: &[u8]) -> u64
-    requires seconds { AllPass is_digit seconds.now }
-    requires fraction { AllPass is_digit fraction.now }
-    requires few { length seconds.now ≤ 12 }
-    requires enough { 6 ≤ length fraction.now }
-    ensures { result ≡ moment_of seconds.now fraction.now }
+/// The number that 1 to 12 digits at the front write, where no more stand there, and what stands behind them.
+fn seconds_of(text: &[u8]) -> Option<(u64, &[u8])>
+    ensures value { option_map (λ r. (r.0, r.1.now)) result
+        ≡ option_map numbered (digits_of 1 12 text.now) }
+    ensures few { IfSome result (λ r. r.0 < 10 ^ 12) }
 {
-    short_value(seconds) * 1000 + short_value(&fraction[..3])
+    let (count, value) = number_run(text);
+    if 1 <= count && count <= 12 {
+        Some((value, text.split_at(count).1))
+    } else {
+        None
+    }
+}
+
+/// The number that three digits at the front write.
+fn thousandths(fraction: &[u8]) -> u64
+    requires digits { AllPass is_digit fraction.now }
+    requires enough { 6 ≤ length fraction.now }
+    ensures value { result ≡ decimal_value (take 3 fraction.now) }
+    ensures few { result < 1000 }
+{
+    u64::from(fraction[0] - b'0') * 100
+        + u64::from(fraction[1] - b'0') * 10
+        + u64::from(fraction[2] - b'0')
 }
 
 /// The moment of the stamp at the front, and what stands behind the stamp.
 pub fn stamp_of(text: &[u8]) -> Option<(u64, &[u8])>
     ensures { option_map (λ r. (r.0, r.1.now)) result ≡ stamp_of text.now }
 {
-    let (seconds, text) = digits_of(1, 12, behind(b'(', text)?)?;
+    let (seconds, text) = seconds_of(behind(b'(', text)?)?;
     let (fraction, text) = digits_of(6, 9, behind(b'.', text)?)?;
     let text = behind(b')', text)?;
-    Some((moment_of(seconds, fraction), text))
+    Some((seconds * 1000 + thousandths(fraction), text))
 }
 
 /// What stands behind spaces, an interface's name and spaces.
