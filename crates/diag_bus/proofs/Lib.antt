@@ -11,6 +11,7 @@ pub mod Order
 pub mod Paces
 pub mod Recordings
 pub mod Runs
+pub mod Stamps
 pub mod Taking
 pub mod TextExamples
 pub mod Texts

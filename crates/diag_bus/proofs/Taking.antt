@@ -1,13 +1,13 @@
 -- A bus takes a line more.
-use Rattle.std.proofs.Common.{◌≡◌, ℕ, ◌+◌, List, [], ◌∷◌, ◌++◌, Some, None, Ok, length, ap, ap₂, subst, sym, ◌∙◌}
+use Rattle.std.proofs.Common.{◌≡◌, ℕ, ◌+◌, List, [], ◌∷◌, ◌++◌, Some, None, Ok, length, ap, ap₂, subst, sym, ◌∙◌, arith}
 use Rattle.std.specs.Prelude.{slice_get}
 use Rattle.diag_can.specs.Bus.{bus_line}
 use Rattle.diag_can.specs.declared.bus.BusLine.{BusLine}
 use Rattle.diag_tp.specs.declared.sent.Sent.{Sent}
 use Rattle.diag_setup.specs.declared.raw.RawSetup.{RawSetup}
 use Rattle.diag_world.specs.Server.{ServerView, server_of}
-use Rattle.diag_bus.specs.Batch.{BusStands, Gave, GoesOn, SameShape, lists_of, replied}
-use Rattle.diag_bus.specs.Bus.{BusState, Judges, TookLines}
+use Rattle.diag_bus.specs.Batch.{BusStands, Gave, GoesOn, IsBy, SaidBelow, SameShape, StartsBelow, TookTime, lists_of, moment_end, replied}
+use Rattle.diag_bus.specs.Bus.{AreSound, BusState, Judges, TookLines}
 use Rattle.diag_bus.specs.Comparing.{DrawnBy, TakesLine}
 use Rattle.diag_bus.specs.Events.{fault_said, said_gives, span_said}
 use Rattle.diag_bus.specs.Text.{written}
@@ -18,6 +18,8 @@ use Rattle.diag_bus.specs.declared.comparing.Comparisons.{Comparisons}
 use Rattle.diag_bus.specs.declared.mid_line.MidLine.{MidLine}
 use Rattle.diag_bus.proofs.Faults.{well_more}
 use Rattle.diag_bus.proofs.Lines.{line_taken}
+use Rattle.diag_bus.proofs.Paces.{line_paced}
+use Rattle.diag_bus.proofs.Stamps.{bus_line_low}
 use Rattle.diag_bus.proofs.Texts.{wrote}
 
 -- what a contract sees of a bus with this line and this clock
@@ -62,3 +64,31 @@ took_line setup lines line said old begun taken done clock clock' compared compa
           ∙ ap (λ w. written old.output setup lines ++ w)
           (ap (λ o. taken.text.items ++ replied o setup clock'.start (lists_of taken)) (sym second.output) ∙ sym text))),
     )
+
+-- ---- what holds whatever the bus took
+
+-- what a line says was given, or as much of it as memory was there for
+pub sound_taken : (setup : RawSetup) (line : List ℕ) (said : BusLine) (old begun taken : MidLine) (clock clock' : Clock) (compared compared' : Comparisons)
+    → AreSound setup old compared clock → bus_line line ≡ Ok said → GoesOn clock said clock'
+    → ((most : ℕ) → StartsBelow clock.start most → SaidBelow said most → StartsBelow clock'.start most)
+    → begun.server ≡ old.server → SameShape old begun → SameShape begun taken → TookTime begun.server taken.server (span_said clock.reference (Ok said))
+    → length compared'.testers.items ≡ length compared.testers.items
+    → AreSound setup taken compared' clock'
+sound_taken setup line said old begun taken clock clock' compared compared' h is on start server first second took count = (
+  second.links ∙ (first.links ∙ h.0),
+  second.lists ∙ (first.lists ∙ h.1),
+  omega (arith, count, h.2),
+  line_paced begun.server taken.server clock clock' said on (subst (λ (s : ServerView). IsBy s clock.time) (sym server) h.3) took,
+  start moment_end h.4 (bus_line_low line said is),
+)
+
+-- what it drew was written
+pub sound_written : (setup : RawSetup) (taken done : MidLine) (clock : Clock) (compared : Comparisons) → AreSound setup taken compared clock → done.server ≡ taken.server → SameShape taken done
+    → AreSound setup done compared clock
+sound_written setup taken done clock compared h server shape = (
+  shape.links ∙ h.0,
+  shape.lists ∙ h.1,
+  h.2,
+  subst (λ (s : ServerView). IsBy s clock.time) (sym server) h.3,
+  h.4,
+)

@@ -3,7 +3,7 @@ use Rattle.std.proofs.Common.{◌≡◌, ◌≢◌, ◌≤◌, ℕ, zero, suc, �
 use Rattle.std.proofs.lemmas.List.{append-nil, length-map, map-append, length-take-le, take_more}
 use Rattle.std.proofs.lemmas.Option.{slice_get_within, get_or_from_slice_get}
 use Rattle.std.specs.List.{All, flat_map}
-use Rattle.std.proofs.lemmas.List.Elements.{All-append}
+use Rattle.std.proofs.lemmas.List.Elements.{All-append, All-map}
 use Rattle.diag_bus.specs.declared.writing.Drawn.{Drawn}
 use Rattle.std.specs.Prelude.{slice_get, slice_set}
 use Rattle.diag_can.specs.declared.frame.Event.{Event}
@@ -13,7 +13,7 @@ use Rattle.diag_setup.specs.declared.raw.RawSetup.{RawSetup}
 use Rattle.diag_setup.specs.Rows.{in_order}
 use Rattle.diag_world.specs.Server.{ServerState}
 use Rattle.diag_desk.specs.Text.{journal_text_at}
-use Rattle.diag_bus.specs.Batch.{LineTaken, entered, replied, resumed}
+use Rattle.diag_bus.specs.Batch.{AreSentBy, LineTaken, entered, replied, resumed}
 use Rattle.diag_bus.specs.declared.bus.Output.{Output}
 use Rattle.diag_bus.specs.declared.bus.Output.TheVariants.{Replies, Journal, End, Verdict}
 use Rattle.diag_bus.specs.Events.{events_of}
@@ -116,3 +116,9 @@ all_of n a (f ∷ frames) le = all_cons (λ (d : Drawn). d.who ≤ n) (drawn_for
 pub gathered_within : (n a : ℕ) (lists : List (List Sent)) → a + length lists ≤ n + 1 → All (λ (d : Drawn). d.who ≤ n) (gathered a lists)
 gathered_within n a [] le = λ k d less. absurd (omega (arith, less))
 gathered_within n a (frames ∷ lists) le = All-append (λ (d : Drawn). d.who ≤ n) (map (drawn_for a) frames) (gathered (a + 1) lists) (all_of n a frames (omega (arith, le))) (gathered_within n (a + 1) lists (omega (arith, le)))
+
+-- and no later than those of the lists
+pub gathered_sent : (a time : ℕ) (lists : List (List Sent)) → AreSentBy lists time → All (λ (d : Drawn). d.sent.at ≤ time) (gathered a lists)
+gathered_sent a time [] h = λ k d less. absurd (omega (arith, less))
+gathered_sent a time (frames ∷ lists) h = All-append (λ (d : Drawn). d.sent.at ≤ time) (map (drawn_for a) frames) (gathered (a + 1) lists)
+    (All-map (λ (d : Drawn). d.sent.at ≤ time) (drawn_for a) frames (h 0 frames refl)) (gathered_sent (a + 1) time lists (λ i fs at. h (suc i) fs at))

@@ -1,6 +1,8 @@
 -- What the server stands for in the midst of a line, beside what the line has drawn so far; and between two lines.
-use Rattle.std.specs.Prelude.{◌≡◌, ◌≤◌, ◌⊎◌, ℕ, ◌+◌, true, List, [], ◌∷◌, ◌++◌, length, map, Option, Some, None, Ok, slice_get}
+use Rattle.std.specs.Prelude.{◌≡◌, ◌≤◌, ◌<◌, ◌⊎◌, ◌^◌, ℕ, ◌+◌, IfSome, true, List, [], ◌∷◌, ◌++◌, length, map, Option, Some, None, Ok, slice_get}
+use Rattle.std.specs.List.{All}
 use Rattle.diag_can.specs.declared.bus.BusLine.{BusLine}
+use Rattle.diag_can.specs.declared.bus.BusLine.TheVariants.{Empty, Ticks, Stamped}
 use Rattle.diag_can.specs.declared.frame.Event.{Event}
 use Rattle.diag_can.specs.Reading.{later}
 use Rattle.diag_tp.specs.declared.sent.Sent.{Sent}
@@ -94,11 +96,46 @@ IsEarly server place = (link : LinkState)
     → slice_get (server_of server).links place ≡ Some link
     → link.now ≤ closing_time
 
+-- no frame of the testers' lists was sent later than this
+abbrev pub AreSentBy : List (List Sent) → ℕ → Type 0
+AreSentBy lists time = (i : ℕ) (frames : List Sent) → slice_get lists i ≡ Some frames → All (λ f. f.at ≤ time) frames
+
+-- the tester's event sent no frame later than so much behind what its clock told
+abbrev pub OneSentIn : MidLine → MidLine → ℕ → ℕ → Type 0
+OneSentIn old new place span = (last : ℕ)
+    → ((link : LinkState) → slice_get (server_of old.server).links place ≡ Some link → link.now + span ≤ last)
+    → AreSentBy (lists_of old) last
+    → AreSentBy (lists_of new) last
+
+-- no frame was sent later than so much behind what the clocks told
+abbrev pub SentIn : MidLine → MidLine → ℕ → Type 0
+SentIn old new span = (time last : ℕ)
+    → IsBy old.server time
+    → time + span ≤ last
+    → AreSentBy (lists_of old) last
+    → AreSentBy (lists_of new) last
+
 -- as many testers as before, and the same output
 pub record SameShape (old new : MidLine) : Type 0 where
   pub links : length new.server.links ≡ length old.server.links
   pub lists : length new.drawn.items ≡ length old.drawn.items
   pub output : new.output ≡ old.output
+
+-- ---- moments
+
+-- a line's moment is below this: its seconds have at most twelve digits
+abbrev pub moment_end : ℕ
+moment_end = 10 ^ 15
+
+-- the moment that a line says, if any, is below this
+abbrev pub SaidBelow : BusLine → ℕ → Type 0
+SaidBelow Empty most = Unit {0}
+SaidBelow (Ticks count) most = Unit {0}
+SaidBelow (Stamped moment frame) most = moment < most
+
+-- the moment of the first stamped line, if there was one, is below this
+abbrev pub StartsBelow : Option Start → ℕ → Type 0
+StartsBelow start most = IfSome start (λ s. s.moment < most)
 
 -- ---- the clock
 

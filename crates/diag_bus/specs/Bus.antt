@@ -1,14 +1,15 @@
 -- What a bus stands for: the lines of a capture that it took.
-use Rattle.std.specs.Prelude.{◌≡◌, ℕ, List, None}
+use Rattle.std.specs.Prelude.{◌≡◌, ◌≤◌, ℕ, List, length, None}
 use Rattle.diag_setup.specs.declared.raw.RawSetup.{RawSetup}
 use Rattle.diag_world.specs.Server.{ServerState}
-use Rattle.diag_bus.specs.Batch.{BusStands}
+use Rattle.diag_bus.specs.Batch.{BusStands, IsBy, StartsBelow, moment_end}
 use Rattle.diag_bus.specs.Events.{first_fault}
 use Rattle.diag_bus.specs.Comparing.{ComparesLines}
 use Rattle.diag_bus.specs.declared.bus.Output.{Output}
 use Rattle.diag_bus.specs.declared.bus.Output.TheVariants.{Replies, Journal, End, Verdict}
 use Rattle.diag_bus.specs.declared.comparing.Comparisons.{Comparisons}
 use Rattle.diag_bus.specs.declared.clock.Clock.{Clock}
+use Rattle.diag_bus.specs.declared.mid_line.MidLine.{MidLine}
 
 -- what a contract sees of a bus
 pub record BusState : Type 0 where
@@ -17,6 +18,14 @@ pub record BusState : Type 0 where
   pub server : ServerState
   pub clock : Clock
   pub compared : Comparisons
+
+-- what holds of the parts of a bus, whatever it took, also where a line was refused
+abbrev pub AreSound : RawSetup → MidLine → Comparisons → Clock → Type 0
+AreSound setup line compared clock = (length line.server.links ≡ length setup.testers)
+    × (length line.drawn.items ≡ length setup.testers)
+    × (length compared.testers.items ≤ length setup.testers)
+    × IsBy line.server clock.time
+    × StartsBelow clock.start moment_end
 
 -- where a verdict is wanted, what is kept of the recording stands for these lines
 abbrev pub Judges : Output → RawSetup → Comparisons → List (List ℕ) → Type 0

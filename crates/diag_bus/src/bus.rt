@@ -50,10 +50,8 @@ pub struct Bus {
 }
 
 impl Model for Bus {
-    ghost use Rattle.std.specs.Prelude.{◌≡◌, ◌≤◌, length};
     ghost use Rattle.diag_world.specs.Server.{server_of};
-    ghost use Rattle.diag_bus.specs.Batch.{IsBy};
-    ghost use Rattle.diag_bus.specs.Bus.{BusState};
+    ghost use Rattle.diag_bus.specs.Bus.{AreSound, BusState};
 
     ghost Value = { BusState };
 
@@ -65,10 +63,7 @@ impl Model for Bus {
       compared = b.compared;
     } };
 
-    ghost invariant = { λ b. (length b.line.server.links ≡ length b.setup.testers)
-        × (length b.line.drawn.items ≡ length b.setup.testers)
-        × (length b.compared.testers.items ≤ length b.setup.testers)
-        × IsBy b.line.server b.clock.time };
+    ghost invariant = { λ b. AreSound b.setup b.line b.compared b.clock };
 }
 
 impl Bus {

@@ -1,10 +1,10 @@
 //! The clock of a recording.
 
-ghost use Rattle.std.specs.Prelude.{◌≡◌, ◌+◌, ◌≤◌, Some, None, Ok, IfOk, IfErr, IfSome};
+ghost use Rattle.std.specs.Prelude.{◌≡◌, ◌+◌, ◌≤◌, ℕ, Some, None, Ok, IfOk, IfErr, IfSome};
 ghost use Rattle.diag_can.specs.Bus.{bus_line};
 ghost use Rattle.diag_world.specs.Server.{closing_time};
 ghost use Rattle.diag_can.specs.Reading.{later};
-ghost use Rattle.diag_bus.specs.Batch.{GoesOn};
+ghost use Rattle.diag_bus.specs.Batch.{GoesOn, SaidBelow, StartsBelow};
 ghost use Rattle.diag_bus.specs.Events.{fault_said, span_said};
 ghost use Rattle.diag_can.specs.Log.{silence};
 ghost use Rattle.diag_can.specs.declared.log.Timing.TheVariants.{Stamps};
@@ -102,7 +102,9 @@ fn later(reference: Option<u64>, moment: u64) -> Option<u64>
 /// The clock behind a line, by which each tester's clock tells this time.
 pub(crate) fn clock_after(clock: Clock, said: &BusLine, time: u64) -> Clock
     requires { time ≡ clock.time + span_said clock.reference (Ok said.now) }
-    ensures { GoesOn clock said.now result }
+    ensures on { GoesOn clock said.now result }
+    ensures start { (most : ℕ) → StartsBelow clock.start most → SaidBelow said.now most
+        → StartsBelow result.start most }
 {
     match said {
         BusLine::Empty | BusLine::Ticks(_) => Clock {

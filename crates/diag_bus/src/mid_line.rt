@@ -8,6 +8,7 @@ ghost use Rattle.diag_can.specs.Log.{waited};
 ghost use Rattle.diag_tp.specs.Link.{is_frame};
 ghost use Rattle.diag_tp.specs.Moments.{counted_from};
 ghost use Rattle.diag_tp.specs.declared.sent.Sent.{Sent as ASent};
+ghost use Rattle.diag_world.specs.Server.{closing_time};
 ghost use Rattle.diag_bus.specs.Events.{frame_to, said_gives, span_said, to_each};
 
 use crate::bus::Output;
@@ -34,7 +35,7 @@ pub struct MidLine {
 }
 
 impl MidLine {
-    ghost use Rattle.diag_bus.specs.Batch.{Gave, HasTime, IsEarly, OneWentOn, SameShape, TookTime, lists_of, replied};
+    ghost use Rattle.diag_bus.specs.Batch.{AreSentBy, Gave, HasTime, IsEarly, OneSentIn, OneWentOn, SameShape, SentIn, StartsBelow, TookTime, lists_of, moment_end, replied};
 
     /// Begins a line: nothing was drawn and nothing written.
     pub fn begin(&mut self)
@@ -56,6 +57,8 @@ impl MidLine {
         batch: &mut Vec<Drawn>,
     ) -> Result<(), AllocError>
         requires lists { length self.old.drawn.items ≡ length setup.now.testers }
+        requires start { StartsBelow start moment_end }
+        requires sent { AreSentBy (lists_of self.old) closing_time }
         ensures ok { OnOk result (self.new.text.items ≡ self.old.text.items
             ++ replied self.old.output setup.now start (lists_of self.old)) }
         ensures server { self.new.server ≡ self.old.server }
@@ -76,6 +79,7 @@ impl MidLine {
         ensures ok { OnOk result (Gave self.old self.new ((who, event.now) ∷ [])) }
         ensures shape { SameShape self.old self.new }
         ensures pace { OneWentOn self.old.server self.new.server (who - 1) 0 }
+        ensures sent { OnOk result (OneSentIn self.old self.new (who - 1) 0) }
     {
         let index = usize::from(who.place()) - 1;
         let out = &mut self.drawn[index];
@@ -102,6 +106,7 @@ impl MidLine {
         ensures ok { OnOk result (Gave self.old self.new ((who, AnEvent.Ticks count) ∷ [])) }
         ensures shape { SameShape self.old self.new }
         ensures pace { OneWentOn self.old.server self.new.server (who - 1) count }
+        ensures sent { OnOk result (OneSentIn self.old self.new (who - 1) count) }
     {
         let index = usize::from(who.place()) - 1;
         let now = self.server.now(who);
@@ -122,6 +127,7 @@ impl MidLine {
             (Gave self.old self.new (to_each (length setup.now.testers) (AnEvent.Ticks count))) }
         ensures shape { SameShape self.old self.new }
         ensures pace { TookTime self.old.server self.new.server count }
+        ensures sent { OnOk result (SentIn self.old self.new count) }
     {
         for index in 0..setup.testers() {
             let Some(who) = setup.who(index) else {
@@ -141,6 +147,7 @@ impl MidLine {
             (flat_map (to_each (length setup.now.testers)) (waited ms))) }
         ensures shape { SameShape self.old self.new }
         ensures pace { TookTime self.old.server self.new.server ms }
+        ensures sent { OnOk result (SentIn self.old self.new ms) }
     {
         for part in 0..ms / 60000 {
             self.give_each(setup, TickCount::longest())?;
@@ -161,6 +168,7 @@ impl MidLine {
             (counted_from 1 (length setup.now.testers)))) }
         ensures shape { SameShape self.old self.new }
         ensures pace { TookTime self.old.server self.new.server 0 }
+        ensures sent { OnOk result (SentIn self.old self.new 0) }
     {
         for index in 0..setup.testers() {
             let Some(who) = setup.who(index) else {
@@ -187,6 +195,8 @@ impl MidLine {
         ensures shape { SameShape self.old self.new }
         ensures pace { TookTime self.old.server self.new.server
             (span_said reference (Ok said.now)) }
+        ensures sent { OnOk result (SentIn self.old self.new
+            (span_said reference (Ok said.now))) }
     {
         match said {
             BusLine::Empty => Ok(()),

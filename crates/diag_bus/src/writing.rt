@@ -1,9 +1,11 @@
 //! The frames that a line draws, as lines of their own, in the order of the bus.
 
-ghost use Rattle.std.specs.Prelude.{◌≡◌, ◌≤◌, ◌++◌, length, map, OnOk, IfSome};
+ghost use Rattle.std.specs.Prelude.{◌≡◌, ◌≤◌, ◌++◌, length, map, OnOk};
 ghost use Rattle.std.specs.List.{All, flat_map};
 ghost use Rattle.std.specs.List.Sorted.{IsPermutation};
 ghost use Rattle.diag_setup.specs.Rows.{in_order};
+ghost use Rattle.diag_world.specs.Server.{closing_time};
+ghost use Rattle.diag_bus.specs.Batch.{AreSentBy, StartsBelow, moment_end};
 ghost use Rattle.diag_bus.specs.Text.{bus_moment, drawn_for, drawn_text, gathered, line_of, time_of};
 
 use crate::clock::Start;
@@ -21,13 +23,15 @@ pub struct Drawn {
     pub sent: Sent,
 }
 
-/// A link's time as a moment of the bus; None where the number would be too great.
-fn bus_moment(start: Option<Start>, at: u64) -> Option<u64>
-    ensures { IfSome result (λ moment. moment ≡ bus_moment start at) }
+/// A link's time as a moment of the bus.
+fn bus_moment(start: Option<Start>, at: u64) -> u64
+    requires start { StartsBelow start moment_end }
+    requires early { at ≤ closing_time }
+    ensures { result ≡ bus_moment start at }
 {
     match start {
-        None => Some(at),
-        Some(start) => start.moment.checked_add(at.saturating_sub(start.before)),
+        None => at,
+        Some(start) => start.moment + at.saturating_sub(start.before),
     }
 }
 
@@ -81,16 +85,15 @@ fn write_batch(
     batch: &mut Vec<Drawn>,
     text: &mut Vec<u8>,
 ) -> Result<(), AllocError>
-    requires { All (λ drawn. drawn.who ≤ length setup.now.testers) batch.old.items }
+    requires testers { All (λ drawn. drawn.who ≤ length setup.now.testers) batch.old.items }
+    requires start { StartsBelow start moment_end }
+    requires sent { All (λ drawn. drawn.sent.at ≤ closing_time) batch.old.items }
     ensures { OnOk result (text.new.items ≡ text.old.items
         ++ flat_map (line_of setup.now start) (in_order time_of batch.old.items)) }
 {
     sort_batch(batch)?;
     for drawn in batch.as_slice() {
-        let Some(moment) = bus_moment(start, drawn.sent.at) else {
-            // (a moment is below 10^15, and no clock passes 2^63)
-            return Err(AllocError);
-        };
+        let moment = bus_moment(start, drawn.sent.at);
         write_line(text, setup.name(drawn.who), moment, &drawn.sent.frame)?;
     }
     Ok(())
@@ -105,7 +108,9 @@ pub(crate) fn write_drawn(
     batch: &mut Vec<Drawn>,
     text: &mut Vec<u8>,
 ) -> Result<(), AllocError>
-    requires { length drawn.old.items ≡ length setup.now.testers }
+    requires testers { length drawn.old.items ≡ length setup.now.testers }
+    requires start { StartsBelow start moment_end }
+    requires sent { AreSentBy (map (λ f. f.items) drawn.old.items) closing_time }
     ensures ok { OnOk result (text.new.items ≡ text.old.items
         ++ drawn_text setup.now start (map (λ f. f.items) drawn.old.items)) }
     ensures lists { length drawn.new.items ≡ length drawn.old.items }

@@ -1,5 +1,7 @@
-use Rattle.std.proofs.Common.{sym, ◌∙◌, arith}
+use Rattle.std.proofs.Common.{subst, sym, ◌∙◌, arith}
 use Rattle.std.proofs.lemmas.List.{length-map}
+use Rattle.diag_bus.specs.Batch.{StartsBelow, moment_end}
+use Rattle.diag_bus.specs.declared.clock.Clock.{Clock}
 use Rattle.diag_bus.proofs.bus.Bus.new.Goals as goal
 
 pub invariant_of-result : goal.invariant_of-result
@@ -8,4 +10,5 @@ invariant_of-result c = (
   omega (arith, c.in_ok-drawn.ensures, c.testers.ensures.same),
   c.in_ok-compared.ensures.in_setup,
   λ i link at. omega (arith, (c.in_ok-server.ensures.ports i link at).stands.now),
+  subst (λ (clock : Clock). StartsBelow clock.start moment_end) (sym c.new-3.ensures) tt,
 )

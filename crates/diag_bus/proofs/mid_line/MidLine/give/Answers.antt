@@ -11,7 +11,7 @@ use Rattle.std.specs.Vec.{with_item}
 use Rattle.diag_bus.specs.Batch.{entry_added}
 use Rattle.diag_bus.specs.declared.mid_line.MidLine.{MidLine}
 use Rattle.diag_bus.proofs.Batches.{clock_told, drew_more, early_now, found_at}
-use Rattle.diag_bus.proofs.Paces.{frame_time, stays, went_on}
+use Rattle.diag_bus.proofs.Paces.{frame_time, sent_one, stays, went_on}
 use Rattle.diag_bus.proofs.mid_line.MidLine.give.Goals as goal
 
 pub enter-requires : goal.enter-requires
@@ -74,3 +74,23 @@ returns-in-Err-Memory-clause-pace c = stays c.args.self.now.server c.ask.new.sel
 
 pub returns-in_err-enter-clause-pace : goal.returns-in_err-enter-clause-pace
 returns-in_err-enter-clause-pace c = stays c.args.self.now.server c.ask.new.self (c.args.who - 1) 0 c.in-Ok.ensures.same
+
+pub returns-clause-sent : goal.returns-clause-sent
+returns-clause-sent c =
+    let old = c.args.self.now in
+    let new : MidLine = record { server = c.settle.new.self; output = old.output; drawn = with_item old.drawn (c.from-index.result - 1) c.settle.new.out; text = c.enter.new.text } in
+    let drawn = old.drawn.items in
+    let i = c.from-index.result - 1 in
+    let who = c.args.who in
+    let asked = c.in-Ok.asked in
+    let is : who ≡ i + 1 = omega (arith, c.from-index.ensures, c.place.ensures.same, c.place.ensures.fits.0) in
+    let within : i < length drawn = omega (arith, is, c.requires.in_setup, c.requires.lists) in
+    let list = c.index_mut-out.result.now in
+    let here : slice_get drawn i ≡ Some list = slice_get_read drawn (length drawn) i list refl within c.index_mut-out.ensures.value in
+    let found : slice_get (map (λ f. f.items) drawn) i ≡ Some list.items = slice_get-map (λ f. f.items) drawn i ∙ ap (option_map (λ f. f.items)) here in
+    let grew = c.settle.ensures.took in
+    let same = c.in-Ok.ensures.same in
+    let settled = subst (λ (s : ServerState). Settled s (server_of c.settle.new.self) who c.args.event.now asked grew.more) same grew.holds in
+    let lists = map-set (λ f. f.items) drawn i c.settle.new.out
+    ∙ ap (λ (w : List Sent). slice_set (map (λ f. f.items) drawn) i w) (grew.grown ∙ ap (λ w. w ++ grew.more) c.in-Ok.ensures.out) in
+    sent_one old new (who - 1) i 0 c.args.event.now asked list.items grew.more settled.moved (frame_time c.args.event.now c.requires.frame) found lists

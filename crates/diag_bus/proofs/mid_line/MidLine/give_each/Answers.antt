@@ -4,11 +4,16 @@ use Rattle.diag_world.proofs.Worlds.{who_found}
 use Rattle.diag_bus.specs.Batch.{Gave}
 use Rattle.diag_bus.specs.Events.{to_each}
 use Rattle.diag_bus.proofs.Batches.{each_more, gave_more, gave_none, same_more, same_none}
-use Rattle.diag_bus.proofs.Paces.{some_all, some_more, some_none}
+use Rattle.diag_bus.proofs.Paces.{sent_none, sent_some, some_all, some_more, some_none}
 use Rattle.diag_bus.proofs.mid_line.MidLine.give_each.Goals as goal
 
 pub loop-index-init : goal.loop-index-init
-loop-index-init c = record { shape = same_none c.args.self.now; gave = gave_none c.args.self.now; pace = some_none c.args.self.now.server c.args.count }
+loop-index-init c = record {
+  shape = same_none c.args.self.now;
+  gave = gave_none c.args.self.now;
+  pace = some_none c.args.self.now.server c.args.count;
+  sent = sent_none c.args.self.now c.args.count;
+}
 
 pub give_ticks-requires-clause-in_setup : goal.give_ticks-requires-clause-in_setup
 give_ticks-requires-clause-in_setup c =
@@ -34,6 +39,7 @@ loop-index-preserved c =
       gave = subst (λ L. Gave c.args.self.now c.give_ticks.new.self L) (sym (each_more c.loop-index.index (Ticks c.args.count) c.in-Some.who who))
           (gave_more c.args.self.now c.loop-index.self c.give_ticks.new.self _ _ inv.gave c.in_ok-give_ticks.ensures.ok);
       pace = some_more c.args.self.now.server c.loop-index.self.server c.give_ticks.new.self.server c.loop-index.index (c.in-Some.who - 1) c.args.count (omega (arith, who)) inv.pace c.give_ticks.ensures.pace;
+      sent = sent_some c.args.self.now c.loop-index.self c.give_ticks.new.self c.loop-index.index (c.in-Some.who - 1) c.args.count (omega (arith, who)) inv.pace inv.sent c.in_ok-give_ticks.ensures.sent;
     }
 
 pub returns-clause-ok : goal.returns-clause-ok
@@ -52,3 +58,6 @@ returns-in_err-give_ticks-clause-pace c =
     let who = who_found c.args.setup.now c.loop-index.index c.in-Some.who c.in-Some.ensures in
     some_all c.args.self.now.server c.give_ticks.new.self.server (c.loop-index.index + 1) c.args.count
     (some_more c.args.self.now.server c.loop-index.self.server c.give_ticks.new.self.server c.loop-index.index (c.in-Some.who - 1) c.args.count (omega (arith, who)) c.loop-index.invariant.pace c.give_ticks.ensures.pace)
+
+pub returns-clause-sent : goal.returns-clause-sent
+returns-clause-sent c = c.loop-index.invariant.sent

@@ -1,5 +1,5 @@
 use Rattle.diag_can.specs.declared.frame.Event.TheVariants.{Ticks}
-use Rattle.diag_bus.specs.Batch.{Gave, SameShape}
+use Rattle.diag_bus.specs.Batch.{Gave, SameShape, SentIn}
 use Rattle.diag_bus.specs.Events.{to_each}
 use Rattle.diag_bus.proofs.Paces.{SomeWentOn}
 use Rattle.diag_bus.proofs.mid_line.MidLine.give_each.Given as goal
@@ -9,4 +9,5 @@ invariant-loop-index l = record {
   shape : SameShape l.initial.self l.self;
   gave : Gave l.initial.self l.self (to_each l.index (Ticks l.count));
   pace : SomeWentOn l.initial.self.server l.self.server l.index l.count;
+  sent : SentIn l.initial.self l.self l.count;
 }

@@ -7,12 +7,17 @@ use Rattle.diag_world.proofs.Worlds.{who_found}
 use Rattle.diag_bus.specs.Batch.{Gave}
 use Rattle.diag_bus.specs.Events.{frame_to}
 use Rattle.diag_bus.proofs.Batches.{frame_given, frames_more, gave_none, gave_more, same_more, same_none}
-use Rattle.diag_bus.proofs.Paces.{took_none, took_one}
+use Rattle.diag_bus.proofs.Paces.{sent_none, sent_then, took_none, took_one}
 use Rattle.diag_bus.proofs.mid_line.MidLine.give_frame.Goals.{in-Some-frame_for+in_ok-give, in_default-frame_for}
 use Rattle.diag_bus.proofs.mid_line.MidLine.give_frame.Goals as goal
 
 pub loop-index-init : goal.loop-index-init
-loop-index-init c = record { shape = same_none c.args.self.now; gave = gave_none c.args.self.now; pace = took_none c.args.self.now.server 0 }
+loop-index-init c = record {
+  shape = same_none c.args.self.now;
+  gave = gave_none c.args.self.now;
+  pace = took_none c.args.self.now.server 0;
+  sent = sent_none c.args.self.now 0;
+}
 
 pub give-requires-clause-in_setup : goal.give-requires-clause-in_setup
 give-requires-clause-in_setup c =
@@ -50,6 +55,7 @@ loop-index-preserved c =
             gave = subst (λ N. Gave c.args.self.now w.give.new.self N) (sym (more ∙ ap (λ x. L ++ x) is))
                 (gave_more c.args.self.now c.loop-index.self w.give.new.self _ _ inv.gave w.in_ok-give.ensures.ok);
             pace = took_one c.args.self.now.server c.loop-index.self.server w.give.new.self.server 0 (c.in-Some.who - 1) 0 0 (omega arith) inv.pace w.give.ensures.pace;
+            sent = sent_then c.args.self.now c.loop-index.self w.give.new.self 0 (c.in-Some.who - 1) 0 0 (omega arith) inv.pace inv.sent w.in_ok-give.ensures.sent;
           }))
       | in_default-frame_for w ↦ (
           let is = given None c.ids.ensures c.frame_for.ensures.is (none_of c.frame_for.result w.in_default-frame_for.not-Some) in
@@ -57,6 +63,7 @@ loop-index-preserved c =
             shape = inv.shape;
             gave = subst (λ N. Gave c.args.self.now c.loop-index.self N) (sym (more ∙ (ap (λ x. L ++ x) is ∙ append-nil L))) inv.gave;
             pace = inv.pace;
+            sent = inv.sent;
           }))
     ]
 
@@ -65,3 +72,6 @@ returns-clause-ok c =
     let ended : c.loop-index.index ≡ length c.args.setup.now.testers = omega (arith, c.testers-index-end.ensures.same) in
     subst (λ n. Gave c.args.self.now c.loop-index.self (flat_map (frame_to c.args.setup.now (Some c.args.frame.now)) (counted_from 1 n)))
     ended c.loop-index.invariant.gave
+
+pub returns-clause-sent : goal.returns-clause-sent
+returns-clause-sent c = c.loop-index.invariant.sent

@@ -12,7 +12,7 @@ use Rattle.diag_world.specs.Server.{closing_time, entry_of_ticks}
 use Rattle.diag_bus.specs.declared.mid_line.MidLine.{MidLine}
 use Rattle.diag_world.proofs.Worlds.{on_ok}
 use Rattle.diag_bus.proofs.Batches.{clock_told, drew_more, early_now, some_of}
-use Rattle.diag_bus.proofs.Paces.{stays, ticks_time, went_on}
+use Rattle.diag_bus.proofs.Paces.{sent_one, stays, ticks_time, went_on}
 use Rattle.diag_bus.proofs.mid_line.MidLine.give_ticks.Goals as goal
 
 pub enter_ticks-requires : goal.enter_ticks-requires
@@ -63,3 +63,22 @@ unreachable-requires c =
     let closed = c.ticks.ensures.closed is in
     let early = c.requires.early closed.link closed.found in
     omega (arith, early, closed.late)
+
+pub returns-in-Ok-clause-sent : goal.returns-in-Ok-clause-sent
+returns-in-Ok-clause-sent c =
+    let old = c.args.self.now in
+    let new : MidLine = record { server = c.ticks.new.self; output = old.output; drawn = with_item old.drawn (c.from-index.result - 1) c.ticks.new.out; text = c.enter_ticks.new.text } in
+    let drawn = old.drawn.items in
+    let i = c.from-index.result - 1 in
+    let who = c.args.who in
+    let asked = Some (entry_of_ticks who c.args.count) in
+    let is : who ≡ i + 1 = omega (arith, c.from-index.ensures, c.place.ensures.same, c.place.ensures.fits.0) in
+    let within : i < length drawn = omega (arith, is, c.requires.in_setup, c.requires.lists) in
+    let list = c.index_mut-out.result.now in
+    let here : slice_get drawn i ≡ Some list = slice_get_read drawn (length drawn) i list refl within c.index_mut-out.ensures.value in
+    let found : slice_get (map (λ f. f.items) drawn) i ≡ Some list.items = slice_get-map (λ f. f.items) drawn i ∙ ap (option_map (λ f. f.items)) here in
+    let grew = c.in-Ok.ensures.ok in
+    let lists = map-set (λ f. f.items) drawn i c.ticks.new.out ∙ ap (λ (w : List Sent). slice_set (map (λ f. f.items) drawn) i w) grew.grown in
+    on_ok _ _ c.enter_ticks.result (λ entered.
+    sent_one old new (who - 1) i c.args.count (Ticks c.args.count) asked list.items grew.more grew.holds.moved (ticks_time c.args.count) found lists)
+    c.enter_ticks.ensures

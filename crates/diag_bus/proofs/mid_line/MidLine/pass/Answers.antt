@@ -6,11 +6,16 @@ use Rattle.diag_world.proofs.Worlds.{on_ok}
 use Rattle.diag_bus.specs.Batch.{Gave}
 use Rattle.diag_bus.specs.Events.{to_each}
 use Rattle.diag_bus.proofs.Batches.{parts_more, rest_more, waited_whole, waited_rest, gave_none, gave_more, same_more, same_none}
-use Rattle.diag_bus.proofs.Paces.{has_left, took_more, took_none}
+use Rattle.diag_bus.proofs.Paces.{has_left, sent_more, sent_none, took_more, took_none}
 use Rattle.diag_bus.proofs.mid_line.MidLine.pass.Goals as goal
 
 pub loop-part-init : goal.loop-part-init
-loop-part-init c = record { shape = same_none c.args.self.now; gave = gave_none c.args.self.now; pace = took_none c.args.self.now.server (60000 * 0) }
+loop-part-init c = record {
+  shape = same_none c.args.self.now;
+  gave = gave_none c.args.self.now;
+  pace = took_none c.args.self.now.server (60000 * 0);
+  sent = sent_none c.args.self.now (60000 * 0);
+}
 
 pub give_each-requires-clause-in_setup : goal.give_each-requires-clause-in_setup
 give_each-requires-clause-in_setup c = c.loop-part.invariant.shape.links ∙ c.requires.in_setup
@@ -65,6 +70,7 @@ loop-part-preserved c =
           (ap (λ w. flat_map (to_each n) (replicate c.loop-part.part (Ticks 60000)) ++ w) long ∙ sym (parts_more n c.loop-part.part (Ticks 60000)))
           (gave_more c.args.self.now c.loop-part.self c.give_each.new.self _ _ inv.gave c.in_ok-give_each.ensures.ok);
       pace = took_more c.args.self.now.server c.loop-part.self.server c.give_each.new.self.server (60000 * c.loop-part.part) c.longest.result (60000 * (c.loop-part.part + 1)) (omega (arith, c.longest.ensures)) inv.pace c.give_each.ensures.pace;
+      sent = sent_more c.args.self.now c.loop-part.self c.give_each.new.self (60000 * c.loop-part.part) c.longest.result (60000 * (c.loop-part.part + 1)) (omega (arith, c.longest.ensures)) inv.pace inv.sent c.in_ok-give_each.ensures.sent;
     }
 
 clash : false ≡ true → ⊥
@@ -93,3 +99,17 @@ returns-in-Some-clause-ok c =
     ∙ (sym (rest_more n whole (Ticks (c.args.ms % 60000))) ∙ ap (flat_map (to_each n)) (sym (waited_rest c.args.ms some)))))
     (gave_more c.args.self.now c.loop-part.self c.give_each-in-Some.new.self _ _ c.loop-part.invariant.gave gave))
     c.give_each-in-Some.ensures.ok
+
+pub returns-in-None-clause-sent : goal.returns-in-None-clause-sent
+returns-in-None-clause-sent c =
+    let ended : c.loop-part.part ≡ c.args.ms / 60000 = omega (arith, c.loop-part.auto.part-end, c.loop-part-test.false) in
+    let fits = rest_fits c.loop-part.part c.args.ms ended in
+    sent_more c.args.self.now c.loop-part.self c.loop-part.self (60000 * c.loop-part.part) 0 c.args.ms (omega (arith, fits)) c.loop-part.invariant.pace c.loop-part.invariant.sent (sent_none c.loop-part.self 0)
+
+pub returns-in-Some-clause-sent : goal.returns-in-Some-clause-sent
+returns-in-Some-clause-sent c =
+    let ended : c.loop-part.part ≡ c.args.ms / 60000 = omega (arith, c.loop-part.auto.part-end, c.loop-part-test.false) in
+    let fits = rest_fits c.loop-part.part c.args.ms ended in
+    on_ok _ _ c.give_each-in-Some.result (λ sent.
+    sent_more c.args.self.now c.loop-part.self c.give_each-in-Some.new.self (60000 * c.loop-part.part) c.in-Some.rest c.args.ms (omega (arith, c.in-Some.ensures.value, fits)) c.loop-part.invariant.pace c.loop-part.invariant.sent sent)
+    c.give_each-in-Some.ensures.sent

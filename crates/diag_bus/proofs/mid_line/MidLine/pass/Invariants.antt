@@ -2,7 +2,7 @@ use Rattle.std.proofs.Common.{◌*◌, length}
 use Rattle.std.specs.List.{flat_map}
 use Rattle.std.specs.Prelude.{replicate}
 use Rattle.diag_can.specs.declared.frame.Event.TheVariants.{Ticks}
-use Rattle.diag_bus.specs.Batch.{Gave, SameShape, TookTime}
+use Rattle.diag_bus.specs.Batch.{Gave, SameShape, SentIn, TookTime}
 use Rattle.diag_bus.specs.Events.{to_each}
 use Rattle.diag_bus.proofs.mid_line.MidLine.pass.Given as goal
 
@@ -11,4 +11,5 @@ invariant-loop-part l = record {
   shape : SameShape l.initial.self l.self;
   gave : Gave l.initial.self l.self (flat_map (to_each (length l.setup.testers)) (replicate l.part (Ticks 60000)));
   pace : TookTime l.initial.self.server l.self.server (60000 * l.part);
+  sent : SentIn l.initial.self l.self (60000 * l.part);
 }

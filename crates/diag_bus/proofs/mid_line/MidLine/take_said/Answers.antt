@@ -4,10 +4,10 @@ use Rattle.diag_can.specs.Log.{waited}
 use Rattle.diag_tp.specs.Moments.{counted_from}
 use Rattle.diag_bus.specs.Events.{frame_to, span_said, to_each}
 use Rattle.diag_world.proofs.Worlds.{on_ok}
-use Rattle.diag_bus.specs.Batch.{Gave, HasTime, TookTime}
+use Rattle.diag_bus.specs.Batch.{Gave, HasTime, SentIn, TookTime}
 use Rattle.diag_bus.proofs.Batches.{gave_more, gave_none}
 use Rattle.diag_bus.proofs.Lines.{said_empty, said_frame, said_ticks, said_quiet}
-use Rattle.diag_bus.proofs.Paces.{has_left, took_more, took_none}
+use Rattle.diag_bus.proofs.Paces.{has_left, sent_more, sent_none, took_more, took_none}
 use Rattle.diag_bus.proofs.mid_line.MidLine.take_said.Goals as goal
 
 pub returns-in-Empty-clause-ok : goal.returns-in-Empty-clause-ok
@@ -80,3 +80,23 @@ pub returns-in_err-pass-in-Stamped-clause-pace : goal.returns-in_err-pass-in-Sta
 returns-in_err-pass-in-Stamped-clause-pace c =
     let span = ap (λ s. span_said c.args.reference (Ok s)) c.in-Stamped.is ∙ sym c.silence.ensures in
     subst (TookTime c.args.self.now.server c.pass.new.self.server) (sym span) c.pass.ensures.pace
+
+pub returns-in-Empty-clause-sent : goal.returns-in-Empty-clause-sent
+returns-in-Empty-clause-sent c = sent_none c.args.self.now (span_said c.args.reference (Ok c.args.said.now))
+
+pub returns-in-Ticks-clause-sent : goal.returns-in-Ticks-clause-sent
+returns-in-Ticks-clause-sent c =
+    let span = ap (λ s. span_said c.args.reference (Ok s)) c.in-Ticks.is in
+    on_ok _ _ c.give_each.result (λ sent. subst (SentIn c.args.self.now c.give_each.new.self) (sym span) sent) c.give_each.ensures.sent
+
+pub returns-in-None-clause-sent : goal.returns-in-None-clause-sent
+returns-in-None-clause-sent c =
+    let span = ap (λ s. span_said c.args.reference (Ok s)) c.in-Stamped.is ∙ sym c.silence.ensures in
+    subst (SentIn c.args.self.now c.pass.new.self) (sym span) c.in_ok-pass-in-Stamped.ensures.sent
+
+pub returns-in-Some-clause-sent : goal.returns-in-Some-clause-sent
+returns-in-Some-clause-sent c =
+    let span = ap (λ s. span_said c.args.reference (Ok s)) c.in-Stamped.is ∙ sym c.silence.ensures in
+    on_ok _ _ c.give_frame.result (λ sent. subst (SentIn c.args.self.now c.give_frame.new.self) (sym span)
+    (sent_more c.args.self.now c.pass.new.self c.give_frame.new.self c.silence.result 0 c.silence.result (omega arith) c.pass.ensures.pace c.in_ok-pass-in-Stamped.ensures.sent sent))
+    c.give_frame.ensures.sent
