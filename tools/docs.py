@@ -147,8 +147,9 @@ def make_room(room):
     shutil.copy(f"{TOP}/{PROGRAM}", f"{room}/{PROGRAM}")
     os.mkdir(f"{room}/stand_ins")
     for name, command in STAND_INS.items():
-        with open(f"{room}/stand_ins/{name}", "w", encoding="utf-8", opener=lambda path, how: os.open(path, how, 0o755)) as it:
+        with open(f"{room}/stand_ins/{name}", "w", encoding="utf-8") as it:
             it.write(f"#!/bin/sh\nexec {command}\n")
+        os.chmod(f"{room}/stand_ins/{name}", 0o755)
 
 
 def lacks(block):
