@@ -263,11 +263,25 @@ fn run_job<R: Print + Eprint + Files + Input + AllocGlobal + Threads + Wait + Sy
     mut config: RunSource<R>,
     mut files: Vec<RunSource<R>>,
 ) -> ExitCode {
-    let outcome = match run_text(rt, rt.alloc(), job, &mut config, files.as_mut_slice()) {
+    let outcome = match text_of(rt, rt.alloc(), job, &mut config, files.as_mut_slice()) {
         Ok(parts) => print_parts(rt, parts.as_slice()),
-        Err(fault) => stopped(rt.alloc(), &fault),
+        Err(outcome) => outcome,
     };
     tell(rt, &outcome)
+}
+
+/// The text of a run in parts, or how the run ends without one.
+fn text_of<T: Threads + Wait + Sync, S: Read>(
+    rt: &T,
+    alloc: Global,
+    job: Job,
+    config: &mut S,
+    files: &mut [S],
+) -> Result<Vec<Vec<u8>>, Outcome> {
+    match run_text(rt, alloc, job, config, files) {
+        Ok(parts) => Ok(parts),
+        Err(fault) => Err(stopped(alloc, &fault)),
+    }
 }
 
 /// Prints the parts of a run's text, and says how that ended.
