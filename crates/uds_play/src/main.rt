@@ -1,6 +1,16 @@
 //! The program: words, files, one run, a status.
 #![tactic(auto)]
 
+ghost use Rattle.std.specs.Prelude.{◌≡◌, [], ◌∷◌, ℕ, List, map, false, IfOk, Some, Ok};
+ghost use Rattle.std.specs.List.{concat};
+ghost use Rattle.diag_stored.specs.declared.TheConstants.{
+  CONFIG as TheConfig,
+  LOG_A as TheLogA,
+  LOG_B as TheLogB,
+};
+ghost use Rattle.diag_run.specs.Files.{AreKnown};
+ghost use Rattle.diag_run.specs.Run.{GivesRun, read_of};
+
 mod command;
 mod source;
 mod standard;
@@ -79,7 +89,7 @@ fn refuse(rt: &(impl Print + Eprint), refusal: &Refusal) -> ExitCode {
     }
 }
 
-/// A file of a run, standard input, or bytes of the program's own.
+/// A file of a run, or standard input.
 type RunSource<R> = Source<<R as Files>::File, <R as Input>::Reader>;
 
 fn run_words<R: Print + Eprint + Files + Input + AllocGlobal + Clock + Threads + Wait + Sync>(
@@ -104,25 +114,23 @@ fn run_words<R: Print + Eprint + Files + Input + AllocGlobal + Clock + Threads +
 }
 
 /// The run of the program's own config and logs.
-fn run_stored<R: Print + Eprint + Files + Input + AllocGlobal + Threads + Wait + Sync>(
-    rt: &R,
-) -> ExitCode {
+fn run_stored<R: Print + Eprint + AllocGlobal + Threads + Wait + Sync>(rt: &R) -> ExitCode {
+    print_text(rt, stored_text(rt, rt.alloc()))
+}
+
+/// The text of a serial play of the program's own config and logs, in parts.
+fn stored_text<T: Threads + Wait + Sync>(rt: &T, alloc: Global) -> Result<Vec<Vec<u8>>, Outcome>
+    ensures { IfOk result (λ parts. GivesRun (Job.Serial false Timing.Lines)
+        (read_of (Job.Serial false Timing.Lines) TheConfig.now (TheLogA.now ∷ TheLogB.now ∷ []))
+        (Ok (concat (map (λ part. part.items) parts.items)))) }
+{
     let job = Job::Serial {
         only_journal: false,
         timing: Timing::Lines,
     };
-    match stored_files::<R>(rt.alloc()) {
-        Ok(files) => run_job(rt, job, Source::Stored(CONFIG.as_bytes()), files),
-        Err(AllocError) => refuse(rt, &Refusal::Memory),
-    }
-}
-
-/// The program's own logs.
-fn stored_files<R: Files + Input>(alloc: Global) -> Result<Vec<RunSource<R>>, AllocError> {
-    let mut files = Vec::new(alloc);
-    files.push(Source::Stored(LOG_A.as_bytes()))?;
-    files.push(Source::Stored(LOG_B.as_bytes()))?;
-    Ok(files)
+    let mut config = CONFIG.as_bytes();
+    let mut logs = [LOG_A.as_bytes(), LOG_B.as_bytes()];
+    text_of(rt, alloc, job, &mut config, &mut logs)
 }
 
 /// The run of a job over the files at these paths.
@@ -263,11 +271,8 @@ fn run_job<R: Print + Eprint + Files + Input + AllocGlobal + Threads + Wait + Sy
     mut config: RunSource<R>,
     mut files: Vec<RunSource<R>>,
 ) -> ExitCode {
-    let outcome = match text_of(rt, rt.alloc(), job, &mut config, files.as_mut_slice()) {
-        Ok(parts) => print_parts(rt, parts.as_slice()),
-        Err(outcome) => outcome,
-    };
-    tell(rt, &outcome)
+    let text = text_of(rt, rt.alloc(), job, &mut config, files.as_mut_slice());
+    print_text(rt, text)
 }
 
 /// The text of a run in parts, or how the run ends without one.
@@ -277,18 +282,30 @@ fn text_of<T: Threads + Wait + Sync, S: Read>(
     job: Job,
     config: &mut S,
     files: &mut [S],
-) -> Result<Vec<Vec<u8>>, Outcome> {
+) -> Result<Vec<Vec<u8>>, Outcome>
+    ensures { IfOk result (λ parts. (bytes : List ℕ) (known : List (List ℕ))
+        → S.remaining config.old ≡ Some bytes
+        → AreKnown S.remaining files.old known
+        → GivesRun job (read_of job bytes known) (Ok (concat (map (λ part. part.items) parts.items)))) }
+{
     match run_text(rt, alloc, job, config, files) {
         Ok(parts) => Ok(parts),
         Err(fault) => Err(stopped(alloc, &fault)),
     }
 }
 
-/// Prints the parts of a run's text, and says how that ended.
-fn print_parts(rt: &(impl Print + AllocGlobal), parts: &[Vec<u8>]) -> Outcome {
-    match write_whole(&mut io::writer(rt), parts) {
-        Ok(()) => Outcome::Done,
-        Err(_) => stopped(rt.alloc(), &RunFault::Write),
+/// Prints the parts of a run's text, or the line of its fault, and says the status.
+fn print_text(
+    rt: &(impl Print + Eprint + AllocGlobal),
+    text: Result<Vec<Vec<u8>>, Outcome>,
+) -> ExitCode {
+    let parts = match text {
+        Ok(parts) => parts,
+        Err(outcome) => return tell(rt, &outcome),
+    };
+    match write_whole(&mut io::writer(rt), parts.as_slice()) {
+        Ok(()) => ExitCode::SUCCESS,
+        Err(_) => tell(rt, &stopped(rt.alloc(), &RunFault::Write)),
     }
 }
 
