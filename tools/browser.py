@@ -9,8 +9,9 @@ import subprocess
 import tempfile
 import time
 
+import packages
+
 PATIENCE = 60
-SET_UP_PATIENCE = 300
 QUIET = {"stdout": subprocess.DEVNULL, "stderr": subprocess.DEVNULL}
 FLAGS = [
     "--headless", "--no-sandbox", "--disable-gpu", "--hide-scrollbars", "--no-first-run", "--disable-background-networking",
@@ -20,24 +21,13 @@ FLAGS = [
 
 def found():
     """The browser's command, or None. Where it is missing, Debian's package is installed, if that may be done."""
-    return command() or (command() if set_up() else None)
+    if not command():
+        packages.install("chromium", "view: Chromium is installed for the tests of pages")
+    return command()
 
 
 def command():
     return shutil.which("chromium") or shutil.which("chromium-browser")
-
-
-def set_up():
-    """Whether the package could be installed."""
-    if os.geteuid() != 0 or not shutil.which("apt-get"):
-        return False
-    print("view: Chromium is installed for the tests of pages (apt-get install chromium)", flush=True)
-    try:
-        for words in (["update"], ["install", "-y", "--no-install-recommends", "chromium"]):
-            subprocess.run(["apt-get", "-q", *words], check=True, timeout=SET_UP_PATIENCE, stdin=subprocess.DEVNULL, **QUIET)
-    except (OSError, subprocess.SubprocessError):
-        return False
-    return True
 
 
 class Browser:

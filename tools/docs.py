@@ -9,8 +9,8 @@ of what the commands need; and sees that the files and the names that a document
 In a document a block is what is indented by four spaces, or stands between lines of three backticks. What it is:
 
 - the lines of a command, where the first one begins with one of RUN, OTHERS or STAND_INS; a program of OTHERS that isn't
-  there is installed, where that may be done, and else the block is passed over, and a line says so; those of STAND_INS
-  want a CAN bus, and a script of two lines stands in for each;
+  there is installed where the environment has INSTALL_PACKAGES, and else the block is passed over, and a line says so;
+  those of STAND_INS want a CAN bus, and a script of two lines stands in for each;
 - a program, where the word `python` stands behind the backticks;
 - what stands in a file, where the text before it ends with the file's name in backticks and a colon; after `Add to`
   it is put behind what the file has;
@@ -27,6 +27,8 @@ import shutil
 import subprocess
 import sys
 import tempfile
+
+import packages
 
 TOP = os.path.dirname(os.path.dirname(os.path.abspath(__file__)))
 PROGRAM = "crates/uds_play/out/uds_play"
@@ -46,7 +48,6 @@ NOT_RUN = {
 # files and folders that the commands need
 NEEDED = ["uds_play", "crates.txt", "demo", "tools"]
 SECONDS = 120
-SET_UP_PATIENCE = 300
 counts = {True: 0, False: 0}
 
 
@@ -155,21 +156,14 @@ def make_room(room):
 def lacks(block):
     """The programs of OTHERS that the block wants and that are not there and can't be installed."""
     wanted = {first_word(line) for line in block.lines} & set(OTHERS)
-    return sorted(it for it in wanted if not shutil.which(it) and not (set_up(OTHERS[it]) and shutil.which(it)))
+    return sorted(it for it in wanted if not is_there(it))
 
 
-def set_up(package):
-    """Whether the package could be installed."""
-    if os.geteuid() != 0 or not shutil.which("apt-get"):
-        return False
-    print(f"docs: {package} is installed for the commands of the documents (apt-get install {package})", flush=True)
-    quiet = {"stdin": subprocess.DEVNULL, "stdout": subprocess.DEVNULL, "stderr": subprocess.DEVNULL}
-    try:
-        for words in (["update"], ["install", "-y", "--no-install-recommends", package]):
-            subprocess.run(["apt-get", "-q", *words], check=True, timeout=SET_UP_PATIENCE, **quiet)
-    except (OSError, subprocess.SubprocessError):
-        return False
-    return True
+def is_there(program):
+    """Whether a program of OTHERS is there, or could be installed."""
+    if not shutil.which(program):
+        packages.install(OTHERS[program], f"docs: {OTHERS[program]} is installed for the commands of the documents")
+    return shutil.which(program) is not None
 
 
 def run(room, command, language=""):

@@ -4,16 +4,14 @@ import itertools
 import logging
 import os
 import queue
-import shutil
-import subprocess
 import sys
 import threading
 import time
 
+import packages
+
 # where Debian's package stands, for a Python that isn't Debian's
 DEBIAN = "/usr/lib/python3/dist-packages"
-SET_UP_PATIENCE = 300
-QUIET = {"stdout": subprocess.DEVNULL, "stderr": subprocess.DEVNULL}
 SERVICES = {0x10, 0x11, 0x14, 0x19, 0x22, 0x27, 0x2E, 0x31, 0x3E, 0x85}
 LONG = bytes(range(60)).hex().upper()
 OTHER = bytes(range(100, 160)).hex().upper()
@@ -31,7 +29,7 @@ SCAN = 25
 
 def found():
     """Whether scapy is there. Where it is missing, Debian's package is installed, if that may be done."""
-    return loads() or (set_up() and loads())
+    return loads() or (packages.install("python3-scapy", "live: scapy is installed for its testers") and loads())
 
 
 def loads():
@@ -48,19 +46,6 @@ def loads():
         return False
     log_automotive.setLevel(logging.CRITICAL)
     globals().update(uds=uds, uds_scan=uds_scan, ISOTPSoftSocket=ISOTPSoftSocket, wire=wire_class(SuperSocket, CAN))
-    return True
-
-
-def set_up():
-    """Whether the package could be installed."""
-    if os.geteuid() != 0 or not shutil.which("apt-get"):
-        return False
-    print("live: scapy is installed for its testers (apt-get install python3-scapy)", flush=True)
-    try:
-        for words in (["update"], ["install", "-y", "--no-install-recommends", "python3-scapy"]):
-            subprocess.run(["apt-get", "-q", *words], check=True, timeout=SET_UP_PATIENCE, stdin=subprocess.DEVNULL, **QUIET)
-    except (OSError, subprocess.SubprocessError):
-        return False
     return True
 
 

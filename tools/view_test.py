@@ -485,7 +485,7 @@ def long_page(room, page):
 
 
 def take_picture(room, page):
-    """The picture of the README: the page of the demo, with a reply opened and a step marked."""
+    """The picture of docs/VIEW.md: the page of the demo, with a reply opened and a step marked."""
     page.open(page_of(room, whole(f"{TOP}/demo/setup.toml"), whole(f"{TOP}/demo/output.txt")), 1200, 690)
     page.ask("waits.click(); opened.add(7); show(); light(16); document.querySelector('h1').textContent = 'demo/output.txt'; 0")
     page.ask(AFTER_DRAWING % "0")
