@@ -1,5 +1,5 @@
 use Rattle.std.proofs.Common.{Err, ◌≡◌, ◌<◌, ◌+◌, ◌-◌, ◌++◌, Some, List, length, map, refl, ap, subst, sym, ◌∙◌, arith}
-use Rattle.std.proofs.lemmas.List.{length-map, map-set}
+use Rattle.std.proofs.lemmas.List.{length-map, length-set, map-set}
 use Rattle.std.proofs.lemmas.Option.{slice_get_read, slice_get-map}
 use Rattle.std.specs.Prelude.{slice_get, slice_set}
 use Rattle.std.specs.Option.{option_map}
@@ -74,6 +74,16 @@ returns-in-Err-Memory-clause-pace c = stays c.args.self.now.server c.ask.new.sel
 
 pub returns-in_err-enter-clause-pace : goal.returns-in_err-enter-clause-pace
 returns-in_err-enter-clause-pace c = stays c.args.self.now.server c.ask.new.self (c.args.who - 1) 0 c.in-Ok.ensures.same
+
+pub returns-in_err-enter-clause-shape : goal.returns-in_err-enter-clause-shape
+returns-in_err-enter-clause-shape c =
+    let old = c.args.self.now in
+    let state = λ (l : LinkView). l.state in
+    record {
+      links = sym (length-map c.ask.new.self.links state) ∙ (ap (λ (s : ServerState). length s.links) c.in-Ok.ensures.same ∙ length-map old.server.links state);
+      lists = length-set old.drawn.items (c.from-index.result - 1) c.ask.new.out;
+      output = refl;
+    }
 
 pub returns-clause-sent : goal.returns-clause-sent
 returns-clause-sent c =
