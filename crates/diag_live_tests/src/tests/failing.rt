@@ -54,14 +54,12 @@ fn is_cut(
         clock: 700,
     };
     let mut out = Pipe {
-        taken: Vec::new(alloc),
-        room,
         takes_none,
+        ..Pipe::of(alloc, room)?
     };
     let mut record = Pipe {
-        taken: Vec::new(alloc),
-        room: record_room,
         takes_none,
+        ..Pipe::of(alloc, record_room)?
     };
     let outcome = run_live_and_tell(alloc, CONFIG.as_bytes(), bench, &mut out, &mut record);
     let ended = is_end(&outcome, CANNOT_WRITE);

@@ -71,18 +71,21 @@ pub struct Pipe {
     pub takes_none: bool,
 }
 
+/// The bytes for which a writer has memory from its start, so that a write that fails isn't want of memory.
+const ROOM_AT_FIRST: usize = 4096;
+
 impl Pipe {
     /// A writer of so much room.
-    pub fn of(alloc: Global, room: usize) -> Pipe {
-        Pipe {
-            taken: Vec::new(alloc),
+    pub fn of(alloc: Global, room: usize) -> Result<Pipe, AllocError> {
+        Ok(Pipe {
+            taken: Vec::with_capacity(alloc, ROOM_AT_FIRST)?,
             room,
             takes_none: false,
-        }
+        })
     }
 
     /// A writer that takes all.
-    pub fn open(alloc: Global) -> Pipe {
+    pub fn open(alloc: Global) -> Result<Pipe, AllocError> {
         Pipe::of(alloc, usize::MAX)
     }
 }
@@ -141,8 +144,8 @@ pub fn serves(
         steps,
         clock: 700,
     };
-    let mut out = Pipe::open(alloc);
-    let mut noted = Pipe::open(alloc);
+    let mut out = Pipe::open(alloc)?;
+    let mut noted = Pipe::open(alloc)?;
     let outcome = run_live_and_tell(alloc, CONFIG.as_bytes(), bench, &mut out, &mut noted);
     let ended = is_end(&outcome, end);
     let same = ended?
@@ -153,7 +156,7 @@ pub fn serves(
 
 /// Whether the bus draws this text of a record.
 fn is_drawn(alloc: Global, record: &[u8], text: &str) -> Result<bool, AllocError> {
-    let mut out = Pipe::open(alloc);
+    let mut out = Pipe::open(alloc)?;
     let outcome = run_bus_and_tell(alloc, Output::Replies, CONFIG.as_bytes(), record, &mut out);
     Ok(is_end(&outcome, WELL)? && out.taken.as_slice() == text.as_bytes())
 }
