@@ -17,7 +17,7 @@ use crate::verdict::Verdict;
 use crate::writing::Drawn;
 use diag_desk::write_header_at;
 use diag_ecu::Ecu;
-use diag_setup::{Setup, Who};
+use diag_setup::{Setup, TesterId};
 use diag_tp::Sent;
 use diag_world::Server;
 use std::alloc::{AllocError, Global};
@@ -163,7 +163,7 @@ impl Bus {
 
     /// How many frames the lines have that the unit sent to a tester, response pending not counted, where a verdict is
     /// wanted.
-    pub fn recorded(&self, who: Who) -> u64
+    pub fn recorded(&self, who: TesterId) -> u64
         requires { who ≤ length self.now.setup.testers }
         ensures { (lines : List (List ℕ)) → TookLines self.now lines → self.now.output ≡ Output.Verdict
             → result ≡ length (recorded self.now.setup lines who) }

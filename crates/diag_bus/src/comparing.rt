@@ -10,7 +10,7 @@ ghost use Rattle.diag_setup.specs.declared.raw.RawSetup.{RawSetup};
 
 use crate::verdict::{Difference, Recorded, Verdict, earlier, same_bytes, same_difference};
 use diag_can::{BusLine, CanId, FrameBytes};
-use diag_setup::{Setup, Who};
+use diag_setup::{Setup, TesterId};
 use diag_tp::Sent;
 use std::alloc::{AllocError, Global};
 use std::collections::VecDeque;
@@ -164,7 +164,7 @@ impl Comparisons {
     }
 
     /// How many frames of a tester were recorded.
-    pub fn recorded(&self, who: Who) -> u64
+    pub fn recorded(&self, who: TesterId) -> u64
         ensures { (setup : RawSetup) (lines : List (List ℕ)) → ComparesLines setup self.now lines
             → who ≤ length setup.testers → result ≡ length (recorded setup lines who) }
     {
@@ -201,7 +201,7 @@ impl Comparisons {
     }
 
     /// The first difference in the order of the lines, and its tester.
-    fn first_difference(&self, setup: &Setup) -> Option<(Who, Difference)>
+    fn first_difference(&self, setup: &Setup) -> Option<(TesterId, Difference)>
         requires { length self.now.testers.items ≤ length setup.now.testers }
         ensures { (lines : List (List ℕ)) → ComparesLines setup.now self.now lines
             → result ≡ first_difference setup.now lines }

@@ -8,7 +8,7 @@ ghost use Rattle.diag_bus.specs.Batch.{entry_added};
 use crate::bus::Output;
 use diag_can::TickCount;
 use diag_desk::{Entry, Step, write_entry_at};
-use diag_setup::Who;
+use diag_setup::TesterId;
 use std::alloc::AllocError;
 
 /// Adds the line of an entry, where a journal is wanted; `now` is what its tester's clock tells before it.
@@ -34,7 +34,7 @@ pub(crate) fn enter(
 pub(crate) fn enter_ticks(
     output: Output,
     now: u64,
-    who: Who,
+    who: TesterId,
     count: TickCount,
     text: &mut Vec<u8>,
 ) -> Result<(), AllocError>

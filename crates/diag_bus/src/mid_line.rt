@@ -16,7 +16,7 @@ use crate::clock::{Start, silence};
 use crate::entering::{enter, enter_ticks};
 use crate::writing::{Drawn, write_drawn};
 use diag_can::{BusLine, Event, Frame, FrameBytes, Ids, TickCount};
-use diag_setup::{Setup, Who};
+use diag_setup::{Setup, TesterId};
 use diag_tp::Sent;
 use diag_world::{Server, ServerFault};
 use std::alloc::AllocError;
@@ -71,7 +71,7 @@ impl MidLine {
     }
 
     /// Gives the server a frame of a tester.
-    fn give(&mut self, who: Who, event: &Event) -> Result<(), AllocError>
+    fn give(&mut self, who: TesterId, event: &Event) -> Result<(), AllocError>
         requires in_setup { who ≤ length self.old.server.links }
         requires lists { length self.old.drawn.items ≡ length self.old.server.links }
         requires frame { IsTrue (is_frame event.now) }
@@ -99,7 +99,7 @@ impl MidLine {
     }
 
     /// Gives the server ticks of a tester.
-    fn give_ticks(&mut self, who: Who, count: TickCount) -> Result<(), AllocError>
+    fn give_ticks(&mut self, who: TesterId, count: TickCount) -> Result<(), AllocError>
         requires in_setup { who ≤ length self.old.server.links }
         requires lists { length self.old.drawn.items ≡ length self.old.server.links }
         requires early { IsEarly self.old.server (who - 1) }

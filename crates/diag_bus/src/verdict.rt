@@ -4,7 +4,7 @@ ghost use Rattle.std.specs.Prelude.{◌≡◌, Some, option_map};
 ghost use Rattle.diag_bus.specs.Comparing.{earlier_of};
 
 use diag_can::FrameBytes;
-use diag_setup::Who;
+use diag_setup::TesterId;
 
 /// A frame that the recording has of the unit's.
 #[derive(Debug, Drop)]
@@ -32,10 +32,10 @@ pub enum Verdict {
     /// Of each tester the recording has just the frames that the server sends.
     Agrees,
     /// The first line that differs, and the tester whose frame it has.
-    Differs(Who, Difference),
+    Differs(TesterId, Difference),
     /// No line differs, but of this tester, the first such, so many frames were recorded where the server sends another.
     Lacks {
-        who: Who,
+        who: TesterId,
         count: u64,
         next: FrameBytes,
     },
@@ -64,10 +64,10 @@ pub(crate) fn same_difference(difference: &Difference) -> Difference
 
 /// The difference of the lesser line, where there is another of this tester.
 pub(crate) fn earlier(
-    first: Option<(Who, Difference)>,
-    who: Who,
+    first: Option<(TesterId, Difference)>,
+    who: TesterId,
     other: Option<Difference>,
-) -> Option<(Who, Difference)>
+) -> Option<(TesterId, Difference)>
     ensures { result ≡ earlier_of first (option_map (λ d. (who, d)) other) }
 {
     let Some(other) = other else {

@@ -10,7 +10,7 @@ ghost use Rattle.diag_bus.specs.Text.{bus_moment, drawn_for, drawn_text, gathere
 
 use crate::clock::Start;
 use diag_can::write_line;
-use diag_setup::{Setup, Who};
+use diag_setup::{Setup, TesterId};
 use diag_tp::Sent;
 use std::alloc::AllocError;
 
@@ -18,7 +18,7 @@ use std::alloc::AllocError;
 #[derive(Debug, Drop)]
 pub struct Drawn {
     /// The tester.
-    pub who: Who,
+    pub who: TesterId,
     /// The frame, with its time on the tester's link.
     pub sent: Sent,
 }
@@ -45,7 +45,11 @@ fn sort_batch(batch: &mut Vec<Drawn>) -> Result<(), AllocError>
 }
 
 /// Moves a tester's frames to the end of a batch; the room that they had stays.
-fn add_frames(batch: &mut Vec<Drawn>, who: Who, frames: &mut Vec<Sent>) -> Result<(), AllocError>
+fn add_frames(
+    batch: &mut Vec<Drawn>,
+    who: TesterId,
+    frames: &mut Vec<Sent>,
+) -> Result<(), AllocError>
     ensures { OnOk result
         (batch.new.items ≡ batch.old.items ++ map (drawn_for who) frames.old.items) }
 {

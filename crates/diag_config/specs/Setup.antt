@@ -151,9 +151,9 @@ row_at ms = do
 
 unfoldable pub level_at : Members → Result RawLevel Fault
 level_at ms = do
-  sub ← required number ms (codes "sub") (codes "level.sub")
+  request_seed ← required number ms (codes "sub") (codes "level.sub")
   rows ← with_default (list (row row_at)) ms (codes "row") (codes "level.row") []
-  Ok (record { sub = sub; rows = rows })
+  Ok (record { request_seed = request_seed; rows = rows })
 
 -- ---- the keys at the top, in four groups
 
@@ -210,7 +210,7 @@ tables_at ms = do
   Ok (record {
     testers = testers;
     dids = dids;
-    codes = trouble_codes;
+    dtcs = trouble_codes;
     routines = routines;
     levels = levels;
   })
@@ -239,7 +239,7 @@ setup_at ms = do
     delay_ms = server.delay_ms;
     testers = tables.testers;
     dids = tables.dids;
-    codes = tables.codes;
+    dtcs = tables.dtcs;
     routines = tables.routines;
     levels = tables.levels;
   })

@@ -52,7 +52,7 @@ struct ServerValues {
 struct SetupTables {
     testers: Items<RawTester>,
     dids: Items<RawDid>,
-    codes: Items<RawCode>,
+    dtcs: Items<RawCode>,
     routines: Items<RawRoutine>,
     levels: Items<RawLevel>,
 }
@@ -147,7 +147,7 @@ fn seed_row(alloc: Global, table: &Table) -> Result<RawKeyRow, KeyFault>
 fn level(alloc: Global, table: &Table) -> Result<RawLevel, KeyFault>
     ensures { KeyGives (λ x. x) result (level_at (table_view table.now)) }
 {
-    let sub: u32 = required(alloc, table, "sub", "level.sub")?;
+    let request_seed: u32 = required(alloc, table, "sub", "level.sub")?;
     let rows = with_default(
         alloc,
         table,
@@ -155,7 +155,7 @@ fn level(alloc: Global, table: &Table) -> Result<RawLevel, KeyFault>
         "level.row",
         Items::<RawKeyRow>::new(alloc),
     )?;
-    Ok(RawLevel { sub, rows })
+    Ok(RawLevel { request_seed, rows })
 }
 
 #[tactic(auto, unfolding(crate::specs::Setup::timing_at))]
@@ -222,7 +222,7 @@ fn tables(alloc: Global, table: &Table) -> Result<SetupTables, KeyFault>
         Items::<RawTester>::new(alloc),
     )?;
     let dids = with_default(alloc, table, "did", "did", Items::<RawDid>::new(alloc))?;
-    let codes = with_default(alloc, table, "code", "code", Items::<RawCode>::new(alloc))?;
+    let dtcs = with_default(alloc, table, "code", "code", Items::<RawCode>::new(alloc))?;
     let routines = with_default(
         alloc,
         table,
@@ -240,7 +240,7 @@ fn tables(alloc: Global, table: &Table) -> Result<SetupTables, KeyFault>
     Ok(SetupTables {
         testers,
         dids,
-        codes,
+        dtcs,
         routines,
         levels,
     })
@@ -271,7 +271,7 @@ pub fn setup(alloc: Global, table: &Table) -> Result<RawSetup, KeyFault>
         delay_ms: server.delay_ms,
         testers: tables.testers,
         dids: tables.dids,
-        codes: tables.codes,
+        dtcs: tables.dtcs,
         routines: tables.routines,
         levels: tables.levels,
     })

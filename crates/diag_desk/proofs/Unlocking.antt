@@ -424,7 +424,7 @@ positive_sent functional p reply whole e =
 -- the reply of a service begins with its identifier and 40
 dtc_first : (s : State) (p : List ℕ) → slice_index (ecu.dtc_reply s p) 0 ≡ 0x59
 dtc_first s p =
-    elim (ecu.sub p == 0x01) as (λ b. slice_index (cond b (0x59 ∷ 0x01 ∷ s.values.availability ∷ 0x01 ∷ bytes_16 (length (dtcs.matching s.codes (ecu.mask_of s p))))
+    elim (ecu.sub p == 0x01) as (λ b. slice_index (cond b (0x59 ∷ 0x01 ∷ s.values.availability ∷ 0x01 ∷ bytes_16 (length (dtcs.matching s.dtcs (ecu.mask_of s p))))
     (if ecu.sub p == 0x02 then ecu.counted_reply s (ecu.mask_of s p) else ecu.all_reply s)) 0 ≡ 0x59) [
       | true ↦ refl
       | false ↦ elim (ecu.sub p == 0x02) as (λ b. slice_index (cond b (ecu.counted_reply s (ecu.mask_of s p)) (ecu.all_reply s)) 0 ≡ 0x59) [ true ↦ refl | false ↦ refl ]

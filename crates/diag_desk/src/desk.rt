@@ -7,7 +7,7 @@ ghost use Rattle.diag_desk.specs.Legal.{IsOpening, Legal, after, after_step, rep
 
 use crate::journal::Journal;
 use diag_ecu::Ecu;
-use diag_store::{Setup, Who};
+use diag_store::{Setup, TesterId};
 use diag_tp::{Message, Step};
 use std::alloc::{AllocError, Global};
 use std::marker::Model;
@@ -69,7 +69,7 @@ impl Desk {
     {
         let ecu = Ecu::new(alloc, setup)?;
         // (for its contract: a setup is a checked one)
-        let _numbers = setup.numbers();
+        let _raw = setup.raw();
         Ok(Desk {
             opening: ecu.try_copy()?,
             ecu,
@@ -117,9 +117,9 @@ impl Desk {
     /// Takes a step: the reply is asked for, entered, and then the ECU settles.
     ///
     /// JournalFull is looked at first. After a refusal all is as before. Ticks have no reply.
-    pub fn step(&mut self, who: Who, step: &Step) -> Result<Option<Message>, StepFault>
+    pub fn step(&mut self, who: TesterId, step: &Step) -> Result<Option<Message>, StepFault>
         ensures ok { IfOk result (λ reply. self.new ≡ entered self.old (entry who step.now reply)) }
-        ensures quiet { IsTrue (is_ticks step.now) → IfOk result (λ reply. reply ≡ None) }
+        ensures ticks_unanswered { IsTrue (is_ticks step.now) → IfOk result (λ reply. reply ≡ None) }
         ensures err { OnErr result (self.new ≡ self.old) }
         ensures full { (result ≡ Err StepFault.JournalFull) ↔ (length self.old.journal ≡ 1000000) }
         ensures room { IfErr result (λ fault.
@@ -140,7 +140,7 @@ impl Desk {
 }
 
 /// The reply to a step, none for ticks.
-pub fn reply_of(ecu: &Ecu, who: Who, step: &Step) -> Result<Option<Message>, AllocError>
+pub fn reply_of(ecu: &Ecu, who: TesterId, step: &Step) -> Result<Option<Message>, AllocError>
     ensures { IfOk result (λ reply. reply ≡ reply_to ecu.now who step.now) }
 {
     match step {
@@ -153,7 +153,7 @@ pub fn reply_of(ecu: &Ecu, who: Who, step: &Step) -> Result<Option<Message>, All
 }
 
 /// Brings the ECU to the state after a step.
-pub fn settle_step(ecu: &mut Ecu, who: Who, step: &Step)
+pub fn settle_step(ecu: &mut Ecu, who: TesterId, step: &Step)
     ensures { ecu.new ≡ after_step ecu.old who step.now }
 {
     match step {

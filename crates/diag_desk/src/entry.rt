@@ -1,7 +1,7 @@
 //! An entry of the journal, as it is entered and as it is shown.
 
 use diag_can::TickCount;
-use diag_store::Who;
+use diag_store::TesterId;
 use diag_tp::{Message, Step};
 
 /// The most entries that a journal holds.
@@ -11,7 +11,7 @@ pub const MOST_ENTRIES: usize = 1_000_000;
 #[derive(Drop)]
 pub struct Entry {
     /// The tester, by its place.
-    pub who: Who,
+    pub who: TesterId,
     /// What the tester asked, or its ticks.
     pub step: Step,
     /// What it was answered.
@@ -31,7 +31,7 @@ pub enum StepRef<'a> {
 #[derive(Clone, Copy, Debug)]
 pub struct EntryRef<'a> {
     /// The tester, by its place.
-    pub who: Who,
+    pub who: TesterId,
     /// What the tester asked, or its ticks.
     pub step: StepRef<'a>,
     /// What it was answered.

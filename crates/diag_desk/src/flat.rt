@@ -9,7 +9,7 @@ ghost use Rattle.diag_desk.specs.Line.{HasHex, IsHex, IsHexReply, decoded, line_
 use crate::entry::{EntryRef, StepRef};
 use crate::line::{Line, LineStep};
 use diag_can::{TickCount, read_hex};
-use diag_store::Who;
+use diag_store::TesterId;
 use diag_tp::{Message, Step};
 use std::alloc::AllocError;
 
@@ -17,14 +17,14 @@ use std::alloc::AllocError;
 #[derive(Clone, Copy, Drop)]
 pub(crate) enum Head {
     Request {
-        who: Who,
+        who: TesterId,
         functional: bool,
         start: usize,
         request_len: u16,
         reply_len: Option<u16>,
     },
     Ticks {
-        who: Who,
+        who: TesterId,
         count: TickCount,
     },
 }
@@ -98,7 +98,7 @@ pub(crate) fn add_head(heads: &mut Vec<Head>, head: Head)
 }
 
 /// Appends the bytes of an entry, and gives its head.
-pub(crate) fn head_of(bytes: &mut Vec<u8>, who: Who, step: &Step, reply: Option<&[u8]>) -> Head
+pub(crate) fn head_of(bytes: &mut Vec<u8>, who: TesterId, step: &Step, reply: Option<&[u8]>) -> Head
     requires room { vec_len bytes.old
         + (step_len step.now + length (unwrap_or (option_copied reply) []))
         ≤ vec_capacity bytes.old }

@@ -8,7 +8,7 @@ ghost use Rattle.diag_desk.specs.Line.{IsHex, IsHexReply, IsRead, IsReadStep, Is
 ghost use Rattle.diag_desk.specs.declared.line.Kind.{Kind as IsKind};
 
 use diag_can::TickCount;
-use diag_store::Who;
+use diag_store::TesterId;
 use diag_tp::Message;
 use memchr::memchr;
 
@@ -34,7 +34,7 @@ pub(crate) enum LineStep<'a> {
 /// What a line says.
 #[derive(Clone, Copy)]
 pub(crate) struct Line<'a> {
-    pub who: Who,
+    pub who: TesterId,
     pub step: LineStep<'a>,
 }
 
@@ -81,12 +81,12 @@ fn front_of(line: &[u8]) -> Option<(u8, u8, &[u8])>
 }
 
 /// The tester whose place is a digit.
-fn place_in(digit: u8) -> Option<Who>
+fn place_in(digit: u8) -> Option<TesterId>
     ensures some { IfSome result (λ who. (48 + who ≡ digit) × (1 ≤ who) × (who ≤ 8)) }
     ensures none { IfNone result ((who : ℕ) → 1 ≤ who → who ≤ 8 → 48 + who ≢ digit) }
 {
     match digit {
-        b'1'..=b'8' => Who::new(digit - b'0'),
+        b'1'..=b'8' => TesterId::new(digit - b'0'),
         _ => None,
     }
 }

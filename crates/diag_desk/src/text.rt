@@ -9,7 +9,7 @@ use crate::clocks::Clocks;
 use crate::entry::{Entry, EntryRef, StepRef};
 use crate::journal::Journal;
 use diag_can::write_hex;
-use diag_store::Who;
+use diag_store::TesterId;
 use std::alloc::{AllocError, Global};
 
 /// The text of version 1: the line `diag-journal 1`, then a line for each entry, each ended by LF.
@@ -128,7 +128,7 @@ fn write_decimal(text: &mut Vec<u8>, number: u64) -> Result<(), AllocError>
 /// Appends the line of an entry.
 fn write_entry(
     text: &mut Vec<u8>,
-    who: Who,
+    who: TesterId,
     step: &StepRef<'_>,
     reply: Option<&[u8]>,
 ) -> Result<(), AllocError>

@@ -20,7 +20,7 @@ locks = record {
   attempts = 3;
   delay_ms = 2000;
   levels = record {
-    sub = 1;
+    request_seed = 1;
     rows = record { seed = record { items = 0x11 ∷ 0x22 ∷ 0x33 ∷ 0x44 ∷ [] }; key = record { items = 0xAA ∷ 0xBB ∷ 0xCC ∷ 0xDD ∷ [] } }
         ∷ record { seed = record { items = 0x55 ∷ 0x66 ∷ 0x77 ∷ 0x88 ∷ [] }; key = record { items = 0x01 ∷ 0x02 ∷ 0x03 ∷ 0x04 ∷ [] } }
         ∷ [];
@@ -36,12 +36,12 @@ abbrev opened : State
 opened = record {
   values = record { p2_ms = 50; p2_star_10ms = 500; s3_ms = 5000; availability = 255 };
   dids = vin ∷ [];
-  codes = record { code = 0x012345; status = 0x2F } ∷ [];
+  dtcs = record { code = 0x012345; status = 0x2F } ∷ [];
   routines = selftest ∷ [];
   security = locks;
   holder = None;
   s3_left = 0;
-  status_update = true;
+  dtc_setting_on = true;
 }
 
 -- the reply to a request for the extended session

@@ -128,7 +128,7 @@ quiet_session zero s held quiet lasts =
     rw (rows_none s.routines, s3) refl
 quiet_session (suc k) s held quiet lasts =
     let next = later 1 s in
-    let codes = either_way s.status_update (codes_after_tick s.routines s.codes) s.codes (codes_stay k s.routines s.codes quiet) in
+    let codes = either_way s.dtc_setting_on (codes_after_tick s.routines s.dtcs) s.dtcs (codes_stay k s.routines s.dtcs quiet) in
     let s3_lasts : nat_le s.s3_left 1 ≡ false = lt-leb s.s3_left 1 (omega (arith, lasts)) in
     let after : State = record s { routines = rows_after_tick s.routines; s3_left = s.s3_left - 1 } in
     let one : session_ticked s ≡ after = rw (held, s3_lasts, codes) refl in

@@ -107,17 +107,17 @@ mask_of s p = bit_and (slice_index p 2) s.values.availability
 -- the codes that have a bit of the mask, and all codes
 abbrev pub counted_reply : State → ℕ → List ℕ
 counted_reply s mask = 0x59 ∷ 0x02 ∷ s.values.availability
-    ∷ flat_map (report s.values.availability) (dtcs.matching s.codes mask)
+    ∷ flat_map (report s.values.availability) (dtcs.matching s.dtcs mask)
 
 abbrev pub all_reply : State → List ℕ
-all_reply s = 0x59 ∷ 0x0A ∷ s.values.availability ∷ flat_map (report s.values.availability) s.codes
+all_reply s = 0x59 ∷ 0x0A ∷ s.values.availability ∷ flat_map (report s.values.availability) s.dtcs
 
 -- 01 reportNumberOfDTCByStatusMask, 02 reportDTCByStatusMask, 0A reportSupportedDTC
 abbrev pub dtc_reply : State → List ℕ → List ℕ
 dtc_reply s p =
     if sub p == 0x01
     then 0x59 ∷ 0x01 ∷ s.values.availability ∷ 0x01
-    ∷ bytes_16 (length (dtcs.matching s.codes (mask_of s p)))
+    ∷ bytes_16 (length (dtcs.matching s.dtcs (mask_of s p)))
     else if sub p == 0x02 then counted_reply s (mask_of s p)
     else all_reply s
 
@@ -245,7 +245,7 @@ routine_checks_of s who n (Some row) =
     ∷ []
 
 abbrev pub clear_checks : State → List ℕ → List Check
-clear_checks s p = (not (dtcs.is_known_group s.codes (number_24 p 1)), RequestOutOfRange) ∷ []
+clear_checks s p = (not (dtcs.is_known_group s.dtcs (number_24 p 1)), RequestOutOfRange) ∷ []
 
 abbrev pub read_checks : State → ℕ → List ℕ → List Check
 read_checks s who p =
@@ -300,12 +300,12 @@ abbrev pub effect : State → ℕ → Service → List ℕ → State
 effect s who DiagnosticSessionControl p = session_effect s who (sub p)
 effect s who EcuReset p = session_ended s
 effect s who ClearDiagnosticInformation p =
-    record s { codes = dtcs.cleared s.codes (number_24 p 1) }
+    record s { dtcs = dtcs.cleared s.dtcs (number_24 p 1) }
 effect s who SecurityAccess p = security_effect s who p
 effect s who WriteDataByIdentifier p =
     record s { dids = dids.with_value s.dids (number_16 p 1) (drop 3 p) }
 effect s who RoutineControl p = routine_effect s (number_16 p 2) (sub p)
-effect s who ControlDtcSetting p = record s { status_update = sub p == 0x01 }
+effect s who ControlDtcSetting p = record s { dtc_setting_on = sub p == 0x01 }
 effect s who ReadDtcInformation p = s
 effect s who ReadDataByIdentifier p = s
 effect s who TesterPresent p = s

@@ -37,7 +37,7 @@ relocked s = record s { security = security.locked s.security }
 abbrev pub cleaned : State → State
 cleaned s = record s {
   security = security.locked s.security;
-  status_update = true;
+  dtc_setting_on = true;
   routines = all_idle s.routines;
 }
 
@@ -54,12 +54,12 @@ abbrev pub opening : RawSetup → State
 opening setup = record {
   values = values_of setup;
   dids = opening_dids setup;
-  codes = opening_codes setup;
+  dtcs = opening_codes setup;
   routines = opening_routines setup;
   security = opening_security setup;
   holder = None;
   s3_left = 0;
-  status_update = true;
+  dtc_setting_on = true;
 }
 
 -- the state of an ECU that has no data, codes, routines or levels
@@ -67,7 +67,7 @@ abbrev pub blank : State
 blank = record {
   values = record { p2_ms = 0; p2_star_10ms = 0; s3_ms = 0; availability = 0 };
   dids = [];
-  codes = [];
+  dtcs = [];
   routines = [];
   security = record {
     attempts = 0;
@@ -80,5 +80,5 @@ blank = record {
   };
   holder = None;
   s3_left = 0;
-  status_update = true;
+  dtc_setting_on = true;
 }

@@ -7,23 +7,23 @@ ghost use Rattle.diag_ecu.specs.Respond.{common_checks, own_checks, checks, afte
 use crate::bytes::sub_of;
 use crate::service::{Nrc, Service};
 use crate::trouble_codes::setting_refusal;
-use diag_store::{Dids, DtcMemory, Routines, Security, Setup, Values, Who};
+use diag_store::{Dids, DtcMemory, Routines, Security, ServerParameters, Setup, TesterId};
 use diag_tp::Message;
 use std::alloc::{AllocError, Global};
 
 /// The ECU: the sequential server of all testers, of whom one at most is in the extended session, the holder.
 #[derive(Drop)]
 pub struct Ecu {
-    pub(crate) values: Values,
+    pub(crate) values: ServerParameters,
     pub(crate) dids: Dids,
-    pub(crate) codes: DtcMemory,
+    pub(crate) dtcs: DtcMemory,
     pub(crate) routines: Routines,
     pub(crate) security: Security,
-    pub(crate) holder: Option<Who>,
+    pub(crate) holder: Option<TesterId>,
     /// The ticks left of S3; 0 while nobody is the holder.
     pub(crate) s3_left: u32,
     /// Whether routines that are done set status bits (ISO 14229-1:2013, 9.9).
-    pub(crate) status_update: bool,
+    pub(crate) dtc_setting_on: bool,
 }
 
 impl Ecu {
@@ -32,18 +32,18 @@ impl Ecu {
         ensures { IfOk result (λ ecu. ecu ≡ opening setup.now) }
     {
         let dids = Dids::new(alloc, setup)?;
-        let codes = DtcMemory::new(alloc, setup)?;
+        let dtcs = DtcMemory::new(alloc, setup)?;
         let routines = Routines::new(alloc, setup)?;
         let security = Security::new(alloc, setup)?;
         Ok(Ecu {
             values: setup.values(),
             dids,
-            codes,
+            dtcs,
             routines,
             security,
             holder: None,
             s3_left: 0,
-            status_update: true,
+            dtc_setting_on: true,
         })
     }
 
@@ -52,33 +52,33 @@ impl Ecu {
         ensures { IfOk result (λ copy. copy ≡ self.now) }
     {
         let dids = self.dids.try_copy()?;
-        let codes = self.codes.try_copy()?;
+        let dtcs = self.dtcs.try_copy()?;
         let routines = self.routines.try_copy()?;
         let security = self.security.try_copy()?;
         Ok(Ecu {
             values: self.values,
             dids,
-            codes,
+            dtcs,
             routines,
             security,
             holder: self.holder,
             s3_left: self.s3_left,
-            status_update: self.status_update,
+            dtc_setting_on: self.dtc_setting_on,
         })
     }
 
     /// The tester in the extended session, if there is one.
-    pub fn holder(&self) -> Option<Who>
+    pub fn holder(&self) -> Option<TesterId>
         ensures { result ≡ self.now.holder }
     {
         self.holder
     }
 
     /// The trouble codes with their status.
-    pub fn codes(&self) -> &DtcMemory
-        ensures { result.now ≡ self.now.codes }
+    pub fn dtcs(&self) -> &DtcMemory
+        ensures { result.now ≡ self.now.dtcs }
     {
-        &self.codes
+        &self.dtcs
     }
 
     /// The data identifiers with their values.
@@ -91,7 +91,7 @@ impl Ecu {
     /// The reply to a tester's request, or none where none is sent. Nothing changes.
     pub fn reply(
         &self,
-        who: Who,
+        who: TesterId,
         functional: bool,
         message: &Message,
     ) -> Result<Option<Message>, AllocError>
@@ -113,7 +113,7 @@ impl Ecu {
 
     /// Goes to the state after a tester's request, which is the same for a functional and a physical one. It takes no
     /// memory.
-    pub fn settle(&mut self, who: Who, functional: bool, message: &Message)
+    pub fn settle(&mut self, who: TesterId, functional: bool, message: &Message)
         ensures { self.new ≡ after_request self.old who functional message.now }
     {
         let _ = functional;
@@ -124,7 +124,7 @@ impl Ecu {
     /// Answers a tester's request and goes to the state after it; where memory is refused, all is as before.
     pub fn request(
         &mut self,
-        who: Who,
+        who: TesterId,
         functional: bool,
         message: &Message,
     ) -> Result<Option<Message>, AllocError>
@@ -140,7 +140,7 @@ impl Ecu {
 
 impl Ecu {
     /// The code of the first check of the service that holds.
-    fn refusal(&self, who: Who, service: Service, p: &[u8]) -> Option<Nrc>
+    fn refusal(&self, who: TesterId, service: Service, p: &[u8]) -> Option<Nrc>
         requires { 1 ≤ length p.now }
         ensures first { result ≡ first_holding (checks self.now who service p.now) }
         ensures common { IfNone result
@@ -154,7 +154,7 @@ impl Ecu {
     }
 
     /// The code of the first check of this service alone that holds.
-    fn own_refusal(&self, who: Who, service: Service, p: &[u8]) -> Option<Nrc>
+    fn own_refusal(&self, who: TesterId, service: Service, p: &[u8]) -> Option<Nrc>
         requires some { 1 ≤ length p.now }
         requires passed { first_holding (common_checks self.now who service p.now) ≡ None }
         ensures { result ≡ first_holding (own_checks self.now who service p.now) }
@@ -174,7 +174,12 @@ impl Ecu {
     }
 
     /// The positive reply to a request that passes all checks.
-    fn positive_reply(&self, who: Who, service: Service, p: &[u8]) -> Result<Message, AllocError>
+    fn positive_reply(
+        &self,
+        who: TesterId,
+        service: Service,
+        p: &[u8],
+    ) -> Result<Message, AllocError>
         requires some { 1 ≤ length p.now }
         requires common { first_holding (common_checks self.now who service p.now) ≡ None }
         requires own { first_holding (own_checks self.now who service p.now) ≡ None }
@@ -211,7 +216,7 @@ impl Ecu {
     }
 
     /// Does what a request does, but for S3.
-    fn serve(&mut self, who: Who, p: &[u8])
+    fn serve(&mut self, who: TesterId, p: &[u8])
         requires { 1 ≤ length p.now }
         ensures { self.new ≡ (outcome self.old who p.now).state }
     {
@@ -220,7 +225,7 @@ impl Ecu {
         }
     }
 
-    fn serve_known(&mut self, who: Who, service: Service, p: &[u8])
+    fn serve_known(&mut self, who: TesterId, service: Service, p: &[u8])
         requires { 1 ≤ length p.now }
         ensures { self.new ≡ (served self.old who (Some service) p.now).state }
     {
@@ -230,7 +235,7 @@ impl Ecu {
     }
 
     /// Does what a request does that passes the checks of every service.
-    fn perform(&mut self, who: Who, service: Service, p: &[u8])
+    fn perform(&mut self, who: TesterId, service: Service, p: &[u8])
         requires some { 1 ≤ length p.now }
         requires passed { first_holding (common_checks self.old who service p.now) ≡ None }
         ensures { self.new ≡ (own_outcome self.old who service p.now).state }
@@ -246,7 +251,7 @@ impl Ecu {
     }
 
     /// The effect of a request that passes all checks.
-    fn take_effect(&mut self, who: Who, service: Service, p: &[u8])
+    fn take_effect(&mut self, who: TesterId, service: Service, p: &[u8])
         requires some { 1 ≤ length p.now }
         requires common { first_holding (common_checks self.old who service p.now) ≡ None }
         requires own { first_holding (own_checks self.old who service p.now) ≡ None }
@@ -266,7 +271,7 @@ impl Ecu {
     }
 
     /// S3 is full after every request of the holder.
-    fn keep_alive(&mut self, who: Who)
+    fn keep_alive(&mut self, who: TesterId)
         ensures { self.new ≡ kept_alive self.old who }
     {
         if self.is_holder(who) {
@@ -276,7 +281,7 @@ impl Ecu {
 }
 
 impl Ecu {
-    pub(crate) fn is_holder(&self, who: Who) -> bool
+    pub(crate) fn is_holder(&self, who: TesterId) -> bool
         ensures { result ≡ is_holder self.now who }
     {
         match self.holder {
@@ -285,14 +290,14 @@ impl Ecu {
         }
     }
 
-    pub(crate) fn is_held_by_another(&self, who: Who) -> bool
+    pub(crate) fn is_held_by_another(&self, who: TesterId) -> bool
         ensures { result ≡ is_held_by_another self.now who }
     {
         self.holder.is_some() && !self.is_holder(who)
     }
 
     /// Whether a level that a row names is open to the tester.
-    pub(crate) fn is_open(&self, who: Who, level: u8) -> bool
+    pub(crate) fn is_open(&self, who: TesterId, level: u8) -> bool
         ensures { result ≡ is_open self.now who level }
     {
         level == 0 || (self.is_holder(who) && self.security.unlocked() == Some(level))

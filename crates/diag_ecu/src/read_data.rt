@@ -7,13 +7,13 @@ ghost use Rattle.diag_ecu.specs.Respond.{ids_in, knows, may_read, data_records, 
 use crate::bytes::{bytes_16, number_16};
 use crate::ecu::Ecu;
 use crate::service::Nrc;
-use diag_store::Who;
+use diag_store::TesterId;
 use diag_tp::Message;
 use std::alloc::AllocError;
 
 impl Ecu {
     /// The code of the first check of the identifiers that holds.
-    pub(crate) fn read_refusal(&self, who: Who, p: &[u8]) -> Option<Nrc>
+    pub(crate) fn read_refusal(&self, who: TesterId, p: &[u8]) -> Option<Nrc>
         requires { 1 ≤ length p.now }
         ensures { result ≡ first_holding (read_checks self.now who p.now) }
     {
@@ -59,7 +59,7 @@ impl Ecu {
         false
     }
 
-    fn may_read_all(&self, who: Who, ids: &[u8]) -> bool
+    fn may_read_all(&self, who: TesterId, ids: &[u8]) -> bool
         ensures { result ≡ list_all (may_read self.now who) (ids_in ids.now) }
     {
         let mut rest = ids;

@@ -7,13 +7,13 @@ ghost use Rattle.diag_ecu.specs.Bytes.{number_16};
 use crate::bytes::{bytes_16, number_16_at, sub_of};
 use crate::ecu::Ecu;
 use crate::service::{Nrc, Service};
-use diag_store::{RoutineState, Who};
+use diag_store::{RoutineState, TesterId};
 use diag_tp::Message;
 use std::alloc::AllocError;
 
 impl Ecu {
     /// The code of the first check of a routine that holds.
-    pub(crate) fn routine_refusal(&self, who: Who, p: &[u8]) -> Option<Nrc>
+    pub(crate) fn routine_refusal(&self, who: TesterId, p: &[u8]) -> Option<Nrc>
         requires { length p.now ≡ 4 }
         ensures { result ≡ first_holding (routine_checks self.now who p.now) }
     {

@@ -7,13 +7,13 @@ ghost use Rattle.diag_ecu.specs.Respond.{own_outcome, security_checks, positive_
 use crate::bytes::sub_of;
 use crate::ecu::Ecu;
 use crate::service::{Nrc, Service};
-use diag_store::{KeyAnswer, SeedAnswer, Who};
+use diag_store::{KeyAnswer, SeedAnswer, TesterId};
 use diag_tp::Message;
 use std::alloc::AllocError;
 
 impl Ecu {
     /// The code of the first check of a seed or key that holds.
-    pub(crate) fn security_refusal(&self, who: Who, p: &[u8]) -> Option<Nrc>
+    pub(crate) fn security_refusal(&self, who: TesterId, p: &[u8]) -> Option<Nrc>
         requires long { 2 ≤ length p.now }
         requires known { IsTrue (is_sub_function self.now Service.SecurityAccess (sub p.now)) }
         ensures { result ≡ first_holding (security_checks self.now who p.now) }
@@ -29,7 +29,7 @@ impl Ecu {
     }
 
     /// The seed, or the word that the key was right.
-    pub(crate) fn security_reply(&self, who: Who, p: &[u8]) -> Result<Message, AllocError>
+    pub(crate) fn security_reply(&self, who: TesterId, p: &[u8]) -> Result<Message, AllocError>
         requires { is_delayed self.now.security who ≡ false }
         ensures { IfOk result (λ reply.
             reply ≡ positive_reply self.now Service.SecurityAccess p.now) }
@@ -44,7 +44,7 @@ impl Ecu {
     }
 
     /// Gives a seed, or takes a key: what a key does that is wrong is here too.
-    pub(crate) fn access_security(&mut self, who: Who, p: &[u8])
+    pub(crate) fn access_security(&mut self, who: TesterId, p: &[u8])
         requires long { 2 ≤ length p.now }
         requires known { IsTrue (is_sub_function self.old Service.SecurityAccess (sub p.now)) }
         ensures { self.new ≡ (own_outcome self.old who Service.SecurityAccess p.now).state }

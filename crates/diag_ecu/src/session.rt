@@ -6,7 +6,7 @@ ghost use Rattle.diag_ecu.specs.State.{session_of, session_ended};
 use crate::bytes::{bytes_16, sub_of};
 use crate::ecu::Ecu;
 use crate::service::Service;
-use diag_store::Who;
+use diag_store::TesterId;
 use diag_tp::Message;
 use std::alloc::AllocError;
 
@@ -21,7 +21,7 @@ pub enum Session {
 
 impl Ecu {
     /// The session of a tester: the holder is in the extended one, all others are in the default one.
-    pub fn session_of(&self, who: Who) -> Session
+    pub fn session_of(&self, who: TesterId) -> Session
         ensures { result ≡ session_of self.now who }
     {
         if self.is_holder(who) {
@@ -42,7 +42,7 @@ impl Ecu {
     }
 
     /// Enters or leaves the extended session. Who enters it again finds all locked again.
-    pub(crate) fn control_session(&mut self, who: Who, p: &[u8])
+    pub(crate) fn control_session(&mut self, who: TesterId, p: &[u8])
         ensures { self.new ≡ session_effect self.old who (sub p.now) }
     {
         if sub_of(p) == 0x03 {
@@ -60,7 +60,7 @@ impl Ecu {
     {
         self.security.lock();
         self.routines.idle_all();
-        self.status_update = true;
+        self.dtc_setting_on = true;
         self.holder = None;
         self.s3_left = 0;
     }

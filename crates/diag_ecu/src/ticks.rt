@@ -5,13 +5,13 @@ ghost use Rattle.diag_ecu.specs.Elapse.{elapse, session_ticked, session_elapsed,
 
 use crate::ecu::Ecu;
 use diag_can::TickCount;
-use diag_store::Who;
+use diag_store::TesterId;
 
 impl Ecu {
     /// Ticks of a tester: its delay, and where it is the holder the routines and S3.
     ///
     /// It costs by what ends on the way, and not by how many ticks there are.
-    pub fn ticks(&mut self, who: Who, count: TickCount)
+    pub fn ticks(&mut self, who: TesterId, count: TickCount)
         ensures { self.new ≡ elapse self.old who count }
     {
         let count = u32::from(count.get());
@@ -60,7 +60,7 @@ impl Ecu {
         requires { IsTrue (is_some self.old.holder) }
         ensures { self.new ≡ session_ticked self.old }
     {
-        self.routines.tick(&mut self.codes, self.status_update);
+        self.routines.tick(&mut self.dtcs, self.dtc_setting_on);
         self.tick_s3();
     }
 

@@ -30,22 +30,22 @@ impl Ecu {
     pub(crate) fn clear(&mut self, p: &[u8])
         requires { 4 ≤ length p.now }
         ensures { self.new
-            ≡ record self.old { codes = cleared self.old.codes (spec.number_24 p.now 1) } }
+            ≡ record self.old { dtcs = cleared self.old.dtcs (spec.number_24 p.now 1) } }
     {
-        self.codes.clear(number_24(p, 1));
+        self.dtcs.clear(number_24(p, 1));
     }
 
     /// Whether status bits are set from now on.
     pub(crate) fn control_setting(&mut self, p: &[u8])
-        ensures { self.new ≡ record self.old { status_update = sub p.now == 0x01 } }
+        ensures { self.new ≡ record self.old { dtc_setting_on = sub p.now == 0x01 } }
     {
-        self.status_update = sub_of(p) == 0x01;
+        self.dtc_setting_on = sub_of(p) == 0x01;
     }
 
     fn knows_group(&self, group: u32) -> bool
-        ensures { result ≡ is_known_group self.now.codes group }
+        ensures { result ≡ is_known_group self.now.dtcs group }
     {
-        group == ALL_GROUPS || self.codes.status(group).is_some()
+        group == ALL_GROUPS || self.dtcs.status(group).is_some()
     }
 }
 
@@ -73,7 +73,7 @@ impl Ecu {
         };
         match sub_of(p) {
             0x01 => {
-                let [high, low] = bytes_16(self.codes.count(mask));
+                let [high, low] = bytes_16(self.dtcs.count(mask));
                 self.say(&[0x59, 0x01, availability, 0x01, high, low])
             }
             0x02 => self.report_counted(mask),
@@ -84,8 +84,8 @@ impl Ecu {
     fn report_counted(&self, mask: u8) -> Result<Message, AllocError>
         ensures { IfOk result (λ reply. reply ≡ counted_reply self.now mask) }
     {
-        let mut reply = self.report_head(0x02, usize::from(self.codes.count(mask)))?;
-        for i in 0..self.codes.len() {
+        let mut reply = self.report_head(0x02, usize::from(self.dtcs.count(mask)))?;
+        for i in 0..self.dtcs.len() {
             self.report_if(&mut reply, i, mask)?;
         }
         Ok(Message::from_vec(reply))
@@ -94,8 +94,8 @@ impl Ecu {
     fn report_all(&self) -> Result<Message, AllocError>
         ensures { IfOk result (λ reply. reply ≡ all_reply self.now) }
     {
-        let mut reply = self.report_head(0x0A, self.codes.len())?;
-        for i in 0..self.codes.len() {
+        let mut reply = self.report_head(0x0A, self.dtcs.len())?;
+        for i in 0..self.dtcs.len() {
             self.report_at(&mut reply, i)?;
         }
         Ok(Message::from_vec(reply))
@@ -114,14 +114,14 @@ impl Ecu {
 
     /// Adds the code at a place with its reported status.
     fn report_at(&self, reply: &mut Vec<u8>, i: usize) -> Result<(), AllocError>
-        requires place { i < length self.now.codes }
+        requires place { i < length self.now.dtcs }
         ensures text { OnOk result (reply.new.items
-            ++ flat_map (report self.now.values.availability) (drop (i + 1) self.now.codes)
+            ++ flat_map (report self.now.values.availability) (drop (i + 1) self.now.dtcs)
             ≡ reply.old.items
-            ++ flat_map (report self.now.values.availability) (drop i self.now.codes)) }
+            ++ flat_map (report self.now.values.availability) (drop i self.now.dtcs)) }
         ensures len { OnOk result (length reply.new.items ≡ length reply.old.items + 4) }
     {
-        match self.codes.at(i) {
+        match self.dtcs.at(i) {
             Some((code, status)) => append_report(reply, code, status & self.values.availability),
             None => unreachable!(),
         }
@@ -129,17 +129,17 @@ impl Ecu {
 
     /// The same, where the status has a bit of the mask.
     fn report_if(&self, reply: &mut Vec<u8>, i: usize, mask: u8) -> Result<(), AllocError>
-        requires place { i < length self.now.codes }
+        requires place { i < length self.now.dtcs }
         ensures text { OnOk result (reply.new.items
             ++ flat_map (report self.now.values.availability)
-            (matching (drop (i + 1) self.now.codes) mask)
+            (matching (drop (i + 1) self.now.dtcs) mask)
             ≡ reply.old.items
             ++ flat_map (report self.now.values.availability)
-            (matching (drop i self.now.codes) mask)) }
+            (matching (drop i self.now.dtcs) mask)) }
         ensures len { OnOk result (length reply.new.items ≤ length reply.old.items + 4) }
         ensures more { OnOk result (length reply.old.items ≤ length reply.new.items) }
     {
-        match self.codes.at(i) {
+        match self.dtcs.at(i) {
             Some((code, status)) => {
                 if status & mask != 0 {
                     append_report(reply, code, status & self.values.availability)

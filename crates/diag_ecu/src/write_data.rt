@@ -8,13 +8,13 @@ ghost use Rattle.diag_ecu.specs.Respond.{write_checks, positive_reply, sub};
 use crate::bytes::{bytes_16, number_16_at};
 use crate::ecu::Ecu;
 use crate::service::{Nrc, Service};
-use diag_store::Who;
+use diag_store::TesterId;
 use diag_tp::Message;
 use std::alloc::AllocError;
 
 impl Ecu {
     /// The code of the first check of a value to be written that holds.
-    pub(crate) fn write_refusal(&self, who: Who, p: &[u8]) -> Option<Nrc>
+    pub(crate) fn write_refusal(&self, who: TesterId, p: &[u8]) -> Option<Nrc>
         requires { 4 ≤ length p.now }
         ensures { result ≡ first_holding (write_checks self.now who p.now) }
     {

@@ -50,7 +50,7 @@ pub fn raw_two_testers(alloc: Global) -> Result<RawSetup, AllocError>
         delay_ms: 2000,
         testers: rows(alloc, testers)?,
         dids: rows(alloc, [did(alloc)?])?,
-        codes: rows(alloc, [code()])?,
+        dtcs: rows(alloc, [code()])?,
         routines: rows(alloc, [routine(alloc)?])?,
         levels: rows(alloc, [level(alloc)?])?,
     })
@@ -111,7 +111,7 @@ fn level(alloc: Global) -> Result<RawLevel, AllocError>
     let first = key_row(alloc, &[0x11, 0x22, 0x33, 0x44], &[0xAA, 0xBB, 0xCC, 0xDD])?;
     let second = key_row(alloc, &[0x55, 0x66, 0x77, 0x88], &[0x01, 0x02, 0x03, 0x04])?;
     Ok(RawLevel {
-        sub: 1,
+        request_seed: 1,
         rows: rows(alloc, [first, second])?,
     })
 }

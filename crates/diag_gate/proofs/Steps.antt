@@ -15,7 +15,7 @@ use Rattle.diag_gate.specs.Views.{IsLegal, own_of, seat_view, holding, letting_g
 use Rattle.diag_gate.specs.Rule.{run}
 use Rattle.diag_gate.specs.Plays.{Taken}
 use Rattle.diag_gate.specs.declared.fault.TryFault.{TryFault}
-use Rattle.diag_gate.specs.Seats.{SeatView, Finds, Answered, IsFull, Refused, NotMade, as_tried, seat_as, IsSeat, IsHeld}
+use Rattle.diag_gate.specs.Seats.{SeatView, Finds, Answered, IsFull, Refused, NotMade, as_tried, seat_as, IsSeat, IsGuard}
 use Rattle.diag_gate.proofs.Begins.{begins_whole, own-append, own_same}
 use Rattle.diag_gate.proofs.Keeps.{own_of_seat}
 
@@ -40,7 +40,7 @@ module _ (who : ℕ) (me me1 me2 : Sat) (result : Option Run) (is : IsSeat who m
   me2_is : me2 ≡ (holding me.0 t.journal, (0, None) ∷ [])
   me2_is = after ∙ ap (λ (m : Sat). (m.0, (0, None) ∷ rest m.1)) t.after
 
-  pub held_is : IsHeld who me2 (run me.0.opening t.journal)
+  pub held_is : IsGuard who me2 (run me.0.opening t.journal)
   held_is = record {
     is = me2_is ∙ (λ i. (holding (ap (λ (m : Sat). m.0) is.is i) t.journal, (0, None) ∷ [])) ∙ (λ i. (holding (seat_view (opening_is i) who (own_is i) [] (missed_is i)) (seen_is i), (0, None) ∷ []));
     place = is.place;
@@ -72,7 +72,7 @@ module _ (who : ℕ) (me me1 me2 : Sat) (result : Option Run) (is : IsSeat who m
       seen_is = ap (λ (m : Sat). m.0.seen) me2_is
 
 -- the seat puts the desk back
-pub put_is : (who : ℕ) (me me2 : Sat) (before d : Run) → IsHeld who me before → me2 ≡ (letting_go me.0 d, []) → IsSeat who me2
+pub put_is : (who : ℕ) (me me2 : Sat) (before d : Run) → IsGuard who me before → me2 ≡ (letting_go me.0 d, []) → IsSeat who me2
 put_is who me me2 before d is after = record {
   is = after ∙ ap (λ (m : Sat). (letting_go m.0 d, [])) is.is ∙ (λ i. (seat_view (sym (ap (λ (m : Sat). m.0.opening) after) i) who ((ap (λ (t : ℕ). owned t d.journal) (sym who_is) ∙ sym (ap (λ (m : Sat). m.0.own) after)) i) (sym (ap (λ (m : Sat). m.0.seen) after) i) (sym (ap (λ (m : Sat). m.0.missed) after) i), []));
   place = is.place;
@@ -88,7 +88,7 @@ not_full : ◌≡◌ {A = Answer} (Err Memory) (Err JournalFull) → ⊥
 not_full e = cc
 
 -- one step at the desk
-module _ (who : ℕ) (me me2 : Sat) (d d2 : Run) (z z2 : TableId) (is : IsHeld who me d) (legal : IsLegal d2) (after : me2.0 ≡ letting_go me.0 d2) (same : z2 ≡ z) where
+module _ (who : ℕ) (me me2 : Sat) (d d2 : Run) (z z2 : TableId) (is : IsGuard who me d) (legal : IsLegal d2) (after : me2.0 ≡ letting_go me.0 d2) (same : z2 ≡ z) where
   who_is : me.0.who ≡ who
   who_is = ap (λ (m : Sat). m.0.who) is.is
 

@@ -149,7 +149,7 @@ pub record IsSeat (who : ℕ) (me : Me (Option Run) View) : Type 0 where
   pub place : who < 9
 
 -- a seat's place that holds the slot, whose desk was taken out
-pub record IsHeld (who : ℕ) (me : Me (Option Run) View) (d : Run) : Type 0 where
+pub record IsGuard (who : ℕ) (me : Me (Option Run) View) (d : Run) : Type 0 where
   pub is : me
       ≡ (holding (seat_view me.0.opening who me.0.own [] me.0.missed) me.0.seen, (0, None) ∷ [])
   pub place : who < 9

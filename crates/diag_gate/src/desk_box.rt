@@ -6,7 +6,7 @@ ghost use Rattle.diag_desk.specs.Legal.{entered};
 ghost use Rattle.diag_gate.specs.Views.{IsLegal};
 
 use diag_desk::{Desk, Step, StepFault};
-use diag_store::Who;
+use diag_store::TesterId;
 use diag_tp::Message;
 use std::alloc::{AllocError, Global};
 use std::marker::Model;
@@ -50,11 +50,11 @@ impl DeskBox {
         let _journal = self.desk.journal();
     }
 
-    pub(crate) fn step(&mut self, who: Who, step: &Step) -> Result<Option<Message>, StepFault>
+    pub(crate) fn step(&mut self, who: TesterId, step: &Step) -> Result<Option<Message>, StepFault>
         ensures ok { IfOk result (λ reply. self.new ≡ entered self.old (entry who step.now reply)) }
         ensures err { OnErr result (self.new ≡ self.old) }
         ensures full { (result ≡ Err StepFault.JournalFull) ↔ (length self.old.journal ≡ 1000000) }
-        ensures quiet { IfOk result (λ reply. HasNoReply step.now reply) }
+        ensures ticks_unanswered { IfOk result (λ reply. HasNoReply step.now reply) }
     {
         self.desk.step(who, step)
     }

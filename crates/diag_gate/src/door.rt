@@ -6,7 +6,7 @@ ghost use Rattle.diag_gate.specs.Seats.{Answered, Refused, waited};
 
 use crate::gate::{Gate, Seat};
 use diag_desk::{Step, StepFault};
-use diag_store::Who;
+use diag_store::TesterId;
 use diag_tp::Message;
 use std::marker::Model;
 use std::sync::Wait;
@@ -27,7 +27,7 @@ pub trait Door {
     ghost home: { Self → Option TableId };
 
     /// Its tester.
-    fn who(&self) -> Who
+    fn who(&self) -> TesterId
         ensures { result ≡ tester self.now };
 
     /// Has the desk take a step. A refusal gives nothing; ticks have no reply.
@@ -36,7 +36,7 @@ pub trait Door {
             (λ reply.
             given self.new ≡ given self.old ++ entry (tester self.old) step.now reply ∷ [])
             (λ _. given self.new ≡ given self.old) }
-        ensures quiet { IfOk result (λ reply. HasNoReply step.now reply) }
+        ensures ticks_unanswered { IfOk result (λ reply. HasNoReply step.now reply) }
         ensures tester { tester self.new ≡ tester self.old }
         ensures home { home self.new ≡ home self.old };
 }
@@ -91,7 +91,7 @@ impl<R: Wait> Door for GateDoor<'_, R> {
 
     ghost home = { λ d. Some d.gate };
 
-    fn who(&self) -> Who {
+    fn who(&self) -> TesterId {
         self.seat.who()
     }
 
@@ -104,7 +104,7 @@ impl<R: Wait> Door for GateDoor<'_, R> {
         ensures given { MatchResult result
             (λ reply. self.new.own ≡ self.old.own ++ entry self.old.who step.now reply ∷ [])
             (λ _. self.new.own ≡ self.old.own) }
-        ensures quiet { IfOk result (λ reply. HasNoReply step.now reply) }
+        ensures ticks_unanswered { IfOk result (λ reply. HasNoReply step.now reply) }
         ensures tester { self.new.who ≡ self.old.who }
         ensures home { Some self.new.gate ≡ Some self.old.gate }
     {

@@ -6,7 +6,7 @@ use crate::desk_box::DeskBox;
 use crate::view::{Give, Learn, Name, OneHistory, TakeIn, View};
 use atomic_table::{Refused, Table};
 use diag_desk::Desk;
-use diag_store::Who;
+use diag_store::TesterId;
 use std::alloc::{AllocError, Global};
 use std::marker::Model;
 use std::snapshot::Snapshot;
@@ -59,7 +59,7 @@ impl Model for Host {
 #[derive(Drop)]
 pub struct Seat {
     place: Place,
-    who: Who,
+    who: TesterId,
 }
 
 impl Model for Seat {
@@ -73,22 +73,22 @@ impl Model for Seat {
 }
 
 /// A seat that has the whole desk. It has no `Drop`: it ends by `step` or by `put_back`.
-pub struct Held<'a> {
+pub struct Guard<'a> {
     gate: &'a Gate,
     place: Place,
-    who: Who,
+    who: TesterId,
     desk: DeskBox,
 }
 
-impl<'a> Model for Held<'a> {
+impl<'a> Model for Guard<'a> {
     ghost use Rattle.std.specs.Prelude.{◌≡◌};
-    ghost use Rattle.diag_gate.specs.Seats.{SeatView, IsHeld, seat_as};
+    ghost use Rattle.diag_gate.specs.Seats.{SeatView, IsGuard, seat_as};
 
     ghost Value = { SeatView };
 
     ghost view = { λ h. seat_as h.place.table_id h.who h.place.me };
 
-    ghost invariant = { λ h. (h.place.table_id ≡ h.gate.now) × IsHeld h.who h.place.me h.desk };
+    ghost invariant = { λ h. (h.place.table_id ≡ h.gate.now) × IsGuard h.who h.place.me h.desk };
 }
 
 mod steps;
@@ -117,7 +117,7 @@ impl Gate {
     }
 
     /// The seat of a tester, once for each tester: None where this host has given it out before.
-    pub fn split(&self, host: &mut Host, who: Who) -> Option<Seat>
+    pub fn split(&self, host: &mut Host, who: TesterId) -> Option<Seat>
         requires { host.old.gate ≡ self.now }
         ensures some { IfSome result (λ s. Gave host.old host.new who s) }
         ensures none { IfNone result ((was_given host.old who ≡ true) × (host.new ≡ host.old)) }
@@ -179,7 +179,7 @@ impl Host {
 
 impl Seat {
     /// Its tester.
-    pub fn who(&self) -> Who
+    pub fn who(&self) -> TesterId
         ensures { result ≡ self.now.who }
     {
         self.who

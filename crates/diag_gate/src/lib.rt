@@ -12,6 +12,6 @@ mod view;
 pub use desk_box::DeskBox;
 pub use door::{Door, GateDoor};
 pub use fault::TryFault;
-pub use gate::{Gate, Held, Host, Seat};
+pub use gate::{Gate, Guard, Host, Seat};
 pub use lock::LockDoor;
 pub use view::{OneHistory, View};

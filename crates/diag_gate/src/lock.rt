@@ -6,7 +6,7 @@ ghost use Rattle.diag_gate.specs.Views.{IsLawful};
 
 use crate::door::Door;
 use diag_desk::{Desk, Journal, Step, StepFault};
-use diag_store::Who;
+use diag_store::TesterId;
 use diag_tp::Message;
 use std::alloc::Global;
 use std::sync::{Mutex, Wait};
@@ -16,13 +16,13 @@ use std::sync::{Mutex, Wait};
 pub struct LockDoor<'a, R: Wait> {
     rt: &'a R,
     desk: &'a Mutex<Desk>,
-    who: Who,
+    who: TesterId,
     given: Journal,
 }
 
 impl<'a, R: Wait> LockDoor<'a, R> {
     /// A tester's door, which has answered nothing.
-    pub fn new(rt: &'a R, alloc: Global, desk: &'a Mutex<Desk>, who: Who) -> LockDoor<'a, R>
+    pub fn new(rt: &'a R, alloc: Global, desk: &'a Mutex<Desk>, who: TesterId) -> LockDoor<'a, R>
         ensures given { ⟦<LockDoor<'a, R> as Door>⟧.given result ≡ [] }
         ensures who { ⟦<LockDoor<'a, R> as Door>⟧.tester result ≡ who }
         ensures home { ⟦<LockDoor<'a, R> as Door>⟧.home result ≡ None }
@@ -45,7 +45,7 @@ impl<'a, R: Wait> Door for LockDoor<'a, R> {
 
     ghost home = { λ _. None };
 
-    fn who(&self) -> Who {
+    fn who(&self) -> TesterId {
         self.who
     }
 
@@ -59,7 +59,7 @@ impl<'a, R: Wait> Door for LockDoor<'a, R> {
             (λ reply. self.new.given.entries
             ≡ self.old.given.entries ++ entry self.old.who step.now reply ∷ [])
             (λ _. self.new.given.entries ≡ self.old.given.entries) }
-        ensures quiet { IfOk result (λ reply. HasNoReply step.now reply) }
+        ensures ticks_unanswered { IfOk result (λ reply. HasNoReply step.now reply) }
         ensures tester { self.new.who ≡ self.old.who }
         ensures home { ⟦<LockDoor<'a, R> as Door>⟧.home self.new
             ≡ ⟦<LockDoor<'a, R> as Door>⟧.home self.old }
@@ -79,9 +79,9 @@ impl<'a, R: Wait> Door for LockDoor<'a, R> {
 }
 
 /// A desk's step, whose reply is lawful behind the desk's journal.
-fn lawful_step(desk: &mut Desk, who: Who, step: &Step) -> Result<Option<Message>, StepFault>
+fn lawful_step(desk: &mut Desk, who: TesterId, step: &Step) -> Result<Option<Message>, StepFault>
     ensures lawful { IfOk result (λ reply. IsLawful who step.now reply) }
-    ensures quiet { IfOk result (λ reply. HasNoReply step.now reply) }
+    ensures ticks_unanswered { IfOk result (λ reply. HasNoReply step.now reply) }
 {
     let reply = desk.step(who, step)?;
     // (for its contract: a desk's journal is legal, from the opening of a checked setup)

@@ -68,12 +68,12 @@ st_min-fits st h =
     ] refl h
 
 abbrev Parts : RawSetup → Type 0
-Parts raw = (times_are_in_range raw ≡ true) × (link_is_in_range raw ≡ true) × (server_is_in_range raw ≡ true) × (testers_are_in_range raw.testers ≡ true) × (dids_are_in_range raw.dids ≡ true) × (codes_are_in_range raw.codes ≡ true) × (routines_are_in_range raw.routines ≡ true) × (levels_are_in_range raw.levels ≡ true)
+Parts raw = (times_are_in_range raw ≡ true) × (link_is_in_range raw ≡ true) × (server_is_in_range raw ≡ true) × (testers_are_in_range raw.testers ≡ true) × (dids_are_in_range raw.dids ≡ true) × (codes_are_in_range raw.dtcs ≡ true) × (routines_are_in_range raw.routines ≡ true) × (levels_are_in_range raw.levels ≡ true)
 
 parts_of : (raw : RawSetup) → IsSetup raw → Parts raw
 parts_of raw h =
     let none : NoneHold (faults raw) = none_hold (faults raw) h.0 in
-    and8 (times_are_in_range raw) (link_is_in_range raw) (server_is_in_range raw) (testers_are_in_range raw.testers) (dids_are_in_range raw.dids) (codes_are_in_range raw.codes) (routines_are_in_range raw.routines) (levels_are_in_range raw.levels) (not_false (is_in_range raw) none.0)
+    and8 (times_are_in_range raw) (link_is_in_range raw) (server_is_in_range raw) (testers_are_in_range raw.testers) (dids_are_in_range raw.dids) (codes_are_in_range raw.dtcs) (routines_are_in_range raw.routines) (levels_are_in_range raw.levels) (not_false (is_in_range raw) none.0)
 
 pub numbers_fit : (raw : RawSetup) → IsSetup raw → NumbersFit raw
 numbers_fit raw h =
@@ -105,8 +105,8 @@ testers_few raw h = leb-true (length raw.testers) 8 (both_true (nat_le (length r
 pub dids_few : (raw : RawSetup) → IsSetup raw → length raw.dids ≤ 64
 dids_few raw h = leb-true (length raw.dids) 64 (both_true (nat_le (length raw.dids) 64) (list_all did_is_in_range raw.dids) (parts_of raw h).4).0
 
-pub codes_few : (raw : RawSetup) → IsSetup raw → length raw.codes ≤ 256
-codes_few raw h = leb-true (length raw.codes) 256 (both_true (nat_le (length raw.codes) 256) (list_all code_is_in_range raw.codes) (parts_of raw h).5).0
+pub codes_few : (raw : RawSetup) → IsSetup raw → length raw.dtcs ≤ 256
+codes_few raw h = leb-true (length raw.dtcs) 256 (both_true (nat_le (length raw.dtcs) 256) (list_all code_is_in_range raw.dtcs) (parts_of raw h).5).0
 
 pub routines_few : (raw : RawSetup) → IsSetup raw → length raw.routines ≤ 16
 routines_few raw h = leb-true (length raw.routines) 16 (both_true (nat_le (length raw.routines) 16) (list_all routine_is_in_range raw.routines) (parts_of raw h).6).0
@@ -131,18 +131,18 @@ code-fits row h =
     let parts = both_true (nat_le row.code 0xFFFFFE) (nat_le row.status 0xFF) h in
     record { code = leb-true row.code 0xFFFFFE parts.0; status = leb-true row.status 0xFF parts.1 }
 
-pub codes_fit : (raw : RawSetup) → IsSetup raw → All CodeFits raw.codes
-codes_fit raw h = each code_is_in_range CodeFits code-fits raw.codes (both_true (nat_le (length raw.codes) 256) (list_all code_is_in_range raw.codes) (parts_of raw h).5).1
+pub codes_fit : (raw : RawSetup) → IsSetup raw → All CodeFits raw.dtcs
+codes_fit raw h = each code_is_in_range CodeFits code-fits raw.dtcs (both_true (nat_le (length raw.dtcs) 256) (list_all code_is_in_range raw.dtcs) (parts_of raw h).5).1
 
 level_in_list-fits : (levels : List RawLevel) → list_all level_is_in_range levels ≡ true → (n : ℕ) → has_key level_sub levels n ≡ true → n ≤ 65
 level_in_list-fits [] all n h = cc
 level_in_list-fits (level ∷ levels) all n h =
     let parts = both_true (level_is_in_range level) (list_all level_is_in_range levels) all in
-    let first = and6 (is_between 1 65 level.sub) (level.sub % 2 == 1) (nat_le (length level.rows) 64) (list_all key_row_is_in_range level.rows) (have_one_length seed_of level.rows) (have_one_length key_of level.rows) parts.0 in
-    let sub : level.sub ≤ 65 = (between 1 65 level.sub first.0).1 in
+    let first = and6 (is_between 1 65 level.request_seed) (level.request_seed % 2 == 1) (nat_le (length level.rows) 64) (list_all key_row_is_in_range level.rows) (have_one_length seed_of level.rows) (have_one_length key_of level.rows) parts.0 in
+    let sub : level.request_seed ≤ 65 = (between 1 65 level.request_seed first.0).1 in
     let rest = level_in_list-fits levels parts.1 n in
-    elim (level.sub == n) as (λ b. (level.sub == n) ≡ b → (b || has_key level_sub levels n) ≡ true → n ≤ 65) [
-      | true ↦ λ e given. let same = eqb-true level.sub n e in omega arith
+    elim (level.request_seed == n) as (λ b. (level.request_seed == n) ≡ b → (b || has_key level_sub levels n) ≡ true → n ≤ 65) [
+      | true ↦ λ e given. let same = eqb-true level.request_seed n e in omega arith
       | false ↦ λ e given. rest given
     ] refl h
 
@@ -217,21 +217,21 @@ levels_fit raw h =
     let some = some_rows raw.levels (both_false (length raw.testers == 0) (list_any has_no_rows raw.levels) none.1.0).1 in
     λ k d below.
     let level = slice_index_or raw.levels k d in
-    let parts = and6 (is_between 1 65 level.sub) (level.sub % 2 == 1) (nat_le (length level.rows) 64) (list_all key_row_is_in_range level.rows) (have_one_length seed_of level.rows) (have_one_length key_of level.rows) (in_range k d below) in
+    let parts = and6 (is_between 1 65 level.request_seed) (level.request_seed % 2 == 1) (nat_le (length level.rows) 64) (list_all key_row_is_in_range level.rows) (have_one_length seed_of level.rows) (have_one_length key_of level.rows) (in_range k d below) in
     record {
-      sub = (between 1 65 level.sub parts.0).1;
+      request_seed = (between 1 65 level.request_seed parts.0).1;
       some = some k d below;
       few = leb-true (length level.rows) 64 parts.2;
       rows = each key_row_is_in_range KeyRowFits key_row-fits level.rows parts.3;
     }
 
-tables : (raw : RawSetup) → IsSetup raw → (is_rising did_id raw.dids ≡ true) × (is_rising dtc_code raw.codes ≡ true) × (is_rising routine_id raw.routines ≡ true) × (is_rising level_sub raw.levels ≡ true)
-tables raw h = and4 (is_rising did_id raw.dids) (is_rising dtc_code raw.codes) (is_rising routine_id raw.routines) (is_rising level_sub raw.levels) h.1
+tables : (raw : RawSetup) → IsSetup raw → (is_rising did_id raw.dids ≡ true) × (is_rising dtc_code raw.dtcs ≡ true) × (is_rising routine_id raw.routines ≡ true) × (is_rising level_sub raw.levels ≡ true)
+tables raw h = and4 (is_rising did_id raw.dids) (is_rising dtc_code raw.dtcs) (is_rising routine_id raw.routines) (is_rising level_sub raw.levels) h.1
 
 pub dids_rise : (raw : RawSetup) → IsSetup raw → IsTrue (is_rising did_id raw.dids)
 dids_rise raw h = (tables raw h).0
 
-pub codes_rise : (raw : RawSetup) → IsSetup raw → IsTrue (is_rising dtc_code raw.codes)
+pub codes_rise : (raw : RawSetup) → IsSetup raw → IsTrue (is_rising dtc_code raw.dtcs)
 codes_rise raw h = (tables raw h).1
 
 pub routines_rise : (raw : RawSetup) → IsSetup raw → IsTrue (is_rising routine_id raw.routines)

@@ -21,7 +21,7 @@ sorts = refl
 no_tester : fault_of (record two_testers { testers = [] }) ≡ Some Empty
 no_tester = refl
 
-level_without_row : fault_of (record two_testers { levels = record { sub = 1; rows = [] } ∷ [] }) ≡ Some Empty
+level_without_row : fault_of (record two_testers { levels = record { request_seed = 1; rows = [] } ∷ [] }) ≡ Some Empty
 level_without_row = refl
 
 s3_of_zero : fault_of (record two_testers { s3_ms = 0 }) ≡ Some Range
@@ -33,10 +33,10 @@ range_before_empty = refl
 request_of_65536 : fault_of (record two_testers { max_request = 65536 }) ≡ Some Range
 request_of_65536 = refl
 
-zero_seed : fault_of (record two_testers { levels = record { sub = 1; rows = record { seed = 0 ∷ 0 ∷ []; key = 1 ∷ [] } ∷ [] } ∷ [] }) ≡ Some Range
+zero_seed : fault_of (record two_testers { levels = record { request_seed = 1; rows = record { seed = 0 ∷ 0 ∷ []; key = 1 ∷ [] } ∷ [] } ∷ [] }) ≡ Some Range
 zero_seed = refl
 
-two_key_lengths : fault_of (record two_testers { levels = record { sub = 1; rows = record { seed = 1 ∷ []; key = 1 ∷ [] } ∷ record { seed = 2 ∷ []; key = 1 ∷ 2 ∷ [] } ∷ [] } ∷ [] }) ≡ Some Range
+two_key_lengths : fault_of (record two_testers { levels = record { request_seed = 1; rows = record { seed = 1 ∷ []; key = 1 ∷ [] } ∷ record { seed = 2 ∷ []; key = 1 ∷ 2 ∷ [] } ∷ [] } ∷ [] }) ≡ Some Range
 two_key_lengths = refl
 
 st_min_gap : fault_of (record two_testers { st_min = 240 }) ≡ Some Range

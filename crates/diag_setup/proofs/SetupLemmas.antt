@@ -73,7 +73,7 @@ levels-in_range : (rows : List RawLevel) → levels_are_in_range (in_order level
 levels-in_range rows = rw (length-in_order level_sub rows, list_all-in_order level_sub level_is_in_range rows) refl
 
 sorted-in_range : (raw : RawSetup) → is_in_range (sorted raw) ≡ is_in_range raw
-sorted-in_range raw = rw (dids-in_range raw.dids, codes-in_range raw.codes, routines-in_range raw.routines, levels-in_range raw.levels) refl
+sorted-in_range raw = rw (dids-in_range raw.dids, codes-in_range raw.dtcs, routines-in_range raw.routines, levels-in_range raw.levels) refl
 
 sorted-lacks : (raw : RawSetup) → lacks_rows (sorted raw) ≡ lacks_rows raw
 sorted-lacks raw = rw (list_any-in_order level_sub raw.levels has_no_rows) refl
@@ -90,8 +90,8 @@ known_level-in_order levels level = ap (λ b. (level == 0) || b) (list_any-in_or
 
 sorted-unknown_code : (raw : RawSetup) → names_unknown_code (sorted raw) ≡ names_unknown_code raw
 sorted-unknown_code raw =
-    ap not (list_all-in_order routine_id (done_code_is_known (in_order dtc_code raw.codes)) raw.routines
-    ∙ list_all-same (done_code_is_known (in_order dtc_code raw.codes)) (done_code_is_known raw.codes) (done_code-in_order raw.codes) raw.routines)
+    ap not (list_all-in_order routine_id (done_code_is_known (in_order dtc_code raw.dtcs)) raw.routines
+    ∙ list_all-same (done_code_is_known (in_order dtc_code raw.dtcs)) (done_code_is_known raw.dtcs) (done_code-in_order raw.dtcs) raw.routines)
 
 sorted-unknown_level : (raw : RawSetup) → names_unknown_level (sorted raw) ≡ names_unknown_level raw
 sorted-unknown_level raw =
@@ -102,7 +102,7 @@ sorted-unknown_level raw =
     rw (dids, routines) refl
 
 abbrev pub NoRepeats : RawSetup → Type 0
-NoRepeats raw = (has_repeat did_id raw.dids ≡ false) × (has_repeat dtc_code raw.codes ≡ false) × (has_repeat routine_id raw.routines ≡ false) × (has_repeat level_sub raw.levels ≡ false)
+NoRepeats raw = (has_repeat did_id raw.dids ≡ false) × (has_repeat dtc_code raw.dtcs ≡ false) × (has_repeat routine_id raw.routines ≡ false) × (has_repeat level_sub raw.levels ≡ false)
 
 repeats_of : (a b c d e f : Bool) → (a || b || c || d || e || f) ≡ false → (a ≡ false) × (b ≡ false) × (c ≡ false) × (d ≡ false) × (e ≡ false) × (f ≡ false)
 repeats_of true b c d e f h = cc
@@ -115,12 +115,12 @@ repeats_of false false false false false f h = (refl, refl, refl, refl, refl, h)
 pub no_repeats : (raw : RawSetup) → fault_of raw ≡ None → NoRepeats raw
 no_repeats raw h =
     let none : NoneHold (faults raw) = none_hold (faults raw) h in
-    let each = repeats_of (has_repeated_name raw.testers) (has_repeat itself (can_ids raw.testers raw.functional)) (has_repeat did_id raw.dids) (has_repeat dtc_code raw.codes) (has_repeat routine_id raw.routines) (has_repeat level_sub raw.levels) none.1.1.0 in
+    let each = repeats_of (has_repeated_name raw.testers) (has_repeat itself (can_ids raw.testers raw.functional)) (has_repeat did_id raw.dids) (has_repeat dtc_code raw.dtcs) (has_repeat routine_id raw.routines) (has_repeat level_sub raw.levels) none.1.1.0 in
     (each.2, each.3, each.4, each.5)
 
 sorted-duplicates : (raw : RawSetup) → has_duplicates raw ≡ false → NoRepeats raw → has_duplicates (sorted raw) ≡ has_duplicates raw
 sorted-duplicates raw h each =
-    rw (in_order-no_repeat did_id raw.dids each.0, in_order-no_repeat dtc_code raw.codes each.1, in_order-no_repeat routine_id raw.routines each.2, in_order-no_repeat level_sub raw.levels each.3, each.0, each.1, each.2, each.3) refl
+    rw (in_order-no_repeat did_id raw.dids each.0, in_order-no_repeat dtc_code raw.dtcs each.1, in_order-no_repeat routine_id raw.routines each.2, in_order-no_repeat level_sub raw.levels each.3, each.0, each.1, each.2, each.3) refl
 
 -- a raw setup without a fault is a setup once its tables are sorted
 pub sorted-is_setup : (raw : RawSetup) → fault_of raw ≡ None → IsSetup (sorted raw)
@@ -130,5 +130,5 @@ sorted-is_setup raw h =
     let well : NoneHold (faults (sorted raw)) =
     (ap not (sorted-in_range raw) ∙ none.0, (sorted-lacks raw ∙ none.1.0, (sorted-duplicates raw none.1.1.0 each ∙ none.1.1.0, (sorted-unknown_code raw ∙ none.1.1.1.0, (sorted-unknown_level raw ∙ none.1.1.1.1.0, tt))))) in (
       none_holding (faults (sorted raw)) well,
-      rw (in_order-is_rising did_id raw.dids each.0, in_order-is_rising dtc_code raw.codes each.1, in_order-is_rising routine_id raw.routines each.2, in_order-is_rising level_sub raw.levels each.3) refl,
+      rw (in_order-is_rising did_id raw.dids each.0, in_order-is_rising dtc_code raw.dtcs each.1, in_order-is_rising routine_id raw.routines each.2, in_order-is_rising level_sub raw.levels each.3) refl,
     )

@@ -38,7 +38,7 @@ pub record KeyRowFits (row : RawKeyRow) : Type 0 where
   pub key : length row.key ≤ 16
 
 pub record LevelFits (level : RawLevel) : Type 0 where
-  pub sub : level.sub ≤ 65
+  pub request_seed : level.request_seed ≤ 65
   pub some : 1 ≤ length level.rows
   pub few : length level.rows ≤ 64
   pub rows : All KeyRowFits level.rows

@@ -3,7 +3,7 @@ use Rattle.std.specs.Prelude.{◌≡◌, ◌==◌, ◌&&◌, ◌||◌, ◌%◌, 
 use Rattle.std.specs.List.{list_all, list_any, flat_map}
 use Rattle.diag_can.specs.declared.frame.Ids.{Ids}
 use Rattle.diag_tp.specs.declared.setup.LinkSetup.{LinkSetup}
-use Rattle.diag_setup.specs.declared.setup.Values.{Values}
+use Rattle.diag_setup.specs.declared.setup.ServerParameters.{ServerParameters}
 use Rattle.diag_setup.specs.Rows.{is_between, has_length, have_one_length, has_key, has_repeat, in_order, is_rising}
 use Rattle.diag_setup.specs.declared.raw.RawSetup.{RawSetup}
 use Rattle.diag_setup.specs.declared.raw.RawTester.{RawTester}
@@ -26,7 +26,7 @@ abbrev pub routine_id : RawRoutine → ℕ
 routine_id routine = routine.id
 
 abbrev pub level_sub : RawLevel → ℕ
-level_sub level = level.sub
+level_sub level = level.request_seed
 
 -- letters, digits and the underscore
 abbrev pub is_name_byte : ℕ → Bool
@@ -69,7 +69,7 @@ key_of row = row.key
 -- in one level all seeds have one length, and all keys have one
 abbrev pub level_is_in_range : RawLevel → Bool
 level_is_in_range level =
-    is_between 1 65 level.sub && level.sub % 2 == 1 && nat_le (length level.rows) 64
+    is_between 1 65 level.request_seed && level.request_seed % 2 == 1 && nat_le (length level.rows) 64
     && list_all key_row_is_in_range level.rows && have_one_length seed_of level.rows
     && have_one_length key_of level.rows
 
@@ -111,7 +111,7 @@ abbrev pub is_in_range : RawSetup → Bool
 is_in_range raw =
     times_are_in_range raw && link_is_in_range raw && server_is_in_range raw
     && testers_are_in_range raw.testers && dids_are_in_range raw.dids
-    && codes_are_in_range raw.codes && routines_are_in_range raw.routines
+    && codes_are_in_range raw.dtcs && routines_are_in_range raw.routines
     && levels_are_in_range raw.levels
 
 abbrev pub has_no_rows : RawLevel → Bool
@@ -143,7 +143,7 @@ itself n = n
 abbrev pub has_duplicates : RawSetup → Bool
 has_duplicates raw =
     has_repeated_name raw.testers || has_repeat itself (can_ids raw.testers raw.functional)
-    || has_repeat did_id raw.dids || has_repeat dtc_code raw.codes
+    || has_repeat did_id raw.dids || has_repeat dtc_code raw.dtcs
     || has_repeat routine_id raw.routines || has_repeat level_sub raw.levels
 
 abbrev pub is_known_code : List RawCode → Option RawCode → Bool
@@ -162,7 +162,7 @@ routine_level_is_known levels routine = is_known_level levels routine.level
 
 -- UnknownCode: a routine names a code that isn't in the list
 abbrev pub names_unknown_code : RawSetup → Bool
-names_unknown_code raw = not (list_all (done_code_is_known raw.codes) raw.routines)
+names_unknown_code raw = not (list_all (done_code_is_known raw.dtcs) raw.routines)
 
 abbrev pub did_levels_are_known : List RawLevel → RawDid → Bool
 did_levels_are_known levels did =
@@ -195,14 +195,14 @@ fault_of raw = first_holding (faults raw)
 abbrev pub sorted : RawSetup → RawSetup
 sorted raw = record raw {
   dids = in_order did_id raw.dids;
-  codes = in_order dtc_code raw.codes;
+  dtcs = in_order dtc_code raw.dtcs;
   routines = in_order routine_id raw.routines;
   levels = in_order level_sub raw.levels;
 }
 
 -- whether the tables are in rising order, each key once
 abbrev pub tables_rise : RawSetup → Bool
-tables_rise raw = is_rising did_id raw.dids && is_rising dtc_code raw.codes
+tables_rise raw = is_rising did_id raw.dids && is_rising dtc_code raw.dtcs
     && is_rising routine_id raw.routines && is_rising level_sub raw.levels
 
 -- what a setup is: a raw one without a fault, its tables in rising order
@@ -253,7 +253,7 @@ link_of setup who = record {
 }
 
 -- the values that the services answer with
-abbrev pub values_of : RawSetup → Values
+abbrev pub values_of : RawSetup → ServerParameters
 values_of setup = record {
   p2_ms = setup.p2_ms;
   p2_star_10ms = setup.p2_star_10ms;

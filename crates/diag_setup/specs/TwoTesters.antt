@@ -37,7 +37,7 @@ key_row seed key = record { seed = seed; key = key }
 
 abbrev pub level : RawLevel
 level = record {
-  sub = 1;
+  request_seed = 1;
   rows = key_row (0x11 ∷ 0x22 ∷ 0x33 ∷ 0x44 ∷ []) (0xAA ∷ 0xBB ∷ 0xCC ∷ 0xDD ∷ [])
       ∷ key_row (0x55 ∷ 0x66 ∷ 0x77 ∷ 0x88 ∷ []) (0x01 ∷ 0x02 ∷ 0x03 ∷ 0x04 ∷ []) ∷ [];
 }
@@ -60,7 +60,7 @@ two_testers = record {
   delay_ms = 2000;
   testers = tester (codes "A") 0x7E0 0x7E8 ∷ tester (codes "B") 0x7E1 0x7E9 ∷ [];
   dids = did ∷ [];
-  codes = code ∷ [];
+  dtcs = code ∷ [];
   routines = routine ∷ [];
   levels = level ∷ [];
 }

@@ -49,7 +49,7 @@ impl RawSetup {
             && self.server_is_in_range()
             && testers_are_in_range(self.testers.as_slice())
             && dids_are_in_range(self.dids.as_slice())
-            && codes_are_in_range(self.codes.as_slice())
+            && codes_are_in_range(self.dtcs.as_slice())
             && routines_are_in_range(self.routines.as_slice())
             && levels_are_in_range(self.levels.as_slice())
     }
@@ -171,8 +171,8 @@ impl RawLevel {
     fn is_in_range(&self) -> bool
         ensures { result ≡ level_is_in_range self.now }
     {
-        is_between(1, 65, self.sub)
-            && self.sub % 2 == 1
+        is_between(1, 65, self.request_seed)
+            && self.request_seed % 2 == 1
             && self.rows.len() <= 64
             && all_key_rows_are_in_range(self.rows.as_slice())
             && seeds_have_one_length(self.rows.as_slice())
@@ -358,7 +358,7 @@ impl RawSetup {
         has_repeated_name(self.testers.as_slice())
             || has_repeat(can_ids(self.testers.as_slice(), self.functional).as_slice())
             || has_repeat(self.dids.as_slice())
-            || has_repeat(self.codes.as_slice())
+            || has_repeat(self.dtcs.as_slice())
             || has_repeat(self.routines.as_slice())
             || has_repeat(self.levels.as_slice())
     }
@@ -366,7 +366,7 @@ impl RawSetup {
     fn names_unknown_code(&self) -> bool
         ensures { result ≡ names_unknown_code self.now }
     {
-        !done_codes_are_known(self.codes.as_slice(), self.routines.as_slice())
+        !done_codes_are_known(self.dtcs.as_slice(), self.routines.as_slice())
     }
 
     fn names_unknown_level(&self) -> bool

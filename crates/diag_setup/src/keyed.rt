@@ -34,7 +34,7 @@ impl Keyed for RawLevel {
     ghost key_of = { level_sub };
 
     fn key(&self) -> u32 {
-        self.sub
+        self.request_seed
     }
 }
 

@@ -7,10 +7,10 @@ mod items;
 mod keyed;
 mod raw;
 mod setup;
-mod who;
+mod tester_id;
 
 pub use fault::SetupFault;
 pub use items::Items;
 pub use raw::{Keyed, RawCode, RawDid, RawKeyRow, RawLevel, RawRoutine, RawSetup, RawTester};
-pub use setup::{Setup, Values};
-pub use who::Who;
+pub use setup::{ServerParameters, Setup};
+pub use tester_id::TesterId;

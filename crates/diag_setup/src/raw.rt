@@ -41,7 +41,7 @@ pub struct RawSetup {
     /// Up to 64 data identifiers, no two equal.
     pub dids: Items<RawDid>,
     /// Up to 256 trouble codes, no two equal.
-    pub codes: Items<RawCode>,
+    pub dtcs: Items<RawCode>,
     /// Up to 16 routines, no two of one identifier.
     pub routines: Items<RawRoutine>,
     /// Up to 4 security levels, no two of one sub-function.
@@ -111,7 +111,7 @@ pub struct RawKeyRow {
 #[derive(Drop)]
 pub struct RawLevel {
     /// The sub-function requestSeed, odd, 1 to 65 (ISO 14229-1:2013, 9.4).
-    pub sub: u32,
+    pub request_seed: u32,
     /// 1 to 64 rows, whose seeds have one length, and whose keys have one.
     pub rows: Items<RawKeyRow>,
 }

@@ -8,7 +8,7 @@ ghost use Rattle.diag_setup.specs.Fits.{TesterFits, DidFits, CodeFits, RoutineFi
 
 use crate::fault::SetupFault;
 use crate::raw::{RawCode, RawDid, RawLevel, RawRoutine, RawSetup, RawTester};
-use crate::who::Who;
+use crate::tester_id::TesterId;
 use diag_can::{CanId, Ids, TickCount};
 use diag_tp::LinkSetup;
 use std::marker::Model;
@@ -32,7 +32,7 @@ impl Model for Setup {
 
 /// The values that the services answer with.
 #[derive(Clone, Copy, PartialEq, Eq, Debug, Drop)]
-pub struct Values {
+pub struct ServerParameters {
     /// P2Server_max in milliseconds (ISO 14229-1:2013, 9.2).
     pub p2_ms: u16,
     /// P2*Server_max in units of 10 ms (9.2).
@@ -53,7 +53,7 @@ impl RawSetup {
         }
         let mut raw = self;
         raw.dids.sort();
-        raw.codes.sort();
+        raw.dtcs.sort();
         raw.routines.sort();
         raw.levels.sort();
         Ok(Setup { raw })
@@ -71,18 +71,18 @@ impl Setup {
     }
 
     /// The tester at an index from 0.
-    pub fn who(&self, i: usize) -> Option<Who>
+    pub fn who(&self, i: usize) -> Option<TesterId>
         ensures { result ≡ who_at self.now i }
     {
         if i < self.testers() {
-            Who::new(i as u8 + 1)
+            TesterId::new(i as u8 + 1)
         } else {
             None
         }
     }
 
     /// A tester's name.
-    pub fn name(&self, who: Who) -> &[u8]
+    pub fn name(&self, who: TesterId) -> &[u8]
         requires { who ≤ length self.now.testers }
         ensures { result.now ≡ name_of self.now who }
     {
@@ -90,7 +90,7 @@ impl Setup {
     }
 
     /// The identifiers of a tester's link.
-    pub fn ids(&self, who: Who) -> Ids
+    pub fn ids(&self, who: TesterId) -> Ids
         requires { who ≤ length self.now.testers }
         ensures { result ≡ ids_of self.now who }
     {
@@ -106,16 +106,16 @@ impl Setup {
     pub fn functional(&self) -> CanId
         ensures { result ≡ self.now.functional }
     {
-        can_id(self.numbers().functional)
+        can_id(self.raw().functional)
     }
 
     /// The settings of a tester's link.
-    pub fn link(&self, who: Who) -> LinkSetup
+    pub fn link(&self, who: TesterId) -> LinkSetup
         requires { who ≤ length self.now.testers }
         ensures { result ≡ link_of self.now who }
     {
         let ids = self.ids(who);
-        let raw = self.numbers();
+        let raw = self.raw();
         LinkSetup {
             ids,
             block_size: raw.block_size as u8,
@@ -132,11 +132,11 @@ impl Setup {
     }
 
     /// The values that the services answer with.
-    pub fn values(&self) -> Values
+    pub fn values(&self) -> ServerParameters
         ensures { result ≡ values_of self.now }
     {
-        let raw = self.numbers();
-        Values {
+        let raw = self.raw();
+        ServerParameters {
             p2_ms: raw.p2_ms as u16,
             p2_star_10ms: raw.p2_star_10ms as u16,
             s3_ms: raw.s3_ms,
@@ -145,7 +145,7 @@ impl Setup {
     }
 
     #[tactic(auto, using(crate::proofs::FitLemmas::testers_fit))]
-    fn tester(&self, who: Who) -> &RawTester
+    fn tester(&self, who: TesterId) -> &RawTester
         requires { who ≤ length self.now.testers }
         ensures same { slice_get self.now.testers (who - 1) ≡ Some result.now }
         ensures fits { TesterFits result.now }
@@ -155,7 +155,7 @@ impl Setup {
 
     /// The setup that was checked, its tables in rising order; its numbers fit.
     #[tactic(auto, using(crate::proofs::FitLemmas::numbers_fit))]
-    pub fn numbers(&self) -> &RawSetup
+    pub fn raw(&self) -> &RawSetup
         ensures same { result.now ≡ self.now }
         ensures fits { NumbersFit self.now }
         ensures checked { IsSetup self.now }
@@ -176,13 +176,13 @@ impl Setup {
 
     /// The trouble codes in rising order.
     #[tactic(auto, using(crate::proofs::FitLemmas::codes_fit, crate::proofs::FitLemmas::codes_few, crate::proofs::FitLemmas::codes_rise))]
-    pub fn codes(&self) -> &[RawCode]
-        ensures same { result.now ≡ self.now.codes }
+    pub fn dtcs(&self) -> &[RawCode]
+        ensures same { result.now ≡ self.now.dtcs }
         ensures rising { IsTrue (is_rising dtc_code result.now) }
         ensures few { length result.now ≤ 256 }
         ensures fit { All CodeFits result.now }
     {
-        self.raw.codes.as_slice()
+        self.raw.dtcs.as_slice()
     }
 
     /// The routines by rising identifier.

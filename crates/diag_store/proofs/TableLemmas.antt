@@ -44,8 +44,8 @@ later_rises n rows h = map_rises routines.id_of routines.id_of (routines.row_lat
 pub opening_dids_rise : (setup : RawSetup) → is_rising did_id setup.dids ≡ true → is_rising dids.id_of (opening_dids setup) ≡ true
 opening_dids_rise setup h = map_rises dids.id_of did_id did_row (λ row. refl) setup.dids h
 
-pub opening_codes_rise : (setup : RawSetup) → is_rising dtc_code setup.codes ≡ true → is_rising dtcs.code_of (opening_codes setup) ≡ true
-opening_codes_rise setup h = map_rises dtcs.code_of dtc_code dtc_row (λ row. refl) setup.codes h
+pub opening_codes_rise : (setup : RawSetup) → is_rising dtc_code setup.dtcs ≡ true → is_rising dtcs.code_of (opening_codes setup) ≡ true
+opening_codes_rise setup h = map_rises dtcs.code_of dtc_code dtc_row (λ row. refl) setup.dtcs h
 
 pub opening_routines_rise : (setup : RawSetup) → is_rising routine_id setup.routines ≡ true → is_rising routines.id_of (opening_routines setup) ≡ true
 opening_routines_rise setup h = map_rises routines.id_of routine_id routine_row (λ row. refl) setup.routines h

@@ -28,7 +28,7 @@ abbrev pub dtc_row : RawCode → Dtc
 dtc_row row = record { code = row.code; status = row.status }
 
 abbrev pub opening_codes : RawSetup → List Dtc
-opening_codes setup = map dtc_row setup.codes
+opening_codes setup = map dtc_row setup.dtcs
 
 abbrev pub routine_row : RawRoutine → Routine
 routine_row routine = record {
@@ -47,7 +47,7 @@ abbrev pub key_row : RawKeyRow → KeyRow
 key_row row = record { seed = record { items = row.seed }; key = record { items = row.key } }
 
 abbrev pub level_row : RawLevel → Level
-level_row level = record { sub = level.sub; rows = map key_row level.rows; next = 0 }
+level_row level = record { request_seed = level.request_seed; rows = map key_row level.rows; next = 0 }
 
 -- nothing is unlocked, no seed is outstanding, and nobody is delayed
 abbrev pub opening_security : RawSetup → SecurityState

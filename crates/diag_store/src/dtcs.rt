@@ -61,11 +61,11 @@ const CLEARED_STATUS: u8 = 0x50;
 impl DtcMemory {
     /// The codes with their status at the opening.
     pub fn new(alloc: Global, setup: &Setup) -> Result<DtcMemory, AllocError>
-        ensures { IfOk result (λ codes. codes ≡ opening_codes setup.now) }
+        ensures { IfOk result (λ dtcs. dtcs ≡ opening_codes setup.now) }
     {
-        let codes = setup.codes();
+        let dtcs = setup.dtcs();
         let mut rows = Vec::new(alloc);
-        for row in codes {
+        for row in dtcs {
             rows.push(dtc_row(row))?;
         }
         Ok(DtcMemory { rows })

@@ -46,7 +46,7 @@ impl Model for KeyRows {
 #[derive(Drop)]
 pub struct Level {
     /// The sub-function requestSeed.
-    pub sub: u8,
+    pub request_seed: u8,
     /// The seeds with their keys.
     pub rows: KeyRows,
     /// The row of the next new seed, from 0.
@@ -78,7 +78,7 @@ impl Keyed for Level {
     ghost key_of = { sub_of };
 
     fn key(&self) -> u32 {
-        u32::from(self.sub)
+        u32::from(self.request_seed)
     }
 }
 
@@ -135,7 +135,7 @@ fn level_row(alloc: Global, level: &RawLevel) -> Result<Level, AllocError>
 {
     let rows = KeyRows::new(alloc, level.rows.as_slice())?;
     Ok(Level {
-        sub: level.sub as u8,
+        request_seed: level.request_seed as u8,
         rows,
         next: 0,
     })
@@ -147,7 +147,7 @@ impl Level {
     {
         let rows = self.rows.try_copy()?;
         Ok(Level {
-            sub: self.sub,
+            request_seed: self.request_seed,
             rows,
             next: self.next,
         })

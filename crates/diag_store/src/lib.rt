@@ -10,8 +10,8 @@ mod search;
 mod security;
 
 pub use diag_setup::{
-    Items, RawCode, RawDid, RawKeyRow, RawLevel, RawRoutine, RawSetup, RawTester, Setup,
-    SetupFault, Values, Who,
+    Items, RawCode, RawDid, RawKeyRow, RawLevel, RawRoutine, RawSetup, RawTester, ServerParameters,
+    Setup, SetupFault, TesterId,
 };
 pub use dids::{DidFault, DidRow, DidRule, Dids};
 pub use dtcs::{ALL_GROUPS, Dtc, DtcMemory};

@@ -136,13 +136,13 @@ impl Routines {
     }
 
     /// One tick of the running routines; with the setting, those that end report their codes.
-    pub fn tick(&mut self, codes: &mut DtcMemory, setting: bool)
+    pub fn tick(&mut self, dtcs: &mut DtcMemory, setting: bool)
         ensures rows { self.new ≡ rows_after_tick self.old }
-        ensures codes { codes.new
-            ≡ (if setting then codes_after_tick self.old codes.old else codes.old) }
+        ensures dtcs { dtcs.new
+            ≡ (if setting then codes_after_tick self.old dtcs.old else dtcs.old) }
     {
         if setting {
-            report(&self.rows, codes);
+            report(&self.rows, dtcs);
         }
         tick_all(&mut self.rows);
     }
@@ -280,21 +280,21 @@ fn pass_all(rows: &mut [Routine], count: u32)
 }
 
 /// Sets the codes of the routines that end at this tick, in order.
-fn report(rows: &[Routine], codes: &mut DtcMemory)
-    ensures { codes.new ≡ codes_after_tick rows.now codes.old }
+fn report(rows: &[Routine], dtcs: &mut DtcMemory)
+    ensures { dtcs.new ≡ codes_after_tick rows.now dtcs.old }
 {
     for row in rows {
         if row.ends_now() {
-            report_one(row.on_done, codes);
+            report_one(row.on_done, dtcs);
         }
     }
 }
 
-fn report_one(on_done: Option<Dtc>, codes: &mut DtcMemory)
-    ensures { codes.new ≡ reported codes.old on_done }
+fn report_one(on_done: Option<Dtc>, dtcs: &mut DtcMemory)
+    ensures { dtcs.new ≡ reported dtcs.old on_done }
 {
     if let Some(on_done) = on_done {
-        codes.set(on_done.code, on_done.status);
+        dtcs.set(on_done.code, on_done.status);
     }
 }
 

@@ -7,7 +7,7 @@ ghost use Rattle.diag_store.specs.Opening.{opening_security};
 use crate::bytes::bytes_of;
 use crate::levels::Levels;
 use arrayvec::ArrayVec;
-use diag_setup::{Setup, Who};
+use diag_setup::{Setup, TesterId};
 use std::alloc::{AllocError, Global};
 use std::marker::Model;
 
@@ -86,10 +86,10 @@ impl Security {
         ensures { IfOk result (λ security. security ≡ opening_security setup.now) }
     {
         let levels = Levels::new(alloc, setup.levels())?;
-        let numbers = setup.numbers();
+        let raw = setup.raw();
         let state = SecurityState {
-            attempts: numbers.attempts as u8,
-            delay_ms: numbers.delay_ms,
+            attempts: raw.attempts as u8,
+            delay_ms: raw.delay_ms,
             levels,
             unlocked: None,
             outstanding: None,
@@ -132,7 +132,7 @@ impl Security {
     }
 
     /// Gives a tester the seed of a level.
-    pub fn seed(&mut self, who: Who, sub: u8) -> SeedAnswer
+    pub fn seed(&mut self, who: TesterId, sub: u8) -> SeedAnswer
         requires { IsTrue (is_some (level_of self.old sub)) }
         ensures answer { result ≡ seed_answer self.old who sub }
         ensures state { self.new ≡ after_seed self.old who sub }
@@ -141,7 +141,7 @@ impl Security {
     }
 
     /// What a request for a seed of a level is answered; nothing changes.
-    pub fn seed_answer(&self, who: Who, sub: u8) -> SeedAnswer
+    pub fn seed_answer(&self, who: TesterId, sub: u8) -> SeedAnswer
         requires { IsTrue (is_some (level_of self.now sub)) }
         ensures { result ≡ seed_answer self.now who sub }
     {
@@ -149,7 +149,7 @@ impl Security {
     }
 
     /// Takes a tester's key for a level.
-    pub fn key(&mut self, who: Who, sub: u8, key: &[u8]) -> KeyAnswer
+    pub fn key(&mut self, who: TesterId, sub: u8, key: &[u8]) -> KeyAnswer
         requires { IsTrue (is_some (level_of self.old sub)) }
         ensures answer { result ≡ key_answer self.old who sub key.now }
         ensures state { self.new ≡ after_key self.old who sub key.now }
@@ -158,7 +158,7 @@ impl Security {
     }
 
     /// What a tester's key for a level is answered; nothing changes.
-    pub fn key_answer(&self, who: Who, sub: u8, key: &[u8]) -> KeyAnswer
+    pub fn key_answer(&self, who: TesterId, sub: u8, key: &[u8]) -> KeyAnswer
         requires { IsTrue (is_some (level_of self.now sub)) }
         ensures { result ≡ key_answer self.now who sub key.now }
     {
@@ -166,14 +166,14 @@ impl Security {
     }
 
     /// One tick of a tester's delay.
-    pub fn tick(&mut self, who: Who)
+    pub fn tick(&mut self, who: TesterId)
         ensures { self.new ≡ after_tick self.old who }
     {
         self.state.tick(who);
     }
 
     /// So many ticks of a tester's delay, in one move.
-    pub fn pass(&mut self, who: Who, count: u32)
+    pub fn pass(&mut self, who: TesterId, count: u32)
         ensures { self.new ≡ after_ticks self.old who count }
     {
         self.state.pass(who, count);
@@ -189,7 +189,7 @@ impl Security {
 }
 
 impl SecurityState {
-    fn is_delayed(&self, who: Who) -> bool
+    fn is_delayed(&self, who: TesterId) -> bool
         ensures { result ≡ is_delayed self.now who }
     {
         self.delays[who.index()] > 0
@@ -243,7 +243,7 @@ impl SecurityState {
         }
     }
 
-    fn seed(&mut self, who: Who, sub: u8) -> SeedAnswer
+    fn seed(&mut self, who: TesterId, sub: u8) -> SeedAnswer
         ensures answer { result ≡ seed_answer self.old who sub }
         ensures state { self.new ≡ after_seed self.old who sub }
     {
@@ -257,7 +257,7 @@ impl SecurityState {
         answer
     }
 
-    fn seed_answer(&self, who: Who, sub: u8) -> SeedAnswer
+    fn seed_answer(&self, who: TesterId, sub: u8) -> SeedAnswer
         ensures { result ≡ seed_answer self.now who sub }
     {
         if self.is_delayed(who) {
@@ -273,7 +273,7 @@ impl SecurityState {
         SeedAnswer::Seed(self.seed_at(sub, row))
     }
 
-    fn key_answer(&self, who: Who, sub: u8, key: &[u8]) -> KeyAnswer
+    fn key_answer(&self, who: TesterId, sub: u8, key: &[u8]) -> KeyAnswer
         requires { IsSecurity self.now }
         ensures { result ≡ key_answer self.now who sub key.now }
     {
@@ -293,7 +293,7 @@ impl SecurityState {
         }
     }
 
-    fn key(&mut self, who: Who, sub: u8, key: &[u8]) -> KeyAnswer
+    fn key(&mut self, who: TesterId, sub: u8, key: &[u8]) -> KeyAnswer
         requires { IsSecurity self.old }
         ensures answer { result ≡ key_answer self.old who sub key.now }
         ensures state { self.new ≡ after_key self.old who sub key.now }
@@ -317,7 +317,7 @@ impl SecurityState {
     }
 
     #[tactic(auto, using(crate::proofs::DelayLemmas::no_delay, crate::proofs::DelayLemmas::shorter, crate::proofs::DelayLemmas::over))]
-    fn pass(&mut self, who: Who, count: u32)
+    fn pass(&mut self, who: TesterId, count: u32)
         requires { IsSecurity self.old }
         ensures state { self.new ≡ after_ticks self.old who count }
         ensures keeps { IsSecurity self.new }
@@ -335,7 +335,7 @@ impl SecurityState {
         }
     }
 
-    fn tick(&mut self, who: Who)
+    fn tick(&mut self, who: TesterId)
         ensures { self.new ≡ after_tick self.old who }
     {
         let tester = who.index();

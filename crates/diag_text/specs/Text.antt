@@ -56,7 +56,7 @@ code_lines dtcs = flat_map (λ dtc. code_line dtc.code dtc.status) dtcs
 
 -- the end of a run
 unfoldable pub end_text : RawSetup → State → List ℕ
-end_text setup s = holder_lines setup s.holder ++ code_lines s.codes
+end_text setup s = holder_lines setup s.holder ++ code_lines s.dtcs
 
 -- all that a play writes, which left this desk and these frames
 abbrev pub whole_text : Timing → RawSetup → Run → List (List Sent) → List ℕ

@@ -8,7 +8,7 @@ use diag_bus::BusFault;
 use diag_can::LogFault;
 use diag_config::ConfigFault;
 use diag_desk::StepFault;
-use diag_setup::Who;
+use diag_setup::TesterId;
 use diag_workers::PlayFault;
 use std::alloc::{AllocError, AllocFailed, Global};
 use std::error::Error;
@@ -25,7 +25,7 @@ pub enum RunFault {
     /// The config is longer than 1,048,576 bytes.
     ConfigLong,
     /// A tester's log is at fault.
-    Log(Who, LogFault),
+    Log(TesterId, LogFault),
     /// The journal is at fault at the line of that number, from 1.
     JournalLine(usize),
     /// A log is longer than 67,108,864 bytes, or a journal than 268,435,456.
@@ -35,7 +35,7 @@ pub enum RunFault {
     /// The journal has no room for another entry.
     JournalFull,
     /// A worker's record is not what the journal has of its tester.
-    RecordsDisagree(Who),
+    RecordsDisagree(TesterId),
     /// A file could not be read.
     Read(usize),
     /// The text could not be written.

@@ -1,12 +1,12 @@
 //! Whole texts: what a run writes, what is told of its faults, and a text read or written whole.
 #![tactic(auto)]
 
-mod device;
 mod fault;
+mod io;
 mod text;
 mod told;
 
-pub use device::{ReadFault, WriteFault, read_whole, write_text, write_whole};
 pub use fault::{RunFault, fault_text, status};
+pub use io::{ReadFault, WriteFault, read_whole, write_text, write_whole};
 pub use text::{end_text, journal_part, one_part, play_parts, play_text, replay_text};
 pub use told::{agreement_text, verdict_text};

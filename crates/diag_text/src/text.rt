@@ -10,7 +10,7 @@ ghost use Rattle.diag_text.specs.Text.{lines_of, lines_from, journal_part, holde
 use diag_can::{Timing, write_hex, write_line};
 use diag_desk::{Desk, Journal, journal_text, journal_text_at};
 use diag_ecu::Ecu;
-use diag_setup::{Setup, Who};
+use diag_setup::{Setup, TesterId};
 use diag_store::DtcMemory;
 use diag_tp::Sent;
 use diag_world::Played;
@@ -255,12 +255,12 @@ pub fn end_text(alloc: Global, setup: &Setup, ecu: &Ecu) -> Result<Vec<u8>, Allo
 {
     let mut text = Vec::new(alloc);
     add_holder(&mut text, setup, ecu.holder())?;
-    add_codes(&mut text, ecu.codes())?;
+    add_codes(&mut text, ecu.dtcs())?;
     Ok(text)
 }
 
 /// Adds the lines of the session and of its holder.
-fn add_holder(text: &mut Vec<u8>, setup: &Setup, holder: Option<Who>) -> Result<(), AllocError>
+fn add_holder(text: &mut Vec<u8>, setup: &Setup, holder: Option<TesterId>) -> Result<(), AllocError>
     ensures { OnOk result (text.new.items ≡ text.old.items ++ holder_lines setup.now holder) }
 {
     match holder {
@@ -270,7 +270,7 @@ fn add_holder(text: &mut Vec<u8>, setup: &Setup, holder: Option<Who>) -> Result<
 }
 
 /// Adds the lines of the extended session and of its holder.
-fn add_extended(text: &mut Vec<u8>, setup: &Setup, who: Who) -> Result<(), AllocError>
+fn add_extended(text: &mut Vec<u8>, setup: &Setup, who: TesterId) -> Result<(), AllocError>
     ensures { OnOk result (text.new.items ≡ text.old.items ++ extended_lines setup.now who) }
 {
     add_session(text)?;
@@ -287,7 +287,7 @@ fn add_session(text: &mut Vec<u8>) -> Result<(), AllocError>
 }
 
 /// Adds a tester's name; its place, where the setup has no such tester.
-fn add_name(text: &mut Vec<u8>, setup: &Setup, who: Who) -> Result<(), AllocError>
+fn add_name(text: &mut Vec<u8>, setup: &Setup, who: TesterId) -> Result<(), AllocError>
     ensures { OnOk result (text.new.items ≡ text.old.items ++ holder_name setup.now who) }
 {
     if usize::from(who.place()) <= setup.testers() {
@@ -299,11 +299,11 @@ fn add_name(text: &mut Vec<u8>, setup: &Setup, who: Who) -> Result<(), AllocErro
 }
 
 /// Adds a line for each trouble code.
-fn add_codes(text: &mut Vec<u8>, codes: &DtcMemory) -> Result<(), AllocError>
-    ensures { OnOk result (text.new.items ≡ text.old.items ++ code_lines codes.now) }
+fn add_codes(text: &mut Vec<u8>, dtcs: &DtcMemory) -> Result<(), AllocError>
+    ensures { OnOk result (text.new.items ≡ text.old.items ++ code_lines dtcs.now) }
 {
-    for index in 0..codes.len() {
-        let Some((code, status)) = codes.at(index) else {
+    for index in 0..dtcs.len() {
+        let Some((code, status)) = dtcs.at(index) else {
             unreachable!()
         };
         add_code(text, code, status)?;

@@ -8,7 +8,7 @@ ghost use Rattle.diag_bus.specs.Verdict.{agreement_text, expected_text, verdict_
 
 use diag_bus::{Bus, Difference, Output, Verdict};
 use diag_can::{FrameBytes, write_hex};
-use diag_setup::{Setup, Who};
+use diag_setup::{Setup, TesterId};
 use std::alloc::{AllocError, Global};
 
 /// How many frames agree, a line a tester, where the verdict is that all do.
@@ -69,7 +69,7 @@ pub fn verdict_text(alloc: Global, setup: &Setup, verdict: &Verdict) -> Result<V
 }
 
 /// A tester's name; none where the setup has no such tester.
-fn name_of(setup: &Setup, who: Who) -> &[u8]
+fn name_of(setup: &Setup, who: TesterId) -> &[u8]
     ensures { result.now ≡ name_of setup.now who }
 {
     if usize::from(who.place()) <= setup.testers() {

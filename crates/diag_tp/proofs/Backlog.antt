@@ -5,8 +5,8 @@ use Rattle.std.proofs.lemmas.List.Sums.{sum_by-cons}
 use Rattle.std.proofs.lemmas.Bool.Decides.{nat_tests}
 use Rattle.diag_can.specs.declared.frame.Event.{Event}
 use Rattle.diag_tp.specs.declared.setup.LinkSetup.{LinkSetup}
-use Rattle.diag_tp.specs.declared.current.Phase.TheVariants.{AwaitsFlow}
-use Rattle.diag_tp.specs.declared.current.Sending.{Sending}
+use Rattle.diag_tp.specs.declared.sending.Phase.TheVariants.{AwaitsFlow}
+use Rattle.diag_tp.specs.declared.sending.Sending.{Sending}
 use Rattle.diag_tp.specs.declared.sent.Sent.{Sent}
 use Rattle.diag_tp.specs.Moments.{moments, counted_from, last_moment}
 use Rattle.diag_tp.specs.Reception.{head_size, consecutive_count}

@@ -5,7 +5,7 @@ use Rattle.diag_can.specs.declared.frame.Event.{Event}
 use Rattle.diag_can.specs.declared.frame.Event.TheVariants.{Physical, Functional, Ticks}
 use Rattle.diag_tp.specs.declared.setup.LinkSetup.{LinkSetup}
 use Rattle.diag_tp.specs.declared.pci.Pci.{Pci}
-use Rattle.diag_tp.specs.declared.pci.Pci.TheVariants.{Single, First, TooLong, Consecutive, Flow, Nothing}
+use Rattle.diag_tp.specs.declared.pci.Pci.TheVariants.{Single, First, Overflow, Consecutive, FlowControl, Ignored}
 use Rattle.diag_tp.specs.declared.step.Step.TheVariants as step
 use Rattle.diag_tp.specs.Kind.{kind}
 use Rattle.diag_tp.specs.Moments.{moments}
@@ -25,10 +25,10 @@ frame_gives s E (Functional bytes) h some = of_functional (kind bytes s.max_requ
     of_functional : (k : Pci) → IsSome (functional_step k) → IsTrue (is_request (functional_step k))
     of_functional (Single payload) some = refl
     of_functional (First len head) some = cc
-    of_functional TooLong some = cc
+    of_functional Overflow some = cc
     of_functional (Consecutive number part) some = cc
-    of_functional (Flow status block gap) some = cc
-    of_functional Nothing some = cc
+    of_functional (FlowControl status block gap) some = cc
+    of_functional Ignored some = cc
 frame_gives s E (Physical bytes) h some = of_physical (moments E ++ Physical bytes ∷ []) (kind bytes s.max_request) some
   where
     of_whole : (b : Bool) (message : List ℕ) → IsSome (cond b (Some (step.Request false message)) None) → IsTrue (is_request (cond b (Some (step.Request false message)) None))
@@ -43,6 +43,6 @@ frame_gives s E (Physical bytes) h some = of_physical (moments E ++ Physical byt
     of_physical M (Single payload) some = refl
     of_physical M (Consecutive number part) some = of_completed (Open s M) some
     of_physical M (First len head) some = cc
-    of_physical M TooLong some = cc
-    of_physical M (Flow status block gap) some = cc
-    of_physical M Nothing some = cc
+    of_physical M Overflow some = cc
+    of_physical M (FlowControl status block gap) some = cc
+    of_physical M Ignored some = cc

@@ -8,9 +8,9 @@ use Rattle.diag_can.specs.declared.frame.Event.{Event}
 use Rattle.diag_can.specs.declared.frame.Event.TheVariants.{Physical, Functional, Ticks}
 use Rattle.diag_tp.specs.declared.setup.LinkSetup.{LinkSetup}
 use Rattle.diag_tp.specs.declared.pci.Pci.{Pci}
-use Rattle.diag_tp.specs.declared.pci.Pci.TheVariants.{Single, First, TooLong, Consecutive, Flow, Nothing}
-use Rattle.diag_tp.specs.declared.current.Phase.{Phase}
-use Rattle.diag_tp.specs.declared.current.Phase.TheVariants.{AwaitsFlow, InBlock}
+use Rattle.diag_tp.specs.declared.pci.Pci.TheVariants.{Single, First, Overflow, Consecutive, FlowControl, Ignored}
+use Rattle.diag_tp.specs.declared.sending.Phase.{Phase}
+use Rattle.diag_tp.specs.declared.sending.Phase.TheVariants.{AwaitsFlow, InBlock}
 use Rattle.diag_tp.specs.Kind.{kind}
 use Rattle.diag_tp.specs.Cut.{cut}
 use Rattle.diag_tp.specs.Sending.{Decision, Go, Wait, GiveUp, block_size, flow_decision}
@@ -131,12 +131,12 @@ no-flow-within : (s : LinkSetup) (cur : Option Current) (W : List (List ℕ)) �
 no-flow-within s cur W = record { frames = omega arith; replies = omega arith }
 
 frame-within : (s : LinkSetup) (k : Pci) (cur : Option Current) (W : List (List ℕ)) → IsWithin s (sender_frame s k cur W) (left s cur W) (length W)
-frame-within s (Flow status block st) cur W = sender-flow-within s (flow_decision status block st) cur W
+frame-within s (FlowControl status block st) cur W = sender-flow-within s (flow_decision status block st) cur W
 frame-within s (Single payload) cur W = no-flow-within s cur W
 frame-within s (First len head) cur W = no-flow-within s cur W
-frame-within s TooLong cur W = no-flow-within s cur W
+frame-within s Overflow cur W = no-flow-within s cur W
 frame-within s (Consecutive number part) cur W = no-flow-within s cur W
-frame-within s Nothing cur W = no-flow-within s cur W
+frame-within s Ignored cur W = no-flow-within s cur W
 
 -- an event leaves no more frames and no more replies than there were
 pub event-within : (s : LinkSetup) (x : Event) (cur : Option Current) (W : List (List ℕ)) → IsWithin s (sender_event s x cur W) (left s cur W) (length W)

@@ -7,7 +7,7 @@ use Rattle.std.proofs.lemmas.List.{append-nil, length-replicate}
 use Rattle.std.proofs.lemmas.Bool.Decides.{nat_tests}
 use Rattle.diag_can.specs.declared.frame.Event.{Event}
 use Rattle.diag_tp.specs.declared.setup.LinkSetup.{LinkSetup}
-use Rattle.diag_tp.specs.declared.current.Phase.TheVariants.{AwaitsFlow, InBlock}
+use Rattle.diag_tp.specs.declared.sending.Phase.TheVariants.{AwaitsFlow, InBlock}
 use Rattle.diag_tp.specs.Moments.{time}
 use Rattle.diag_tp.specs.Cut.{cut}
 use Rattle.diag_tp.specs.Sending.{Decision, Go, Wait, GiveUp, decided, block_moments, block_size, block_course, after_block, after_these, Over, Course, end_of}
@@ -51,7 +51,7 @@ pub last-replicate : (k n : ℕ) (o : Option ℕ) → last_or (Some n) (replicat
 last-replicate zero n o = refl
 last-replicate (suc k) n o = last-replicate k n o
 
--- the block is whole: the message is over, or waits for the next Flow
+-- the block is whole: the message is over, or waits for the next FlowControl
 pub block-whole :
     (s : LinkSetup) (M : List Event) (x : Event) (c : Current) (W : List (List ℕ)) (d b left k k0 : ℕ) → 1 ≤ s.n_bs →
     c.gone + left ≡ frame_count s c.message + k0 → b ≡ k0 + k → b ≤ left →
@@ -89,7 +89,7 @@ block-whole s M x c W d b left k k0 some frames block fits =
           })
     ] refl
 
--- a Flow lets a block go
+-- a FlowControl lets a block go
 pub block_decided :
     (s : LinkSetup) (M : List Event) (x : Event) (c : Current) (W : List (List ℕ)) (b gap left : ℕ) → 1 ≤ s.n_bs →
     c.gone + left ≡ frame_count s c.message → 1 ≤ b → b ≤ left →
@@ -156,7 +156,7 @@ block_some block left h =
       | false ↦ λ f. (let e : 1 ≤ block = grind (arith, nat_tests) in omega arith, omega arith)
     ] refl
 
--- a Flow that is waited for
+-- a FlowControl that is waited for
 pub flow_decided :
     (s : LinkSetup) (M : List Event) (x : Event) (c : Current) (W : List (List ℕ)) (m left ticks : ℕ) (choice : Decision) → 1 ≤ s.n_bs →
     IsWaiting s M m left ticks (frame_count s c.message) c.gone →

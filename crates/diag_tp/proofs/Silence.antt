@@ -7,8 +7,8 @@ use Rattle.diag_can.specs.declared.frame.Event.{Event}
 use Rattle.diag_can.specs.declared.frame.Event.TheVariants.{Ticks}
 use Rattle.diag_tp.specs.declared.setup.LinkSetup.{LinkSetup}
 use Rattle.diag_tp.specs.declared.sent.Sent.{Sent}
-use Rattle.diag_tp.specs.declared.current.Phase.{Phase}
-use Rattle.diag_tp.specs.declared.current.Phase.TheVariants.{AwaitsFlow, InBlock}
+use Rattle.diag_tp.specs.declared.sending.Phase.{Phase}
+use Rattle.diag_tp.specs.declared.sending.Phase.TheVariants.{AwaitsFlow, InBlock}
 use Rattle.diag_tp.specs.Moments.{moments}
 use Rattle.diag_tp.specs.Wire.{Placed}
 use Rattle.diag_tp.specs.Receiver.{Partial, one_tick_later, ticks_later}

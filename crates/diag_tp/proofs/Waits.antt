@@ -3,8 +3,8 @@ use Rattle.std.proofs.Common.{◌≡◌, ℕ, ◌+◌, ◌≤◌, true, false, L
 use Rattle.std.specs.Prelude.{Option, Some, None, sum_by, nat_le, ◌==◌, if◌then◌else◌, take, drop}
 use Rattle.std.proofs.lemmas.List.Sums.{sum_by-cons}
 use Rattle.diag_tp.specs.declared.setup.LinkSetup.{LinkSetup}
-use Rattle.diag_tp.specs.declared.current.Phase.TheVariants.{AwaitsFlow}
-use Rattle.diag_tp.specs.declared.current.Sending.{Sending}
+use Rattle.diag_tp.specs.declared.sending.Phase.TheVariants.{AwaitsFlow}
+use Rattle.diag_tp.specs.declared.sending.Sending.{Sending}
 use Rattle.diag_tp.specs.Cut.{cut}
 use Rattle.diag_tp.specs.Sender.{frames_of, further_of, frame_count, waits, waiting_in, started, before_these, settled_in}
 use Rattle.diag_tp.proofs.CutParts.{frames-count}

@@ -1,8 +1,8 @@
 -- For how many ticks nothing falls due and nothing ends.
 use Rattle.std.specs.Prelude.{ℕ, ◌-◌, ◌^◌, Option, Some, None}
-use Rattle.diag_tp.specs.declared.current.Sending.{Sending}
-use Rattle.diag_tp.specs.declared.current.Phase.{Phase}
-use Rattle.diag_tp.specs.declared.current.Phase.TheVariants.{AwaitsFlow, InBlock}
+use Rattle.diag_tp.specs.declared.sending.Sending.{Sending}
+use Rattle.diag_tp.specs.declared.sending.Phase.{Phase}
+use Rattle.diag_tp.specs.declared.sending.Phase.TheVariants.{AwaitsFlow, InBlock}
 use Rattle.diag_tp.specs.Receiver.{Partial}
 use Rattle.diag_tp.specs.Sender.{Current}
 

@@ -9,7 +9,7 @@ use Rattle.diag_tp.specs.Gives.{gives, steps, steps_after}
 use Rattle.diag_desk.specs.declared.entry.Entry.{Entry}
 use Rattle.diag_desk.specs.Entries.{entry, asked, asked_by}
 use Rattle.diag_world.specs.Port.{entries_of}
-use Rattle.diag_world.specs.Lane.{LaneState, LaneStands}
+use Rattle.diag_world.specs.Channel.{ChannelState, ChannelStands}
 use Rattle.diag_world.specs.Weaving.{all_by}
 use Rattle.diag_workers.specs.Work.{AreBy, MoreOf}
 
@@ -72,13 +72,13 @@ some_none : {X : Type 0} (x : X) → Some x ≡ None → ⊥
 some_none x e = cc
 
 -- an event that gives a step, whose entry was added
-pub stands_more : (s : LinkSetup) (who : ℕ) (lane : LaneState) (E : List Event) (e : Event) (K K' : List Entry) (step : Step) (reply : Option (List ℕ)) → Some step ≡ gives s E e → K' ≡ K ++ entry who step reply ∷ []
-    → ((gives s E e ≡ None → reply ≡ None) → LaneStands s lane (E ++ e ∷ []) (K ++ entries_of who (gives s E e) reply)) → LaneStands s lane (E ++ e ∷ []) K'
-stands_more s who lane E e K K' step reply is grown took =
-    subst (LaneStands s lane (E ++ e ∷ [])) (ap (λ o. K ++ entries_of who o reply) (sym is) ∙ sym grown) (took (λ none. absurd (some_none step (is ∙ none))))
+pub stands_more : (s : LinkSetup) (who : ℕ) (channel : ChannelState) (E : List Event) (e : Event) (K K' : List Entry) (step : Step) (reply : Option (List ℕ)) → Some step ≡ gives s E e → K' ≡ K ++ entry who step reply ∷ []
+    → ((gives s E e ≡ None → reply ≡ None) → ChannelStands s channel (E ++ e ∷ []) (K ++ entries_of who (gives s E e) reply)) → ChannelStands s channel (E ++ e ∷ []) K'
+stands_more s who channel E e K K' step reply is grown took =
+    subst (ChannelStands s channel (E ++ e ∷ [])) (ap (λ o. K ++ entries_of who o reply) (sym is) ∙ sym grown) (took (λ none. absurd (some_none step (is ∙ none))))
 
 -- an event that gives none
-pub stands_quiet : (s : LinkSetup) (lane : LaneState) (E : List Event) (e : Event) (K : List Entry) (reply : Option (List ℕ)) → None ≡ gives s E e → reply ≡ None
-    → ((gives s E e ≡ None → reply ≡ None) → LaneStands s lane (E ++ e ∷ []) (K ++ entries_of 0 (gives s E e) reply)) → LaneStands s lane (E ++ e ∷ []) K
-stands_quiet s lane E e K reply is silent took =
-    subst (LaneStands s lane (E ++ e ∷ [])) (ap (λ o. K ++ entries_of 0 o reply) (sym is) ∙ append-nil K) (took (λ none. silent))
+pub stands_quiet : (s : LinkSetup) (channel : ChannelState) (E : List Event) (e : Event) (K : List Entry) (reply : Option (List ℕ)) → None ≡ gives s E e → reply ≡ None
+    → ((gives s E e ≡ None → reply ≡ None) → ChannelStands s channel (E ++ e ∷ []) (K ++ entries_of 0 (gives s E e) reply)) → ChannelStands s channel (E ++ e ∷ []) K
+stands_quiet s channel E e K reply is silent took =
+    subst (ChannelStands s channel (E ++ e ∷ [])) (ap (λ o. K ++ entries_of 0 o reply) (sym is) ∙ append-nil K) (took (λ none. silent))

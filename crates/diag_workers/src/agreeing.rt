@@ -4,10 +4,10 @@ ghost use Rattle.diag_desk.specs.Entry.{entry_seen, step_seen};
 ghost use Rattle.diag_desk.specs.Entries.{own};
 
 use diag_desk::{EntryRef, Journal, StepRef};
-use diag_store::Who;
+use diag_store::TesterId;
 
 /// Whether a record is the journal's entries of one tester.
-pub fn agree(journal: &Journal, who: Who, kept: &Journal) -> bool
+pub fn agree(journal: &Journal, who: TesterId, kept: &Journal) -> bool
     ensures { IsTrue result ↔ (kept.now.entries ≡ own journal.now.entries who) }
 {
     let count = kept.len();

@@ -11,7 +11,7 @@ mod working;
 
 pub use agreeing::agree;
 pub use crewing::crew;
-pub use diag_gate::{Door, Gate, GateDoor, Held, Host, LockDoor, Seat, TryFault};
+pub use diag_gate::{Door, Gate, GateDoor, Guard, Host, LockDoor, Seat, TryFault};
 pub use diag_world::Played;
 pub use playing::{PlayFault, play};
 pub use watch::{NoWatch, Watch};

@@ -15,7 +15,7 @@ use crate::watch::Watch;
 use diag_can::{Event, LogFault, Timing};
 use diag_desk::{Desk, StepFault};
 use diag_gate::Gate;
-use diag_store::{Setup, Who};
+use diag_store::{Setup, TesterId};
 use diag_world::{Played, weaving_law};
 use std::alloc::Global;
 use std::sync::Wait;
@@ -30,13 +30,13 @@ pub enum PlayFault {
     Memory,
     /// The log of this tester is at fault, and all logs before it are well.
     #[error("a log is at fault")]
-    Log(Who, LogFault),
+    Log(TesterId, LogFault),
     /// The journal has 1,000,000 entries.
     #[error("the journal is full")]
     JournalFull,
     /// Never answered: that the workers' records are the journal's entries is proved.
     #[error("the records disagree")]
-    RecordsDisagree(Who),
+    RecordsDisagree(TesterId),
 }
 
 /// Plays all logs at the same time, over one desk behind a gate: the last on the calling thread, each other in a thread

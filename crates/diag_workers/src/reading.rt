@@ -9,7 +9,7 @@ ghost use Rattle.diag_workers.specs.Play.{NotRead, NotReadAt, logs_from, logs_of
 use crate::crewing::one_of;
 use crate::playing::PlayFault;
 use diag_can::{Event, LogFault, Timing, read_log};
-use diag_store::{Setup, Who};
+use diag_store::{Setup, TesterId};
 use std::alloc::{AllocError, Global};
 use std::thread::{Threads, join};
 
@@ -124,7 +124,7 @@ fn read_one(
     ensures refused { IfErr result
         (NotReadAt place (events text.now (ids_of setup.now place) timing)) }
 {
-    let Some(who) = Who::new(place) else {
+    let Some(who) = TesterId::new(place) else {
         unreachable!()
     };
     match read_log(alloc, text, &setup.ids(who), timing) {

@@ -6,7 +6,7 @@ ghost use Rattle.diag_workers.specs.Seating.{Out, Back};
 use crate::watch::{Watch, WatchedDoor};
 use crate::working::WorkerRecord;
 use diag_gate::{Gate, GateDoor, Host, Seat};
-use diag_store::Who;
+use diag_store::TesterId;
 use diag_world::Sent;
 use std::alloc::{AllocError, Global};
 use std::sync::Wait;
@@ -25,7 +25,7 @@ pub(crate) fn give_out(
 {
     let mut seats = Vec::new(alloc);
     for k in 0..count {
-        let Some(who) = Who::new(k + 1) else {
+        let Some(who) = TesterId::new(k + 1) else {
             unreachable!()
         };
         let Some(seat) = gate.split(host, who) else {

@@ -1,13 +1,13 @@
 //! Who is told of each step.
 use diag_desk::{Step, StepFault};
 use diag_gate::Door;
-use diag_store::Who;
+use diag_store::TesterId;
 use diag_tp::Message;
 
 /// Is told of each step before its door is asked, while nothing is held.
 pub trait Watch {
     /// This tester's door is asked for its next step now.
-    fn called(&self, who: Who);
+    fn called(&self, who: TesterId);
 }
 
 /// Takes no notice.
@@ -15,7 +15,7 @@ pub trait Watch {
 pub struct NoWatch;
 
 impl Watch for NoWatch {
-    fn called(&self, _who: Who) {}
+    fn called(&self, _who: TesterId) {}
 }
 
 /// A door that tells a watch of each step, before it asks the door within.
@@ -32,7 +32,7 @@ impl<'w, D: Door, W: Watch> Door for WatchedDoor<'w, D, W> {
 
     ghost home = { λ d. D.home d.door };
 
-    fn who(&self) -> Who {
+    fn who(&self) -> TesterId {
         self.door.who()
     }
 

@@ -6,16 +6,16 @@ ghost use Rattle.diag_tp.specs.Gives.{steps};
 ghost use Rattle.diag_tp.specs.Placing.{drawn};
 ghost use Rattle.diag_setup.specs.Setup.{link_of};
 ghost use Rattle.diag_desk.specs.Entries.{asked_by, replies};
-ghost use Rattle.diag_world.specs.Lane.{due, lane_of, LaneStands};
+ghost use Rattle.diag_world.specs.Channel.{due, channel_of, ChannelStands};
 ghost use Rattle.diag_world.specs.Weaving.{all_by};
 ghost use Rattle.diag_workers.specs.Work.{AskedSome, MoreOf};
 
 use diag_can::Event;
 use diag_desk::{Journal, StepFault};
 use diag_gate::Door;
-use diag_store::{Setup, Who};
+use diag_store::{Setup, TesterId};
 use diag_tp::{LinkSetup, Sent};
-use diag_world::Lane;
+use diag_world::Channel;
 use std::alloc::Global;
 
 /// What one worker did: what it asked, with the answers, and the frames that it sent.
@@ -37,7 +37,7 @@ pub struct WorkerRecord {
 pub fn work<D: Door>(
     alloc: Global,
     setup: &Setup,
-    who: Who,
+    who: TesterId,
     events: &[Event],
     door: &mut D,
 ) -> Result<WorkerRecord, StepFault>
@@ -58,40 +58,40 @@ pub fn work<D: Door>(
     for event in events {
         worker.take(event, door)?;
     }
-    let Worker { lane, entries } = worker;
+    let Worker { channel, entries } = worker;
     Ok(WorkerRecord {
         entries,
-        sent: lane.into_sent(),
+        sent: channel.into_sent(),
     })
 }
 
 /// A worker between two events.
 #[derive(Drop)]
 struct Worker {
-    lane: Lane,
+    channel: Channel,
     entries: Journal,
 }
 
 impl Worker {
     fn new(alloc: Global, link: LinkSetup) -> Worker
-        ensures stands { LaneStands link (lane_of result.lane) [] result.entries.entries }
-        ensures drained { due (lane_of result.lane) ≡ 0 }
+        ensures stands { ChannelStands link (channel_of result.channel) [] result.entries.entries }
+        ensures drained { due (channel_of result.channel) ≡ 0 }
         ensures empty { result.entries.entries ≡ [] }
     {
         Worker {
-            lane: Lane::new(alloc, link),
+            channel: Channel::new(alloc, link),
             entries: Journal::new(alloc),
         }
     }
 
     /// Takes one event. All that can be refused but the door's step comes before it.
     fn take<D: Door>(&mut self, event: &Event, door: &mut D) -> Result<(), StepFault>
-        requires drained { due (lane_of self.old.lane) ≡ 0 }
+        requires drained { due (channel_of self.old.channel) ≡ 0 }
         requires limit { length self.old.entries.entries < 1000000 }
         ensures stands { OnOk result ((s : ALinkSetup) (E : List AnEvent)
-            → LaneStands s (lane_of self.old.lane) E self.old.entries.entries
-            → LaneStands s (lane_of self.new.lane) (E ++ event.now ∷ []) self.new.entries.entries) }
-        ensures drained { OnOk result (due (lane_of self.new.lane) ≡ 0) }
+            → ChannelStands s (channel_of self.old.channel) E self.old.entries.entries
+            → ChannelStands s (channel_of self.new.channel) (E ++ event.now ∷ []) self.new.entries.entries) }
+        ensures drained { OnOk result (due (channel_of self.new.channel) ≡ 0) }
         ensures given { OnOk result (MoreOf (D.tester door.old) (D.given door.old)
             (D.given door.new) self.old.entries.entries self.new.entries.entries) }
         ensures longer { OnOk result
@@ -100,7 +100,7 @@ impl Worker {
         ensures tester { D.tester door.new ≡ D.tester door.old }
         ensures home { D.home door.new ≡ D.home door.old }
     {
-        match self.lane.prepare(event)? {
+        match self.channel.prepare(event)? {
             Some(step) => {
                 self.entries.make_room(&step)?;
                 let who = door.who();
@@ -108,11 +108,11 @@ impl Worker {
                 if self.entries.push(who, &step, reply.as_ref()).is_err() {
                     unreachable!();
                 }
-                self.lane.settle(event, reply);
+                self.channel.settle(event, reply);
                 Ok(())
             }
             None => {
-                self.lane.settle(event, None);
+                self.channel.settle(event, None);
                 Ok(())
             }
         }

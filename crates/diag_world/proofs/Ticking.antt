@@ -15,7 +15,7 @@ use Rattle.diag_tp.proofs.Lists.{length-zero}
 use Rattle.diag_desk.specs.Entries.{replies}
 use Rattle.diag_world.specs.Port.{HandedOut, Passed}
 use Rattle.diag_world.specs.Server.{PortSettled, closing_time, entry_of_ticks}
-use Rattle.diag_world.proofs.Lanes.{goes_on_step, within_none}
+use Rattle.diag_world.proofs.Channels.{goes_on_step, within_none}
 
 -- where nothing is due, all was handed out
 all_out : (s : LinkSetup) (link : LinkState) (E : List Event) (A : List Placed) (Q : List Sent) → StandsFor s link E A Q → pending link ≡ 0 → HandedOut s link E A Q

@@ -1,5 +1,5 @@
 pub mod Headline
-pub mod Lane
+pub mod Channel
 pub mod Weaving
 pub mod World
 pub mod Port

@@ -1,18 +1,18 @@
 //! All testers' links and the desk on one thread; the laws.
 #![tactic(auto)]
 
-mod lane;
+mod channel;
 mod laws;
 mod passing;
 mod port;
+mod serial_play;
 mod server;
-mod turn;
 mod world;
 
+pub use channel::Channel;
 pub use diag_desk::{Desk, Journal, StepFault, writes_follow_unlocking};
 pub use diag_tp::Sent;
-pub use lane::Lane;
 pub use laws::{interleaving_law, turns_law, weaving_law};
+pub use serial_play::{Played, serial};
 pub use server::{Server, ServerFault};
-pub use turn::{Played, serial};
 pub use world::World;

@@ -26,7 +26,7 @@ ghost use Rattle.diag_tp.specs.Gives.{gives};
 ghost use Rattle.diag_tp.specs.Moments.{is_tick, last_time};
 ghost use Rattle.diag_tp.specs.Link.{EachHistory, is_frame, last_tick, pending, waiting_count};
 ghost use Rattle.diag_desk.specs.declared.entry.Entry.{Entry as AnEntry};
-ghost use Rattle.diag_world.specs.Lane.{RepliesToFrame};
+ghost use Rattle.diag_world.specs.Channel.{RepliesToFrame};
 ghost use Rattle.diag_world.specs.Port.{AreWithin, Grew, HasRoomFor, PortStands, PortTook, time_after};
 
 use crate::passing::{pass, receive};

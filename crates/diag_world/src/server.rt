@@ -41,7 +41,7 @@ use crate::port::{gives_step, prepare, settle};
 use diag_can::{Event, TickCount};
 use diag_desk::{Entry, reply_of, settle_step};
 use diag_ecu::Ecu;
-use diag_store::{Setup, Who};
+use diag_store::{Setup, TesterId};
 use diag_tp::{Link, Sent};
 use std::alloc::{AllocError, Global};
 use std::marker::Model;
@@ -109,7 +109,7 @@ impl Server {
     }
 
     /// Whether an event of a tester gives a step.
-    pub fn gives_step(&self, who: Who, event: &Event) -> bool
+    pub fn gives_step(&self, who: TesterId, event: &Event) -> bool
         requires in_setup { who ≤ length self.now.links }
         ensures { EachRun (server_of self.now) (λ setup M K.
             IsTrue result ↔ IsSome (gives (link_of setup who) (items_of M who) event.now)) }
@@ -121,7 +121,7 @@ impl Server {
     /// Makes room for an event of a tester, and answers the entry that it gives. Nothing else changes.
     pub fn ask(
         &mut self,
-        who: Who,
+        who: TesterId,
         event: &Event,
         out: &mut Vec<Sent>,
     ) -> Result<Option<Entry>, ServerFault>
@@ -147,7 +147,13 @@ impl Server {
     }
 
     /// Takes an event of a tester with the entry that it gives, and hands out the frames that it draws.
-    pub fn settle(&mut self, who: Who, event: &Event, asked: Option<Entry>, out: &mut Vec<Sent>)
+    pub fn settle(
+        &mut self,
+        who: TesterId,
+        event: &Event,
+        asked: Option<Entry>,
+        out: &mut Vec<Sent>,
+    )
         requires in_setup { who ≤ length self.old.links }
         requires asked { IsAsked self.old who event.now asked
             (vec_len out.old) (vec_capacity out.old) }
@@ -163,7 +169,7 @@ impl Server {
     /// made: whoever keeps a journal enters it. Refused, nothing has changed.
     pub fn ticks(
         &mut self,
-        who: Who,
+        who: TesterId,
         count: TickCount,
         out: &mut Vec<Sent>,
     ) -> Result<(), ServerFault>
@@ -187,7 +193,12 @@ impl Server {
     }
 
     /// Takes an event of a tester, and hands out the frames that it draws. Refused, nothing has changed.
-    pub fn event(&mut self, who: Who, event: &Event, out: &mut Vec<Sent>) -> Result<(), ServerFault>
+    pub fn event(
+        &mut self,
+        who: TesterId,
+        event: &Event,
+        out: &mut Vec<Sent>,
+    ) -> Result<(), ServerFault>
         requires in_setup { who ≤ length self.old.links }
         ensures ok { OnOk result ((asked : Option AnEntry)
             × Grew out.old.items out.new.items (λ more.
@@ -206,7 +217,7 @@ impl Server {
     }
 
     /// What a tester's clock tells, in ticks of its link.
-    pub fn now(&self, who: Who) -> u64
+    pub fn now(&self, who: TesterId) -> u64
         requires in_setup { who ≤ length self.now.links }
         ensures { IfSome (slice_get self.now.links (who - 1)) (λ link. result ≡ link.state.now) }
     {
@@ -258,7 +269,7 @@ fn look_at_clock(link: &Link) -> Result<(), ServerFault>
 fn ask_at(
     link: &mut Link,
     ecu: &Ecu,
-    who: Who,
+    who: TesterId,
     event: &Event,
     out: &mut Vec<Sent>,
 ) -> Result<Option<Entry>, ServerFault>
@@ -283,7 +294,7 @@ fn ask_at(
 fn ticks_at(
     link: &mut Link,
     ecu: &mut Ecu,
-    who: Who,
+    who: TesterId,
     count: TickCount,
     out: &mut Vec<Sent>,
 ) -> Result<(), ServerFault>
@@ -309,7 +320,7 @@ fn ticks_at(
 fn settle_at(
     link: &mut Link,
     ecu: &mut Ecu,
-    who: Who,
+    who: TesterId,
     event: &Event,
     asked: Option<Entry>,
     out: &mut Vec<Sent>,

@@ -25,12 +25,12 @@ ghost use Rattle.diag_world.specs.Server.{server_of, EachRun};
 ghost use Rattle.diag_world.specs.Weaving.{items_of};
 ghost use Rattle.diag_world.specs.World.{ArePaced, EachInterleaving, Stands, Took};
 
+use crate::serial_play::Played;
 use crate::server::{Server, ServerFault};
-use crate::turn::Played;
 use diag_can::Event;
 use diag_desk::{Desk, Entry, Journal, JournalPush, StepFault};
 use diag_ecu::Ecu;
-use diag_store::{Setup, Who};
+use diag_store::{Setup, TesterId};
 use diag_tp::Sent;
 use std::alloc::{AllocError, Global};
 use std::marker::Model;
@@ -69,7 +69,7 @@ impl World {
         let server = Server::new(alloc, setup)?;
         let opening = server.ecu().try_copy()?;
         // (for its contract: a setup is a checked one)
-        let _numbers = setup.numbers();
+        let _raw = setup.raw();
         let mut sent = Vec::with_capacity(alloc, setup.testers())?;
         for _index in 0..setup.testers() {
             sent.push_reserved(Vec::new(alloc));
@@ -86,7 +86,7 @@ impl World {
     ///
     /// JournalFull comes where the event gives a step and the journal is full, which is looked at first; else all
     /// growths come before the step is taken.
-    pub fn event(&mut self, who: Who, event: &Event) -> Result<(), StepFault>
+    pub fn event(&mut self, who: TesterId, event: &Event) -> Result<(), StepFault>
         requires in_setup { who ≤ length self.old.sent }
         ensures ok { OnOk result (EachInterleaving self.old (λ setup M.
             Stands setup self.new (M ++ (who, event.now) ∷ []))) }
@@ -125,7 +125,7 @@ impl World {
     }
 
     /// The frames that were sent to a tester, in order.
-    pub fn sent(&self, who: Who) -> &[Sent]
+    pub fn sent(&self, who: TesterId) -> &[Sent]
         requires in_setup { who ≤ length self.now.sent }
         ensures { EachInterleaving self.now (λ setup M. result.now ≡ drawn
             (link_of setup who) (items_of M who) (replies (own self.now.desk.journal who))) }
@@ -157,7 +157,7 @@ fn take(
     server: &mut Server,
     journal: &mut Journal,
     sent: &mut Vec<Sent>,
-    who: Who,
+    who: TesterId,
     event: &Event,
 ) -> Result<(), StepFault>
     requires in_setup { who ≤ length server.old.links }
@@ -193,7 +193,7 @@ fn take(
 
 /// Adds the entry that an event asks, if any. Refused, the entries are as before.
 fn enter(journal: &mut Journal, asked: &Option<Entry>) -> Result<(), StepFault>
-    requires quiet { IfSome asked.now (λ k. HasNoReply k.step k.reply) }
+    requires ticks_unanswered { IfSome asked.now (λ k. HasNoReply k.step k.reply) }
     ensures ok { OnOk result
         (journal.new.entries ≡ journal.old.entries ++ option_to_list asked.now) }
     ensures kept { IsJournal journal.old.entries → IsJournal journal.new.entries }

@@ -62,7 +62,7 @@ fn has_entries(alloc: Global, text: &[u8], entries: usize) -> Result<bool, Troub
 
 fn is_held(ecu: &Ecu) -> bool {
     match ecu.holder() {
-        Some(who) => who.place() == 1 && ecu.codes().status(0x01_2345) == Some(0x2F),
+        Some(who) => who.place() == 1 && ecu.dtcs().status(0x01_2345) == Some(0x2F),
         None => false,
     }
 }

@@ -5,7 +5,7 @@ use crate::trouble::{Trouble, holds};
 use diag_can::TickCount;
 use diag_desk::{Desk, Journal, Step, StepFault, journal_text, read_journal};
 use diag_fixtures::raw_two_testers;
-use diag_store::{RawSetup, Who};
+use diag_store::{RawSetup, TesterId};
 use diag_tp::Message;
 use std::alloc::{AllocError, Global};
 
@@ -19,8 +19,8 @@ pub(crate) enum Move {
 }
 
 /// The tester of a place.
-pub(crate) fn tester(place: u8) -> Result<Who, Trouble> {
-    match Who::new(place) {
+pub(crate) fn tester(place: u8) -> Result<TesterId, Trouble> {
+    match TesterId::new(place) {
         Some(who) => Ok(who),
         None => Err(Trouble::Wrong),
     }
@@ -91,7 +91,7 @@ pub(crate) fn stepped(desk: &mut Desk, place: u8, step: &Step) -> Result<bool, T
 }
 
 /// A step that is refused for want of memory leaves all as it was, so it is taken again.
-fn taken(desk: &mut Desk, who: Who, step: &Step) -> Result<Option<Message>, StepFault> {
+fn taken(desk: &mut Desk, who: TesterId, step: &Step) -> Result<Option<Message>, StepFault> {
     match desk.step(who, step) {
         Err(StepFault::Memory) => desk.step(who, step),
         other => other,

@@ -4,7 +4,7 @@ use crate::ecu::script::{asked, message_of, opened, read_of};
 use crate::given::{data_reply, with_long_value};
 use crate::trouble::{Trouble, holds, holds_at};
 use diag_ecu::Ecu;
-use diag_store::Who;
+use diag_store::TesterId;
 use diag_tp::Message;
 use std::alloc::Global;
 
@@ -55,7 +55,7 @@ fn data_of(alloc: Global, request: &Message) -> Result<Option<Message>, Trouble>
 }
 
 fn data_on(ecu: &mut Ecu, request: &Message) -> Result<Option<Message>, Trouble> {
-    match Who::new(1) {
+    match TesterId::new(1) {
         Some(who) => Ok(asked(ecu, who, false, request)?),
         None => Err(Trouble::Wrong),
     }

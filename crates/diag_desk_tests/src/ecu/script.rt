@@ -5,7 +5,7 @@ use crate::trouble::{Trouble, holds};
 use diag_can::TickCount;
 use diag_ecu::{Ecu, Session};
 use diag_fixtures::raw_two_testers;
-use diag_store::{RawSetup, Who};
+use diag_store::{RawSetup, TesterId};
 use diag_tp::Message;
 use std::alloc::{AllocError, Global};
 
@@ -89,7 +89,7 @@ fn goes(alloc: Global, ecu: &mut Ecu, step: &Move) -> Result<bool, Trouble> {
         Move::Calls(place, request, reply) => asks(alloc, ecu, *place, true, request, reply),
         Move::Waits(place, count) => Ok(waits(ecu, *place, *count)),
         Move::Held(place) => Ok(is_held_by(ecu, *place)),
-        Move::Status(status) => Ok(ecu.codes().status(0x01_2345) == Some(*status)),
+        Move::Status(status) => Ok(ecu.dtcs().status(0x01_2345) == Some(*status)),
     }
 }
 
@@ -115,7 +115,7 @@ pub(crate) fn is_answered(
     request: &Message,
     reply: &str,
 ) -> Result<bool, Trouble> {
-    let Some(who) = Who::new(place) else {
+    let Some(who) = TesterId::new(place) else {
         return Ok(false);
     };
     let told = asked(ecu, who, functional, request)?;
@@ -125,7 +125,7 @@ pub(crate) fn is_answered(
 /// A request that is refused for want of memory leaves all as it was, so it is asked again.
 pub(crate) fn asked(
     ecu: &mut Ecu,
-    who: Who,
+    who: TesterId,
     functional: bool,
     message: &Message,
 ) -> Result<Option<Message>, AllocError> {
@@ -156,7 +156,7 @@ fn is_message(alloc: Global, told: &Message, reply: &str) -> Result<bool, Troubl
 }
 
 fn waits(ecu: &mut Ecu, place: u8, count: u16) -> bool {
-    match (Who::new(place), TickCount::new(count)) {
+    match (TesterId::new(place), TickCount::new(count)) {
         (Some(who), Some(count)) => {
             ecu.ticks(who, count);
             true
@@ -167,13 +167,13 @@ fn waits(ecu: &mut Ecu, place: u8, count: u16) -> bool {
 
 /// Whether this tester is the holder, alone in the extended session; 0 for none.
 pub(crate) fn is_held_by(ecu: &Ecu, place: u8) -> bool {
-    ecu.holder() == Who::new(place)
+    ecu.holder() == TesterId::new(place)
         && is_extended(ecu, 1) == (place == 1)
         && is_extended(ecu, 2) == (place == 2)
 }
 
 fn is_extended(ecu: &Ecu, place: u8) -> bool {
-    match Who::new(place) {
+    match TesterId::new(place) {
         Some(who) => ecu.session_of(who) == Session::Extended,
         None => false,
     }

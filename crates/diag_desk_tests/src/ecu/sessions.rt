@@ -3,7 +3,7 @@
 use crate::ecu::script::{EXTENDED, Move, ecu_of_two, is_held_by, is_reply, message_of, plays};
 use crate::trouble::{Trouble, holds};
 use diag_ecu::Ecu;
-use diag_store::Who;
+use diag_store::TesterId;
 use diag_tp::Message;
 use std::alloc::Global;
 
@@ -27,7 +27,7 @@ fn settles(alloc: Global, request: &Message) -> Result<bool, Trouble> {
 
 /// A reply alone changes nothing; the state changes when the ECU settles.
 fn settles_after(ecu: &mut Ecu, request: &Message, alloc: Global) -> Result<bool, Trouble> {
-    let Some(who) = Who::new(2) else {
+    let Some(who) = TesterId::new(2) else {
         return Ok(false);
     };
     if !is_told(ecu, who, request, alloc)? || !is_held_by(ecu, 0) {
@@ -37,7 +37,7 @@ fn settles_after(ecu: &mut Ecu, request: &Message, alloc: Global) -> Result<bool
     Ok(is_held_by(ecu, 2))
 }
 
-fn is_told(ecu: &Ecu, who: Who, request: &Message, alloc: Global) -> Result<bool, Trouble> {
+fn is_told(ecu: &Ecu, who: TesterId, request: &Message, alloc: Global) -> Result<bool, Trouble> {
     let told = ecu.reply(who, false, request)?;
     is_reply(alloc, &told, EXTENDED)
 }

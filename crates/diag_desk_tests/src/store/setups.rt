@@ -4,7 +4,7 @@ use crate::trouble::{Trouble, holds};
 use diag_fixtures::{bytes, key_row, raw_two_testers, rows, tester, two_testers};
 use diag_store::{
     Dids, DtcMemory, Items, RawCode, RawDid, RawLevel, RawRoutine, RawSetup, RawTester, Routines,
-    Security, Setup, SetupFault, Values,
+    Security, ServerParameters, Setup, SetupFault,
 };
 use std::alloc::{AllocError, Global};
 
@@ -40,7 +40,7 @@ fn with_one_code(alloc: Global) -> Raw {
     };
     let codes = rows(alloc, [one, other])?;
     let mut raw = raw_two_testers(alloc)?;
-    raw.codes = codes;
+    raw.dtcs = codes;
     Ok(raw)
 }
 
@@ -104,7 +104,7 @@ fn with_long_request(alloc: Global) -> Raw {
 
 fn without_key_rows(alloc: Global) -> Raw {
     let level = RawLevel {
-        sub: 1,
+        request_seed: 1,
         rows: Items::new(alloc),
     };
     let levels = rows(alloc, [level])?;
@@ -180,7 +180,7 @@ fn has_name(setup: &Setup, index: usize, name: &[u8]) -> bool {
 
 fn has_times(setup: &Setup) -> bool {
     setup.values()
-        == Values {
+        == ServerParameters {
             p2_ms: 50,
             p2_star_10ms: 500,
             s3_ms: 5000,
@@ -268,12 +268,12 @@ fn most_levels(alloc: Global) -> Result<Items<RawLevel>, AllocError> {
     Ok(levels)
 }
 
-fn full_level(alloc: Global, sub: u32) -> Result<RawLevel, AllocError> {
+fn full_level(alloc: Global, request_seed: u32) -> Result<RawLevel, AllocError> {
     let mut rows = Items::new(alloc);
     for _ in 0..64 {
         rows.push(key_row(alloc, &[0x11; 16], &[0x22; 16])?)?;
     }
-    Ok(RawLevel { sub, rows })
+    Ok(RawLevel { request_seed, rows })
 }
 
 fn largest(alloc: Global) -> Raw {
@@ -285,7 +285,7 @@ fn largest(alloc: Global) -> Raw {
 fn fill(alloc: Global, raw: &mut RawSetup) -> Result<(), AllocError> {
     raw.testers = most_testers(alloc)?;
     raw.dids = most_dids(alloc)?;
-    raw.codes = most_codes(alloc)?;
+    raw.dtcs = most_codes(alloc)?;
     raw.routines = most_routines(alloc)?;
     raw.levels = most_levels(alloc)?;
     Ok(())

@@ -5,7 +5,7 @@ use crate::trouble::{Trouble, holds};
 use diag_fixtures::two_testers;
 use diag_store::{
     DidFault, DidRule, Dids, DtcMemory, KeyAnswer, RoutineState, Routines, Security, SeedAnswer,
-    Setup, Who,
+    Setup, TesterId,
 };
 use std::alloc::{AllocError, Global};
 use std::process::Abort;
@@ -20,7 +20,12 @@ const WRONG_KEY: &[u8] = &[0, 0, 0, 0];
 
 /// Whether a request for a seed of level 1 is answered with these bytes; None for a delay.
 #[tactic(auto, using(crate::proofs::Known::known_level))]
-fn gives_seed(rt: &impl Abort, security: &mut Security, who: Who, want: Option<&[u8]>) -> bool {
+fn gives_seed(
+    rt: &impl Abort,
+    security: &mut Security,
+    who: TesterId,
+    want: Option<&[u8]>,
+) -> bool {
     let known = security.key_len(1).is_some();
     assert!(rt; known);
     match security.seed(who, 1) {
@@ -30,7 +35,7 @@ fn gives_seed(rt: &impl Abort, security: &mut Security, who: Who, want: Option<&
 }
 
 #[tactic(auto, using(crate::proofs::Known::known_level))]
-fn key(rt: &impl Abort, security: &mut Security, who: Who, key: &[u8]) -> KeyAnswer {
+fn key(rt: &impl Abort, security: &mut Security, who: TesterId, key: &[u8]) -> KeyAnswer {
     let known = security.key_len(1).is_some();
     assert!(rt; known);
     security.key(who, 1, key)
@@ -64,14 +69,14 @@ const ACCESS: [Act; 15] = [
     Act::Key(SECOND_KEY, KeyAnswer::NoSeed),
 ];
 
-fn wait(security: &mut Security, who: Who, count: u32) {
+fn wait(security: &mut Security, who: TesterId, count: u32) {
     for _ in 0..count {
         security.tick(who);
     }
 }
 
 /// Whether this comes of an act.
-fn comes(rt: &impl Abort, security: &mut Security, who: Who, act: &Act) -> bool {
+fn comes(rt: &impl Abort, security: &mut Security, who: TesterId, act: &Act) -> bool {
     match act {
         Act::Seed(want) => gives_seed(rt, security, who, *want),
         Act::Key(bytes, answer) => key(rt, security, who, bytes) == *answer,
@@ -83,7 +88,7 @@ fn comes(rt: &impl Abort, security: &mut Security, who: Who, act: &Act) -> bool 
 }
 
 /// Whether all acts come out so.
-fn has_access(rt: &impl Abort, security: &mut Security, who: Who) -> bool {
+fn has_access(rt: &impl Abort, security: &mut Security, who: TesterId) -> bool {
     for act in &ACCESS {
         if !comes(rt, security, who, act) {
             return false;
@@ -104,7 +109,7 @@ fn security_of(alloc: Global) -> Result<Security, AllocError> {
 }
 
 fn unlocks(rt: &impl Abort, security: &mut Security) -> Result<bool, Trouble> {
-    let Some(who) = Who::new(1) else {
+    let Some(who) = TesterId::new(1) else {
         return Ok(false);
     };
     Ok(
@@ -115,7 +120,11 @@ fn unlocks(rt: &impl Abort, security: &mut Security) -> Result<bool, Trouble> {
 }
 
 /// Whether a copy goes on where the first stands, and is locked alone.
-fn copies_security(rt: &impl Abort, security: &Security, who: Who) -> Result<bool, AllocError> {
+fn copies_security(
+    rt: &impl Abort,
+    security: &Security,
+    who: TesterId,
+) -> Result<bool, AllocError> {
     let mut copy = security.try_copy()?;
     let unlocked = is_unlocked(&copy) && gives_seed(rt, &mut copy, who, Some(WRONG_KEY));
     copy.lock();

@@ -3,21 +3,21 @@ ghost use Rattle.std.specs.Prelude.{◌≡◌, ◌≢◌, ℕ, [], ◌∷◌, �
 ghost use Rattle.diag_desk.specs.Entry.{HasNoReply};
 ghost use Rattle.diag_desk.specs.Entries.{entry, own};
 ghost use Rattle.diag_gate.specs.Views.{IsLegal, letting_go};
-ghost use Rattle.diag_gate.specs.Seats.{Finds, Answered, IsFull, Refused, NotMade, IsSeat, IsHeld, as_tried, seat_as, misses, waited};
+ghost use Rattle.diag_gate.specs.Seats.{Finds, Answered, IsFull, Refused, NotMade, IsSeat, IsGuard, as_tried, seat_as, misses, waited};
 
-use super::{Gate, Held, Place, Seat};
+use super::{Gate, Guard, Place, Seat};
 use crate::desk_box::DeskBox;
 use crate::fault::TryFault;
 use crate::view::{Release, Take};
 use diag_desk::{Step, StepFault};
-use diag_store::Who;
+use diag_store::TesterId;
 use diag_tp::Message;
 use std::sync::Wait;
 use std::thread;
 
 impl Gate {
     /// The desk, where the word was found to be 0.
-    fn take(&self, place: &mut Place, who: Who) -> Option<DeskBox>
+    fn take(&self, place: &mut Place, who: TesterId) -> Option<DeskBox>
         requires gate { place.old.table_id ≡ self.now }
         requires seat { IsSeat who place.old.me }
         ensures gate { place.new.table_id ≡ place.old.table_id }
@@ -25,7 +25,7 @@ impl Gate {
             (IsSeat who place.new.me
             × (seat_as place.new.table_id who place.new.me
             ≡ misses (seat_as place.old.table_id who place.old.me)))
-            (λ d. IsHeld who place.new.me d
+            (λ d. IsGuard who place.new.me d
             × Finds (seat_as place.old.table_id who place.old.me)
             (seat_as place.new.table_id who place.new.me)) }
     {
@@ -38,10 +38,10 @@ impl Gate {
     }
 
     /// Puts the desk back, with what the seat's tester did to it.
-    fn put(&self, place: &mut Place, who: Who, desk: DeskBox)
+    fn put(&self, place: &mut Place, who: TesterId, desk: DeskBox)
         requires gate { place.old.table_id ≡ self.now }
         requires held { (before : _)
-            × IsHeld who place.old.me before
+            × IsGuard who place.old.me before
             × (desk.opening ≡ before.opening) }
         requires grown { (more : _)
             × (desk.journal ≡ place.old.me.0.seen ++ more)
@@ -61,12 +61,12 @@ impl Gate {
     fn work(
         &self,
         place: &mut Place,
-        who: Who,
+        who: TesterId,
         mut desk: DeskBox,
         step: &Step,
     ) -> Result<Option<Message>, StepFault>
         requires gate { place.old.table_id ≡ self.now }
-        requires held { IsHeld who place.old.me desk }
+        requires held { IsGuard who place.old.me desk }
         ensures gate { place.new.table_id ≡ place.old.table_id }
         ensures seat { IsSeat who place.new.me }
         ensures answer { MatchResult result
@@ -77,7 +77,7 @@ impl Gate {
             × IsFull (seat_as place.old.table_id who place.old.me) e) }
         ensures behind { IfOk result (λ r.
             place.new.me.0.seen ≡ place.old.me.0.seen ++ entry who step.now r ∷ []) }
-        ensures quiet { IfOk result (λ r. HasNoReply step.now r) }
+        ensures ticks_unanswered { IfOk result (λ r. HasNoReply step.now r) }
     {
         desk.lawful();
         let answer = desk.step(who, step);
@@ -86,13 +86,13 @@ impl Gate {
     }
 
     /// The whole desk, where the word was found to be 0; else the seat back.
-    pub fn try_take(&self, seat: Seat) -> Result<Held<'_>, Seat>
+    pub fn try_take(&self, seat: Seat) -> Result<Guard<'_>, Seat>
         requires { seat.gate ≡ self.now }
         ensures { MatchResult result (λ h. Finds seat h) (λ s. s ≡ misses seat) }
     {
         let Seat { mut place, who } = seat;
         match self.take(&mut place, who) {
-            Some(desk) => Ok(Held {
+            Some(desk) => Ok(Guard {
                 gate: self,
                 place,
                 who,
@@ -111,7 +111,7 @@ impl Gate {
         ensures made { MatchResult result
             (λ r. Answered seat.old seat.new step r)
             (λ e. NotMade seat.old seat.new step e) }
-        ensures quiet { IfOk result (λ r. HasNoReply step r) }
+        ensures ticks_unanswered { IfOk result (λ r. HasNoReply step r) }
     {
         let who = seat.who;
         let Some(desk) = self.take(&mut seat.place, who) else {
@@ -137,7 +137,7 @@ impl Gate {
             × MatchResult result
             (λ r. Answered (waited seat.old missed) seat.new step.now r)
             (λ e. Refused (waited seat.old missed) seat.new e) }
-        ensures quiet { IfOk result (λ r. HasNoReply step.now r) }
+        ensures ticks_unanswered { IfOk result (λ r. HasNoReply step.now r) }
     {
         let who = seat.who;
         for _ in rt.forever() {
@@ -172,7 +172,7 @@ fn tried(answer: Result<Option<Message>, StepFault>) -> Result<Option<Message>, 
     }
 }
 
-impl Held<'_> {
+impl Guard<'_> {
     /// One step at the desk, which then goes back: behind what the seat has seen comes this step, and nothing else.
     ///
     /// # Errors
@@ -183,9 +183,9 @@ impl Held<'_> {
             (λ e. (result.0 ≡ self.entry) × IsFull self.entry e) }
         ensures behind { IfOk result.1 (λ r. result.0.seen
             ≡ self.entry.seen ++ entry self.entry.who step.now r ∷ []) }
-        ensures quiet { IfOk result.1 (λ r. HasNoReply step.now r) }
+        ensures ticks_unanswered { IfOk result.1 (λ r. HasNoReply step.now r) }
     {
-        let Held {
+        let Guard {
             gate,
             mut place,
             who,
@@ -199,7 +199,7 @@ impl Held<'_> {
     pub fn put_back(self) -> Seat
         ensures { result ≡ self.entry }
     {
-        let Held {
+        let Guard {
             gate,
             mut place,
             who,

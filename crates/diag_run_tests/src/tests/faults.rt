@@ -7,7 +7,7 @@ use diag_bus::BusFault;
 use diag_can::{LineFault, LogFault};
 use diag_config::ConfigFault;
 use diag_run::{Job, RunFault, fault_text, status};
-use diag_setup::{SetupFault, Who};
+use diag_setup::{SetupFault, TesterId};
 use std::alloc::{AllocError, Global};
 use std::sync::Wait;
 use std::thread::Threads;
@@ -79,17 +79,17 @@ fn faults_of_the_setup(rt: HostRuntime) -> Result<(), Trouble> {
 }
 
 /// A fault of the log of a tester.
-fn log_fault(who: Who, fault: LogFault, line: &'static [u8]) -> Told {
+fn log_fault(who: TesterId, fault: LogFault, line: &'static [u8]) -> Told {
     Told(RunFault::Log(who, fault), line, 3)
 }
 
 /// A fault of line 7 of the log of a tester.
-fn line_fault(who: Who, fault: LineFault, line: &'static [u8]) -> Told {
+fn line_fault(who: TesterId, fault: LineFault, line: &'static [u8]) -> Told {
     log_fault(who, LogFault::Line(7, fault), line)
 }
 
 /// The faults of the log of tester 2, and that its records disagree.
-fn of_the_second(who: Who) -> [Told; 8] {
+fn of_the_second(who: TesterId) -> [Told; 8] {
     [
         line_fault(
             who,
@@ -136,7 +136,7 @@ fn of_the_second(who: Who) -> [Told; 8] {
 
 #[test]
 fn faults_of_logs(rt: HostRuntime) -> Result<(), Trouble> {
-    match Who::new(2) {
+    match TesterId::new(2) {
         Some(who) => are_told(rt.alloc(), &of_the_second(who)),
         None => Err(Trouble::Wrong),
     }

@@ -62,11 +62,16 @@ fn decided_by(moments: &[Moment], n_bs: u64, since: usize, moment: usize) -> Opt
     if moment <= since {
         return None;
     }
-    if let Pci::Flow { status, block, gap } = moments.get(moment)?.kind {
-        return Some(match status {
+    if let Pci::FlowControl {
+        flow_status,
+        block_size,
+        st_min,
+    } = moments.get(moment)?.kind
+    {
+        return Some(match flow_status {
             0 => Decision::Go {
-                block,
-                gap: gap_ticks(gap),
+                block: block_size,
+                gap: gap_ticks(st_min),
             },
             1 => Decision::Wait,
             _ => Decision::GiveUp,

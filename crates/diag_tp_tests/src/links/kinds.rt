@@ -40,19 +40,19 @@ pub(crate) fn kind(bytes: &[u8], max: u16) -> Pci {
     if let Some((len, head)) = first(bytes) {
         return match u16::try_from(len) {
             Ok(len) if len <= max => Pci::First { len, head },
-            _ => Pci::TooLong,
+            _ => Pci::Overflow,
         };
     }
     match bytes {
         [control @ 0x20..=0x2F, part @ ..] => Pci::Consecutive {
-            number: *control % 16,
+            sequence_number: *control % 16,
             part: bytes_of(part),
         },
-        [control @ 0x30..=0x3F, block, gap, ..] => Pci::Flow {
-            status: *control % 16,
-            block: *block,
-            gap: *gap,
+        [control @ 0x30..=0x3F, block, gap, ..] => Pci::FlowControl {
+            flow_status: *control % 16,
+            block_size: *block,
+            st_min: *gap,
         },
-        _ => Pci::Nothing,
+        _ => Pci::Ignored,
     }
 }

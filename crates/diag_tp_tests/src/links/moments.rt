@@ -18,7 +18,7 @@ impl Moment {
     fn silent(time: u64) -> Moment {
         Moment {
             time,
-            kind: Pci::Nothing,
+            kind: Pci::Ignored,
         }
     }
 }
@@ -42,7 +42,7 @@ fn add(all: &mut Vec<Moment>, event: &Event, max: u16) -> Result<(), AllocError>
     let time = time(all.as_slice(), all.len().saturating_sub(1));
     let kind = match event {
         Event::Physical(bytes) => kind(bytes.as_slice(), max),
-        Event::Functional(_) => Pci::Nothing,
+        Event::Functional(_) => Pci::Ignored,
         Event::Ticks(count) => return wait(all, time, count.get()),
     };
     all.push(Moment { time, kind })?;

@@ -254,10 +254,17 @@ fn numbers(kind: &Pci) -> (u8, u16, u8, u8) {
     match kind {
         Pci::Single(_) => (0, 0, 0, 0),
         Pci::First { len, .. } => (1, *len, 0, 0),
-        Pci::TooLong => (2, 0, 0, 0),
-        Pci::Consecutive { number, .. } => (3, u16::from(*number), 0, 0),
-        Pci::Flow { status, block, gap } => (4, u16::from(*status), *block, *gap),
-        Pci::Nothing => (5, 0, 0, 0),
+        Pci::Overflow => (2, 0, 0, 0),
+        Pci::Consecutive {
+            sequence_number,
+            ..
+        } => (3, u16::from(*sequence_number), 0, 0),
+        Pci::FlowControl {
+            flow_status,
+            block_size,
+            st_min,
+        } => (4, u16::from(*flow_status), *block_size, *st_min),
+        Pci::Ignored => (5, 0, 0, 0),
     }
 }
 

@@ -22,7 +22,7 @@ impl Reception {
 
 /// Whether a physical frame of this kind ends a reception that is open.
 fn is_start(kind: &Pci) -> bool {
-    matches!(kind, Pci::Single(_) | Pci::First { .. } | Pci::TooLong)
+    matches!(kind, Pci::Single(_) | Pci::First { .. } | Pci::Overflow)
 }
 
 /// The last moment that starts or ends a reception.
@@ -43,12 +43,16 @@ pub(crate) fn head_size(len: usize) -> usize {
 
 /// Whether this is the Consecutive of that number, from 1, of a message of so many bytes.
 fn is_nth(len: usize, i: usize, moment: &Moment) -> bool {
-    let Pci::Consecutive { number, part } = &moment.kind else {
+    let Pci::Consecutive {
+        sequence_number,
+        part,
+    } = &moment.kind
+    else {
         return false;
     };
     let before = head_size(len).saturating_add(i.saturating_sub(1).saturating_mul(7));
     let left = len.saturating_sub(before);
-    usize::from(*number) == i % 16 && part.len() >= left.min(7)
+    usize::from(*sequence_number) == i % 16 && part.len() >= left.min(7)
 }
 
 /// The Consecutives among these moments.

@@ -162,7 +162,7 @@ impl Twin {
         };
         match last.kind {
             Pci::First { .. } => Ok(Some(self.go_on())),
-            Pci::TooLong => Ok(Some(self.flow(2, 0, 0))),
+            Pci::Overflow => Ok(Some(self.flow(2, 0, 0))),
             Pci::Consecutive { .. } => self.block_grant(moments),
             _ => Ok(None),
         }

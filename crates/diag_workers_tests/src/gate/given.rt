@@ -3,7 +3,7 @@
 use crate::trouble::Trouble;
 use diag_desk::{Desk, Step, journal_text};
 use diag_fixtures::two_testers;
-use diag_store::Who;
+use diag_store::TesterId;
 use diag_tp::Message;
 use std::alloc::Global;
 
@@ -17,8 +17,8 @@ pub(crate) fn and(
 }
 
 /// The tester of a place.
-pub(crate) fn tester(place: u8) -> Result<Who, Trouble> {
-    Who::new(place).ok_or(Trouble::Wrong)
+pub(crate) fn tester(place: u8) -> Result<TesterId, Trouble> {
+    TesterId::new(place).ok_or(Trouble::Wrong)
 }
 
 /// A desk of two testers, with no entry.

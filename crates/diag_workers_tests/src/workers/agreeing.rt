@@ -3,7 +3,7 @@
 use crate::trouble::{Trouble, holds};
 use crate::workers::given::text_of;
 use diag_desk::{Journal, read_journal};
-use diag_setup::Who;
+use diag_setup::TesterId;
 use diag_workers::agree;
 use std::alloc::Global;
 
@@ -48,7 +48,7 @@ fn told(alloc: Global, lines: &[&str]) -> Result<Journal, Trouble> {
 
 /// Whether a record of these lines is the journal's entries of the tester of a place.
 fn is_part(alloc: Global, journal: &Journal, place: u8, lines: &[&str]) -> Result<bool, Trouble> {
-    let who = Who::new(place).ok_or(Trouble::Wrong)?;
+    let who = TesterId::new(place).ok_or(Trouble::Wrong)?;
     let record = told(alloc, lines)?;
     Ok(agree(journal, who, &record))
 }

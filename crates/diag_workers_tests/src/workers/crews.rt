@@ -9,7 +9,7 @@ use crate::workers::meeting::Meeting;
 use crate::workers::plays::{READERS_PLAY, SECOND_BEGINS_PLAY, tried};
 use diag_can::{Event, TickCount};
 use diag_desk::{Journal, Step, StepFault};
-use diag_setup::{Setup, Who};
+use diag_setup::{Setup, TesterId};
 use diag_tp::Message;
 use diag_workers::{Door, Watch, crew};
 use std::alloc::Global;
@@ -26,7 +26,7 @@ struct Answers {
 /// A door to no desk. It keeps what it was asked, and tells a meeting of each step.
 #[derive(Drop)]
 struct LoneDoor<'a> {
-    who: Who,
+    who: TesterId,
     given: Journal,
     meeting: &'a Meeting,
     left: Answers,
@@ -41,7 +41,7 @@ impl<'a> Door for LoneDoor<'a> {
 
     ghost home = { λ _. None };
 
-    fn who(&self) -> Who {
+    fn who(&self) -> TesterId {
         self.who
     }
 
@@ -58,7 +58,7 @@ impl<'a> Door for LoneDoor<'a> {
     }
 }
 
-fn lone_door<'a>(alloc: Global, meeting: &'a Meeting, who: Who, left: Answers) -> LoneDoor<'a>
+fn lone_door<'a>(alloc: Global, meeting: &'a Meeting, who: TesterId, left: Answers) -> LoneDoor<'a>
     ensures { result.who ≡ who }
 {
     let given = Journal::new(alloc);
@@ -78,7 +78,7 @@ fn lone_doors<'a>(
 ) -> Result<Vec<LoneDoor<'a>>, Trouble>
     ensures { IfOk result (λ doors. map (λ d. d.who) doors.items ≡ counted_from 1 2) }
 {
-    let (Some(one), Some(two)) = (Who::new(1), Who::new(2)) else {
+    let (Some(one), Some(two)) = (TesterId::new(1), TesterId::new(2)) else {
         return Err(Trouble::Wrong);
     };
     let first = lone_door(alloc, meeting, one, left[0]);

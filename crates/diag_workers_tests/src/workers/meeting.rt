@@ -1,7 +1,7 @@
 //! A watch that holds each tester's first step until the other tester was called.
 
 use crate::trouble::Trouble;
-use diag_setup::Who;
+use diag_setup::TesterId;
 use diag_workers::Watch;
 use std::sync::atomic::{AtomicU64, Ordering};
 use std::thread::yield_now;
@@ -52,7 +52,7 @@ impl Meeting {
 }
 
 impl Watch for Meeting {
-    fn called(&self, who: Who) {
+    fn called(&self, who: TesterId) {
         if who.place() == 1 {
             self.meet(&self.first, &self.second, self.calls);
         } else {

@@ -9,7 +9,7 @@ use crate::workers::given::{
 };
 use diag_can::Event;
 use diag_desk::{Desk, Journal, StepFault};
-use diag_setup::{Setup, Who};
+use diag_setup::{Setup, TesterId};
 use diag_workers::{LockDoor, WorkerRecord, agree, work};
 use std::alloc::Global;
 use std::sync::{Mutex, Wait};
@@ -20,7 +20,7 @@ fn at_lock<R: Wait>(
     alloc: Global,
     setup: &Setup,
     desk: &Mutex<Desk>,
-    who: Who,
+    who: TesterId,
     events: &[Event],
 ) -> Result<WorkerRecord, StepFault>
     requires limit { length events.now ≤ 1000000 }

@@ -8,7 +8,7 @@ use crate::world::sessions::{HELD_BY_A, TWO_TESTERS};
 use crate::world::text::Times;
 use crate::world::unit::{Unit, setup_of};
 use diag_can::{Event, Timing};
-use diag_setup::{Setup, Who};
+use diag_setup::{Setup, TesterId};
 use diag_stored::PLAYED;
 use diag_world::{StepFault, World};
 use std::alloc::Global;
@@ -98,7 +98,7 @@ fn add_answer(
 }
 
 /// Gives an event, and where memory is refused gives it once more.
-fn given(world: &mut World, who: Who, event: &Event) -> Result<(), StepFault>
+fn given(world: &mut World, who: TesterId, event: &Event) -> Result<(), StepFault>
     requires { who ≤ length world.old.sent }
     ensures { length world.new.sent ≡ length world.old.sent }
 {

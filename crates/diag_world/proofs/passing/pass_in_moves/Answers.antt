@@ -4,7 +4,7 @@ use Rattle.diag_can.specs.declared.frame.Event.TheVariants.{Ticks}
 use Rattle.diag_tp.specs.Link.{StandsFor, last_tick}
 use Rattle.diag_tp.specs.Moments.{last_time}
 use Rattle.diag_world.specs.Port.{HandedOut}
-use Rattle.diag_world.proofs.Lanes.{no_ticks, within_none, within_append, within_wider, time_moved}
+use Rattle.diag_world.proofs.Channels.{no_ticks, within_none, within_append, within_wider, time_moved}
 use Rattle.diag_world.proofs.passing.pass_in_moves.Goals as goal
 
 pub loop-left-init : goal.loop-left-init

@@ -5,7 +5,7 @@ use Rattle.diag_tp.specs.State.{LinkView}
 use Rattle.diag_world.specs.Port.{AreWithin}
 use Rattle.diag_tp.specs.Moments.{last_moment}
 use Rattle.diag_tp.specs.Placing.{placed_at}
-use Rattle.diag_world.proofs.Lanes.{none_of}
+use Rattle.diag_world.proofs.Channels.{none_of}
 use Rattle.diag_world.proofs.passing.receive.Goals.{in-Some, in_default}
 use Rattle.diag_world.proofs.passing.receive.Goals as goal
 

@@ -5,7 +5,7 @@ use Rattle.diag_can.specs.declared.frame.Frame.{Frame}
 use Rattle.diag_tp.specs.declared.sent.Sent.{Sent}
 use Rattle.diag_tp.specs.State.{LinkView}
 use Rattle.diag_tp.specs.Link.{StandsFor}
-use Rattle.diag_world.proofs.Lanes.{within_none, within_append, within_one, within_wider, none_of}
+use Rattle.diag_world.proofs.Channels.{within_none, within_append, within_one, within_wider, none_of}
 use Rattle.diag_world.proofs.passing.send_due.Goals as goal
 
 pub loop-frame-init : goal.loop-frame-init

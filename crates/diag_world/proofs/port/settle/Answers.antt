@@ -7,7 +7,7 @@ use Rattle.diag_tp.specs.Moments.{last_moment, last_time}
 use Rattle.diag_tp.specs.Placing.{placed, placed_at, drawn}
 use Rattle.diag_desk.specs.Entries.{replies}
 use Rattle.diag_world.specs.Port.{HandedOut}
-use Rattle.diag_world.proofs.Lanes.{port_took, none_of_some}
+use Rattle.diag_world.proofs.Channels.{port_took, none_of_some}
 use Rattle.diag_world.proofs.port.settle.Goals as goal
 
 no_frame : (n : ℕ) → IsTrue (is_frame (Ticks n)) → ⊥

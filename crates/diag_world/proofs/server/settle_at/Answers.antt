@@ -9,7 +9,7 @@ use Rattle.diag_tp.specs.Moments.{last_time}
 use Rattle.diag_tp.specs.Placing.{drawn}
 use Rattle.diag_world.specs.Port.{PortStands}
 use Rattle.diag_world.proofs.Serving.{entries_asked}
-use Rattle.diag_world.proofs.Lanes.{some_is_not_none}
+use Rattle.diag_world.proofs.Channels.{some_is_not_none}
 use Rattle.diag_world.proofs.server.settle_at.Goals as goal
 
 pub returns-in-Some-clause-took : goal.returns-in-Some-clause-took

@@ -12,7 +12,7 @@ some_step None o is h = cc
 some_step (Some k) o is h = rw (sym is) refl
 
 pub enter-requires : goal.enter-requires
-enter-requires c = record { quiet = quiet_asked c.args.server.now.ecu c.in-Ok.asked c.in-Ok.ensures.answer }
+enter-requires c = record { ticks_unanswered = quiet_asked c.args.server.now.ecu c.in-Ok.asked c.in-Ok.ensures.answer }
 
 pub returns-in_err-enter-clause-full : goal.returns-in_err-enter-clause-full
 returns-in_err-enter-clause-full c = λ is.

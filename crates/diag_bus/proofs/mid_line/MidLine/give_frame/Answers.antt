@@ -2,7 +2,7 @@ use Rattle.std.proofs.Common.{◌≡◌, ◌-◌, Some, None, ◌++◌, length, 
 use Rattle.std.proofs.lemmas.List.{append-nil}
 use Rattle.std.specs.List.{flat_map}
 use Rattle.diag_tp.specs.Moments.{counted_from}
-use Rattle.diag_world.proofs.Lanes.{none_of}
+use Rattle.diag_world.proofs.Channels.{none_of}
 use Rattle.diag_world.proofs.Worlds.{who_found}
 use Rattle.diag_bus.specs.Batch.{Gave}
 use Rattle.diag_bus.specs.Events.{frame_to}

@@ -1,5 +1,5 @@
 use Rattle.diag_gate.proofs.Quiet.{quiet}
 use Rattle.diag_gate.proofs.desk_box.DeskBox.step.Goals as goal
 
-pub returns-clause-quiet : goal.returns-clause-quiet
-returns-clause-quiet c = quiet c.args.step.now c.step.result c.step.ensures.quiet
+pub returns-clause-ticks_unanswered : goal.returns-clause-ticks_unanswered
+returns-clause-ticks_unanswered c = quiet c.args.step.now c.step.result c.step.ensures.ticks_unanswered

@@ -1,7 +1,7 @@
 use Rattle.std.proofs.Common.{◌≡◌, ◌∷◌, Option, Some, sym, ap, ◌∙◌, arith, subst, MatchOption}
 use Rattle.atomic_table.specs.Table.{rest}
 use Rattle.diag_desk.specs.Legal.{Run}
-use Rattle.diag_gate.specs.Seats.{seat_as, misses, IsSeat, IsHeld, Finds}
+use Rattle.diag_gate.specs.Seats.{seat_as, misses, IsSeat, IsGuard, Finds}
 use Rattle.diag_gate.specs.Rule.{run}
 use Rattle.diag_gate.proofs.Keeps.{takes_or_misses}
 use Rattle.diag_gate.proofs.Steps.{Sat, held_is, finds_is, run_is}
@@ -30,6 +30,6 @@ returns-then-compare_exchange-eq0-clause-taken c =
     let desk = run me.0.opening t.journal in
     let z = c.exchange.new.seat.table_id in
     let me2 = c.exchange.new.seat.me in
-    subst (λ (o : Option Run). MatchOption o (IsSeat c.args.who me2 × (seat_as z c.args.who me2 ≡ misses (seat_as c.args.place.now.table_id c.args.who me))) (λ d. IsHeld c.args.who me2 d × Finds (seat_as c.args.place.now.table_id c.args.who me) (seat_as z c.args.who me2)))
+    subst (λ (o : Option Run). MatchOption o (IsSeat c.args.who me2 × (seat_as z c.args.who me2 ≡ misses (seat_as c.args.place.now.table_id c.args.who me))) (λ d. IsGuard c.args.who me2 d × Finds (seat_as c.args.place.now.table_id c.args.who me) (seat_as z c.args.who me2)))
     (sym (run_is c.args.who me c.compare_exchange.new.seat.me me2 c.exchange.result c.requires.seat t s.2 s.3))
     (held_is c.args.who me c.compare_exchange.new.seat.me me2 c.exchange.result c.requires.seat t s.2 s.3, finds_is c.args.who me c.compare_exchange.new.seat.me me2 c.exchange.result c.requires.seat t s.2 s.3 _ _ (s.0 ∙ c.compare_exchange.ensures.0))

@@ -8,6 +8,6 @@ use Rattle.diag_store.proofs.dtcs.DtcMemory.new.Given as goal
 -- the rows of those so far
 abbrev pub invariant-loop-row : goal.invariant-loop-row
 invariant-loop-row l = record {
-  rows : l.rows.items ≡ map dtc_row (take l.row-index l.codes);
-  fit : All CodeFits l.codes;
+  rows : l.rows.items ≡ map dtc_row (take l.row-index l.dtcs);
+  fit : All CodeFits l.dtcs;
 }

@@ -7,5 +7,5 @@ returns-in-First-clause-partial c = search rules
 pub returns-in-Single-clause-partial : goal.returns-in-Single-clause-partial
 returns-in-Single-clause-partial c = search rules
 
-pub returns-in-TooLong-clause-partial : goal.returns-in-TooLong-clause-partial
-returns-in-TooLong-clause-partial c = search rules
+pub returns-in-Overflow-clause-partial : goal.returns-in-Overflow-clause-partial
+returns-in-Overflow-clause-partial c = search rules

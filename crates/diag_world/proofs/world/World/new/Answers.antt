@@ -28,7 +28,7 @@ invariant_of-result c =
     let same = c.in_ok-opening.ensures ∙ c.ecu.ensures in
     let state = λ (l : LinkView). l.state in
     let many = c.loop-index.invariant.count in (
-      runs_begin c.args.setup.now c.in_ok-opening.opening _ _ c.numbers-numbers.ensures.checked serves same c.new-2.ensures,
+      runs_begin c.args.setup.now c.in_ok-opening.opening _ _ c.raw-raw.ensures.checked serves same c.new-2.ensures,
       omega (arith, serves.testers, length-map c.in_ok-server.server.links state, many, c.loop-index-test.false, c.testers-index-end.ensures.same, c.loop-index.auto._index-end),
     )
 

@@ -1,6 +1,0 @@
-use Rattle.std.proofs.Common.{map}
-use Rattle.diag_text.proofs.Writing.{WroteParts}
-use Rattle.diag_text.proofs.device.write_whole.Given as goal
-
-abbrev pub invariant-loop-part : goal.invariant-loop-part
-invariant-loop-part g l = WroteParts (g.W.Write.contents l.initial.out) (g.W.Write.contents l.out) (map (λ part. part.items) l.parts) l.part-index

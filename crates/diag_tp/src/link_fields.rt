@@ -1,0 +1,307 @@
+//! What a link does with an event, field by field: the histories that it stands for come in at its public calls.
+
+ghost use Rattle.std.specs.Prelude.{
+  ◌≡◌,
+  ◌↔◌,
+  ◌≤◌,
+  ◌+◌,
+  [],
+  ◌∷◌,
+  length,
+  min,
+  max,
+  None,
+  option_and_then,
+  IfSome,
+  IsNone,
+  IfNone,
+  IfOk,
+  OnOk,
+  IsTrue,
+  ◌<◌,
+};
+ghost use Rattle.diag_tp.specs.Kind.{kind};
+ghost use Rattle.diag_tp.specs.Gives.{is_request};
+ghost use Rattle.diag_tp.specs.Sender.{sender_event, sender_frame, sender_ticks};
+ghost use Rattle.diag_tp.specs.Receiver.{
+  open_after,
+  completed_by,
+  granted_by,
+  ticks_later,
+  IsRead,
+  needed_for,
+};
+ghost use Rattle.diag_tp.specs.State.{due};
+ghost use Rattle.diag_tp.specs.Quiet.{reception_quiet, sender_quiet};
+ghost use Rattle.diag_tp.specs.Link.{
+  is_frame,
+  last_tick,
+  single_only,
+  needed,
+  asked_of,
+  ask_of,
+  partial_after,
+  grant_after,
+  step_after,
+  IsReadHere,
+};
+
+use crate::kind::only_single;
+use crate::link::Link;
+use crate::message::Message;
+use crate::pci::Pci;
+use crate::step::Request;
+use diag_can::{Event, Frame, FrameBytes};
+use std::alloc::AllocError;
+
+impl Link {
+    /// Makes room, field by field.
+    pub(crate) fn reserve(&mut self, event: &Event) -> Result<(), AllocError>
+        ensures same { self.new.state ≡ self.old.state }
+        ensures room { OnOk result ((needed self.new.state.setup event.now ≤ self.new.room)
+            × (0 < self.new.reply_room)) }
+        ensures kept { self.old.room ≤ self.new.room }
+        ensures reply_kept { self.old.reply_room ≤ self.new.reply_room }
+    {
+        let kind = match event {
+            Event::Physical(bytes) => self.kind(bytes),
+            Event::Functional(bytes) => only_single(self.kind(bytes)),
+            Event::Ticks(_) => Pci::Ignored,
+        };
+        self.receiver.make_room(&kind)?;
+        self.sender.make_room()
+    }
+
+    /// The next frame, field by field.
+    pub(crate) fn next_due(&mut self) -> Option<Frame>
+        ensures some { IfSome result (λ frame.
+            (due self.old.state ≡ frame.bytes ∷ due self.new.state)
+            × (frame.id ≡ self.old.state.setup.ids.response)) }
+        ensures none { IsNone result ↔ (due self.old.state ≡ []) }
+        ensures same { IfNone result (self.new ≡ self.old) }
+        ensures current { self.new.state.sender.current ≡ self.old.state.sender.current }
+        ensures waiting { self.new.state.sender.waiting ≡ self.old.state.sender.waiting }
+        ensures partial { self.new.state.partial ≡ self.old.state.partial }
+        ensures room { self.new.room ≡ self.old.room }
+        ensures reply_room { self.old.reply_room ≤ self.new.reply_room }
+        ensures setup { self.new.state.setup ≡ self.old.state.setup }
+        ensures now { self.new.state.now ≡ self.old.state.now }
+    {
+        let bytes = self.next_bytes()?;
+        Some(Frame {
+            id: self.setup.ids.response,
+            bytes,
+        })
+    }
+
+    /// The bytes of the next frame: flow control goes first.
+    fn next_bytes(&mut self) -> Option<FrameBytes>
+        ensures some { IfSome result (λ bytes. due self.old.state ≡ bytes ∷ due self.new.state) }
+        ensures none { IsNone result ↔ (due self.old.state ≡ []) }
+        ensures same { IfNone result (self.new ≡ self.old) }
+        ensures current { self.new.state.sender.current ≡ self.old.state.sender.current }
+        ensures waiting { self.new.state.sender.waiting ≡ self.old.state.sender.waiting }
+        ensures partial { self.new.state.partial ≡ self.old.state.partial }
+        ensures room { self.new.room ≡ self.old.room }
+        ensures reply_room { self.old.reply_room ≤ self.new.reply_room }
+        ensures setup { self.new.state.setup ≡ self.old.state.setup }
+        ensures now { self.new.state.now ≡ self.old.state.now }
+    {
+        match self.grant.take() {
+            Some(grant) => Some(grant),
+            None => self.sender.next_frame(&self.setup),
+        }
+    }
+
+    /// Whether neither flow control nor a frame of a message is due.
+    pub(crate) fn has_none_due(&self) -> bool
+        ensures { IsTrue result ↔ (length (due self.now.state) ≡ 0) }
+    {
+        self.grant.is_none() && self.sender.is_drained()
+    }
+
+    /// What a frame is here.
+    pub(crate) fn kind(&self, bytes: &FrameBytes) -> Pci
+        ensures kind { result ≡ kind bytes.now self.now.state.setup.max_request }
+        ensures read { IsRead self.now.state.setup.max_request result }
+    {
+        Pci::read(bytes.as_slice(), self.setup.max_request)
+    }
+
+    /// Whether the event completes a request, from the fields.
+    pub(crate) fn gives_request(&self, event: &Event) -> bool
+        ensures value { result
+            ≡ is_request (step_after self.now.state.setup self.now.state.partial event.now) }
+        ensures ticks { IsTrue result → IsTrue (is_frame event.now) }
+    {
+        match event {
+            Event::Physical(bytes) => self.receiver.completes(&self.kind(bytes)),
+            Event::Functional(bytes) => matches!(self.kind(bytes), Pci::Single(_)),
+            Event::Ticks(_) => false,
+        }
+    }
+
+    /// What feeding this event would answer, from the fields.
+    pub(crate) fn peek_request(&self, event: &Event) -> Result<Option<Request>, AllocError>
+        requires frame { IsTrue (is_frame event.now) }
+        ensures { IfOk result (λ request.
+            asked_of request ≡ step_after self.now.state.setup self.now.state.partial event.now) }
+    {
+        match event {
+            Event::Physical(bytes) => self.peek_kind(false, &self.kind(bytes)),
+            Event::Functional(bytes) => self.peek_kind(true, &only_single(self.kind(bytes))),
+            Event::Ticks(_) => Ok(None),
+        }
+    }
+
+    /// What feeding a frame of this kind would answer.
+    fn peek_kind(&self, functional: bool, kind: &Pci) -> Result<Option<Request>, AllocError>
+        requires read { IsRead 65535 kind.now }
+        ensures { IfOk result (λ request. asked_of request
+            ≡ ask_of functional (completed_by self.now.state.partial kind.now)) }
+    {
+        match self.receiver.peek(kind)? {
+            Some(message) => Ok(Some(Request {
+                functional,
+                message,
+            })),
+            None => Ok(None),
+        }
+    }
+
+    /// Makes room, and says what feeding this event would answer, from the fields.
+    pub(crate) fn reserve_and_peek(&mut self, event: &Event) -> Result<Option<Request>, AllocError>
+        requires frame { IsTrue (is_frame event.now) }
+        ensures same { self.new.state ≡ self.old.state }
+        ensures room { OnOk result ((needed self.new.state.setup event.now ≤ self.new.room)
+            × (0 < self.new.reply_room)) }
+        ensures request { IfOk result (λ request.
+            asked_of request ≡ step_after self.old.state.setup self.old.state.partial event.now) }
+        ensures kept { self.old.room ≤ self.new.room }
+        ensures reply_kept { self.old.reply_room ≤ self.new.reply_room }
+    {
+        let (functional, kind) = match event {
+            Event::Physical(bytes) => (false, self.kind(bytes)),
+            Event::Functional(bytes) => (true, only_single(self.kind(bytes))),
+            Event::Ticks(_) => return Ok(None),
+        };
+        self.receiver.make_room(&kind)?;
+        self.sender.make_room()?;
+        self.peek_kind(functional, &kind)
+    }
+
+    /// Takes a frame, field by field.
+    pub(crate) fn receive(&mut self, event: &Event) -> Option<Request>
+        requires frame { IsTrue (is_frame event.now) }
+        requires drained { self.old.state.sender.due ≡ [] }
+        requires room { needed self.old.state.setup event.now ≤ self.old.room }
+        ensures answer { asked_of result
+            ≡ step_after self.old.state.setup self.old.state.partial event.now }
+        ensures read { IsReadHere self.old.state.setup event.now }
+        ensures partial { self.new.state.partial
+            ≡ partial_after self.old.state.setup self.old.state.partial event.now }
+        ensures grant { self.old.state.grant ≡ None
+            → self.new.state.grant
+            ≡ grant_after self.old.state.setup self.old.state.partial event.now }
+        ensures reply_room { self.new.reply_room ≡ self.old.reply_room }
+        ensures setup { self.new.state.setup ≡ self.old.state.setup }
+        ensures now { self.new.state.now ≡ self.old.state.now }
+        ensures sender { self.new.state.sender ≡ sender_event self.old.state.setup
+            event.now self.old.state.sender.current self.old.state.sender.waiting }
+    {
+        match event {
+            Event::Physical(bytes) => {
+                let message = self.physical(bytes)?;
+                Some(Request {
+                    functional: false,
+                    message,
+                })
+            }
+            Event::Functional(bytes) => {
+                let message = self.functional(bytes)?;
+                Some(Request {
+                    functional: true,
+                    message,
+                })
+            }
+            Event::Ticks(_) => None,
+        }
+    }
+
+    /// Takes a frame with the tester's own identifier.
+    fn physical(&mut self, bytes: &FrameBytes) -> Option<Message>
+        requires drained { self.old.state.sender.due ≡ [] }
+        requires room { needed_for (kind bytes.now self.old.state.setup.max_request)
+            ≤ self.old.room }
+        ensures read { IsRead self.old.state.setup.max_request
+            (kind bytes.now self.old.state.setup.max_request) }
+        ensures partial { self.new.state.partial
+            ≡ open_after self.old.state.partial (kind bytes.now self.old.state.setup.max_request) }
+        ensures message { result ≡ completed_by self.old.state.partial
+            (kind bytes.now self.old.state.setup.max_request) }
+        ensures grant { self.new.state.grant ≡ granted_by self.old.state.setup
+            self.old.state.partial (kind bytes.now self.old.state.setup.max_request) }
+        ensures reply_room { self.new.reply_room ≡ self.old.reply_room }
+        ensures setup { self.new.state.setup ≡ self.old.state.setup }
+        ensures now { self.new.state.now ≡ self.old.state.now }
+        ensures sender { self.new.state.sender
+            ≡ sender_frame self.old.state.setup (kind bytes.now self.old.state.setup.max_request)
+            self.old.state.sender.current self.old.state.sender.waiting }
+    {
+        let kind = self.kind(bytes);
+        if let Pci::FlowControl {
+            flow_status,
+            block_size,
+            st_min,
+        } = kind
+        {
+            self.sender
+                .flow(&self.setup, flow_status, block_size, st_min);
+        }
+        let received = self.receiver.receive(&self.setup, &kind);
+        self.grant = received.grant;
+        received.message
+    }
+
+    /// The message of a frame with the functional identifier, which changes nothing.
+    fn functional(&self, bytes: &FrameBytes) -> Option<Message>
+        ensures { result ≡ completed_by None
+            (single_only (kind bytes.now self.now.state.setup.max_request)) }
+    {
+        match self.kind(bytes) {
+            Pci::Single(payload) => Some(Message::short(payload.as_slice())),
+            _ => None,
+        }
+    }
+
+    /// So many ticks, before the last of which nothing falls due.
+    pub(crate) fn pass(&mut self, count: u16)
+        requires drained { self.old.state.sender.due ≡ [] }
+        ensures partial { self.new.state.partial
+            ≡ option_and_then (ticks_later self.old.state.setup.n_cr count) self.old.state.partial }
+        ensures grant { self.new.state.grant ≡ self.old.state.grant }
+        ensures sender { self.new.state.sender
+            ≡ sender_ticks self.old.state.setup count
+            self.old.state.sender.current self.old.state.sender.waiting }
+        ensures room { self.new.room ≡ self.old.room }
+        ensures reply_room { self.new.reply_room ≡ self.old.reply_room }
+        ensures setup { self.new.state.setup ≡ self.old.state.setup }
+        ensures now { self.new.state.now ≡ min (self.old.state.now + count) last_tick }
+        ensures later { self.old.state.now ≤ self.new.state.now }
+    {
+        self.ticks = self.ticks.saturating_add(u64::from(count));
+        self.receiver.pass(self.setup.n_cr.get(), count);
+        self.sender.pass(&self.setup, count);
+    }
+
+    /// For how many ticks nothing falls due and nothing ends, from the fields.
+    pub(crate) fn quiet_ticks(&self) -> u64
+        requires drained { self.now.state.sender.due ≡ [] }
+        ensures { result
+            ≡ max (min (reception_quiet self.now.state.setup.n_cr self.now.state.partial)
+            (sender_quiet self.now.state.sender.current)) 1 }
+    {
+        let reception = self.receiver.quiet(self.setup.n_cr.get());
+        reception.min(self.sender.quiet()).max(1)
+    }
+}

@@ -1,0 +1,51 @@
+-- One tester's channel: its link, and the frames that it was sent.
+use Rattle.std.specs.Prelude.{◌≡◌, ℕ, ◌*◌, ◌≤◌, List, length, Option, IsTrue, IsSome, vec_len, vec_capacity}
+use Rattle.diag_can.specs.declared.frame.Event.{Event}
+use Rattle.diag_tp.specs.declared.setup.LinkSetup.{LinkSetup}
+use Rattle.diag_tp.specs.declared.sent.Sent.{Sent}
+use Rattle.diag_tp.specs.declared.step.Step.{Step}
+use Rattle.diag_tp.specs.Gives.{steps}
+use Rattle.diag_tp.specs.Moments.{last_time}
+use Rattle.diag_tp.specs.Placing.{placed, drawn}
+use Rattle.diag_tp.specs.State.{LinkState}
+use Rattle.diag_tp.specs.Link.{StandsFor, is_frame, pending, waiting_count}
+use Rattle.diag_desk.specs.declared.entry.Entry.{Entry}
+use Rattle.diag_desk.specs.Entry.{HasNoReply}
+use Rattle.diag_desk.specs.Entries.{asked, replies}
+use Rattle.diag_world.specs.Port.{HasRoomFor}
+use Rattle.diag_world.specs.declared.channel.Channel.{Channel}
+
+-- what is seen of a channel: its link, and the frames that were sent. Room that was made is no part of it
+pub record ChannelState : Type 0 where
+  pub link : LinkState
+  pub sent : List Sent
+
+abbrev pub channel_of : Channel → ChannelState
+channel_of channel = record { link = channel.link.state; sent = channel.sent.items }
+
+-- how many frames are due now
+abbrev pub due : ChannelState → ℕ
+due channel = pending channel.link
+
+-- how many replies wait
+abbrev pub waiting : ChannelState → ℕ
+waiting channel = waiting_count channel.link
+
+-- room was made for the event: in the link, and for the frames that may fall due
+abbrev pub HasRoom : Channel → Event → Type 0
+HasRoom channel e = HasRoomFor channel.link e (vec_len channel.sent) (vec_capacity channel.sent)
+
+-- a step that can have a reply is that of a frame
+abbrev pub RepliesToFrame : Event → Step → Type 0
+RepliesToFrame event step =
+    (reply : Option (List ℕ)) → HasNoReply step reply → IsSome reply → IsTrue (is_frame event)
+
+-- The channel took the events E, to which the journal has the entries K: the link stands for both, all frames went out,
+-- and K asks what E gives.
+pub record ChannelStands (s : LinkSetup) (channel : ChannelState) (E : List Event) (K : List Entry)
+    : Type 0 where
+  pub stands : StandsFor s channel.link E (placed s E (replies K)) channel.sent
+  pub all_sent : channel.sent ≡ drawn s E (replies K)
+  pub asks : asked K ≡ steps s E
+  -- each tick count has its entry
+  pub time : last_time E ≤ 60000 * length K

@@ -1,0 +1,101 @@
+//! One tester's channel: what an event asks, and then what the reply makes of it.
+
+ghost use Rattle.std.specs.Prelude.{
+  ◌≡◌,
+  ◌+◌,
+  ◌≤◌,
+  length,
+  List,
+  ℕ,
+  [],
+  ◌∷◌,
+  ◌++◌,
+  OnOk,
+  IfOk,
+  IfSome,
+  IsTrue,
+  IsSome,
+  None,
+};
+ghost use Rattle.diag_can.specs.declared.frame.Event.{Event as AnEvent};
+ghost use Rattle.diag_tp.specs.declared.setup.LinkSetup.{LinkSetup as ALinkSetup};
+ghost use Rattle.diag_tp.specs.Gives.{gives};
+ghost use Rattle.diag_tp.specs.Link.{is_frame};
+ghost use Rattle.diag_desk.specs.declared.entry.Entry.{Entry as AnEntry};
+ghost use Rattle.diag_world.specs.Port.{entries_of};
+ghost use Rattle.diag_world.specs.Channel.{due, channel_of, waiting, HasRoom, ChannelStands, RepliesToFrame};
+
+use crate::port::{prepare, settle};
+use diag_can::Event;
+use diag_tp::{Link, LinkSetup, Message, Sent, Step, gives_law, time_law};
+use std::alloc::{AllocError, Global};
+
+/// One tester's link, and the frames that the tester was sent.
+///
+/// An event goes through in two halves. `prepare` makes all growths and answers the step that the event gives; then
+/// that step is taken; `settle` takes the event with the reply, and can't fail. So a refusal leaves the channel as it was.
+#[derive(Drop)]
+pub struct Channel {
+    link: Link,
+    sent: Vec<Sent>,
+}
+
+impl Channel {
+    /// The channel of a tester to whom nothing has happened.
+    pub fn new(alloc: Global, setup: LinkSetup) -> Channel
+        ensures stands { ChannelStands setup (channel_of result) [] [] }
+        ensures drained { due (channel_of result) ≡ 0 }
+        ensures none_waits { waiting (channel_of result) ≡ 0 }
+    {
+        let link = Link::new(alloc, setup);
+        let drained = link.is_drained();
+        prove!(drained);
+        Channel {
+            link,
+            sent: Vec::new(alloc),
+        }
+    }
+
+    /// Makes room for the event, and answers the step that it gives. Nothing else changes, whatever the answer.
+    pub fn prepare(&mut self, event: &Event) -> Result<Option<Step>, AllocError>
+        requires drained { due (channel_of self.old) ≡ 0 }
+        ensures same { channel_of self.new ≡ channel_of self.old }
+        ensures room { OnOk result (HasRoom self.new event.now) }
+        ensures step { IfOk result (λ step. (s : ALinkSetup) (E : List AnEvent) (K : List AnEntry)
+            → ChannelStands s (channel_of self.old) E K
+            → step ≡ gives s E event.now) }
+        ensures replies { IfOk result (λ step.
+            IfSome step (λ step. RepliesToFrame event.now step)) }
+    {
+        prepare(&mut self.link, event, &mut self.sent)
+    }
+
+    /// Takes an event for which room was made, with the reply to the step that it gives, and sends what is due.
+    pub fn settle(&mut self, event: &Event, reply: Option<Message>)
+        requires drained { due (channel_of self.old) ≡ 0 }
+        requires room { HasRoom self.old event.now }
+        requires frame { IsSome reply → IsTrue (is_frame event.now) }
+        ensures took { (s : ALinkSetup) (who : ℕ) (E : List AnEvent) (K : List AnEntry)
+            → ChannelStands s (channel_of self.old) E K
+            → length K ≤ 1000000
+            → (gives s E event.now ≡ None → reply ≡ None)
+            → ChannelStands s (channel_of self.new) (E ++ event.now ∷ [])
+            (K ++ entries_of who (gives s E event.now) reply) }
+        ensures drained { due (channel_of self.new) ≡ 0 }
+        ensures waiting { waiting (channel_of self.new) ≤ waiting (channel_of self.old) + 1 }
+        ensures none_waits { reply ≡ None
+            → waiting (channel_of self.new) ≤ waiting (channel_of self.old) }
+    {
+        gives_law();
+        time_law();
+        settle(&mut self.link, event, reply, &mut self.sent);
+    }
+
+    /// The frames that were sent, in order.
+    pub fn into_sent(self) -> Vec<Sent>
+        ensures { result.items ≡ (channel_of self).sent }
+    {
+        let Channel { link: _, sent } = self;
+        sent
+    }
+}
