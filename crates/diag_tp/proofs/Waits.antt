@@ -1,26 +1,12 @@
 -- Which replies wait, and which begin with a frame that is due.
-use Rattle.std.proofs.Common.{◌≡◌, ℕ, ◌+◌, ◌≤◌, true, false, List, [], ◌∷◌, length, refl, ◌∙◌, ap, arith}
-use Rattle.std.specs.Prelude.{Option, Some, None, sum_by, nat_le, ◌==◌, if◌then◌else◌, take, drop}
-use Rattle.std.proofs.lemmas.List.Sums.{sum_by-cons}
+use Rattle.std.proofs.Common.{◌≡◌, ℕ, ◌+◌, true, false, List, [], ◌∷◌, refl, ◌∙◌, ap}
+use Rattle.std.specs.Prelude.{Option, Some, None, nat_le, ◌==◌, if◌then◌else◌, take, drop}
 use Rattle.diag_tp.specs.declared.setup.LinkSetup.{LinkSetup}
 use Rattle.diag_tp.specs.declared.sending.Phase.TheVariants.{AwaitsFlow}
 use Rattle.diag_tp.specs.declared.sending.Sending.{Sending}
 use Rattle.diag_tp.specs.Cut.{cut}
-use Rattle.diag_tp.specs.Sender.{frames_of, further_of, frame_count, waits, waiting_in, started, before_these, settled_in}
+use Rattle.diag_tp.specs.Sender.{frames_of, frame_count, waits, waiting_in, started, before_these, settled_in}
 use Rattle.diag_tp.proofs.CutParts.{frames-count}
-
-some-frames : (P : List ℕ) → 1 ≤ frames_of P
-some-frames P = elim (nat_le (length P) 7) as (λ b. (n : ℕ) → 1 ≤ (if b then 1 else n + 1)) [ true ↦ λ n. omega arith | false ↦ λ n. omega arith ] _
-
--- the frames of replies, the first of each and those beside it
-pub frames-sum : (W : List (List ℕ)) → sum_by frames_of W ≡ length W + sum_by further_of W
-frames-sum [] = refl
-frames-sum (P ∷ W) =
-    let rest = frames-sum W in
-    let all = sum_by-cons frames_of P W in
-    let more = sum_by-cons further_of P W in
-    let some = some-frames P in
-    omega arith
 
 -- what waits, as the frames that are due leave it
 pub started-waits : (s : LinkSetup) (W : List (List ℕ)) → (started s W).waiting ≡ waits W
