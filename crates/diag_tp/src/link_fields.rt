@@ -107,10 +107,10 @@ impl Link {
         ensures setup { self.new.state.setup ≡ self.old.state.setup }
         ensures now { self.new.state.now ≡ self.old.state.now }
     {
-        match self.grant.take() {
-            Some(grant) => Some(grant),
-            None => self.sender.next_frame(&self.setup),
+        if self.grant.is_some() {
+            return self.grant.take();
         }
+        self.sender.next_frame(&self.setup)
     }
 
     /// Whether neither flow control nor a frame of a message is due.

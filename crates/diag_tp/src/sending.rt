@@ -6,8 +6,9 @@ ghost use Rattle.std.specs.Prelude.{
   ◌-◌,
   slice_get,
   Some,
-  IfSome,
+  None,
   IsSome,
+  if◌then◌else◌,
 };
 ghost use Rattle.diag_tp.specs.Cut.{cut};
 ghost use Rattle.diag_tp.specs.Quiet.{phase_quiet};
@@ -94,67 +95,51 @@ fn within_block(setup: &LinkSetup, rest: u16, gap: u16) -> Phase
 }
 
 impl Sending {
-    /// The same message with so many frames due, and in this phase.
-    fn with(self, due: u16, phase: Phase) -> Sending
-        ensures { result
-            ≡ record { message = self.message; next = self.next; due = due; phase = phase } }
+    /// So many ticks pass; false where the waiting time is up, which ends the message.
+    pub(crate) fn tick(&mut self, setup: &LinkSetup, count: u16) -> bool
+        requires drained { self.old.due ≡ 0 }
+        requires sound { IsSound self.old }
+        ensures fields { (if result then Some self.new else None)
+            ≡ tick_fields setup.now count self.old self.old.phase }
+        ensures sound { IsSound self.new }
     {
-        Sending { due, phase, ..self }
-    }
-
-    /// So many ticks later; None where the waiting time is up.
-    pub(crate) fn ticked(self, setup: &LinkSetup, count: u16) -> Option<Sending>
-        requires drained { self.due ≡ 0 }
-        requires sound { IsSound self }
-        ensures fields { result ≡ tick_fields setup.now count self self.phase }
-        ensures sound { IfSome result (λ c. IsSound c) }
-    {
-        match self.phase {
-            Phase::AwaitsFlow { ticks } if ticks <= count => None,
-            Phase::AwaitsFlow { ticks } => {
-                let ticks = ticks - count;
-                Some(self.with(0, Phase::AwaitsFlow { ticks }))
+        match &mut self.phase {
+            Phase::AwaitsFlow { ticks } if *ticks <= count => return false,
+            Phase::InBlock { rest, gap, ticks } if *ticks <= count => {
+                self.phase = within_block(setup, rest.saturating_sub(1), *gap);
+                self.due = 1;
             }
-            Phase::InBlock { rest, gap, ticks } if ticks <= count => {
-                Some(self.with(1, within_block(setup, rest.saturating_sub(1), gap)))
-            }
-            Phase::InBlock { rest, gap, ticks } => {
-                let ticks = ticks - count;
-                Some(self.with(0, Phase::InBlock { rest, gap, ticks }))
-            }
+            Phase::AwaitsFlow { ticks } => *ticks -= count,
+            Phase::InBlock { ticks, .. } => *ticks -= count,
         }
+        true
     }
 
-    /// After a flow control frame; None where the message is given up.
-    pub(crate) fn decided(
-        self,
-        setup: &LinkSetup,
-        status: u8,
-        block: u8,
-        gap: u8,
-    ) -> Option<Sending>
-        requires drained { self.due ≡ 0 }
-        requires sound { IsSound self }
-        ensures fields { result
-            ≡ flow_fields setup.now self (flow_decision status block gap) self.phase }
-        ensures sound { IfSome result (λ c. IsSound c) }
+    /// A flow control frame comes; false where it ends the message.
+    pub(crate) fn decide(&mut self, setup: &LinkSetup, status: u8, block: u8, gap: u8) -> bool
+        requires drained { self.old.due ≡ 0 }
+        requires sound { IsSound self.old }
+        ensures fields { (if result then Some self.new else None)
+            ≡ flow_fields setup.now self.old (flow_decision status block gap) self.old.phase }
+        ensures sound { IsSound self.new }
     {
         if matches!(self.phase, Phase::InBlock { .. }) {
-            return Some(self);
+            return true;
         }
         match status {
-            0 => Some(self.block_begun(setup, block, gap_ticks(gap))),
-            1 => Some(self.with(0, awaits_flow(setup))),
-            _ => None,
+            0 => self.begin_block(setup, block, gap_ticks(gap)),
+            1 => self.phase = awaits_flow(setup),
+            _ => return false,
         }
+        true
     }
 
     /// A block begins.
-    fn block_begun(self, setup: &LinkSetup, block: u8, gap: u16) -> Sending
-        requires sound { IsSound self }
-        ensures fields { Some result ≡ block_fields setup.now self
-            (block_size block (frames_of self.message - self.next)) gap }
-        ensures sound { IsSound result }
+    fn begin_block(&mut self, setup: &LinkSetup, block: u8, gap: u16)
+        requires sound { IsSound self.old }
+        ensures fields { self.new ≡ block_fields setup.now self.old
+            (block_size block (frames_of self.old.message - self.old.next)) gap }
+        ensures sound { IsSound self.new }
     {
         let left = frames_of(&self.message) - self.next;
         let size = if block == 0 {
@@ -163,10 +148,11 @@ impl Sending {
             left.min(u16::from(block))
         };
         if gap == 0 {
-            self.with(size, awaits_flow(setup))
+            self.due = size;
+            self.phase = awaits_flow(setup);
         } else {
-            let phase = within_block(setup, size.saturating_sub(1), gap);
-            self.with(1, phase)
+            self.due = 1;
+            self.phase = within_block(setup, size.saturating_sub(1), gap);
         }
     }
 
@@ -192,18 +178,19 @@ impl Sending {
         frame_of(&self.message, usize::from(self.next), setup.pad)
     }
 
-    /// What is left when the next frame is gone.
-    pub(crate) fn one_gone(mut self) -> Option<Sending>
-        requires sound { IsSound self }
-        requires some { 0 < self.due }
-        ensures fields { result ≡ one_gone self }
-        ensures sound { IfSome result (λ c. IsSound c) }
+    /// The next frame goes; false where it is the last.
+    pub(crate) fn go(&mut self) -> bool
+        requires sound { IsSound self.old }
+        requires some { 0 < self.old.due }
+        ensures fields { (if result then Some self.new else None) ≡ one_gone self.old }
+        ensures sound { IsSound self.new }
     {
-        if self.next + 1 == frames_of(&self.message) {
-            return None;
+        let count = frames_of(&self.message);
+        if self.next + 1 == count {
+            return false;
         }
         self.next += 1;
         self.due -= 1;
-        Some(self)
+        true
     }
 }
