@@ -127,10 +127,10 @@ pub sender-ticks-within : (s : LinkSetup) (n : ℕ) (cur : Option Current) (W : 
 sender-ticks-within s n None W = record { frames = omega arith; replies = omega arith }
 sender-ticks-within s n (Some c) W = tick-within s n c.phase c W
 
-no-flow-within : (s : LinkSetup) (cur : Option Current) (W : List (List ℕ)) → IsWithin s (no_flow cur W) (left s cur W) (length W)
+pub no-flow-within : (s : LinkSetup) (cur : Option Current) (W : List (List ℕ)) → IsWithin s (no_flow cur W) (left s cur W) (length W)
 no-flow-within s cur W = record { frames = omega arith; replies = omega arith }
 
-frame-within : (s : LinkSetup) (k : Pci) (cur : Option Current) (W : List (List ℕ)) → IsWithin s (sender_frame s k cur W) (left s cur W) (length W)
+pub frame-within : (s : LinkSetup) (k : Pci) (cur : Option Current) (W : List (List ℕ)) → IsWithin s (sender_frame s k cur W) (left s cur W) (length W)
 frame-within s (FlowControl status block st) cur W = sender-flow-within s (flow_decision status block st) cur W
 frame-within s (Single payload) cur W = no-flow-within s cur W
 frame-within s (First len head) cur W = no-flow-within s cur W

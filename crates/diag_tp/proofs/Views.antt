@@ -73,7 +73,7 @@ within-numbers link link' r grants few same sender h =
       replies = omega arith;
     }
 
-grant-few : (g : Option (List ℕ)) → length (option_to_list g) ≤ 1
+pub grant-few : (g : Option (List ℕ)) → length (option_to_list g) ≤ 1
 grant-few None = omega arith
 grant-few (Some g) = omega arith
 

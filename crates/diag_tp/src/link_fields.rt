@@ -19,6 +19,8 @@ ghost use Rattle.std.specs.Prelude.{
   OnOk,
   IsTrue,
   ◌<◌,
+  true,
+  false,
 };
 ghost use Rattle.diag_tp.specs.Kind.{kind};
 ghost use Rattle.diag_tp.specs.Gives.{is_request};
@@ -32,6 +34,14 @@ ghost use Rattle.diag_tp.specs.Receiver.{
   needed_for,
 };
 ghost use Rattle.diag_tp.specs.State.{due};
+ghost use Rattle.diag_tp.specs.Taken.{
+  IsTaken,
+  FitsIn,
+  left_of_kind,
+  reception_after,
+  granted_after,
+  sender_after,
+};
 ghost use Rattle.diag_tp.specs.Quiet.{reception_quiet, sender_quiet};
 ghost use Rattle.diag_tp.specs.Link.{
   is_frame,
@@ -51,6 +61,7 @@ use crate::link::Link;
 use crate::message::Message;
 use crate::pci::Pci;
 use crate::step::Request;
+use crate::taken::{Begun, Taken};
 use diag_can::{Event, Frame, FrameBytes};
 use std::alloc::AllocError;
 
@@ -169,25 +180,83 @@ impl Link {
         }
     }
 
-    /// Makes room, and says what feeding this event would answer, from the fields.
-    pub(crate) fn reserve_and_peek(&mut self, event: &Event) -> Result<Option<Request>, AllocError>
+    /// Reads a frame and makes room for it, from the fields.
+    pub(crate) fn take_up(&mut self, event: &Event) -> Result<Begun, AllocError>
         requires frame { IsTrue (is_frame event.now) }
         ensures same { self.new.state ≡ self.old.state }
         ensures room { OnOk result ((needed self.new.state.setup event.now ≤ self.new.room)
             × (0 < self.new.reply_room)) }
-        ensures request { IfOk result (λ request.
-            asked_of request ≡ step_after self.old.state.setup self.old.state.partial event.now) }
+        ensures request { IfOk result (λ begun. asked_of begun.request
+            ≡ step_after self.old.state.setup self.old.state.partial event.now) }
+        ensures taken { IfOk result (λ begun.
+            IsTaken self.old.state.setup event.now begun.taken) }
+        ensures fits { IfOk result (λ begun. FitsIn self.new begun.taken) }
         ensures kept { self.old.room ≤ self.new.room }
         ensures reply_kept { self.old.reply_room ≤ self.new.reply_room }
     {
-        let (functional, kind) = match event {
-            Event::Physical(bytes) => (false, self.kind(bytes)),
-            Event::Functional(bytes) => (true, only_single(self.kind(bytes))),
-            Event::Ticks(_) => return Ok(None),
-        };
-        self.receiver.make_room(&kind)?;
-        self.sender.make_room()?;
-        self.peek_kind(functional, &kind)
+        match event {
+            Event::Physical(bytes) => {
+                let kind = self.kind(bytes);
+                self.receiver.make_room(&kind)?;
+                self.sender.make_room()?;
+                self.physical_begun(kind)
+            }
+            Event::Functional(bytes) => {
+                let kind = self.kind(bytes);
+                self.sender.make_room()?;
+                Ok(functional_begun(kind))
+            }
+            Event::Ticks(_) => unreachable!(),
+        }
+    }
+
+    /// What a frame of this kind asks that has the tester's own identifier, and what is left of it.
+    fn physical_begun(&self, kind: Pci) -> Result<Begun, AllocError>
+        requires read { IsRead self.now.state.setup.max_request kind }
+        ensures request { IfOk result (λ begun. asked_of begun.request
+            ≡ ask_of false (completed_by self.now.state.partial kind)) }
+        ensures taken { IfOk result (λ begun. begun.taken ≡ left_of_kind kind) }
+    {
+        match kind {
+            Pci::Single(payload) => Ok(Begun {
+                request: Some(Request {
+                    functional: false,
+                    message: Message::in_place(payload),
+                }),
+                taken: Taken::Whole,
+            }),
+            kind => {
+                let request = self.peek_kind(false, &kind)?;
+                Ok(Begun {
+                    request,
+                    taken: Taken::Read(kind),
+                })
+            }
+        }
+    }
+
+    /// Takes what is left of a frame, field by field.
+    pub(crate) fn finish(&mut self, taken: Taken)
+        requires drained { self.old.state.sender.due ≡ [] }
+        requires fits { FitsIn self.old taken }
+        ensures partial { self.new.state.partial ≡ reception_after self.old.state.partial taken }
+        ensures grant { self.new.state.grant
+            ≡ granted_after self.old.state.setup self.old.state.partial taken }
+        ensures reply_room { self.new.reply_room ≡ self.old.reply_room }
+        ensures setup { self.new.state.setup ≡ self.old.state.setup }
+        ensures now { self.new.state.now ≡ self.old.state.now }
+        ensures sender { self.new.state.sender ≡ sender_after self.old.state.setup
+            taken self.old.state.sender.current self.old.state.sender.waiting }
+    {
+        match taken {
+            Taken::Whole => {
+                self.receiver.end();
+                self.grant = None;
+            }
+            Taken::Read(kind) => {
+                let _message = self.take_kind(&kind);
+            }
+        }
     }
 
     /// Takes a frame, field by field.
@@ -249,6 +318,24 @@ impl Link {
             self.old.state.sender.current self.old.state.sender.waiting }
     {
         let kind = self.kind(bytes);
+        self.take_kind(&kind)
+    }
+
+    /// Takes a frame of this kind with the tester's own identifier.
+    fn take_kind(&mut self, kind: &Pci) -> Option<Message>
+        requires drained { self.old.state.sender.due ≡ [] }
+        requires read { IsRead self.old.state.setup.max_request kind.now }
+        requires room { needed_for kind.now ≤ self.old.room }
+        ensures partial { self.new.state.partial ≡ open_after self.old.state.partial kind.now }
+        ensures message { result ≡ completed_by self.old.state.partial kind.now }
+        ensures grant { self.new.state.grant
+            ≡ granted_by self.old.state.setup self.old.state.partial kind.now }
+        ensures reply_room { self.new.reply_room ≡ self.old.reply_room }
+        ensures setup { self.new.state.setup ≡ self.old.state.setup }
+        ensures now { self.new.state.now ≡ self.old.state.now }
+        ensures sender { self.new.state.sender ≡ sender_frame self.old.state.setup kind.now
+            self.old.state.sender.current self.old.state.sender.waiting }
+    {
         if let Pci::FlowControl {
             flow_status,
             block_size,
@@ -256,9 +343,9 @@ impl Link {
         } = kind
         {
             self.sender
-                .flow(&self.setup, flow_status, block_size, st_min);
+                .flow(&self.setup, *flow_status, *block_size, *st_min);
         }
-        let received = self.receiver.receive(&self.setup, &kind);
+        let received = self.receiver.receive(&self.setup, kind);
         self.grant = received.grant;
         received.message
     }
@@ -303,5 +390,24 @@ impl Link {
     {
         let reception = self.receiver.quiet(self.setup.n_cr.get());
         reception.min(self.sender.quiet()).max(1)
+    }
+}
+
+/// What a functional frame asks, and what is left of it, which is nothing.
+fn functional_begun(kind: Pci) -> Begun
+    requires { IsRead 65535 kind }
+    ensures request { asked_of result.request ≡ ask_of true (completed_by None (single_only kind)) }
+    ensures taken { result.taken ≡ Taken.Read Pci.Ignored }
+{
+    let request = match kind {
+        Pci::Single(payload) => Some(Request {
+            functional: true,
+            message: Message::in_place(payload),
+        }),
+        _ => None,
+    };
+    Begun {
+        request,
+        taken: Taken::Read(Pci::Ignored),
     }
 }

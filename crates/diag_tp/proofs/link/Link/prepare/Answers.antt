@@ -1,23 +1,27 @@
-use Rattle.std.proofs.Common.{◌≡◌, ◌∙◌, ap, sym}
-use Rattle.diag_tp.specs.Gives.{gives}
-use Rattle.diag_tp.specs.Link.{asked_of, step_after, EachHistory}
+use Rattle.std.proofs.Common.{◌∙◌, ap, sym}
 use Rattle.diag_tp.proofs.History.{gives_event}
-use Rattle.diag_tp.proofs.Settled.{if-ok, on-ok}
 use Rattle.diag_tp.proofs.Views.{room-made, reply-room-made, keeps-room, keeps-reply-room}
 use Rattle.diag_tp.proofs.link.Link.prepare.Goals as goal
 
 pub returns : goal.returns
 returns c =
     let old = c.args.self.now in
-    let new = c.reserve_and_peek.new.self in
+    let new = c.take_up.new.self in
     let x = c.args.event.now in
-    let done = c.reserve_and_peek.ensures in
+    let done = c.take_up.ensures in
+    let room = c.in_ok-begun.ensures.room in
     record {
       same = done.same;
-      room = on-ok c.reserve_and_peek.result _ _ (λ h. room-made new x h.0) done.room;
-      reply_room = on-ok c.reserve_and_peek.result _ _ (λ h. reply-room-made new h.1) done.room;
-      request = if-ok c.reserve_and_peek.result (λ r. asked_of r ≡ step_after old.state.setup old.state.partial x) (λ r. EachHistory old.state (λ s E A Q. asked_of r ≡ gives s E x))
-          (λ r e s E A Q h. e ∙ sym (gives_event s old.state E A Q x h)) done.request;
+      room = room-made new x room.0;
+      reply_room = reply-room-made new room.1;
+      request = λ s E A Q h. c.in_ok-begun.ensures.request ∙ sym (gives_event s old.state E A Q x h);
       kept = keeps-room old new (ap (λ l. l.setup) done.same) done.kept;
       reply_kept = keeps-reply-room old new done.reply_kept;
     }
+
+pub returns-in_err-begun-clause-kept : goal.returns-in_err-begun-clause-kept
+returns-in_err-begun-clause-kept c =
+    keeps-room c.args.self.now c.take_up.new.self (ap (λ l. l.setup) c.take_up.ensures.same) c.take_up.ensures.kept
+
+pub returns-in_err-begun-clause-reply_kept : goal.returns-in_err-begun-clause-reply_kept
+returns-in_err-begun-clause-reply_kept c = keeps-reply-room c.args.self.now c.take_up.new.self c.take_up.ensures.reply_kept
