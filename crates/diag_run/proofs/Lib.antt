@@ -1,7 +1,6 @@
 pub mod Following
 pub mod Inputs
-pub mod LogReading
 pub mod Order
 pub mod Pieces
+pub mod Plays
 pub mod Reading
-pub mod Threads

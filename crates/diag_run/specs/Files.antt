@@ -2,10 +2,7 @@
 use Rattle.std.specs.Prelude.{◌≡◌, ◌≤◌, ◌<◌, ℕ, ◌+◌, ◌==◌, nat_le, nat_lt, Bool, false, IfErr, if◌then◌else◌, List, [], ◌∷◌, ◌++◌, length, map, Option, Some, Result, Ok, Err}
 use Rattle.std.specs.Io.KnownBytes.{Consumes}
 use Rattle.diag_can.specs.declared.fault.LogFault.{LogFault}
-use Rattle.diag_can.specs.declared.frame.Event.{Event}
-use Rattle.diag_can.specs.declared.log.Timing.{Timing}
 use Rattle.diag_setup.specs.declared.raw.RawSetup.{RawSetup}
-use Rattle.diag_workers.specs.Play as workers
 use Rattle.diag_config.specs.Key.{Fault, syntax, missing, bad_value, refused, ◌>>=◌}
 use Rattle.diag_config.specs.Setup.{setup_of}
 use Rattle.diag_config.specs.declared.fault.ConfigFault.{ConfigFault}
@@ -119,10 +116,6 @@ files_from limit n (f ∷ fs) = do
 abbrev pub or_bad_log : {A : Type 0} → Result A (ℕ × LogFault) → Result A Refusal
 or_bad_log (Ok logs) = Ok logs
 or_bad_log (Err first) = Err (bad_log first.0 first.1)
-
--- the events of each tester's log, or the first that is at fault
-unfoldable pub logs_of : Timing → RawSetup → List (List ℕ) → Result (List (List Event)) Refusal
-logs_of timing setup texts = or_bad_log (workers.logs_of setup timing texts)
 
 -- the readers have exactly these bytes left
 abbrev pub AreKnown : {R : Type 0} → (R → Option (List ℕ)) → List R → List (List ℕ) → Type 0

@@ -17,7 +17,8 @@ use Rattle.diag_world.specs.Weaving.{steps_of, turns, weave}
 use Rattle.diag_config.specs.Key.{◌>>=◌}
 use Rattle.diag_text.specs.Bytes.{AppendsFront, ReadWhole}
 use Rattle.diag_text.specs.Faults.{fault_text, status}
-use Rattle.diag_run.specs.Files.{Refusal, Fails, AreKnown, ConfigEnds, FilesEnd, ReadEach, SaysSetup, config_of, counted, files_from, logs_of}
+use Rattle.diag_run.specs.Files.{Refusal, Fails, AreKnown, ConfigEnds, FilesEnd, ReadEach, SaysSetup, config_of, counted, files_from, or_bad_log}
+use Rattle.diag_workers.specs.Play.{logs_of}
 use Rattle.diag_text.specs.Text.{journal_part, whole_text, replay_text}
 use Rattle.diag_text.specs.declared.fault.RunFault.{RunFault}
 use Rattle.diag_text.specs.declared.fault.RunFault.TheVariants.{Files, JournalLine, Memory, JournalFull, Read, Write, Differs}
@@ -148,9 +149,9 @@ first_text (text ∷ texts) = text
 -- what is answered for what was read
 abbrev pub GivesText : Job → Inputs → Result (List ℕ) RunFault → Type 0
 GivesText (Serial only_journal timing) i answer =
-    GivesPlayed only_journal timing i.setup (logs_of timing i.setup i.texts) answer
+    GivesPlayed only_journal timing i.setup (or_bad_log (logs_of i.setup timing i.texts)) answer
 GivesText (Play only_journal timing) i answer =
-    GivesWoven only_journal timing i.setup (logs_of timing i.setup i.texts) answer
+    GivesWoven only_journal timing i.setup (or_bad_log (logs_of i.setup timing i.texts)) answer
 GivesText Replay i answer = GivesReplayed i.setup (first_text i.texts) answer
 
 -- a text for what was read; a fault of the reading, or of what was read

@@ -2,15 +2,15 @@
 
 ghost use Rattle.std.specs.Prelude.{◌≡◌, ◌≢◌, ℕ, length, map, IfOk, IfErr, Err};
 ghost use Rattle.std.specs.List.{concat};
-ghost use Rattle.diag_run.specs.Files.{logs_of};
+ghost use Rattle.diag_workers.specs.Play.{logs_of};
+ghost use Rattle.diag_run.specs.Files.{or_bad_log};
 ghost use Rattle.diag_run.specs.Run.{GivesPlayed, GivesWoven, GivesReplayed, played_text, answered};
 
-use crate::logs::read_logs;
 use diag_can::Timing;
 use diag_desk::{JournalFault, ReplayFault, read_journal, replay};
 use diag_setup::Setup;
 use diag_text::{RunFault, journal_part, one_part, play_parts, play_text, replay_text};
-use diag_workers::{NoWatch, play};
+use diag_workers::{NoWatch, play, read_logs};
 use diag_world::{Played, serial};
 use std::alloc::Global;
 use std::sync::Wait;
@@ -26,20 +26,17 @@ pub(crate) fn played_text(
 ) -> Result<Vec<Vec<u8>>, RunFault>
     requires { length texts.now ≡ length setup.now.testers }
     ensures gives { GivesPlayed only_journal timing setup.now
-        (logs_of timing setup.now (map (λ text. text.items) texts.now))
+        (or_bad_log (logs_of setup.now timing (map (λ text. text.items) texts.now)))
         (answered (λ parts. concat (map (λ part. part.items) parts.items)) result) }
     ensures device { (n : ℕ) → result ≢ Err (RunFault.Read n) }
 {
-    let logs = match read_logs(alloc, setup, timing, texts) {
-        Ok(logs) => logs,
-        Err(fault) => return Err(fault),
-    };
+    let logs = read_logs(alloc, setup, texts, timing)?;
     let played = serial(alloc, setup, logs.as_slice())?;
     in_one(alloc, setup, &played, only_journal, timing)
 }
 
 /// Plays the logs, a thread for each tester, and says what the play writes.
-#[tactic(auto, using(crate::proofs::Threads::logs_well, crate::proofs::Threads::log_ill))]
+#[tactic(auto, using(crate::proofs::Plays::log_ill))]
 pub(crate) fn woven_text<R: Threads + Wait + Sync>(
     rt: &R,
     alloc: Global,
@@ -50,7 +47,7 @@ pub(crate) fn woven_text<R: Threads + Wait + Sync>(
 ) -> Result<Vec<Vec<u8>>, RunFault>
     requires { length texts.now ≡ length setup.now.testers }
     ensures gives { GivesWoven only_journal timing setup.now
-        (logs_of timing setup.now (map (λ text. text.items) texts.now))
+        (or_bad_log (logs_of setup.now timing (map (λ text. text.items) texts.now)))
         (answered (λ parts. concat (map (λ part. part.items) parts.items)) result) }
     ensures device { (n : ℕ) → result ≢ Err (RunFault.Read n) }
 {

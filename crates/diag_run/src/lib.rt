@@ -6,7 +6,6 @@ mod bus_run;
 mod capture;
 mod ending;
 mod files;
-mod logs;
 mod whole;
 
 pub use bus_run::{run_bus, run_bus_and_tell, run_fault};

@@ -1,5 +1,7 @@
 -- The logs of all testers, as they are read: in order, and the first that is at fault decides.
-use Rattle.std.specs.Prelude.{◌≡◌, ℕ, ◌+◌, List, [], ◌∷◌, Result, Ok, Err}
+use Rattle.std.specs.Prelude.{◌≡◌, ◌≤◌, ℕ, ◌+◌, List, [], ◌∷◌, length, map, Result, Ok, Err, vec_len}
+use Rattle.std.specs.Global.{Vec}
+use Rattle.std.specs.List.{AllByRecursion}
 use Rattle.diag_can.specs.declared.frame.Event.{Event}
 use Rattle.diag_can.specs.declared.log.Timing.{Timing}
 use Rattle.diag_can.specs.declared.fault.LogFault.{LogFault}
@@ -27,12 +29,13 @@ logs_from n setup timing (text ∷ texts) =
 abbrev pub logs_of : RawSetup → Timing → List (List ℕ) → Result (List (List Event)) (ℕ × LogFault)
 logs_of setup timing texts = logs_from 1 setup timing texts
 
--- why a tester's log is not read, where this is what it says
-abbrev pub NotReadAt : ℕ → Result (List Event) LogFault → PlayFault → Type 0
-NotReadAt n log Memory = Unit {0}
-NotReadAt n log (Log who fault) = (who ≡ n) × (log ≡ Err fault)
-NotReadAt n log JournalFull = ⊥
-NotReadAt n log (RecordsDisagree who) = ⊥
+-- what reading a tester's log answers, where this is what it says
+abbrev pub ReadsOne : ℕ → Result (List Event) LogFault → Result (Vec Event) PlayFault → Type 0
+ReadsOne n log (Ok read) = (log ≡ Ok read.items) × (vec_len read ≤ 1000000)
+ReadsOne n log (Err Memory) = Unit {0}
+ReadsOne n log (Err (Log who fault)) = (who ≡ n) × (log ≡ Err fault)
+ReadsOne n log (Err JournalFull) = ⊥
+ReadsOne n log (Err (RecordsDisagree who)) = ⊥
 
 -- why the logs are not read, where this is what they say
 abbrev pub NotRead : Result (List (List Event)) (ℕ × LogFault) → PlayFault → Type 0
@@ -40,3 +43,11 @@ NotRead logs Memory = Unit {0}
 NotRead logs (Log who fault) = logs ≡ Err (who, fault)
 NotRead logs JournalFull = ⊥
 NotRead logs (RecordsDisagree who) = ⊥
+
+-- what reading so many logs answers, where this is what they say: each has at most 1,000,000 events
+abbrev pub Reads : Result (List (List Event)) (ℕ × LogFault) → ℕ
+    → Result (Vec (Vec Event)) PlayFault → Type 0
+Reads logs count (Ok read) = (logs ≡ Ok (map (λ log. log.items) read.items))
+    × (length read.items ≡ count)
+    × AllByRecursion (λ log. vec_len log ≤ 1000000) read.items
+Reads logs count (Err fault) = NotRead logs fault

@@ -14,5 +14,6 @@ pub use crewing::crew;
 pub use diag_gate::{Door, Gate, GateDoor, Guard, Host, LockDoor, Seat, TryFault};
 pub use diag_world::Played;
 pub use playing::{PlayFault, play};
+pub use reading::{read_logs, read_logs_beside};
 pub use watch::{NoWatch, Watch};
 pub use working::{WorkerRecord, work};

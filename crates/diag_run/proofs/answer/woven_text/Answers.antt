@@ -1,7 +1,7 @@
 use Rattle.std.proofs.Common.{◌∙◌, map}
 use Rattle.std.specs.List.{concat}
 use Rattle.std.proofs.lemmas.List.{length-map}
-use Rattle.diag_run.proofs.Threads.{answers_woven, as_many_frames}
+use Rattle.diag_run.proofs.Plays.{answers_woven, as_many_frames}
 use Rattle.diag_run.proofs.answer.woven_text.Goals as goal
 
 pub in_parts-requires-after_bounds : goal.in_parts-requires-after_bounds
