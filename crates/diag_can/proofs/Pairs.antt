@@ -187,7 +187,7 @@ appended-more text old new next count b a enough is more =
       is = more ∙ ap (λ (xs : List ℕ). xs ++ b ∷ []) a.is ∙ append_assoc old a.past (b ∷ []);
     }
 
-is_ok-value : (r : Result (List ℕ) FromHexError) → IsOk r → (bytes : List ℕ) × (r ≡ Ok bytes)
+pub is_ok-value : (r : Result (List ℕ) FromHexError) → IsOk r → (bytes : List ℕ) × (r ≡ Ok bytes)
 is_ok-value (Ok bytes) ok = (bytes, refl)
 is_ok-value (Err e) ok = cc ok
 

@@ -1,6 +1,6 @@
 //! The lines of a capture of a whole bus.
 
-ghost use Rattle.std.specs.Prelude.{◌≡◌};
+ghost use Rattle.std.specs.Prelude.{◌≡◌, IfSome, Ok};
 ghost use Rattle.diag_can.specs.Bus.{bus_line, data_frame, line_says, text_frame};
 ghost use Rattle.diag_can.specs.Line.{line_event};
 ghost use Rattle.diag_can.specs.Bus.{said_for, SameForms};
@@ -11,6 +11,7 @@ use crate::line::{frame_data, hex_run, id_of, is_passed_over, short_id};
 use crate::log::without_return;
 use crate::read::{stamped_frame, tick_count};
 use crate::stamp::behind;
+use crate::usual::{pair_bytes, usual_frame, usual_moment};
 
 /// What a line of a capture says.
 #[derive(Debug, Drop)]
@@ -42,7 +43,7 @@ fn text_frame(text: &[u8]) -> Result<Option<Frame>, LineFault>
     ensures { result ≡ text_frame text.now }
 {
     match short_id(text) {
-        Some((id, rest)) => data_frame(id, rest),
+        Some(id) => data_frame(id, &text[4..]),
         None => other_frame(text),
     }
 }
@@ -62,7 +63,21 @@ fn other_frame(text: &[u8]) -> Result<Option<Frame>, LineFault>
     }
 }
 
-/// What a line without its end says.
+/// What a line of the usual form says; None of another line.
+#[inline(always)]
+fn usual_says(line: &[u8]) -> Option<BusLine>
+    ensures { IfSome result (λ said. line_says line.now ≡ Ok said) }
+{
+    let (id, at) = usual_frame(line)?;
+    let bytes = pair_bytes(&line[at..]);
+    Some(BusLine::Stamped {
+        moment: usual_moment(line),
+        frame: Some(Frame { id, bytes }),
+    })
+}
+
+/// What a line without its end says, whatever its form is.
+#[inline(never)]
 fn line_says(line: &[u8]) -> Result<BusLine, LineFault>
     ensures { result ≡ line_says line.now }
 {
@@ -91,7 +106,11 @@ pub fn read_bus_line(piece: &[u8]) -> Result<BusLine, LineFault>
     if piece.len() > LONGEST_LINE {
         return Err(LineFault::BadLine);
     }
-    line_says(without_return(piece))
+    let line = without_return(piece);
+    match usual_says(line) {
+        Some(said) => Ok(said),
+        None => line_says(line),
+    }
 }
 
 /// A line of a capture says of each tester what a log's line does.

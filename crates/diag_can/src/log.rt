@@ -2,11 +2,13 @@
 
 ghost use Rattle.std.specs.Prelude.{◌≡◌, ◌≢◌, ◌<◌, ◌≤◌, ◌⊎◌, [], ◌∷◌, ◌++◌, length, MatchOption, IfOk, IfErr, OnOk};
 ghost use Rattle.diag_can.specs.Line.{frame_moment};
-ghost use Rattle.diag_can.specs.Log.{without_return, lines_of, silence, waited, line_gives, events};
+ghost use Rattle.memchr.specs.Find.{IsFirstByte};
+ghost use Rattle.diag_can.specs.Log.{is_feed, without_return, lines_of, silence, waited, line_gives, events};
 ghost use Rattle.diag_can.specs.Reading.{later, fault_with};
 
 use crate::fault::LogFault;
 use crate::frame::{Event, Ids, TickCount};
+use crate::lanes::line_run;
 use crate::read::timed_event;
 use memchr::memchr;
 use std::alloc::Global;
@@ -84,7 +86,22 @@ pub fn without_return(line: &[u8]) -> &[u8]
     }
 }
 
+/// The place of the first LF. Most lines are short, and are looked at in one step.
+#[inline(always)]
+fn line_end(text: &[u8]) -> Option<usize>
+    ensures { IsFirstByte is_feed text.now result }
+{
+    if text.len() >= 64 {
+        let run = line_run(text);
+        if run < 64 {
+            return Some(run);
+        }
+    }
+    memchr(b'\n', text)
+}
+
 /// The first line of a text and what follows its LF, or None of an empty text.
+#[inline(always)]
 fn next_line(text: &[u8]) -> Option<(&[u8], &[u8])>
     ensures { MatchOption result (text.now ≡ []) (λ r.
         lines_of text.now ≡ r.0.now ∷ lines_of r.1.now) }
@@ -92,7 +109,7 @@ fn next_line(text: &[u8]) -> Option<(&[u8], &[u8])>
     if text.is_empty() {
         return None;
     }
-    match memchr(b'\n', text) {
+    match line_end(text) {
         None => Some((without_return(text), &[])),
         Some(end) => Some((without_return(&text[..end]), &text[end + 1..])),
     }
@@ -145,6 +162,9 @@ fn push_time(events: &mut Vec<Event>, ms: u64) -> Result<(), LogFault>
         ((fault ≡ LogFault.TooManyEvents) × (1000000 < length (events.old.items ++ waited ms)))
         ⊎ (fault ≡ LogFault.Memory)) }
 {
+    if ms == 0 {
+        return Ok(());
+    }
     for _ in 0..ms / 60000 {
         push_event(events, Event::Ticks(TickCount::longest()))?;
     }

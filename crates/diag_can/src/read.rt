@@ -1,6 +1,6 @@
 //! What a line of a log is to a tester.
 
-ghost use Rattle.std.specs.Prelude.{◌≡◌, option_map, IfOk};
+ghost use Rattle.std.specs.Prelude.{◌≡◌, option_map, IfOk, IfSome, Ok};
 ghost use Rattle.std.specs.List.{list_all};
 ghost use Rattle.diag_can.specs.Stamp.{is_digit};
 ghost use Rattle.diag_can.specs.Line.{is_decimal, ticks_of, tick_count, stamped_frame, line_event, frame_moment};
@@ -10,6 +10,7 @@ use crate::fault::LineFault;
 use crate::frame::{Event, Ids, TickCount};
 use crate::line::frame_event;
 use crate::stamp::{behind_name, decimal_value, is_digit, stamp_of};
+use crate::usual::{pair_bytes, usual_frame, usual_moment};
 
 /// Whether each byte is a decimal digit.
 fn is_all_digits(text: &[u8]) -> bool
@@ -81,8 +82,41 @@ impl Timed {
     }
 }
 
+/// What a line of the usual form is to the tester, with its moment; None of another line.
+#[inline(always)]
+fn usual_event(line: &[u8], ids: &Ids) -> Option<Timed>
+    ensures event { IfSome result (λ timed. line_event line.now ids.now ≡ Ok timed.event) }
+    ensures moment { IfSome result (λ timed. timed.moment ≡ frame_moment ids.now line.now) }
+{
+    let (id, at) = usual_frame(line)?;
+    let event = if id == ids.request {
+        Event::Physical(pair_bytes(&line[at..]))
+    } else if id == ids.functional {
+        Event::Functional(pair_bytes(&line[at..]))
+    } else {
+        return Some(Timed::without_moment(None));
+    };
+    Some(Timed {
+        event: Some(event),
+        moment: Some(usual_moment(line)),
+    })
+}
+
 /// What a whole line is to the tester, with its moment.
+#[inline(always)]
 pub fn timed_event(line: &[u8], ids: &Ids) -> Result<Timed, LineFault>
+    ensures event { IsGiven result (line_event line.now ids.now) }
+    ensures moment { IfOk result (λ timed. timed.moment ≡ frame_moment ids.now line.now) }
+{
+    match usual_event(line, ids) {
+        Some(timed) => Ok(timed),
+        None => other_line_event(line, ids),
+    }
+}
+
+/// The same, whatever the form of the line is.
+#[inline(never)]
+fn other_line_event(line: &[u8], ids: &Ids) -> Result<Timed, LineFault>
     ensures event { IsGiven result (line_event line.now ids.now) }
     ensures moment { IfOk result (λ timed. timed.moment ≡ frame_moment ids.now line.now) }
 {

@@ -125,7 +125,7 @@ fn seconds_of(text: &[u8]) -> Option<(u64, &[u8])>
 }
 
 /// The number that three digits at the front write.
-fn thousandths(fraction: &[u8]) -> u64
+pub fn thousandths(fraction: &[u8]) -> u64
     requires digits { AllPass is_digit fraction.now }
     requires enough { 6 ≤ length fraction.now }
     ensures value { result ≡ decimal_value (take 3 fraction.now) }

@@ -1,0 +1,111 @@
+-- From the mask of one look at many bytes to the bytes that pass a test.
+use Rattle.std.proofs.Common.{◌≡◌, ℕ, ◌+◌, ◌-◌, ◌*◌, ◌/◌, ◌%◌, ◌^◌, ◌<◌, ◌≤◌, Bool, true, false, not, cond, List, [], ◌∷◌, map, length, get_or, replicate, Some, Fits, w8, refl, sym, ap, ap₂, ◌∙◌, subst, arith, inl, inr}
+use Rattle.std.proofs.lemmas.Bool.{false≢true, agree_below, agree_below_at, not-true, not-false, cases_eq, eq-eqb, ne_eqb, cond-true, cond-false}
+use Rattle.std.proofs.lemmas.Simd.{map-map, mask_l-mod, length-chunk, get_or-chunk, bit_mask_l, leading_from_mask_l, trailing_mask_l}
+use Rattle.std.proofs.lemmas.List.{length-map, get_or-map}
+use Rattle.std.proofs.lemmas.List.Sums.{prefix_len-le-length, prefix_len_passes, prefix_len_stops}
+use Rattle.std.specs.List.{prefix_len}
+use lib.Lanes.{chunk, zip2, mask_l, top}
+use Rattle.std.proofs.Math.Nat.{pow-le-pow_right, div-lt_iff_lt-mul, div-eq_of_lt}
+use Rattle.std.proofs.lemmas.Nat.{pow_pos}
+use Rattle.memchr.specs.Find.{IsFirstByte}
+use Rattle.diag_can.specs.Lanes.{IsRunIn, first_set}
+
+zip2-map : (h : ℕ → ℕ → ℕ) (f g : ℕ → ℕ) (xs : List ℕ) → zip2 h (map f xs) (map g xs) ≡ map (λ x. h (f x) (g x)) xs
+zip2-map h f g [] = refl
+zip2-map h f g (x ∷ xs) = ap (λ r. h (f x) (g x) ∷ r) (zip2-map h f g xs)
+
+-- an operation on two vectors that were computed lane by lane from v
+pub joined : (h : ℕ → ℕ → ℕ) (f g : ℕ → ℕ) (v : List ℕ) {a b : List ℕ} → a ≡ map f v → b ≡ map g v → zip2 h a b ≡ map (λ x. h (f x) (g x)) v
+joined h f g v p q = ap₂ (zip2 h) p q ∙ zip2-map h f g v
+
+pub splat_is : (v : List ℕ) (n y : ℕ) → length v ≡ n → replicate n y ≡ map (λ _. y) v
+splat_is [] n y e = ap (λ k. replicate k y) (sym e)
+splat_is (x ∷ xs) n y e = ap (λ k. replicate k y) (sym e) ∙ ap (λ r. y ∷ r) (splat_is xs (length xs) y refl)
+
+run_is : (p : ℕ → Bool) (v : List ℕ) (n : ℕ) → length v ≡ n → n ≤ 64 → first_set (mask_l (map p v)) n ≡ prefix_len (λ x. not (p x)) v
+run_is p v n long few =
+    elim (cases_eq (mask_l (map p v)) 0) [
+      | inl none ↦ cond-true _ _ _ (eq-eqb _ _ none) ∙ sym (leading_from_mask_l p v none ∙ long)
+      | inr some ↦ cond-false _ _ _ (ne_eqb _ _ some) ∙ trailing_mask_l p 64 v (omega arith) (omega arith)
+    ]
+
+module _ (q : ℕ → Bool) (d : List ℕ) (i n r : ℕ) (z : List ℕ) (room : i + n ≤ length d) (few : n ≤ 64)
+    (fits : (k : ℕ) → Fits w8 (get_or d k 0)) (found : r ≡ first_set (mask_l (map (top 7) z) % 2 ^ 64) n)
+    (f : ℕ → ℕ) (lanes : z ≡ map f (chunk i n d)) where
+  abbrev stopped : ℕ → Bool
+  stopped x = top 7 (f x)
+
+  long : length (chunk i n d) ≡ n
+  long = length-chunk i n d room
+
+  counted : r ≡ prefix_len (λ x. not (stopped x)) (chunk i n d)
+  counted =
+      let v = chunk i n d in
+      let mask = ap (λ l. mask_l l % 2 ^ 64) (ap (map (top 7)) lanes ∙ map-map (top 7) f v) ∙ mask_l-mod (map stopped v) 64 (omega (arith, length-map v stopped, long)) in
+      found ∙ ap (λ m. first_set m n) mask ∙ run_is stopped v n long few
+
+  goes_on : (k : ℕ) → i ≤ k → k < i + r → stopped (get_or d k 0) ≡ false
+  goes_on k from to =
+      let back : i + (k - i) ≡ k = omega arith in
+      let bound = prefix_len-le-length (λ x. not (stopped x)) (chunk i n d) in
+      let at = get_or-chunk i n d (k - i) 0 (omega (arith, counted, long)) ∙ ap (λ j. get_or d j 0) back in
+      subst (λ x. stopped x ≡ false) at (not-true _ (prefix_len_passes (λ x. not (stopped x)) (chunk i n d) (k - i) 0 (omega (arith, counted))))
+
+  -- a lane stops just where q fails
+  pub run_in : agree_below stopped (λ x. not (q x)) 256 ≡ true → IsRunIn q d i n r
+  run_in all = record {
+    in_range = omega (arith, counted, long, prefix_len-le-length (λ x. not (stopped x)) (chunk i n d));
+    pass = λ k from to. not-false _ (sym (agree_below_at stopped (λ x. not (q x)) 256 (get_or d k 0) all (fits k).fits) ∙ goes_on k from to);
+    stops = λ short.
+        let at = ap (λ j. get_or (chunk i n d) j 0) (sym counted) ∙ get_or-chunk i n d r 0 short in
+        let set = subst (λ x. stopped x ≡ true) at (not-false _ (prefix_len_stops (λ x. not (stopped x)) (chunk i n d) 0 (omega (arith, counted, long)))) in
+        not-true _ (sym (agree_below_at stopped (λ x. not (q x)) 256 (get_or d (i + r) 0) all (fits (i + r)).fits) ∙ set);
+  }
+
+-- no bit from this place on is set
+bit_past : (m s i : ℕ) → m / 2 ^ s ≡ 0 → s ≤ i → m / 2 ^ i ≡ 0
+bit_past m s i none le =
+    let below : m < 1 * 2 ^ s = (div-lt_iff_lt-mul (pow_pos s)).0 (omega (arith, none)) in
+    let more = pow-le-pow_right {n = 2} (omega arith) le in
+    div-eq_of_lt (omega (arith, below, more))
+
+unset : (b : Bool) → cond {A = ℕ} b 1 0 ≡ 0 → b ≡ false
+unset true is = absurd (omega arith)
+unset false is = refl
+
+module _ (q : ℕ → Bool) (d : List ℕ) (i n s : ℕ) (z : List ℕ) (room : i + n ≤ length d) (few : n ≤ 64)
+    (fits : (k : ℕ) → Fits w8 (get_or d k 0)) (found : mask_l (map (top 7) z) % 2 ^ 64 / 2 ^ s ≡ 0)
+    (f : ℕ → ℕ) (lanes : z ≡ map f (chunk i n d)) where
+  abbrev past : ℕ → Bool
+  past x = top 7 (f x)
+
+  mask_is : mask_l (map (top 7) z) % 2 ^ 64 ≡ mask_l (map past (chunk i n d))
+  mask_is =
+      let v = chunk i n d in
+      ap (λ l. mask_l l % 2 ^ 64) (ap (map (top 7)) lanes ∙ map-map (top 7) f v) ∙ mask_l-mod (map past v) 64 (omega (arith, length-map v past, length-chunk i n d room))
+
+  -- where no lane past the first s stops, each byte there passes q
+  pub tail_in : agree_below past (λ x. not (q x)) 256 ≡ true → (k : ℕ) → i + s ≤ k → k < i + n → q (get_or d k 0) ≡ true
+  tail_in all k from to =
+      let v = chunk i n d in
+      let j : ℕ = k - i in
+      let back : i + j ≡ k = omega arith in
+      let none : mask_l (map past v) / 2 ^ s ≡ 0 = ap (λ m. m / 2 ^ s) (sym mask_is) ∙ found in
+      let here : mask_l (map past v) / 2 ^ j ≡ 0 = bit_past (mask_l (map past v)) s j none (omega arith) in
+      let bit : cond {A = ℕ} (get_or (map past v) j false) 1 0 ≡ 0 = sym (bit_mask_l (map past v) j) ∙ ap (λ m. m % 2) here in
+      let lane : get_or (map past v) j false ≡ past (get_or v j 0) = get_or-map past v j 0 false (omega (arith, length-chunk i n d room)) in
+      let at : get_or v j 0 ≡ get_or d k 0 = get_or-chunk i n d j 0 (omega arith) ∙ ap (λ m. get_or d m 0) back in
+      not-false _ (sym (agree_below_at past (λ x. not (q x)) 256 (get_or d k 0) all (fits k).fits) ∙ ap past (sym at) ∙ sym lane ∙ unset _ bit)
+
+-- where the run ends inside, the first byte that ends it stands there
+pub first_byte : (test : ℕ → Bool) (text : List ℕ) (n r : ℕ) → n ≤ length text → r < n → IsRunIn (λ c. not (test c)) text 0 n r → IsFirstByte test text (Some r)
+first_byte test text n r le lt run =
+    let at : 0 + r ≡ r = omega arith in (
+      record {
+        low = omega arith;
+        high = omega arith;
+        before = λ k from to is. false≢true (sym (not-true _ (run.pass k from (omega arith))) ∙ is);
+      },
+      not-false _ (ap (λ j. not (test (get_or text j 0))) (sym at) ∙ run.stops lt),
+    )

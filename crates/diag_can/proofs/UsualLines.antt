@@ -1,0 +1,230 @@
+-- Lines of the usual form.
+use Rattle.std.proofs.Common.{◌≡◌, ℕ, ◌+◌, ◌-◌, ◌%◌, ◌<◌, ◌≤◌, ◌==◌, ◌&&◌, ◌||◌, nat_le, nat_lt, Bool, true, false, List, [], ◌∷◌, length, take, drop, get_or, Some, None, Ok, refl, sym, ap, ◌∙◌, arith, add-one, length-drop, drop-drop, drop-cons, inl, inr}
+use Rattle.std.specs.Prelude.{IsOk}
+use Rattle.std.specs.List.{AllPass, prefix_len}
+use Rattle.std.proofs.lemmas.Bool.{eq-eqb, ne_eqb, not-true, not-false, eqb-true, cases_eq}
+use Rattle.std.proofs.lemmas.Bool.Decides.{nat_tests}
+use Rattle.std.proofs.lemmas.List.{get_or-drop, get_or-take, take_all, drop_all, length-take-le}
+use Rattle.std.proofs.lemmas.List.Sums.{prefix_len_is}
+use Rattle.std.proofs.lemmas.List.Elements.{All-from_get_or}
+use Rattle.std.proofs.lemmas.Grind.{get_or_default_zero}
+use Rattle.hex.specs.Hex.{is_hex_digit, decode_of}
+use Rattle.hex.proofs.HexLemmas.{decode_of-digits}
+use Rattle.diag_can.specs.Stamp.{is_digit, is_space, is_no_space, behind, behind_run, digits_of, moment_of}
+use Rattle.diag_can.proofs.Pairs.{is_ok-value}
+use Rattle.diag_can.specs.declared.frame.Event.TheVariants.{Physical, Functional}
+use Rattle.diag_can.specs.declared.bus.BusLine.TheVariants.{Stamped}
+use Rattle.diag_can.specs.Line.{line_event, frame_moment, event_moment, stamped_frame, is_time, is_passed_over, frame_data, frame_event, event_of, id_of}
+use Rattle.diag_can.specs.Bus.{line_says, text_frame, frame_of}
+use Rattle.diag_can.specs.Lanes.{IsRunIn}
+use Rattle.diag_can.specs.Usual.{IsFramed, IsUsual, usual_moment}
+use Rattle.diag_can.specs.declared.frame.Ids.{Ids}
+
+-- ---- parts of a line, by the bytes that stand there
+
+behind_at : (byte : ℕ) (xs : List ℕ) (i : ℕ) → i < length xs → get_or xs i 0 ≡ byte → behind byte (drop i xs) ≡ Some (drop (i + 1) xs)
+behind_at byte xs i lt is =
+    let here = drop-cons xs i 0 lt in
+    let same : (get_or xs i 0 == byte) ≡ true = eq-eqb _ _ is in
+    rw (here, same) (ap (λ (k : ℕ). Some (drop k xs)) (sym (add-one i)))
+
+run_at : (p : ℕ → Bool) (xs : List ℕ) (i n : ℕ) → i + n < length xs → ((k : ℕ) → k < n → p (get_or xs (i + k) 0) ≡ true) → p (get_or xs (i + n) 0) ≡ false → prefix_len p (drop i xs) ≡ n
+run_at p xs i n lt all stop =
+    prefix_len_is p (drop i xs) n 0 (omega (arith, length-drop i xs)) (λ k below. ap p (get_or-drop i xs k 0) ∙ all k below) (λ _. ap p (get_or-drop i xs n 0) ∙ stop)
+
+digits_at : (least most n : ℕ) (xs : List ℕ) (i : ℕ) → (nat_le least n && nat_le n most) ≡ true → prefix_len is_digit (drop i xs) ≡ n
+    → digits_of least most (drop i xs) ≡ Some (take n (drop i xs), drop (i + n) xs)
+digits_at least most n xs i within run = rw (run, within) (ap (λ (rest : List ℕ). Some (take n (drop i xs), rest)) (drop-drop n i xs))
+
+skip_at : (p : ℕ → Bool) (n : ℕ) (xs : List ℕ) (i : ℕ) → 0 < n → prefix_len p (drop i xs) ≡ n → behind_run p (drop i xs) ≡ Some (drop (i + n) xs)
+skip_at p n xs i some run =
+    let filled : (n == 0) ≡ false = grind (arith, nat_tests) in
+    rw (run, filled) (ap (λ (rest : List ℕ). Some rest) (drop-drop n i xs))
+
+-- one space, and no second
+one_space : (xs : List ℕ) (i : ℕ) → i + 1 < length xs → get_or xs i 0 ≡ 32 → (get_or xs (i + 1) 0 == 32) ≡ false → behind_run is_space (drop i xs) ≡ Some (drop (i + 1) xs)
+one_space xs i lt is next =
+    skip_at is_space 1 xs i (omega arith) (run_at is_space xs i 1 lt (λ k below. let first : i + k ≡ i = omega arith in rw first (eq-eqb _ _ is)) next)
+
+-- a line from its parts
+stamped_from : (line seconds fraction a b c d e f g h : List ℕ) → behind 40 line ≡ Some a → digits_of 1 12 a ≡ Some (seconds, b) → behind 46 b ≡ Some c → digits_of 6 9 c ≡ Some (fraction, d)
+    → behind 41 d ≡ Some e → behind_run is_space e ≡ Some f → behind_run is_no_space f ≡ Some g → behind_run is_space g ≡ Some h
+    → stamped_frame line ≡ Some (moment_of seconds fraction, h)
+stamped_from line seconds fraction a b c d e f g h p q r s t u v w = rw (p, q, r, s, t, u, v, w) refl
+
+no_time : (line : List ℕ) → 0 < length line → get_or line 0 0 ≡ 40 → is_time line ≡ false
+no_time [] some is = absurd (omega arith)
+no_time (c ∷ line) some is = let first : c ≡ 40 = is in rw first refl
+
+run_of : (p : ℕ → Bool) (xs : List ℕ) (i w n : ℕ) → i + w ≤ length xs → n < w → IsRunIn p xs i w n → prefix_len p (drop i xs) ≡ n
+run_of p xs i w n le lt r = run_at p xs i n (omega arith) (λ k below. r.pass (i + k) (omega arith) (omega arith)) (r.stops lt)
+
+pub framed : (line : List ℕ) (word : ℕ) → 28 ≤ length line → get_or line 0 0 ≡ 40 → IsRunIn is_digit line 1 16 10 → get_or line 11 0 ≡ 46 → IsRunIn is_digit line 12 8 6 → get_or line 18 0 ≡ 41
+    → get_or line 19 0 ≡ 32 → IsRunIn is_no_space line 20 8 word → 1 ≤ word → word ≤ 6 → (get_or line (21 + word) 0 == 32) ≡ false → IsFramed line (21 + word)
+framed line word long begins seconds dot fraction close space name some few next =
+    let before : (get_or line 20 0 == 32) ≡ false = not-true _ (name.pass 20 (omega arith) (omega arith)) in
+    let at : 20 + word + 1 ≡ 21 + word = omega arith in
+    let behind_name : get_or line (20 + word) 0 ≡ 32 = eqb-true _ _ (not-false _ (name.stops (omega arith))) in
+    let last = one_space line (20 + word) (omega arith) behind_name (rw at next) in
+    record {
+      long = long;
+      inside = omega arith;
+      seconds = seconds;
+      fraction = fraction;
+      is_frame = no_time line (omega arith) begins;
+      stamped = stamped_from line (take 10 (drop 1 line)) (take 6 (drop 12 line)) (drop 1 line) (drop 11 line) (drop 12 line) (drop 18 line) (drop 19 line) (drop 20 line) (drop (20 + word) line) (drop (21 + word) line)
+          (behind_at 40 line 0 (omega arith) begins)
+          (digits_at 1 12 10 line 1 refl (run_of is_digit line 1 16 10 (omega arith) (omega arith) seconds))
+          (behind_at 46 line 11 (omega arith) dot)
+          (digits_at 6 9 6 line 12 refl (run_of is_digit line 12 8 6 (omega arith) (omega arith) fraction))
+          (behind_at 41 line 18 (omega arith) close)
+          (one_space line 19 (omega arith) space before)
+          (skip_at is_no_space word line 20 (omega arith) (run_of is_no_space line 20 8 word (omega arith) (omega arith) name))
+          (rw at at last);
+    }
+
+-- ---- data that are hex digits alone
+
+all_run : (xs : List ℕ) → AllPass is_hex_digit xs → prefix_len is_hex_digit xs ≡ length xs
+all_run xs all = prefix_len_is is_hex_digit xs (length xs) 0 (omega arith) (λ k below. all k 0 below) (λ lt. absurd (omega arith))
+
+data_from_digits : (rest bytes : List ℕ) → AllPass is_hex_digit rest → length rest ≤ 16 → length rest % 2 ≡ 0 → decode_of rest ≡ Ok bytes → frame_data rest ≡ Ok bytes
+data_from_digits rest bytes all few even is =
+    let count = all_run rest all in
+    let fits : nat_lt 16 (length rest) ≡ false = grind (arith, nat_tests) in
+    let whole : (length rest % 2 == 1) ≡ false = grind (arith, nat_tests) in
+    let none = drop_all (length rest) rest (omega arith) in
+    let taken = take_all (length rest) rest (omega arith) in
+    rw (count, fits, whole, none, taken, is) refl
+
+no_mark : (c : ℕ) → is_hex_digit c ≡ true → ((c == 35) || (c == 82)) ≡ false
+no_mark c digit =
+    elim (cases_eq c 35) [
+      | inl hash ↦ cc (sym (ap is_hex_digit hash) ∙ digit)
+      | inr other ↦ elim (cases_eq c 82) [
+        | inl remote ↦ cc (sym (ap is_hex_digit remote) ∙ digit)
+        | inr plain ↦ let first = ne_eqb c 35 other in let second = ne_eqb c 82 plain in rw (first, second) refl
+      ]
+    ]
+
+not_passed : (rest : List ℕ) → AllPass is_hex_digit rest → is_passed_over rest ≡ false
+not_passed [] all = refl
+not_passed (c ∷ rest) all = no_mark c (all 0 0 (omega arith))
+
+three_of : (text : List ℕ) → 4 ≤ length text → (length (take 3 text) == 8) ≡ false
+three_of text le = let three = length-take-le 3 text (omega arith) in rw three refl
+
+module _ (text rest : List ℕ) (id : ℕ) (run : prefix_len is_hex_digit text ≡ 3) (long : 4 ≤ length text) (is : id_of (take 3 text) ≡ Some id) (hash : behind 35 (drop 3 text) ≡ Some rest)
+    (all : AllPass is_hex_digit rest) where
+  frame_event-is : (ids : Ids) → frame_event ids text ≡ event_of ids id (frame_data rest)
+  frame_event-is ids = let short = three_of text long in let data_only = not_passed rest all in rw (run, hash, short, is, data_only) refl
+
+  text_frame-is : text_frame text ≡ frame_of id (frame_data rest)
+  text_frame-is = let short = three_of text long in let data_only = not_passed rest all in rw (run, hash, short, is, data_only) refl
+
+is_ok-from : (rest bytes : List ℕ) → decode_of rest ≡ Ok bytes → IsOk (decode_of rest)
+is_ok-from rest bytes is = rw is refl
+
+pub usual : (line : List ℕ) (place id at : ℕ) → IsFramed line place → at ≡ place + 4 → at ≤ length line → prefix_len is_hex_digit (drop place line) ≡ 3
+    → id_of (take 3 (drop place line)) ≡ Some id → behind 35 (drop 3 (drop place line)) ≡ Some (drop at line)
+    → length line ≤ at + 16 → (length line - at) % 2 ≡ 0 → ((k : ℕ) → at ≤ k → k < length line → is_hex_digit (get_or line k 0) ≡ true) → IsUsual line id at
+usual line place id at framed four inside run is hash few even digits =
+    let rest : List ℕ = drop at line in
+    let text : List ℕ = drop place line in
+    let count : length rest ≡ length line - at = length-drop at line in
+    let all : AllPass is_hex_digit rest = All-from_get_or (λ c. is_hex_digit c ≡ true) rest 0 (λ k below. ap is_hex_digit (get_or-drop at line k 0) ∙ digits (at + k) (omega arith) (omega arith)) in
+    let long : 4 ≤ length text = omega (arith, length-drop place line) in
+    let value = decode_of-digits rest (ap (λ (n : ℕ). n % 2) count ∙ even) all in
+    record {
+      place = place;
+      framed = framed;
+      event = frame_event-is text rest id run long is hash all;
+      frame = text_frame-is text rest id run long is hash all;
+      inside = inside;
+      few = omega arith;
+      hex = is_ok-from rest value.0 value.1;
+      decoded = λ bytes was. data_from_digits rest bytes all (omega arith) (ap (λ (n : ℕ). n % 2) count ∙ even) was;
+    }
+
+-- the same, from the parts that were read
+pub usual_parts : (line : List ℕ) (place id : ℕ) (text : List ℕ) → IsFramed line place → text ≡ take (length line - place) (drop place line)
+    → prefix_len is_hex_digit text ≡ 3 → id_of (take 3 text) ≡ Some id → behind 35 (drop 3 text) ≡ Some (drop 4 text) → 4 ≤ length text
+    → length line - (place + 4) ≤ 16 → (length line - (place + 4)) % 2 ≡ 0
+    → ((k : ℕ) → length line - (length line - (place + 4)) ≤ k → k < length line → is_hex_digit (get_or line k 0) ≡ true)
+    → IsUsual line id (place + 4)
+usual_parts line place id text framed cut run is hash long few even digits =
+    let whole : text ≡ drop place line = cut ∙ take_all (length line - place) (drop place line) (omega (arith, length-drop place line)) in
+    let behind_hash : drop 4 text ≡ drop (place + 4) line = ap (drop 4) whole ∙ drop-drop 4 place line in
+    let room : place + 4 ≤ length line = (let inside = framed.inside in omega (arith, ap length whole, length-drop place line)) in
+    usual line place id (place + 4) framed refl room (ap (prefix_len is_hex_digit) (sym whole) ∙ run)
+    (ap (λ (t : List ℕ). id_of (take 3 t)) (sym whole) ∙ is)
+    (ap (λ (t : List ℕ). behind 35 (drop 3 t)) (sym whole) ∙ hash ∙ ap (λ (t : List ℕ). Some t) behind_hash)
+    (omega arith) even (λ k from to. digits k (omega arith) to)
+
+-- ---- digits of a run
+
+pub passes-front : (p : ℕ → Bool) (xs : List ℕ) (n : ℕ) → n ≤ length xs → AllPass p xs → AllPass p (take n xs)
+passes-front p xs n le all = λ k d lt.
+    let inside : k < n = omega (arith, lt, length-take-le n xs le) in
+    ap p (get_or-take n xs k d inside) ∙ all k d (omega (arith, inside, le))
+
+pub passes-run : (p : ℕ → Bool) (xs : List ℕ) (i w n : ℕ) → i + n ≤ length xs → IsRunIn p xs i w n → AllPass p (take n (drop i xs))
+passes-run p xs i w n le r = λ k d lt.
+    let count = length-take-le n (drop i xs) (omega (arith, length-drop i xs)) in
+    let inside : k < n = omega (arith, lt, count) in
+    ap p (get_or-take n (drop i xs) k d inside ∙ get_or-drop i xs k d ∙ get_or_default_zero xs (i + k) d (omega (arith, inside, le))) ∙ r.pass (i + k) (omega arith) (omega (arith, inside))
+
+-- ---- what such a line says
+
+module _ (line : List ℕ) (id at : ℕ) (u : IsUsual line id at) where
+  says-event : (ids : Ids) → line_event line ids ≡ event_of ids id (frame_data (drop at line))
+  says-event ids = go line u.framed.long u.framed.is_frame u.framed.stamped ∙ u.event ids
+    where
+      go : (xs : List ℕ) → 28 ≤ length xs → is_time xs ≡ false → stamped_frame xs ≡ Some (usual_moment line, drop u.place line) → line_event xs ids ≡ frame_event ids (drop u.place line)
+      go [] long plain is = absurd (omega arith)
+      go (c ∷ xs) long plain is = rw (plain, is) refl
+
+  moment-event : (ids : Ids) → frame_moment ids line ≡ event_moment (usual_moment line) (event_of ids id (frame_data (drop at line)))
+  moment-event ids = let plain = u.framed.is_frame in let is = u.framed.stamped in let event = u.event ids in rw (plain, is, event) refl
+
+  -- of what stands behind the `#`
+  pub usual-hex : (text : List ℕ) → text ≡ take (length line - at) (drop at line) → IsOk (decode_of text)
+  usual-hex text cut = let whole : text ≡ drop at line = cut ∙ take_all (length line - at) (drop at line) (omega (arith, length-drop at line)) in rw whole u.hex
+
+  pub usual-few : (text : List ℕ) → text ≡ take (length line - at) (drop at line) → length text ≤ 16
+  usual-few text cut = let whole : text ≡ drop at line = cut ∙ take_all (length line - at) (drop at line) (omega (arith, length-drop at line)) in rw whole u.few
+
+  data-is : (text bytes : List ℕ) → text ≡ take (length line - at) (drop at line) → decode_of text ≡ Ok bytes → frame_data (drop at line) ≡ Ok bytes
+  data-is text bytes cut is =
+      let whole : text ≡ drop at line = cut ∙ take_all (length line - at) (drop at line) (omega (arith, length-drop at line)) in
+      u.decoded bytes (ap decode_of (sym whole) ∙ is)
+
+  pub is-physical : (ids : Ids) (text bytes : List ℕ) → text ≡ take (length line - at) (drop at line) → decode_of text ≡ Ok bytes → (id == ids.request) ≡ true
+      → (line_event line ids ≡ Ok (Some (Physical bytes))) × (Some (usual_moment line) ≡ frame_moment ids line)
+  is-physical ids text bytes cut is own =
+      let all = data-is text bytes cut is in
+      (says-event ids ∙ rw (all, own) refl, sym (moment-event ids ∙ rw (all, own) refl))
+
+  pub is-functional : (ids : Ids) (text bytes : List ℕ) → text ≡ take (length line - at) (drop at line) → decode_of text ≡ Ok bytes → (id == ids.request) ≡ false → (id == ids.functional) ≡ true
+      → (line_event line ids ≡ Ok (Some (Functional bytes))) × (Some (usual_moment line) ≡ frame_moment ids line)
+  is-functional ids text bytes cut is other own =
+      let all = data-is text bytes cut is in
+      (says-event ids ∙ rw (all, other, own) refl, sym (moment-event ids ∙ rw (all, other, own) refl))
+
+  pub is-foreign : (ids : Ids) → (id == ids.request) ≡ false → (id == ids.functional) ≡ false
+      → (line_event line ids ≡ Ok None) × (None ≡ frame_moment ids line)
+  is-foreign ids other another =
+      let value = is_ok-value (decode_of (drop at line)) u.hex in
+      let all = u.decoded value.0 value.1 in
+      (says-event ids ∙ rw (all, other, another) refl, sym (moment-event ids ∙ rw (all, other, another) refl))
+
+  pub says-frame : (text bytes : List ℕ) → text ≡ take (length line - at) (drop at line) → decode_of text ≡ Ok bytes
+      → line_says line ≡ Ok (Stamped (usual_moment line) (Some (record { id = id; bytes = bytes })))
+  says-frame text bytes cut is =
+      let all = data-is text bytes cut is in
+      go line u.framed.long u.framed.is_frame u.framed.stamped (u.frame ∙ ap (frame_of id) all)
+    where
+      go : (xs : List ℕ) → 28 ≤ length xs → is_time xs ≡ false → stamped_frame xs ≡ Some (usual_moment line, drop u.place line)
+          → text_frame (drop u.place line) ≡ Ok (Some (record { id = id; bytes = bytes })) → line_says xs ≡ Ok (Stamped (usual_moment line) (Some (record { id = id; bytes = bytes })))
+      go [] long plain stamp frame = absurd (omega arith)
+      go (c ∷ xs) long plain stamp frame = rw (plain, stamp, frame) refl

@@ -1,0 +1,32 @@
+-- Lines of the usual form: ten digits of seconds and six of the fraction, and nothing but the frame's digits behind its `#`.
+use Rattle.std.specs.Prelude.{◌≡◌, ℕ, ◌≤◌, ◌<◌, IsOk, List, length, take, drop, Some, Ok, false}
+use Rattle.hex.specs.Hex.{decode_of}
+use Rattle.diag_can.specs.Stamp.{is_digit, moment_of}
+use Rattle.diag_can.specs.Line.{event_of, frame_data, frame_event, is_time, stamped_frame}
+use Rattle.diag_can.specs.Bus.{frame_of, text_frame}
+use Rattle.diag_can.specs.Lanes.{IsRunIn}
+use Rattle.diag_can.specs.declared.frame.Ids.{Ids}
+
+-- the moment of a stamp of that form
+abbrev pub usual_moment : List ℕ → ℕ
+usual_moment line = moment_of (take 10 (drop 1 line)) (take 6 (drop 12 line))
+
+-- the line has a stamp of that form and a name, and there the frame's text
+pub record IsFramed (line : List ℕ) (place : ℕ) : Type 0 where
+  pub long : 28 ≤ length line
+  pub inside : place < length line
+  pub seconds : IsRunIn is_digit line 1 16 10
+  pub fraction : IsRunIn is_digit line 12 8 6
+  pub is_frame : is_time line ≡ false
+  pub stamped : stamped_frame line ≡ Some (usual_moment line, drop place line)
+
+-- its identifier is this, and there its data begin, which are hex digits alone
+pub record IsUsual (line : List ℕ) (id at : ℕ) : Type 0 where
+  pub place : ℕ
+  pub framed : IsFramed line place
+  pub event : (ids : Ids) → frame_event ids (drop place line) ≡ event_of ids id (frame_data (drop at line))
+  pub frame : text_frame (drop place line) ≡ frame_of id (frame_data (drop at line))
+  pub inside : at ≤ length line
+  pub few : length (drop at line) ≤ 16
+  pub hex : IsOk (decode_of (drop at line))
+  pub decoded : (bytes : List ℕ) → decode_of (drop at line) ≡ Ok bytes → frame_data (drop at line) ≡ Ok bytes

@@ -1,0 +1,77 @@
+//! Looks at many bytes of a text at once.
+
+ghost use Rattle.std.specs.Prelude.{◌≡◌, ℕ, ◌+◌, ◌-◌, ◌<◌, ◌≤◌, not, true, length, slice_index, IsTrue};
+ghost use Rattle.hex.specs.Hex.{is_hex_digit};
+ghost use Rattle.diag_can.specs.Lanes.{IsRunIn, first_set};
+ghost use Rattle.diag_can.specs.Log.{is_feed};
+ghost use Rattle.diag_can.specs.Stamp.{is_digit, is_no_space};
+
+use std::simd::prelude::*;
+
+/// The place of the lowest bit that is set, or how many lanes there are.
+#[inline(always)]
+fn first_set(mask: u64, lanes: usize) -> usize
+    ensures { result ≡ first_set mask lanes }
+{
+    if mask == 0 {
+        lanes
+    } else {
+        mask.trailing_zeros() as usize
+    }
+}
+
+/// How many of these sixteen bytes are decimal digits, from the first.
+#[inline(always)]
+pub fn sixteen_digits(text: &[u8], at: usize) -> usize
+    requires { at + 16 ≤ length text.now }
+    ensures { IsRunIn is_digit text.now at 16 result }
+{
+    let v = u8x16::from_slice(&text[at..]);
+    let stops = (v - u8x16::splat(b'0')).simd_ge(u8x16::splat(10));
+    first_set(stops.to_bitmask(), 16)
+}
+
+/// How many of these eight bytes are decimal digits, from the first.
+#[inline(always)]
+pub fn eight_digits(text: &[u8], at: usize) -> usize
+    requires { at + 8 ≤ length text.now }
+    ensures { IsRunIn is_digit text.now at 8 result }
+{
+    let v = u8x8::from_slice(&text[at..]);
+    let stops = (v - u8x8::splat(b'0')).simd_ge(u8x8::splat(10));
+    first_set(stops.to_bitmask(), 8)
+}
+
+/// How many of these eight bytes are other than space, from the first.
+#[inline(always)]
+pub fn eight_of_word(text: &[u8], at: usize) -> usize
+    requires { at + 8 ≤ length text.now }
+    ensures { IsRunIn is_no_space text.now at 8 result }
+{
+    let stops = u8x8::from_slice(&text[at..]).simd_eq(u8x8::splat(b' '));
+    first_set(stops.to_bitmask(), 8)
+}
+
+/// How many of the first 64 bytes are other than LF, from the first.
+#[inline(always)]
+pub fn line_run(text: &[u8]) -> usize
+    requires { 64 ≤ length text.now }
+    ensures { IsRunIn (λ c. not (is_feed c)) text.now 0 64 result }
+{
+    let stops = u8x64::from_slice(text).simd_eq(u8x64::splat(b'\n'));
+    first_set(stops.to_bitmask(), 64)
+}
+
+/// Whether the last bytes of a text, so many, are hex digits of either case.
+#[inline(always)]
+pub fn ends_in_hex(text: &[u8], count: usize) -> bool
+    requires long { 16 ≤ length text.now }
+    requires few { count ≤ 16 }
+    ensures { IsTrue result → (k : ℕ) → length text.now - count ≤ k → k < length text.now
+        → is_hex_digit (slice_index text.now k) ≡ true }
+{
+    let v = u8x16::from_slice(&text[text.len() - 16..]);
+    let is_no_decimal = (v - u8x16::splat(b'0')).simd_ge(u8x16::splat(10));
+    let is_no_letter = ((v | u8x16::splat(0x20)) - u8x16::splat(b'a')).simd_ge(u8x16::splat(6));
+    (is_no_decimal & is_no_letter).to_bitmask() >> (16 - count) == 0
+}
