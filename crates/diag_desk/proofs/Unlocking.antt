@@ -1,271 +1,34 @@
--- A level is unlocked by its key alone, and stays unlocked only while its tester is the holder.
-use Rattle.std.proofs.Common.{◌≡◌, ℕ, zero, suc, ◌+◌, ◌-◌, ◌<◌, ◌≤◌, ◌==◌, ◌⊎◌, inl, inr, Bool, true, false, cond, not, ◌&&◌, List, [], ◌∷◌, length, take, drop, slice_get, slice_index, slice_set, Option, Some, None, Ok, Err, refl, sym, ap, ◌∙◌, arith}
-use Rattle.std.specs.Prelude.{nat_le, is_some, is_none, ◌||◌, ◌/◌, ◌%◌, bytes_eq, unwrap_or, option_map, if◌then◌else◌}
-use Rattle.diag_setup.specs.Setup.{first_holding}
-use Rattle.diag_store.specs.Dtcs as dtcs
-use Rattle.diag_store.specs.Security as security
-use Rattle.diag_store.specs.declared.security.SecurityState.{SecurityState}
-use Rattle.diag_ecu.specs.declared.service.Service.{Service}
-use Rattle.diag_ecu.specs.declared.service.Service.TheVariants.{DiagnosticSessionControl, EcuReset, ClearDiagnosticInformation, ReadDtcInformation, ReadDataByIdentifier, SecurityAccess, WriteDataByIdentifier, RoutineControl, TesterPresent, ControlDtcSetting}
-use Rattle.diag_ecu.specs.declared.service.Nrc.{Nrc}
-use Rattle.diag_ecu.specs.declared.service.Nrc.TheVariants.{ServiceNotSupported, InvalidKey, ExceedNumberOfAttempts}
-use Rattle.diag_ecu.specs.State.{State, is_holder, is_open, session_ended, s3_filled, relocked}
-use Rattle.diag_ecu.specs.Elapse.{elapse, ticked, s3_ticked, routines_ticked, delay_ticked}
-use Rattle.diag_ecu.specs.Respond as ecu
-use Rattle.diag_ecu.specs.Service.{service_of, nrc_code, is_silent}
-use Rattle.diag_ecu.specs.Bytes.{number_16, bytes_16}
-use Rattle.diag_store.specs.Dids as dids
-use Rattle.diag_store.specs.Routines as routines
-use Rattle.diag_store.specs.declared.dids.DidRow.{DidRow}
+-- A level is unlocked by its key alone, and stays unlocked only while its tester is the holder: of the runs of a desk.
+use Rattle.std.proofs.Common.{◌≡◌, ℕ, zero, suc, ◌<◌, ◌≤◌, ◌⊎◌, inl, inr, List, [], ◌∷◌, length, take, slice_get, Some, None, refl, sym, ap, ◌∙◌, arith}
+use Rattle.diag_ecu.specs.State.{State}
+use Rattle.diag_ecu.specs.Elapse.{elapse}
+use Rattle.diag_ecu.specs.Bytes.{bytes_16}
+use Rattle.diag_ecu.specs.Respond.{write_level}
+use Rattle.diag_ecu.specs.Unlocking.{HasUnlocked, write_level_of}
+use Rattle.diag_ecu.proofs.Unlocking as ecu
 use Rattle.diag_desk.specs.Legal.{after_step, after, Legal, reply_to}
-use Rattle.diag_desk.specs.Unlocking.{HasUnlocked, SendsKey, UnlockedBefore, unlock_law, write_level_of}
+use Rattle.diag_desk.specs.Unlocking.{SendsKey, UnlockedBefore, unlock_law}
 use Rattle.diag_tp.specs.declared.step.Step.{Step}
 use Rattle.diag_tp.specs.declared.step.Step.TheVariants.{Request, Ticks}
 use Rattle.diag_desk.specs.declared.entry.Entry.{Entry}
 use Rattle.std.proofs.lemmas.Option.{same_Some}
-use Rattle.std.proofs.lemmas.Slice.Eq.{bytes_eq-Decides}
-use Rattle.std.proofs.lemmas.Bool.{eqb-true, cases_lt, and_parts}
+use Rattle.std.proofs.lemmas.Bool.{cases_lt}
 
 abbrev after_entry : State → Entry → State
 after_entry s e = after_step s e.who e.step
 
--- a move leaves the holder and the unlocked level, or leaves nothing unlocked
-abbrev Same : State → State → Type 0
-Same s new = (new.holder ≡ s.holder) × (new.security.unlocked ≡ s.security.unlocked)
-
-abbrev Keeps : State → State → Type 0
-Keeps s new = Same s new ⊎ (new.security.unlocked ≡ None)
-
--- what is unlocked afterwards was so before
-pub unlocked_before : (s new : State) (who level : ℕ) → Keeps s new → HasUnlocked new who level → HasUnlocked s who level
-unlocked_before s new who level (inl kept) h = (sym kept.0 ∙ h.0, sym kept.1 ∙ h.1)
-unlocked_before s new who level (inr none) h = cc (sym none ∙ h.1)
-
-keeps_then : (s mid new : State) → Keeps s mid → Keeps mid new → Keeps s new
-keeps_then s mid new (inl first) (inl second) = inl (second.0 ∙ first.0, second.1 ∙ first.1)
-keeps_then s mid new (inr none) (inl second) = inr (second.1 ∙ none)
-keeps_then s mid new first (inr none) = inr none
-
-either : (s a b : State) (t : Bool) → Keeps s a → Keeps s b → Keeps s (cond t a b)
-either s a b true x y = x
-either s a b false x y = y
-
--- ---- time
-
-delay_tick_unlocked : (x : SecurityState) (who : ℕ) → (security.after_tick x who).unlocked ≡ x.unlocked
-delay_tick_unlocked x who =
-    elim (slice_index x.delays (who - 1) == 0) as (λ b. (cond b x (record x {
-      delays = slice_set x.delays (who - 1) (slice_index x.delays (who - 1) - 1);
-      wrong_keys = if slice_index x.delays (who - 1) == 1 then slice_set x.wrong_keys (who - 1) 0 else x.wrong_keys;
-    })).unlocked ≡ x.unlocked) [ true ↦ refl | false ↦ refl ]
-
-delay_tick_keeps : (s : State) (who : ℕ) → Keeps s (delay_ticked s who)
-delay_tick_keeps s who = inl (refl, delay_tick_unlocked s.security who)
-
-s3_tick_keeps : (s : State) → Keeps s (s3_ticked s)
-s3_tick_keeps s = either s (session_ended s) (record s { s3_left = s.s3_left - 1 }) (nat_le s.s3_left 1) (inr refl) (inl (refl, refl))
-
-tick_keeps : (s : State) (who : ℕ) → Keeps s (ticked s who)
-tick_keeps s who =
-    let delayed = delay_ticked s who in
-    let one = delay_tick_keeps s who in
-    let two = keeps_then s delayed (routines_ticked delayed) one (inl (refl, refl)) in
-    either s (s3_ticked (routines_ticked delayed)) delayed (is_holder s who)
-    (keeps_then s (routines_ticked delayed) (s3_ticked (routines_ticked delayed)) two (s3_tick_keeps (routines_ticked delayed))) one
-
-pub elapse_keeps : (s : State) (who n : ℕ) → Keeps s (elapse s who n)
-elapse_keeps s who zero = inl (refl, refl)
-elapse_keeps s who (suc n) = keeps_then s (ticked s who) (elapse (ticked s who) who n) (tick_keeps s who) (elapse_keeps (ticked s who) who n)
-
--- ---- requests
-
-refused_keeps : (s : State) (who : ℕ) (nrc : Nrc) → Keeps s (ecu.refused s who nrc)
-refused_keeps s who InvalidKey = inl (refl, refl)
-refused_keeps s who ExceedNumberOfAttempts = inl (refl, refl)
-refused_keeps s who _ = inl (refl, refl)
-
-session_keeps : (s : State) (who n : ℕ) → Keeps s (ecu.session_effect s who n)
-session_keeps s who n =
-    either s (s3_filled (record (relocked s) { holder = Some who })) (if is_holder s who then session_ended s else s) (n == 0x03) (inr refl)
-    (either s (session_ended s) s (is_holder s who) (inr refl) (inl (refl, refl)))
-
-given_unlocked : (x : SecurityState) (sub : ℕ) → (security.after_seed_given x sub).unlocked ≡ x.unlocked
-given_unlocked x sub =
-    elim (security.is_unlocked x sub) as (λ b. (cond b x (if is_some (security.outstanding_row x.outstanding sub) then x else security.with_new_seed x sub)).unlocked ≡ x.unlocked) [
-      | true ↦ refl
-      | false ↦ elim (is_some (security.outstanding_row x.outstanding sub)) as (λ b. (cond b x (security.with_new_seed x sub)).unlocked ≡ x.unlocked) [ true ↦ refl | false ↦ refl ]
-    ]
-
-seed_unlocked : (x : SecurityState) (who sub : ℕ) → (security.after_seed x who sub).unlocked ≡ x.unlocked
-seed_unlocked x who sub =
-    elim (security.is_delayed x who) as (λ b. (cond b x (security.after_seed_given x sub)).unlocked ≡ x.unlocked) [ true ↦ refl | false ↦ given_unlocked x sub ]
-
--- a key leaves what is unlocked, or unlocks its level
-key_unlocked : (x : SecurityState) (who sub : ℕ) (key : List ℕ) (level : ℕ) → (security.after_key x who sub key).unlocked ≡ Some level
-    → (x.unlocked ≡ Some level) ⊎ (sub ≡ level)
-key_unlocked x who sub key level =
-    elim (security.is_delayed x who) as (λ b. (cond b x (if is_none (security.outstanding_row x.outstanding sub) then x else if security.is_right_key x sub key then security.after_right_key x who sub else security.after_wrong_key x who)).unlocked ≡ Some level
-    → (x.unlocked ≡ Some level) ⊎ (sub ≡ level)) [
-      | true ↦ λ h. inl h
-      | false ↦ elim (is_none (security.outstanding_row x.outstanding sub)) as (λ b. (cond b x (if security.is_right_key x sub key then security.after_right_key x who sub else security.after_wrong_key x who)).unlocked ≡ Some level
-          → (x.unlocked ≡ Some level) ⊎ (sub ≡ level)) [
-            | true ↦ λ h. inl h
-            | false ↦ elim (security.is_right_key x sub key) as (λ b. (cond b (security.after_right_key x who sub) (security.after_wrong_key x who)).unlocked ≡ Some level → (x.unlocked ≡ Some level) ⊎ (sub ≡ level)) [
-              | true ↦ λ h. inr (same_Some sub level h)
-              | false ↦ λ h. inl h
-            ]
-          ]
-    ]
-
-routine_keeps : (s : State) (id n : ℕ) → Keeps s (ecu.routine_effect s id n)
-routine_keeps s id n =
-    either s _ (if n == 0x02 then _ else s) (n == 0x01) (inl (refl, refl)) (either s _ s (n == 0x02) (inl (refl, refl)) (inl (refl, refl)))
-
--- ---- the key
-
--- no check of the list holds
-abbrev NoneHold : List ecu.Check → Type 0
-NoneHold [] = Unit {0}
-NoneHold (check ∷ rest) = (check.0 ≡ false) × NoneHold rest
-
-all_pass : (checks : List ecu.Check) → first_holding checks ≡ None → NoneHold checks
-all_pass [] e = tt
-all_pass (check ∷ rest) e =
-    elim check.0 as (λ b. cond b (Some check.1) (first_holding rest) ≡ None → (b ≡ false) × NoneHold rest) [
-      | true ↦ λ p. cc
-      | false ↦ λ p. (refl, all_pass rest p)
-    ] e
-
-not_false : (b : Bool) → not b ≡ false → b ≡ true
-not_false true e = refl
-not_false false e = cc
-
-and_false : (a b : Bool) → a ≡ true → (a && b) ≡ false → b ≡ false
-and_false true b h e = e
-and_false false b h e = cc
-
-or_true : (a b : Bool) → a ≡ false → (a || b) ≡ true → b ≡ true
-or_true true b h e = cc
-or_true false b h e = e
-
-some_row : (o : Option ℕ) → is_none o ≡ false → (row : ℕ) × (o ≡ Some row)
-some_row None e = cc
-some_row (Some row) e = (row, refl)
-
-holder_is : (o : Option ℕ) (who : ℕ) → security.option_is o who ≡ true → o ≡ Some who
-holder_is None who e = cc
-holder_is (Some t) who e = ap Some (eqb-true t who e)
-
-bytes_same : (xs ys : List ℕ) → bytes_eq xs ys ≡ true → xs ≡ ys
-bytes_same xs ys e = (bytes_eq-Decides xs ys).0 e
-
--- what a right key of a level was
-abbrev KeyOf : State → ℕ → List ℕ → ℕ → ℕ → Type 0
-KeyOf s who p holder level =
-    (who ≡ holder) × (ecu.sub p ≡ level + 1)
-    × ((row : ℕ) × (security.outstanding_row s.security.outstanding level ≡ Some row) × (drop 2 p ≡ security.key_at s.security level row))
-
--- an even sub-function of a key is one above its level
-above_level : (n : ℕ) (known : ℕ → Bool) → known n ≡ false → known (n - 1) ≡ true → n ≡ n - 1 + 1
-above_level zero known none passes = cc (sym none ∙ passes)
-above_level (suc n) known none passes = omega arith
-
--- a key that passes the checks is the right one, of the holder
-key_passes : (s : State) (who : ℕ) (p : List ℕ) → ecu.is_seed_request s p ≡ false
-    → first_holding (ecu.checks s who SecurityAccess p) ≡ None
-    → (s.holder ≡ Some who) × KeyOf s who p who (ecu.key_level p)
-key_passes s who p key passes =
-    let h = all_pass (ecu.checks s who SecurityAccess p) passes in
-    let is_key : not (ecu.is_seed_request s p) ≡ true = rw key refl in
-    let known : ℕ → Bool = λ n. is_some (security.level_of s.security n) in
-    let level = ecu.key_level p in
-    let outstanding = security.outstanding_row s.security.outstanding level in
-    let level_known = or_true (known (ecu.sub p)) (known level) key (not_false (known (ecu.sub p) || known level) h.1.1.1.0) in
-    let row = some_row outstanding (and_false (not (ecu.is_seed_request s p)) (is_none outstanding) is_key h.1.1.1.1.1.1.0) in
-    let right = security.is_right_key s.security level (drop 2 p) in
-    let same = bytes_same (drop 2 p) (security.key_at s.security level (unwrap_or outstanding 0))
-    (not_false right (and_false (not (ecu.is_seed_request s p)) (not right) is_key h.1.1.1.1.1.1.1.0)) in
-    let at_row = ap (λ o. security.key_at s.security level (unwrap_or o 0)) row.1 in
-    (holder_is s.holder who (not_false (is_holder s who) h.0), (refl, above_level (ecu.sub p) known key level_known, (row.0, row.1, same ∙ at_row)))
-
--- what a served request leaves: all as it was, or nothing unlocked, or what its key unlocked
-pub effect_unlocks : (s : State) (who : ℕ) (service : Service) (p : List ℕ) (holder level : ℕ)
-    → first_holding (ecu.checks s who service p) ≡ None
-    → HasUnlocked (ecu.effect s who service p) holder level
-    → HasUnlocked s holder level ⊎ ((service ≡ SecurityAccess) × KeyOf s who p holder level)
-effect_unlocks s who DiagnosticSessionControl p holder level passes h = inl (unlocked_before s (ecu.session_effect s who (ecu.sub p)) holder level (session_keeps s who (ecu.sub p)) h)
-effect_unlocks s who EcuReset p holder level passes h = cc h.0
-effect_unlocks s who ClearDiagnosticInformation p holder level passes h = inl h
-effect_unlocks s who ReadDtcInformation p holder level passes h = inl h
-effect_unlocks s who ReadDataByIdentifier p holder level passes h = inl h
-effect_unlocks s who SecurityAccess p holder level passes h =
-    elim (ecu.is_seed_request s p) as (λ b. ecu.is_seed_request s p ≡ b
-    → HasUnlocked (cond b (record s { security = security.after_seed s.security who (ecu.sub p) }) (record s { security = security.after_key s.security who (ecu.key_level p) (drop 2 p) })) holder level
-    → HasUnlocked s holder level ⊎ ((SecurityAccess ≡ SecurityAccess) × KeyOf s who p holder level)) [
-      | true ↦ λ is_seed u. inl (u.0, sym (seed_unlocked s.security who (ecu.sub p)) ∙ u.1)
-      | false ↦ λ is_key u.
-          elim (key_unlocked s.security who (ecu.key_level p) (drop 2 p) level u.1) [
-            | inl before ↦ inl (u.0, before)
-            | inr its_level ↦
-                let accepted = key_passes s who p is_key passes in
-                let sender : who ≡ holder = cc (sym accepted.0 ∙ u.0) in
-                inr (refl, rw (← sender, ← its_level) accepted.1)
-          ]
-    ] refl h
-effect_unlocks s who WriteDataByIdentifier p holder level passes h = inl h
-effect_unlocks s who RoutineControl p holder level passes h = inl (unlocked_before s (ecu.routine_effect s (number_16 p 2) (ecu.sub p)) holder level (routine_keeps s (number_16 p 2) (ecu.sub p)) h)
-effect_unlocks s who TesterPresent p holder level passes h = inl h
-effect_unlocks s who ControlDtcSetting p holder level passes h = inl h
-
 -- ---- a step
-
-alive_keeps : (s : State) (who : ℕ) → Keeps s (ecu.kept_alive s who)
-alive_keeps s who = either s (s3_filled s) s (is_holder s who) (inl (refl, refl)) (inl (refl, refl))
-
-security_access_id : (n : ℕ) → service_of n ≡ Some SecurityAccess → n ≡ 0x27
-security_access_id n e = grind arith
-
--- what is unlocked after a request was so before, or its key unlocked it
-request_unlocks : (s : State) (who : ℕ) (functional : Bool) (p : List ℕ) (holder level : ℕ) → HasUnlocked (ecu.after_request s who functional p) holder level
-    → HasUnlocked s holder level ⊎ ((ecu.sid p ≡ 0x27) × KeyOf s who p holder level)
-request_unlocks s who functional p holder level h =
-    let served = unlocked_before (ecu.outcome s who p).state (ecu.after_request s who functional p) holder level (alive_keeps (ecu.outcome s who p).state who) h in
-    elim (service_of (ecu.sid p)) as (λ service. service_of (ecu.sid p) ≡ service → HasUnlocked (ecu.served s who service p).state holder level
-    → HasUnlocked s holder level ⊎ ((ecu.sid p ≡ 0x27) × KeyOf s who p holder level)) [
-      | None ↦ λ is u. inl u
-      | Some service ↦ λ is u.
-          elim (first_holding (ecu.checks s who service p)) as (λ first. first_holding (ecu.checks s who service p) ≡ first
-          → HasUnlocked (ecu.outcome_of s who service p first).state holder level
-          → HasUnlocked s holder level ⊎ ((ecu.sid p ≡ 0x27) × KeyOf s who p holder level)) [
-            | Some nrc ↦ λ refusal v. inl (unlocked_before s (ecu.refused s who nrc) holder level (refused_keeps s who nrc) v)
-            | None ↦ λ passes v.
-                elim (effect_unlocks s who service p holder level passes v) [
-                  | inl before ↦ inl before
-                  | inr key ↦ inr (security_access_id (ecu.sid p) (is ∙ ap Some key.0), key.1)
-                ]
-          ] refl u
-    ] refl served
 
 step_unlocks : (s : State) (e : Entry) (holder level : ℕ) → HasUnlocked (after_entry s e) holder level
     → HasUnlocked s holder level ⊎ SendsKey s e holder level
 step_unlocks s e holder level h =
     elim e.step as (λ step. e.step ≡ step → HasUnlocked (after_step s e.who step) holder level → HasUnlocked s holder level ⊎ SendsKey s e holder level) [
       | Request functional p ↦ λ is u.
-          elim (request_unlocks s e.who functional p holder level u) [
+          elim (ecu.request_unlocks s e.who functional p holder level u) [
             | inl before ↦ inl before
-            | inr key ↦ inr (record {
-              sender = key.1.0;
-              functional = functional;
-              message = p;
-              request = is;
-              service = key.0;
-              sub_function = key.1.1;
-              row = key.1.2.0;
-              outstanding = key.1.2.1;
-              key = key.1.2.2;
-            })
+            | inr key ↦ inr (record { sender = key.0; functional = functional; message = p; request = is; is_key = key.1 })
           ]
-      | Ticks n ↦ λ is u. inl (unlocked_before s (elapse s e.who n) holder level (elapse_keeps s e.who n) u)
+      | Ticks n ↦ λ is u. inl (ecu.unlocked_before s (elapse s e.who n) holder level (ecu.elapse_keeps s e.who n) u)
     ] refl h
 
 -- ---- a run
@@ -317,78 +80,13 @@ since s entries (suc i) holder level locked within h =
 
 -- ---- rules stay
 
--- a move leaves the rules of all identifiers
-abbrev SameRules : State → State → Type 0
-SameRules s new = (id : ℕ) → dids.rule_of new.dids id ≡ dids.rule_of s.dids id
+step_rules : (s : State) (who : ℕ) (step : Step) → ecu.SameRules s (after_step s who step)
+step_rules s who (Request functional p) = ecu.request_rules s who functional p
+step_rules s who (Ticks n) = ecu.elapse_rules s who n
 
-rules_then : (s mid new : State) → SameRules s mid → SameRules mid new → SameRules s new
-rules_then s mid new first second id = second id ∙ first id
-
-either_rules : (s a b : State) (t : Bool) → SameRules s a → SameRules s b → SameRules s (cond t a b)
-either_rules s a b true x y = x
-either_rules s a b false x y = y
-
-value_rules : (rows : List DidRow) (id at : ℕ) (value : List ℕ) → dids.rule_of (dids.with_value rows id value) at ≡ dids.rule_of rows at
-value_rules [] id at value = refl
-value_rules (row ∷ rows) id at value =
-    elim (row.id == id) as (λ b. dids.rule_of (cond b (record row { value = record { items = value } } ∷ rows) (row ∷ dids.with_value rows id value)) at ≡ dids.rule_of (row ∷ rows) at) [
-      | true ↦ elim (row.id == at) as (λ b. option_map (λ (r : DidRow). r.rule) (cond b (Some (record row { value = record { items = value } })) (dids.row_of rows at)) ≡ option_map (λ (r : DidRow). r.rule) (cond b (Some row) (dids.row_of rows at))) [ true ↦ refl | false ↦ refl ]
-      | false ↦ elim (row.id == at) as (λ b. option_map (λ (r : DidRow). r.rule) (cond b (Some row) (dids.row_of (dids.with_value rows id value) at)) ≡ option_map (λ (r : DidRow). r.rule) (cond b (Some row) (dids.row_of rows at))) [
-        | true ↦ refl
-        | false ↦ value_rules rows id at value
-      ]
-    ]
-
-tick_rules : (s : State) (who : ℕ) → SameRules s (ticked s who)
-tick_rules s who =
-    let late = routines_ticked (delay_ticked s who) in
-    either_rules s (s3_ticked late) (delay_ticked s who) (is_holder s who)
-    (either_rules s (session_ended late) (record late { s3_left = late.s3_left - 1 }) (nat_le late.s3_left 1) (λ id. refl) (λ id. refl)) (λ id. refl)
-
-elapse_rules : (s : State) (who n : ℕ) → SameRules s (elapse s who n)
-elapse_rules s who zero = λ id. refl
-elapse_rules s who (suc n) = rules_then s (ticked s who) (elapse (ticked s who) who n) (tick_rules s who) (elapse_rules (ticked s who) who n)
-
-refused_rules : (s : State) (who : ℕ) (nrc : Nrc) → SameRules s (ecu.refused s who nrc)
-refused_rules s who InvalidKey id = refl
-refused_rules s who ExceedNumberOfAttempts id = refl
-refused_rules s who _ id = refl
-
-effect_rules : (s : State) (who : ℕ) (service : Service) (p : List ℕ) → SameRules s (ecu.effect s who service p)
-effect_rules s who DiagnosticSessionControl p =
-    either_rules s (s3_filled (record (relocked s) { holder = Some who })) (if is_holder s who then session_ended s else s) (ecu.sub p == 0x03) (λ id. refl)
-    (either_rules s (session_ended s) s (is_holder s who) (λ id. refl) (λ id. refl))
-effect_rules s who EcuReset p = λ id. refl
-effect_rules s who ClearDiagnosticInformation p = λ id. refl
-effect_rules s who ReadDtcInformation p = λ id. refl
-effect_rules s who ReadDataByIdentifier p = λ id. refl
-effect_rules s who SecurityAccess p =
-    either_rules s (record s { security = security.after_seed s.security who (ecu.sub p) }) (record s { security = security.after_key s.security who (ecu.key_level p) (drop 2 p) }) (ecu.is_seed_request s p) (λ id. refl) (λ id. refl)
-effect_rules s who WriteDataByIdentifier p = λ id. value_rules s.dids (number_16 p 1) id (drop 3 p)
-effect_rules s who RoutineControl p =
-    either_rules s (record s { routines = routines.started s.routines (number_16 p 2) }) (if ecu.sub p == 0x02 then record s { routines = routines.stopped s.routines (number_16 p 2) } else s) (ecu.sub p == 0x01) (λ id. refl)
-    (either_rules s (record s { routines = routines.stopped s.routines (number_16 p 2) }) s (ecu.sub p == 0x02) (λ id. refl) (λ id. refl))
-effect_rules s who TesterPresent p = λ id. refl
-effect_rules s who ControlDtcSetting p = λ id. refl
-
-outcome_rules : (s : State) (who : ℕ) (service : Service) (p : List ℕ) (first : Option Nrc) → SameRules s (ecu.outcome_of s who service p first).state
-outcome_rules s who service p None = effect_rules s who service p
-outcome_rules s who service p (Some nrc) = refused_rules s who nrc
-
-served_rules : (s : State) (who : ℕ) (service : Option Service) (p : List ℕ) → SameRules s (ecu.served s who service p).state
-served_rules s who None p = λ id. refl
-served_rules s who (Some service) p = outcome_rules s who service p (first_holding (ecu.checks s who service p))
-
-step_rules : (s : State) (who : ℕ) (step : Step) → SameRules s (after_step s who step)
-step_rules s who (Request functional p) =
-    let served = (ecu.outcome s who p).state in
-    rules_then s served (ecu.kept_alive served who) (served_rules s who (service_of (ecu.sid p)) p)
-    (either_rules served (s3_filled served) served (is_holder served who) (λ id. refl) (λ id. refl))
-step_rules s who (Ticks n) = elapse_rules s who n
-
-run_rules : (s : State) (entries : List Entry) → SameRules s (after s entries)
+run_rules : (s : State) (entries : List Entry) → ecu.SameRules s (after s entries)
 run_rules s [] = λ id. refl
-run_rules s (e ∷ entries) = rules_then s (after_entry s e) (after (after_entry s e) entries) (step_rules s e.who e.step) (run_rules (after_entry s e) entries)
+run_rules s (e ∷ entries) = ecu.rules_then s (after_entry s e) (after (after_entry s e) entries) (step_rules s e.who e.step) (run_rules (after_entry s e) entries)
 
 -- ---- a written value
 
@@ -399,80 +97,9 @@ legal_at s [] i e legal at = cc
 legal_at s (x ∷ entries) zero e legal at = let same = same_Some x e at in rw (← same) legal.0
 legal_at s (x ∷ entries) (suc i) e legal at = legal_at (after_entry s x) entries i e legal.1 at
 
--- a reply that begins otherwise is not that of a write
-other_first : (a : ℕ) → (a == 0x6E) ≡ false → (xs ys : List ℕ) → a ∷ xs ≡ 0x6E ∷ ys → ⊥
-other_first a other xs ys e =
-    let first : a ≡ 0x6E = ap (λ (x : List ℕ). slice_index x 0) e in
-    let test : (0x6E == 0x6E) ≡ false = rw first at other in
-    cc test
-
--- a negative response begins with 7F
-negative_differs : (functional : Bool) (p rest : List ℕ) (nrc : Nrc) → ecu.sent functional p (Err nrc) ≡ Some (0x6E ∷ rest) → ⊥
-negative_differs functional p rest nrc e =
-    elim (functional && is_silent nrc) as (λ b. cond b None (Some (0x7F ∷ ecu.sid p ∷ nrc_code nrc ∷ [])) ≡ Some (0x6E ∷ rest) → ⊥) [
-      | true ↦ λ h. cc h
-      | false ↦ λ h. other_first 0x7F refl (ecu.sid p ∷ nrc_code nrc ∷ []) rest (ap (λ (o : Option (List ℕ)). unwrap_or o []) h)
-    ] e
-
-positive_sent : (functional : Bool) (p reply whole : List ℕ) → ecu.sent functional p (Ok reply) ≡ Some whole → reply ≡ whole
-positive_sent functional p reply whole e =
-    elim (ecu.is_suppressed (service_of (ecu.sid p)) p) as (λ b. cond b None (Some reply) ≡ Some whole → reply ≡ whole) [
-      | true ↦ λ h. cc h
-      | false ↦ λ h. cc h
-    ] e
-
--- the reply of a service begins with its identifier and 40
-dtc_first : (s : State) (p : List ℕ) → slice_index (ecu.dtc_reply s p) 0 ≡ 0x59
-dtc_first s p =
-    elim (ecu.sub p == 0x01) as (λ b. slice_index (cond b (0x59 ∷ 0x01 ∷ s.values.availability ∷ 0x01 ∷ bytes_16 (length (dtcs.matching s.dtcs (ecu.mask_of s p))))
-    (if ecu.sub p == 0x02 then ecu.counted_reply s (ecu.mask_of s p) else ecu.all_reply s)) 0 ≡ 0x59) [
-      | true ↦ refl
-      | false ↦ elim (ecu.sub p == 0x02) as (λ b. slice_index (cond b (ecu.counted_reply s (ecu.mask_of s p)) (ecu.all_reply s)) 0 ≡ 0x59) [ true ↦ refl | false ↦ refl ]
-    ]
-
-open_unlocked : (s : State) (who level : ℕ) → 0 < level → is_open s who level ≡ true → HasUnlocked s who level
-open_unlocked s who level above e =
-    elim (level == 0) as (λ b. (level == 0) ≡ b → cond b true (is_holder s who && security.is_unlocked s.security level) ≡ true → HasUnlocked s who level) [
-      | true ↦ λ is h. let nothing = eqb-true level 0 is in absurd (omega arith)
-      | false ↦ λ is h.
-          let parts = and_parts (is_holder s who) (security.is_unlocked s.security level) h in
-          (holder_is s.holder who parts.0, holder_is s.security.unlocked level parts.1)
-    ] refl e
-
--- a positive reply to a write of an identifier whose level is above 0
-write_open : (s : State) (who id : ℕ) (service : Service) (p : List ℕ) → first_holding (ecu.checks s who service p) ≡ None
-    → ecu.positive_reply s service p ≡ 0x6E ∷ bytes_16 id → 0 < write_level_of s id → HasUnlocked s who (write_level_of s id)
-write_open s who id WriteDataByIdentifier p passes e above =
-    let h = all_pass (ecu.checks s who WriteDataByIdentifier p) passes in
-    let number = number_16 p 1 in
-    let high : number / 256 ≡ id / 256 = ap (λ (x : List ℕ). slice_index x 1) e in
-    let low : number % 256 ≡ id % 256 = ap (λ (x : List ℕ). slice_index x 2) e in
-    let same : number ≡ id = omega arith in
-    let allowed = not_false (is_open s who (write_level_of s number)) h.1.1.1.1.1.1.0 in
-    open_unlocked s who (write_level_of s id) above (ap (λ n. is_open s who (write_level_of s n)) (sym same) ∙ allowed)
-write_open s who id ReadDtcInformation p passes e above =
-    let first = ap (λ (x : List ℕ). slice_index x 0) e in let other = dtc_first s p in absurd (omega (arith, first, other))
-write_open s who id DiagnosticSessionControl p passes e above = absurd (other_first 0x50 refl _ _ e)
-write_open s who id EcuReset p passes e above = absurd (other_first 0x51 refl _ _ e)
-write_open s who id ClearDiagnosticInformation p passes e above = absurd (other_first 0x54 refl _ _ e)
-write_open s who id ReadDataByIdentifier p passes e above = absurd (other_first 0x62 refl _ _ e)
-write_open s who id SecurityAccess p passes e above = absurd (other_first 0x67 refl _ _ e)
-write_open s who id RoutineControl p passes e above = absurd (other_first 0x71 refl _ _ e)
-write_open s who id TesterPresent p passes e above = absurd (other_first 0x7E refl _ _ e)
-write_open s who id ControlDtcSetting p passes e above = absurd (other_first 0xC5 refl _ _ e)
-
 reply_open : (s : State) (who id : ℕ) (step : Step) → reply_to s who step ≡ Some (0x6E ∷ bytes_16 id) → 0 < write_level_of s id → HasUnlocked s who (write_level_of s id)
 reply_open s who id (Ticks n) e above = cc e
-reply_open s who id (Request functional p) e above =
-    elim (service_of (ecu.sid p)) as (λ service. ecu.sent functional p (ecu.served s who service p).answer ≡ Some (0x6E ∷ bytes_16 id) → HasUnlocked s who (write_level_of s id)) [
-      | None ↦ λ r. absurd (negative_differs functional p _ ServiceNotSupported r)
-      | Some service ↦ λ r.
-          elim (first_holding (ecu.checks s who service p)) as (λ first. first_holding (ecu.checks s who service p) ≡ first
-          → ecu.sent functional p (ecu.outcome_of s who service p first).answer ≡ Some (0x6E ∷ bytes_16 id) → HasUnlocked s who (write_level_of s id)) [
-            | Some nrc ↦ λ refusal q. absurd (negative_differs functional p _ nrc q)
-            | None ↦ λ passes q. write_open s who id service p passes (positive_sent functional p (ecu.positive_reply s service p) _ q) above
-          ] refl r
-    ] e
+reply_open s who id (Request functional p) e above = ecu.reply_open s who id functional p e above
 
 within_run : (entries : List Entry) (i : ℕ) (e : Entry) → slice_get entries i ≡ Some e → i < length entries
 within_run [] i e at = cc
@@ -483,7 +110,7 @@ within_run (x ∷ entries) (suc i) e at = let below = within_run entries i e at 
 pub unlock : unlock_law
 unlock s entries locked legal i e id at written above =
     let now = after s (take i entries) in
-    let rules : write_level_of now id ≡ write_level_of s id = ap ecu.write_level (run_rules s (take i entries) id) in
+    let rules : write_level_of now id ≡ write_level_of s id = ap write_level (run_rules s (take i entries) id) in
     let reply = sym (legal_at s entries i e legal at) ∙ written in
     let opened = reply_open now e.who id e.step reply (rw rules above) in
     let below = within_run entries i e at in

@@ -1,29 +1,19 @@
 -- What has to come before a value is written that needs a security level.
-use Rattle.std.specs.Prelude.{◌≡◌, ◌<◌, ◌≤◌, ◌+◌, ℕ, Bool, List, ◌∷◌, take, drop, slice_get, Some, None}
+use Rattle.std.specs.Prelude.{◌≡◌, ◌<◌, ◌≤◌, ℕ, Bool, List, ◌∷◌, take, slice_get, Some, None}
 use Rattle.diag_tp.specs.declared.step.Step.TheVariants.{Request}
 use Rattle.diag_desk.specs.declared.entry.Entry.{Entry}
 use Rattle.diag_desk.specs.Legal.{Legal, after}
 use Rattle.diag_ecu.specs.Bytes.{bytes_16}
 use Rattle.diag_ecu.specs.State.{State}
-use Rattle.diag_ecu.specs.Respond as ecu
-use Rattle.diag_store.specs.Dids as dids
-use Rattle.diag_store.specs.Security as security
+use Rattle.diag_ecu.specs.Unlocking.{HasUnlocked, IsKey, write_level_of}
 
--- the tester is the holder of the extended session, and the level is unlocked
-abbrev pub HasUnlocked : State → ℕ → ℕ → Type 0
-HasUnlocked s who level = (s.holder ≡ Some who) × (s.security.unlocked ≡ Some level)
-
--- a request 27 of the tester with the sub-function of the level's key, and the key of the seed that is outstanding
+-- a request of the tester with the key of the level
 pub record SendsKey (s : State) (e : Entry) (who level : ℕ) : Type 0 where
   pub sender : e.who ≡ who
   pub functional : Bool
   pub message : List ℕ
   pub request : e.step ≡ Request functional message
-  pub service : ecu.sid message ≡ 0x27
-  pub sub_function : ecu.sub message ≡ level + 1
-  pub row : ℕ
-  pub outstanding : security.outstanding_row s.security.outstanding level ≡ Some row
-  pub key : drop 2 message ≡ security.key_at s.security level row
+  pub is_key : IsKey s message level
 
 -- entry `at` of the run sent the key, and from then to entry i the tester stays the holder with the level unlocked
 pub record UnlockedBefore (s : State) (entries : List Entry) (i who level : ℕ) : Type 0 where
@@ -33,10 +23,6 @@ pub record UnlockedBefore (s : State) (entries : List Entry) (i who level : ℕ)
   pub is_entry : slice_get entries at ≡ Some entry
   pub sends_key : SendsKey (after s (take at entries)) entry who level
   pub stays : (j : ℕ) → at < j → j ≤ i → HasUnlocked (after s (take j entries)) who level
-
--- the write level of an identifier, which no move changes
-abbrev pub write_level_of : State → ℕ → ℕ
-write_level_of s id = ecu.write_level (dids.rule_of s.dids id)
 
 -- Where nothing is unlocked at first, as in each opening: a value that needs a level above 0 is written only after that
 -- tester has sent the level's key, and has stayed the holder with the level unlocked since.

@@ -1,14 +1,16 @@
--- What the checks of every service say where they pass, and where one of them holds.
-use Rattle.std.proofs.Common.{◌≡◌, ℕ, true, false, cond, List, [], ◌∷◌, ◌++◌, Option, Some, None, refl, sym}
-use Rattle.std.specs.Prelude.{is_some}
+-- Which check of a request is the first that holds, and which codes are those of a wrong key.
+use Rattle.std.proofs.Common.{◌≡◌, ℕ, Bool, true, false, not, cond, ◌&&◌, List, [], ◌∷◌, ◌++◌, Option, Some, None, ◌⊎◌, inl, inr, refl, sym, ap, ◌∙◌, arith}
+use Rattle.std.proofs.lemmas.Bool.{and_parts}
+use Rattle.std.proofs.lemmas.Option.{same_Some}
 use Rattle.diag_setup.specs.Setup.{first_holding}
 use Rattle.diag_store.specs.declared.routines.Routine.{Routine}
 use Rattle.diag_ecu.specs.declared.service.Service.{Service}
-use Rattle.diag_ecu.specs.declared.service.Service.TheVariants.{DiagnosticSessionControl, EcuReset, ClearDiagnosticInformation, ReadDtcInformation, ReadDataByIdentifier, SecurityAccess, WriteDataByIdentifier, RoutineControl, TesterPresent, ControlDtcSetting}
+use Rattle.diag_ecu.specs.declared.service.Service.TheVariants.{SecurityAccess, RoutineControl}
+use Rattle.diag_ecu.specs.declared.service.SubFunctions.TheVariants.{OfLevels}
 use Rattle.diag_ecu.specs.declared.service.Nrc.{Nrc}
-use Rattle.diag_ecu.specs.Service.{row}
+use Rattle.diag_ecu.specs.Service.{row, is_of_wrong_key}
 use Rattle.diag_ecu.specs.State.{State}
-use Rattle.diag_ecu.specs.Respond.{Check, sub, common_checks, own_checks, clear_checks, read_checks, write_checks, setting_checks, routine_checks_of, routine_of, refused, served, own_outcome}
+use Rattle.diag_ecu.specs.Respond.{Check, sub, is_sub_function, common_checks, own_checks, checks, routine_checks_of, routine_of, served, own_outcome, outcome_of}
 
 pub first_of_more : (xs ys : List Check) (nrc : Nrc) → first_holding xs ≡ Some nrc → first_holding (xs ++ ys) ≡ Some nrc
 first_of_more [] ys nrc h = cc
@@ -18,49 +20,76 @@ first_of_more (check ∷ xs) ys nrc h =
       | false ↦ λ e. first_of_more xs ys nrc e
     ] h
 
--- checks that refuse without effect
-abbrev Harmless : State → ℕ → List Check → Type 0
-Harmless s who [] = Unit {0}
-Harmless s who (check ∷ rest) = (refused s who check.1 ≡ s) × Harmless s who rest
-
-kept : (s : State) (who : ℕ) (checks : List Check) (nrc : Nrc) → Harmless s who checks → first_holding checks ≡ Some nrc → refused s who nrc ≡ s
-kept s who [] nrc harmless h = cc
-kept s who (check ∷ rest) nrc harmless h =
-    elim check.0 as (λ b. cond b (Some check.1) (first_holding rest) ≡ Some nrc → refused s who nrc ≡ s) [
-      | true ↦ λ e. let same : check.1 ≡ nrc = cc in rw (← same) harmless.0
-      | false ↦ λ e. kept s who rest nrc harmless.1 e
+pub first_of_rest : (xs ys : List Check) → first_holding xs ≡ None → first_holding (xs ++ ys) ≡ first_holding ys
+first_of_rest [] ys h = refl
+first_of_rest (check ∷ xs) ys h =
+    elim check.0 as (λ b. cond b (Some check.1) (first_holding xs) ≡ None → cond b (Some check.1) (first_holding (xs ++ ys)) ≡ first_holding ys) [
+      | true ↦ λ e. cc
+      | false ↦ λ e. first_of_rest xs ys e
     ] h
 
--- a check of every service refuses without effect
-pub common-kept : (s : State) (who : ℕ) (service : Service) (p : List ℕ) (nrc : Nrc) → first_holding (common_checks s who service p) ≡ Some nrc → refused s who nrc ≡ s
-common-kept s who service p nrc h = kept s who (common_checks s who service p) nrc (refl, (refl, (refl, (refl, (refl, tt))))) h
+-- ---- the codes of a wrong key
 
-routine-kept : (s : State) (who n : ℕ) (row : Option Routine) (nrc : Nrc) → first_holding (routine_checks_of s who n row) ≡ Some nrc → refused s who nrc ≡ s
-routine-kept s who n None nrc h = kept s who (routine_checks_of s who n None) nrc (refl, tt) h
-routine-kept s who n (Some row) nrc h = kept s who (routine_checks_of s who n (Some row)) nrc (refl, (refl, (refl, tt))) h
+-- no check of the list gives the code of a wrong key
+abbrev is_keyless : List Check → Bool
+is_keyless [] = true
+is_keyless (check ∷ rest) = not (is_of_wrong_key check.1) && is_keyless rest
 
--- a check of one service refuses without effect, but for those of a key
-pub own-kept : (s : State) (who : ℕ) (service : Service) (p : List ℕ) (nrc : Nrc) → (service ≡ SecurityAccess → ⊥) → first_holding (own_checks s who service p) ≡ Some nrc → refused s who nrc ≡ s
-own-kept s who SecurityAccess p nrc other h = absurd (other refl)
-own-kept s who ClearDiagnosticInformation p nrc other h = kept s who (clear_checks s p) nrc (refl, tt) h
-own-kept s who ReadDataByIdentifier p nrc other h = kept s who (read_checks s who p) nrc (refl, (refl, (refl, tt))) h
-own-kept s who WriteDataByIdentifier p nrc other h = kept s who (write_checks s who p) nrc (refl, (refl, (refl, tt))) h
-own-kept s who RoutineControl p nrc other h = routine-kept s who (sub p) (routine_of s p) nrc h
-own-kept s who ControlDtcSetting p nrc other h = kept s who (setting_checks p) nrc (refl, tt) h
-own-kept s who DiagnosticSessionControl p nrc other h = cc h
-own-kept s who EcuReset p nrc other h = cc h
-own-kept s who ReadDtcInformation p nrc other h = cc h
-own-kept s who TesterPresent p nrc other h = cc h
+is_false : (b : Bool) → not b ≡ true → b ≡ false
+is_false true e = cc
+is_false false e = refl
 
--- a request that a check of every service refuses changes nothing
-pub common-stays : (s : State) (who : ℕ) (service : Service) (p : List ℕ) (refusal : Option Nrc) → is_some refusal ≡ true → refusal ≡ first_holding (common_checks s who service p)
-    → s ≡ (served s who (Some service) p).state
-common-stays s who service p None some found = cc some
-common-stays s who service p (Some nrc) some found =
-    rw (first_of_more (common_checks s who service p) (own_checks s who service p) nrc (sym found)) (sym (common-kept s who service p nrc (sym found)))
+other_code : (checks : List Check) (nrc : Nrc) → is_keyless checks ≡ true → first_holding checks ≡ Some nrc → is_of_wrong_key nrc ≡ false
+other_code [] nrc keyless h = cc
+other_code (check ∷ rest) nrc keyless h =
+    let parts = and_parts (not (is_of_wrong_key check.1)) (is_keyless rest) keyless in
+    elim check.0 as (λ b. cond b (Some check.1) (first_holding rest) ≡ Some nrc → is_of_wrong_key nrc ≡ false) [
+      | true ↦ λ e. ap is_of_wrong_key (sym (same_Some check.1 nrc e)) ∙ is_false (is_of_wrong_key check.1) parts.0
+      | false ↦ λ e. other_code rest nrc parts.1 e
+    ] h
 
--- nor does one that a check of its service refuses, but for those of a key
-pub own-stays : (s : State) (who : ℕ) (service : Service) (p : List ℕ) (refusal : Option Nrc) → (service ≡ SecurityAccess → ⊥) → is_some refusal ≡ true
-    → refusal ≡ first_holding (own_checks s who service p) → s ≡ (own_outcome s who service p).state
-own-stays s who service p None other some found = cc some
-own-stays s who service p (Some nrc) other some found = rw (sym found) (sym (own-kept s who service p nrc other (sym found)))
+routine_keyless : (s : State) (who n : ℕ) (row : Option Routine) → is_keyless (routine_checks_of s who n row) ≡ true
+routine_keyless s who n None = refl
+routine_keyless s who n (Some row) = refl
+
+-- no service but security access has a check of its own that gives such a code
+own_keyless : (s : State) (who : ℕ) (service : Service) (p : List ℕ) → (service ≡ SecurityAccess) ⊎ (is_keyless (own_checks s who service p) ≡ true)
+own_keyless s who SecurityAccess p = inl refl
+own_keyless s who RoutineControl p = inr (routine_keyless s who (sub p) (routine_of s p))
+own_keyless s who service p = inr refl
+
+clash : (nrc : Nrc) → is_of_wrong_key nrc ≡ true → is_of_wrong_key nrc ≡ false → ⊥
+clash nrc wrong other = cc (sym wrong ∙ other)
+
+-- who is refused for a wrong key has sent one, and passes the checks of every service
+of_a_key : (s : State) (who : ℕ) (service : Service) (p : List ℕ) (nrc : Nrc) → is_of_wrong_key nrc ≡ true → first_holding (checks s who service p) ≡ Some nrc
+    → (service ≡ SecurityAccess) × (first_holding (common_checks s who (row service) p) ≡ None)
+of_a_key s who service p nrc wrong found =
+    let common = common_checks s who (row service) p in
+    let own = own_checks s who service p in
+    elim (first_holding common) as (λ o. first_holding common ≡ o → (service ≡ SecurityAccess) × (o ≡ None)) [
+      | Some other ↦ λ e.
+          let same : other ≡ nrc = same_Some other nrc (sym (first_of_more common own other e) ∙ found) in
+          absurd (clash nrc wrong (ap is_of_wrong_key (sym same) ∙ other_code common other refl e))
+      | None ↦ λ e.
+          elim (own_keyless s who service p) [
+            | inl is ↦ (is, refl)
+            | inr keyless ↦ absurd (clash nrc wrong (other_code own nrc keyless (sym (first_of_rest common own e) ∙ found)))
+          ]
+    ] refl
+
+-- so its sub-function is one of a level
+pub key_passes : (s : State) (who : ℕ) (service : Service) (p : List ℕ) (nrc : Nrc) → is_of_wrong_key nrc ≡ true → first_holding (checks s who service p) ≡ Some nrc
+    → is_sub_function s OfLevels (sub p) ≡ true
+key_passes s who service p nrc wrong found =
+    let of = of_a_key s who service p nrc wrong found in
+    let passes : first_holding (common_checks s who (row SecurityAccess) p) ≡ None = rw of.0 at of.1 in
+    grind (arith, passes)
+
+-- and it leads where its own checks say
+pub key_served : (s : State) (who : ℕ) (service : Service) (p : List ℕ) (nrc : Nrc) → is_of_wrong_key nrc ≡ true → first_holding (checks s who service p) ≡ Some nrc
+    → (own_outcome s who SecurityAccess p).state ≡ (served s who (Some service) p).state
+key_served s who service p nrc wrong found =
+    let of = of_a_key s who service p nrc wrong found in
+    let own = ap (λ o. (outcome_of s who service p o).state) (sym (first_of_rest (common_checks s who (row service) p) (own_checks s who service p) of.1)) in
+    ap (λ x. (own_outcome s who x p).state) (sym of.0) ∙ own

@@ -31,8 +31,8 @@ key_state s who p no_seed =
                         | true ↦ λ right. rw (delayed, is, none, right, is, delayed, none, right) refl
                         | false ↦ λ right.
                             elim (security.is_last_attempt s.security who) as (λ l. security.is_last_attempt s.security who ≡ l → (own_outcome s who SecurityAccess p).state ≡ record s { security = security.after_key s.security who k key }) [
-                              | true ↦ λ last. rw (delayed, is, none, right, last, last) refl
-                              | false ↦ λ last. rw (delayed, is, none, right, last, last) refl
+                              | true ↦ λ last. rw (delayed, is, none, right, last) refl
+                              | false ↦ λ last. rw (delayed, is, none, right, last) refl
                             ] refl
                       ] refl
                 ] refl

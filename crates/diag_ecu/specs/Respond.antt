@@ -1,5 +1,5 @@
 -- What the ECU answers a request, and what it is then: the checks in their order, then the service's row.
-use Rattle.std.specs.Prelude.{ℕ, ◌-◌, ◌%◌, ◌==◌, ◌&&◌, ◌||◌, Bool, true, false, not, List, [], ◌∷◌, ◌++◌, length, drop, flat_map, Option, Some, None, is_some, is_none, option_map, if◌then◌else◌, nat_lt, bit_and, slice_index, Result, Ok, Err}
+use Rattle.std.specs.Prelude.{ℕ, ◌-◌, ◌%◌, ◌==◌, ◌&&◌, ◌||◌, Bool, true, false, not, List, [], ◌∷◌, ◌++◌, length, drop, flat_map, Option, Some, None, is_some, is_none, option_map, if◌then◌else◌, nat_lt, nat_le, bit_and, slice_index, Result, Ok, Err}
 use Rattle.std.specs.List.{list_any, list_all}
 use Rattle.diag_setup.specs.Setup.{first_holding}
 use Rattle.diag_store.specs.Dids as dids
@@ -17,10 +17,17 @@ use Rattle.diag_store.specs.declared.security.KeyAnswer.{KeyAnswer}
 use Rattle.diag_store.specs.declared.security.KeyAnswer.TheVariants.{Delayed as KeyDelayed, NoSeed, Right, Wrong, TooMany}
 use Rattle.diag_ecu.specs.declared.service.Service.{Service}
 use Rattle.diag_ecu.specs.declared.service.Service.TheVariants.{DiagnosticSessionControl, EcuReset, ClearDiagnosticInformation, ReadDtcInformation, ReadDataByIdentifier, SecurityAccess, WriteDataByIdentifier, RoutineControl, TesterPresent, ControlDtcSetting}
+use Rattle.diag_ecu.specs.declared.service.ServiceRow.{ServiceRow}
+use Rattle.diag_ecu.specs.declared.service.SubFunctions.{SubFunctions}
+use Rattle.diag_ecu.specs.declared.service.SubFunctions.TheVariants.{Absent, Range, Two, Three, OfLevels}
+use Rattle.diag_ecu.specs.declared.service.Busy.{Busy}
+use Rattle.diag_ecu.specs.declared.service.Busy.TheVariants.{Never, Always, On}
+use Rattle.diag_ecu.specs.declared.service.Lengths.{Lengths}
+use Rattle.diag_ecu.specs.declared.service.Lengths.TheVariants.{Any, Only, Either, Report, Odd, SeedOrKey}
 use Rattle.diag_ecu.specs.declared.service.Nrc.{Nrc}
 use Rattle.diag_ecu.specs.declared.service.Nrc.TheVariants.{ServiceNotSupported, SubFunctionNotSupported, IncorrectMessageLengthOrInvalidFormat, ResponseTooLong, BusyRepeatRequest, ConditionsNotCorrect, RequestSequenceError, RequestOutOfRange, SecurityAccessDenied, InvalidKey, ExceedNumberOfAttempts, RequiredTimeDelayNotExpired, ServiceNotSupportedInActiveSession}
 use Rattle.diag_ecu.specs.Bytes.{bytes_16, bytes_24, number_16, number_24, has_bit_7, without_bit_7}
-use Rattle.diag_ecu.specs.Service.{service_of, nrc_code, row, is_silent}
+use Rattle.diag_ecu.specs.Service.{service_of, nrc_code, row, is_silent, is_of_wrong_key}
 use Rattle.diag_ecu.specs.State.{State, is_holder, is_held_by_another, is_open, relocked, session_ended, s3_filled}
 
 -- ---- the parts of a request
@@ -41,34 +48,30 @@ ids_in (high ∷ low ∷ rest) = number_16 (high ∷ low ∷ []) 0 ∷ ids_in re
 abbrev pub ids : List ℕ → List ℕ
 ids p = ids_in (drop 1 p)
 
--- ---- the table of services
+-- ---- what a row of the table of services says of a request
 
--- which requests are busy while another tester is the holder
-abbrev pub needs_no_other_holder : Service → List ℕ → Bool
-needs_no_other_holder EcuReset p = true
-needs_no_other_holder ClearDiagnosticInformation p = true
-needs_no_other_holder DiagnosticSessionControl p = sub p == 0x03
-needs_no_other_holder ReadDtcInformation p = false
-needs_no_other_holder ReadDataByIdentifier p = false
-needs_no_other_holder SecurityAccess p = false
-needs_no_other_holder WriteDataByIdentifier p = false
-needs_no_other_holder RoutineControl p = false
-needs_no_other_holder TesterPresent p = false
-needs_no_other_holder ControlDtcSetting p = false
+-- whether the request is busy while another tester is the holder
+abbrev pub is_busy : Busy → List ℕ → Bool
+is_busy Never p = false
+is_busy Always p = true
+is_busy (On n) p = sub p == n
 
--- whether the service has this sub-function; of one that has none, any
-abbrev pub is_sub_function : State → Service → ℕ → Bool
-is_sub_function s DiagnosticSessionControl n = (n == 0x01) || (n == 0x03)
-is_sub_function s EcuReset n = (n == 0x01) || (n == 0x02) || (n == 0x03)
-is_sub_function s ReadDtcInformation n = (n == 0x01) || (n == 0x02) || (n == 0x0A)
-is_sub_function s SecurityAccess n =
+-- whether there is this sub-function; of a service that has none, any
+abbrev pub is_sub_function : State → SubFunctions → ℕ → Bool
+is_sub_function s Absent n = true
+is_sub_function s (Range first last) n = nat_le first n && nat_le n last
+is_sub_function s (Two a b) n = (n == a) || (n == b)
+is_sub_function s (Three a b c) n = (n == a) || (n == b) || (n == c)
+is_sub_function s OfLevels n =
     is_some (security.level_of s.security n) || is_some (security.level_of s.security (n - 1))
-is_sub_function s RoutineControl n = (n == 0x01) || (n == 0x02) || (n == 0x03)
-is_sub_function s TesterPresent n = n == 0x00
-is_sub_function s ControlDtcSetting n = (n == 0x01) || (n == 0x02)
-is_sub_function s ClearDiagnosticInformation n = true
-is_sub_function s ReadDataByIdentifier n = true
-is_sub_function s WriteDataByIdentifier n = true
+
+-- whether the second byte is a sub-function
+abbrev pub has_sub_function : SubFunctions → Bool
+has_sub_function Absent = false
+has_sub_function (Range first last) = true
+has_sub_function (Two a b) = true
+has_sub_function (Three a b c) = true
+has_sub_function OfLevels = true
 
 -- whether a request for a seed, and not a key, is meant
 abbrev pub is_seed_request : State → List ℕ → Bool
@@ -78,21 +81,17 @@ is_seed_request s p = is_some (security.level_of s.security (sub p))
 abbrev pub key_level : List ℕ → ℕ
 key_level p = sub p - 1
 
--- whether the length fits the service and its sub-function
-abbrev pub has_exact_length : State → Service → List ℕ → Bool
-has_exact_length s DiagnosticSessionControl p = length p == 2
-has_exact_length s EcuReset p = length p == 2
-has_exact_length s ClearDiagnosticInformation p = length p == 4
-has_exact_length s ReadDtcInformation p = if sub p == 0x0A then length p == 2 else length p == 3
-has_exact_length s ReadDataByIdentifier p = length p % 2 == 1
-has_exact_length s SecurityAccess p =
+-- whether the length is one of these
+abbrev pub has_length : State → Lengths → List ℕ → Bool
+has_length s Any p = true
+has_length s (Only n) p = length p == n
+has_length s (Either m n) p = (length p == m) || (length p == n)
+has_length s Report p = length p == (if sub p == 0x0A then 2 else 3)
+has_length s Odd p = length p % 2 == 1
+has_length s SeedOrKey p =
     if is_seed_request s p
     then length p == 2
     else security.option_is (security.key_len s.security (key_level p)) (length (drop 2 p))
-has_exact_length s WriteDataByIdentifier p = true
-has_exact_length s RoutineControl p = length p == 4
-has_exact_length s TesterPresent p = length p == 2
-has_exact_length s ControlDtcSetting p = (length p == 2) || (length p == 5)
 
 -- ---- positive replies
 
@@ -176,14 +175,14 @@ positive_reply s ControlDtcSetting p = 0xC5 ∷ sub p ∷ []
 abbrev pub Check : Type 0
 Check = Bool × Nrc
 
--- the checks that every service has
-abbrev pub common_checks : State → ℕ → Service → List ℕ → List Check
-common_checks s who service p =
-    ((row service).needs_extended && not (is_holder s who), ServiceNotSupportedInActiveSession)
-    ∷ (is_held_by_another s who && needs_no_other_holder service p, BusyRepeatRequest)
-    ∷ (nat_lt (length p) (row service).shortest, IncorrectMessageLengthOrInvalidFormat)
-    ∷ (not (is_sub_function s service (sub p)), SubFunctionNotSupported)
-    ∷ (not (has_exact_length s service p), IncorrectMessageLengthOrInvalidFormat)
+-- the checks that every service has, by its row
+abbrev pub common_checks : State → ℕ → ServiceRow → List ℕ → List Check
+common_checks s who row p =
+    (row.needs_extended && not (is_holder s who), ServiceNotSupportedInActiveSession)
+    ∷ (is_held_by_another s who && is_busy row.busy p, BusyRepeatRequest)
+    ∷ (nat_lt (length p) row.shortest, IncorrectMessageLengthOrInvalidFormat)
+    ∷ (not (is_sub_function s row.sub_functions (sub p)), SubFunctionNotSupported)
+    ∷ (not (has_length s row.lengths p), IncorrectMessageLengthOrInvalidFormat)
     ∷ []
 
 -- whether the tester may read by a rule; an unknown identifier has none
@@ -274,7 +273,7 @@ own_checks s who ReadDtcInformation p = []
 own_checks s who TesterPresent p = []
 
 abbrev pub checks : State → ℕ → Service → List ℕ → List Check
-checks s who service p = common_checks s who service p ++ own_checks s who service p
+checks s who service p = common_checks s who (row service) p ++ own_checks s who service p
 
 -- ---- effects
 
@@ -312,10 +311,10 @@ effect s who TesterPresent p = s
 
 -- a refused request changes nothing, but for a wrong key
 abbrev pub refused : State → ℕ → Nrc → State
-refused s who InvalidKey = record s { security = security.after_wrong_key s.security who }
-refused s who ExceedNumberOfAttempts =
-    record s { security = security.after_wrong_key s.security who }
-refused s who _ = s
+refused s who nrc =
+    if is_of_wrong_key nrc
+    then record s { security = security.after_wrong_key s.security who }
+    else s
 
 -- ---- the response
 
@@ -339,9 +338,12 @@ served s who None p = record { state = s; answer = Err ServiceNotSupported }
 served s who (Some service) p = outcome_of s who service p (first_holding (checks s who service p))
 
 -- whether the request asks that no positive reply be sent
+abbrev pub asks_for_silence : ServiceRow → List ℕ → Bool
+asks_for_silence row p = has_sub_function row.sub_functions && has_bit_7 (slice_index p 1)
+
 abbrev pub is_suppressed : Option Service → List ℕ → Bool
 is_suppressed None p = false
-is_suppressed (Some service) p = (row service).has_sub_function && has_bit_7 (slice_index p 1)
+is_suppressed (Some service) p = asks_for_silence (row service) p
 
 -- what is sent where a negative response code is the answer: not each of them on a functional request
 abbrev pub sent_negative : Bool → ℕ → Nrc → Option (List ℕ)

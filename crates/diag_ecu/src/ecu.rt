@@ -2,10 +2,11 @@
 ghost use Rattle.std.specs.Prelude.{◌≡◌, ◌≤◌, ◌+◌, ◌++◌, None, Some, length, IfOk, IfNone, OnOk, OnErr};
 ghost use Rattle.diag_setup.specs.Setup.{first_holding};
 ghost use Rattle.diag_ecu.specs.State.{opening, is_holder, is_held_by_another, is_open};
-ghost use Rattle.diag_ecu.specs.Respond.{common_checks, own_checks, checks, after_request, reply, outcome, served, own_outcome, effect, positive_reply, kept_alive, sent_negative, is_suppressed};
+ghost use Rattle.diag_ecu.specs.Respond.{common_checks, own_checks, checks, after_request, reply, outcome, served, effect, positive_reply, kept_alive, sent_negative};
+ghost use Rattle.diag_ecu.specs.Service.{row as row_of};
 
 use crate::bytes::sub_of;
-use crate::service::{Nrc, Service};
+use crate::service::{Nrc, Service, ServiceRow};
 use crate::trouble_codes::setting_refusal;
 use diag_store::{Dids, DtcMemory, Routines, Security, ServerParameters, Setup, TesterId};
 use diag_tp::Message;
@@ -101,9 +102,10 @@ impl Ecu {
         let Some(service) = Service::of(p[0]) else {
             return self.negative_reply(functional, p[0], Nrc::ServiceNotSupported);
         };
-        match self.refusal(who, service, p) {
+        let row = service.row();
+        match self.refusal(who, service, &row, p) {
             Some(nrc) => self.negative_reply(functional, p[0], nrc),
-            None if is_suppressed(service, p) => Ok(None),
+            None if row.asks_for_silence(p) => Ok(None),
             None => {
                 let reply = self.positive_reply(who, service, p)?;
                 Ok(Some(reply))
@@ -140,14 +142,15 @@ impl Ecu {
 
 impl Ecu {
     /// The code of the first check of the service that holds.
-    fn refusal(&self, who: TesterId, service: Service, p: &[u8]) -> Option<Nrc>
-        requires { 1 ≤ length p.now }
+    fn refusal(&self, who: TesterId, service: Service, row: &ServiceRow, p: &[u8]) -> Option<Nrc>
+        requires some { 1 ≤ length p.now }
+        requires its_row { row.now ≡ row_of service }
         ensures first { result ≡ first_holding (checks self.now who service p.now) }
         ensures common { IfNone result
-            (first_holding (common_checks self.now who service p.now) ≡ None) }
+            (first_holding (common_checks self.now who (row_of service) p.now) ≡ None) }
         ensures own { IfNone result (first_holding (own_checks self.now who service p.now) ≡ None) }
     {
-        match self.common_refusal(who, service, p) {
+        match self.common_refusal(who, row, p) {
             Some(nrc) => Some(nrc),
             None => self.own_refusal(who, service, p),
         }
@@ -156,7 +159,7 @@ impl Ecu {
     /// The code of the first check of this service alone that holds.
     fn own_refusal(&self, who: TesterId, service: Service, p: &[u8]) -> Option<Nrc>
         requires some { 1 ≤ length p.now }
-        requires passed { first_holding (common_checks self.now who service p.now) ≡ None }
+        requires passed { first_holding (common_checks self.now who (row_of service) p.now) ≡ None }
         ensures { result ≡ first_holding (own_checks self.now who service p.now) }
     {
         match service {
@@ -181,7 +184,7 @@ impl Ecu {
         p: &[u8],
     ) -> Result<Message, AllocError>
         requires some { 1 ≤ length p.now }
-        requires common { first_holding (common_checks self.now who service p.now) ≡ None }
+        requires common { first_holding (common_checks self.now who (row_of service) p.now) ≡ None }
         requires own { first_holding (own_checks self.now who service p.now) ≡ None }
         ensures { IfOk result (λ reply. reply ≡ positive_reply self.now service p.now) }
     {
@@ -229,31 +232,19 @@ impl Ecu {
         requires { 1 ≤ length p.now }
         ensures { self.new ≡ (served self.old who (Some service) p.now).state }
     {
-        if self.common_refusal(who, service, p).is_none() {
-            self.perform(who, service, p);
-        }
-    }
-
-    /// Does what a request does that passes the checks of every service.
-    fn perform(&mut self, who: TesterId, service: Service, p: &[u8])
-        requires some { 1 ≤ length p.now }
-        requires passed { first_holding (common_checks self.old who service p.now) ≡ None }
-        ensures { self.new ≡ (own_outcome self.old who service p.now).state }
-    {
-        match service {
-            Service::SecurityAccess => self.access_security(who, p),
-            _ => {
-                if self.own_refusal(who, service, p).is_none() {
-                    self.take_effect(who, service, p);
-                }
-            }
+        let row = service.row();
+        match self.refusal(who, service, &row, p) {
+            None => self.take_effect(who, service, p),
+            // It counts, though it is refused.
+            Some(nrc) if nrc.is_of_wrong_key() => self.access_security(who, p),
+            Some(_) => {}
         }
     }
 
     /// The effect of a request that passes all checks.
     fn take_effect(&mut self, who: TesterId, service: Service, p: &[u8])
         requires some { 1 ≤ length p.now }
-        requires common { first_holding (common_checks self.old who service p.now) ≡ None }
+        requires common { first_holding (common_checks self.old who (row_of service) p.now) ≡ None }
         requires own { first_holding (own_checks self.old who service p.now) ≡ None }
         ensures { self.new ≡ effect self.old who service p.now }
     {
@@ -327,15 +318,5 @@ impl Ecu {
         bytes.extend_from_slice(head)?;
         bytes.extend_from_slice(tail)?;
         Ok(Message::from_vec(bytes))
-    }
-}
-
-/// Whether a request asks that no positive reply be sent.
-fn is_suppressed(service: Service, p: &[u8]) -> bool
-    ensures { result ≡ is_suppressed (Some service) p.now }
-{
-    match p {
-        [_, second, ..] => service.row().has_sub_function && *second >= 128,
-        _ => false,
     }
 }

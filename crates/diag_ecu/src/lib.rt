@@ -14,5 +14,5 @@ mod trouble_codes;
 mod write_data;
 
 pub use ecu::Ecu;
-pub use service::{Nrc, Service, ServiceRow};
+pub use service::{Busy, Lengths, Nrc, Service, ServiceRow, SubFunctions};
 pub use session::Session;

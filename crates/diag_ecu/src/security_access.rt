@@ -6,7 +6,7 @@ ghost use Rattle.diag_ecu.specs.Respond.{own_outcome, security_checks, positive_
 
 use crate::bytes::sub_of;
 use crate::ecu::Ecu;
-use crate::service::{Nrc, Service};
+use crate::service::{Nrc, Service, SubFunctions};
 use diag_store::{KeyAnswer, SeedAnswer, TesterId};
 use diag_tp::Message;
 use std::alloc::AllocError;
@@ -15,7 +15,7 @@ impl Ecu {
     /// The code of the first check of a seed or key that holds.
     pub(crate) fn security_refusal(&self, who: TesterId, p: &[u8]) -> Option<Nrc>
         requires long { 2 ≤ length p.now }
-        requires known { IsTrue (is_sub_function self.now Service.SecurityAccess (sub p.now)) }
+        requires known { IsTrue (is_sub_function self.now SubFunctions.OfLevels (sub p.now)) }
         ensures { result ≡ first_holding (security_checks self.now who p.now) }
     {
         let sub = sub_of(p);
@@ -46,7 +46,7 @@ impl Ecu {
     /// Gives a seed, or takes a key: what a key does that is wrong is here too.
     pub(crate) fn access_security(&mut self, who: TesterId, p: &[u8])
         requires long { 2 ≤ length p.now }
-        requires known { IsTrue (is_sub_function self.old Service.SecurityAccess (sub p.now)) }
+        requires known { IsTrue (is_sub_function self.old SubFunctions.OfLevels (sub p.now)) }
         ensures { self.new ≡ (own_outcome self.old who Service.SecurityAccess p.now).state }
     {
         let sub = sub_of(p);
