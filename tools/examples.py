@@ -1,10 +1,14 @@
 #!/usr/bin/env python3
 """Runs the worked examples by the built program, and compares whole outputs and statuses: those of runs/examples.txt,
-and those whose logs or journals are built here. The last line is 'N passed, M failed'."""
+those of runs/refusals.txt, and those whose logs or journals are built here. Of a play that ends well the slow twin of
+tools/uds_link.py has to agree, too. The last line is 'N passed, M failed'."""
 import os
 import subprocess
 import sys
 import tempfile
+
+sys.dont_write_bytecode = True
+from uds_link import cut, differs, events, read_setup
 
 TOP = os.path.dirname(os.path.dirname(os.path.abspath(__file__)))
 PROGRAM = f"{TOP}/crates/uds_play/out/uds_play"
@@ -39,6 +43,17 @@ def check(name, words, files, prints="", tells="", status=0):
     want = (status, prints.encode(), f"uds_play: {tells}\n".encode() if tells else b"")
     found = (ran.returncode, ran.stdout, ran.stderr)
     told(found == want, f"{name}: {' '.join(words)}", f": {found}"[:600])
+    if status == 0 and words[0] in ("serial", "play") and "--journal" not in words:
+        why = twin_differs(words, files, ran.stdout.decode())
+        told(why is None, f"{name}: {' '.join(words)}: the slow twin", f": {why}"[:600])
+
+
+def twin_differs(words, files, text):
+    """What of a play's text the slow twin of the links has otherwise; None where they agree."""
+    setup = read_setup(files[0])
+    stamps = "--stamps" in words
+    logs = [[line.removesuffix("\r") for line in it.split("\n")] for it in files[1:]]
+    return differs(setup, [events(setup, place, it, stamps) for place, it in enumerate(logs)], text, words[0] == "serial", stamps)
 
 
 def plays(name, a, prints="", keys="", tables="", **fault):
@@ -144,6 +159,86 @@ def two_routines():
         plays("routine-and-setting, two", log(lines), f"{sent}diag-journal 1\n{journal}{end}", tables=table)
 
 
+def of_requests(setup, messages):
+    """Requests in hex, or tick lines, as the lines of the first tester's log; no reply of them needs flow control."""
+    lines = []
+    for it in messages:
+        lines += [it] if it.startswith("tick") else [f"7E0#{frame.hex().upper()}" for frame in cut(setup, bytes.fromhex(it))]
+    return lines
+
+
+# what stands before a refused request of A: requests of A, each with its reply
+SEED, WRONG = [("2781", "-")], [("2781", "-"), ("270200000000", "7F2735")]
+BEFORE = {
+    "nothing": [],
+    "another": [],
+    "session": [("1083", "-")],
+    "routine": [("1083", "-"), ("31810203", "-")],
+    "seed": [("1083", "-"), *SEED],
+    "two-wrong": [("1083", "-"), *WRONG, *WRONG, *SEED],
+    "three-wrong": [("1083", "-"), *WRONG, *WRONG, *SEED, ("270200000000", "7F2736")],
+}
+CLOSED = f"""
+[[did]]
+id = 0x0100
+value = "{"5A" * 255}"
+
+[[did]]
+id = 0x0101
+value = "00"
+read_level = 1
+
+[[routine]]
+id = 0x0204
+time_ms = 100
+level = 1
+"""
+
+
+def refusals():
+    """Each negative response that each service can give, by the rows of runs/refusals.txt."""
+    with open(f"{TOP}/runs/refusals.txt") as it:
+        rows = [line.split() for line in it if line.strip() and not line.startswith("#")]
+    setup = read_setup(SETUP)
+    for before, request, reply in rows:
+        request = "22" + "0100" * 255 if request == "255-reads" else request
+        asked = [*BEFORE[before], (request, reply)]
+        first = ["1 T 1"] + (["2 P 1083 -"] if before == "another" else [])
+        a = ["tick", *of_requests(setup, [it for it, _ in asked])]
+        journal = "\n".join(["diag-journal 1", *(sorted(first)), *(f"1 P {one} {other}" for one, other in asked)])
+        b = ["7E1#021083"] if before == "another" else []
+        check(f"refusal {before} {request[:8]}", ["serial", "--journal"], [SETUP + CLOSED, log(a), log(b)], f"{journal}\n")
+
+
+def largest_setup():
+    """Each table of the setup as long as it may be; the last tester unlocks a level and looks at them."""
+    rows = [f'[[tester]]\nname = "{chr(97 + it) * 16}"\nrequest = {0x700 + 2 * it}\nresponse = {0x701 + 2 * it}\n' for it in range(8)]
+    rows += [f'[[did]]\nid = {0xFFFF - it}\nvalue = "{"5A" * 255}"\nread_level = 65\nwrite = true\nwrite_level = 63\n' for it in range(64)]
+    rows += [f"[[code]]\ncode = {0xFFFFFE - it}\nstatus = {it}\n" for it in range(256)]
+    routine = 'time_ms = 600000\nresult = "{}"\nlevel = 61\ncode = {}\nstatus = 255\n'
+    rows += [f"[[routine]]\nid = {0xFFFF - it}\n" + routine.format("33" * 32, 0xFFFFFE - it) for it in range(16)]
+    pair = f'[[level.row]]\nseed = "{"11" * 16}"\nkey = "{"22" * 16}"\n'
+    rows += [f"[[level]]\nsub = {65 - 2 * it}\n{pair * 64}" for it in range(4)]
+    asked = [
+        ("1003", "5003003201F4"), ("22FFC0", "7F2233"), ("2741", "6741" + "11" * 16), ("2742" + "22" * 16, "6742"),
+        ("22FFC0", "62FFC0" + "5A" * 255), ("22FFFF", "62FFFF" + "5A" * 255), ("22FFBF", "7F2231"),
+        ("190180", "5901FF010080"), ("3101FFF0", "7F3133"), ("3101FFEF", "7F3131"),
+        ("273B", "673B" + "11" * 16), ("2739", "7F2712"),
+    ]
+    setup = read_setup("".join(rows))
+    lines = [it.replace("7E0#", "70E#") for it in of_requests(setup, [it for it, _ in asked])]
+    journal = "".join(f"8 P {one} {other}\n" for one, other in asked)
+    check("the largest setup", ["serial", "--journal"], ["".join(rows), *[""] * 7, log(lines)], f"diag-journal 1\n{journal}")
+
+
+def a_million_events():
+    """Stamps so far apart that the ticks between them and both frames are a million events."""
+    apart = "(0.000000) can0 7E0#023E00\n(59999880.000000) can0 7E0#023E00\n"
+    ticks = "".join(f"{60000 * it} 1 T 60000\n" for it in range(1, 999_999))
+    journal = f"diag-journal 2\n0 1 P 3E00 7E00\n{ticks}{60000 * 999_998} 1 P 3E00 7E00\n"
+    check("stamp-limits, a million events", ["serial", "--stamps", "--journal"], [SETUP, apart, ""], journal)
+
+
 def log_faults():
     for line, fault in [
         ("7E0#023", "bad line"),
@@ -166,6 +261,11 @@ def log_faults():
     for line in ["(0.00000) can0 7E0#00", "(0000000000000.000000) can0 7E0#00", "(0.000000) 7E0#00", b"\xff"]:
         plays("a log's whole line", line, tells="log 1 line 1: bad line", status=3)
         check("a capture's whole line", ["bus"], [SETUP, line], tells="capture line 1: bad line", status=3)
+    for job in ("serial", "play"):
+        second = "log 2 line 2: bad line"
+        check("a second log at fault", [job], [SETUP, log(["7E0#021003"]), log(["tick", "7E1#023"])], tells=second, status=3)
+        both = "log 1 line 2: bad line"
+        check("both logs at fault", [job], [SETUP, log(["7E0#02", "7E0#023"]), log(["7E1#023"])], tells=both, status=3)
     apart = "(0.000000) can0 7E0#023E00\n(59999880.001000) can0 7E0#023E00\n"
     for job in ("serial", "play"):
         check("stamps too far apart", [job, "--stamps"], [SETUP, apart, ""], tells="log 1: too many events", status=3)
@@ -186,6 +286,18 @@ def replays():
     lines = ["1 T 0", "1 T 01", "1 T 60001", "0 T 1", "9 T 1", "1 P 108 -", "1 P - -", "1 F 1083", "1 P 1083 -\r"]
     for line in [*(f"{it}\n" for it in lines), "1 T 1"]:
         check(f"journal-line-forms {line!r}", ["replay"], [SETUP, f"diag-journal 1\n{line}"], tells="journal line 2", status=3)
+    spellings = ["", "1 T +1", "1  T 1", "1 t 1", "1 T 1 -", "1 P 1003 5003003201f4"]
+    for line in [*(f"diag-journal 1\n{it}\n" for it in spellings), *(f"diag-journal 2\n{it}\n" for it in ["1 T 1", "01 1 T 1", "2 1 T 1"])]:
+        check(f"journals have one spelling {line!r}", ["replay"], [SETUP, line], tells="journal line 2", status=3)
+    for head in ["diag-journal 3\n", "diag-journal 1\r\n"]:
+        check(f"journal-line-forms {head!r}", ["replay"], [SETUP, head], tells="journal line 1", status=3)
+    check("replay, the ticks of B", ["replay"], [SETUP, "diag-journal 1\n2 T 60000\n1 F 3E80 -\n"], f"entries 2\n{DEFAULT}")
+    for entries, differs_at in [
+        ("1 P 1003 -\n", 1),
+        ("1 P 1083 5003003201F4\n", 1),
+        ("1 P 3E00 7E00\n1 P 3E80 7E00\n2 P 3E00 7E01\n", 2),
+    ]:
+        check("replay of other replies", ["replay"], [SETUP, f"diag-journal 1\n{entries}"], tells=f"entry {differs_at} differs", status=8)
     entries = "diag-journal 1\n" + "1 T 1\n" * 1_000_001
     check("journal-line-forms, an entry too many", ["replay"], [SETUP, entries], tells="journal line 1000002", status=3)
 
@@ -205,6 +317,7 @@ def config_faults():
         (tester + "[[code]]\ncode = 0x012345\nstatus = 0\n[[routine]]\nid = 1\ntime_ms = 1\ncode = 1\nstatus = 1\n", "unknown code"),
         (tester + f'[[did]]\nid = 1\nvalue = "00"\nwrite_level = 3\n[[level]]\nsub = 1\n{row}', "unknown level"),
         (tester + "[[level]]\nsub = 1\n", "empty"),
+        *((f'{tester}[[did]]\nid = 0xF190\nvalue = "{it}"\n', "bad value did.value") for it in ("5", "5G", "g5")),
         ("\n" * 1_048_577, "too long"),
     ]:
         for job in ("bus", "serial", "play", "replay"):
@@ -231,7 +344,8 @@ def main():
     if not os.access(PROGRAM, os.X_OK):
         print(f"examples: {PROGRAM} isn't built\n0 passed, 1 failed")
         return 1
-    for group in (run_file, long_requests, long_replies, two_routines, log_faults, replays, config_faults, read_while_written):
+    groups = [run_file, refusals, long_requests, long_replies, two_routines, largest_setup, log_faults, a_million_events]
+    for group in [*groups, replays, config_faults, read_while_written]:
         group()
     print(f"{counts[True]} passed, {counts[False]} failed")
     return 1 if counts[False] else 0

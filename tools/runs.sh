@@ -67,6 +67,7 @@ empty=$PWD/runs/empty.log
 usage='usage: uds_play [serial|play|replay] [--journal] [--stamps] CONFIG FILE..'
 yes tick | head -n 1000000 > "$room/most.log"
 yes tick | head -n 1000001 > "$room/past.log"
+yes tick | head -n 500001 > "$room/half.log"
 echo tick > "$room/one.log"
 {
   echo 'diag-journal 1'
@@ -78,11 +79,15 @@ for command in serial play; do
   if [ "$status" = 0 ] && cmp -s "$room/out" "$room/most.txt"; then good "a million ticks: $command"; else bad "a million ticks: $command: status $status"; fi
   ran "$room" "$command" "$setup" most.log one.log
   ends "a journal that is full: $command" 5 'journal full'
+  ran "$room" "$command" "$setup" half.log half.log
+  ends "a journal that both fill: $command" 5 'journal full'
   ran "$room" "$command" "$setup" past.log "$empty"
   ends "a line past a million: $command" 3 'log 1: too many lines'
   head -c 67108865 /dev/zero > "$room/long.log"
   ran "$room" "$command" "$setup" long.log "$empty"
   ends "a log past its limit: $command" 3 'file 1: too long'
+  ran "$room" "$command" "$setup" "$empty" long.log
+  ends "a second log past its limit: $command" 3 'file 2: too long'
   rm "$room/long.log"
 done
 

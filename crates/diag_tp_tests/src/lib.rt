@@ -1,8 +1,10 @@
-//! Tests of the lines of a log and of the links that take their frames, over public calls: the worked examples, every
-//! form of a line, and each link beside its slow twin.
+//! Tests of logs, links and messages by public calls: what is read of a log, and what no run of the program shows of a
+//! link and of a message. (`tools/examples.py` runs the worked examples, `tools/twin.py` links beside their slow twin.)
 #![tactic(auto)]
 
 #[cfg(test)]
-mod lines;
-#[cfg(test)]
 mod links;
+#[cfg(test)]
+mod logs;
+#[cfg(test)]
+mod messages;

@@ -1,4 +1,0 @@
-//! The setup and the tables.
-
-mod setups;
-mod tables;
