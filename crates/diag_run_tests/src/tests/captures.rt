@@ -5,86 +5,44 @@ use diag_bus::Output;
 use diag_run::run_bus_and_tell;
 use std::alloc::{AllocError, Global};
 
-/// A line of a capture, and what it writes.
-#[derive(Clone, Copy)]
-struct Line {
-    /// The line, with its LF where it has one.
-    bytes: &'static [u8],
-    replies: &'static [u8],
-    entries: &'static [u8],
-}
+/// A line of a capture with its LF where it has one, the replies that it writes, and the entries.
+type Line = (&'static [u8], &'static [u8], &'static [u8]);
 
 /// Tester B asks for the extended session while A has it, and once A has left it.
 const ORDER: [Line; 5] = [
-    Line {
-        bytes: b"(0000000100.000000) can0 7E0#021003\n",
-        replies: b"(0000000100.000000) A 7E8#065003003201F4CC\n",
-        entries: b"0 1 P 1003 5003003201F4\n",
-    },
-    Line {
-        bytes: b"(0000000100.000400) can0 7E8#065003003201F4CC\n",
-        replies: b"",
-        entries: b"",
-    },
-    Line {
-        bytes: b"(0000000100.010000) can0 7E1#021003\n",
-        replies: b"(0000000100.010000) B 7E9#037F1021CCCCCCCC\n",
-        entries: b"10 1 T 10\n10 2 T 10\n10 2 P 1003 7F1021\n",
-    },
-    Line {
-        bytes: b"(0000000100.020000) can0 7E0#021001\n",
-        replies: b"(0000000100.020000) A 7E8#065001003201F4CC\n",
-        entries: b"20 1 T 10\n20 2 T 10\n20 1 P 1001 5001003201F4\n",
-    },
-    Line {
-        bytes: b"(0000000100.030000) can0 7E1#021003",
-        replies: b"(0000000100.030000) B 7E9#065003003201F4CC\n",
-        entries: b"30 1 T 10\n30 2 T 10\n30 2 P 1003 5003003201F4\n",
-    },
+    (
+        b"(0000000100.000000) can0 7E0#021003\n",
+        b"(0000000100.000000) A 7E8#065003003201F4CC\n",
+        b"0 1 P 1003 5003003201F4\n",
+    ),
+    (b"(0000000100.000400) can0 7E8#065003003201F4CC\n", b"", b""),
+    (
+        b"(0000000100.010000) can0 7E1#021003\n",
+        b"(0000000100.010000) B 7E9#037F1021CCCCCCCC\n",
+        b"10 1 T 10\n10 2 T 10\n10 2 P 1003 7F1021\n",
+    ),
+    (
+        b"(0000000100.020000) can0 7E0#021001\n",
+        b"(0000000100.020000) A 7E8#065001003201F4CC\n",
+        b"20 1 T 10\n20 2 T 10\n20 1 P 1001 5001003201F4\n",
+    ),
+    (
+        b"(0000000100.030000) can0 7E1#021003",
+        b"(0000000100.030000) B 7E9#065003003201F4CC\n",
+        b"30 1 T 10\n30 2 T 10\n30 2 P 1003 5003003201F4\n",
+    ),
 ];
 
 /// The same with all that the server sends, of which a verdict writes nothing.
 const ANSWERED: [Line; 8] = [
-    Line {
-        bytes: b"(0000000100.000000) can0 7E0#021003\n",
-        replies: b"",
-        entries: b"",
-    },
-    Line {
-        bytes: b"(0000000100.000400) can0 7E8#065003003201F4CC\n",
-        replies: b"",
-        entries: b"",
-    },
-    Line {
-        bytes: b"(0000000100.010000) can0 7E1#021003\n",
-        replies: b"",
-        entries: b"",
-    },
-    Line {
-        bytes: b"(0000000100.010400) can0 7E9#037F1021CCCCCCCC\n",
-        replies: b"",
-        entries: b"",
-    },
-    Line {
-        bytes: b"(0000000100.020000) can0 7E0#021001\n",
-        replies: b"",
-        entries: b"",
-    },
-    Line {
-        bytes: b"(0000000100.020400) can0 7E8#065001003201F4CC\n",
-        replies: b"",
-        entries: b"",
-    },
-    Line {
-        bytes: b"(0000000100.030000) can0 7E1#021003\n",
-        replies: b"",
-        entries: b"",
-    },
-    Line {
-        bytes: b"(0000000100.030400) can0 7E9#065003003201F4CC",
-        replies: b"",
-        entries: b"",
-    },
+    (b"(0000000100.000000) can0 7E0#021003\n", b"", b""),
+    (b"(0000000100.000400) can0 7E8#065003003201F4CC\n", b"", b""),
+    (b"(0000000100.010000) can0 7E1#021003\n", b"", b""),
+    (b"(0000000100.010400) can0 7E9#037F1021CCCCCCCC\n", b"", b""),
+    (b"(0000000100.020000) can0 7E0#021001\n", b"", b""),
+    (b"(0000000100.020400) can0 7E8#065001003201F4CC\n", b"", b""),
+    (b"(0000000100.030000) can0 7E1#021003\n", b"", b""),
+    (b"(0000000100.030400) can0 7E9#065003003201F4CC", b"", b""),
 ];
 
 /// What is told of a recording that agrees.
@@ -112,7 +70,7 @@ fn lines(output: Output) -> &'static [Line] {
 fn capture(alloc: Global, output: Output) -> Result<Vec<u8>, AllocError> {
     let mut bytes = Vec::new(alloc);
     for line in lines(output) {
-        bytes.extend_from_slice(line.bytes)?;
+        bytes.extend_from_slice(line.0)?;
     }
     Ok(bytes)
 }
@@ -120,8 +78,8 @@ fn capture(alloc: Global, output: Output) -> Result<Vec<u8>, AllocError> {
 /// What a line writes.
 fn drawn(output: Output, line: &Line) -> &'static [u8] {
     match output {
-        Output::Replies => line.replies,
-        Output::Journal => line.entries,
+        Output::Replies => line.1,
+        Output::Journal => line.2,
         Output::End | Output::Verdict => b"",
     }
 }
@@ -140,8 +98,8 @@ fn written(alloc: Global, output: Output, read: usize) -> Result<Vec<u8>, AllocE
     let mut seen = 0usize;
     text.extend_from_slice(header(output))?;
     for line in lines(output) {
-        seen = seen.saturating_add(line.bytes.len());
-        if seen <= read && line.bytes.ends_with(b"\n") {
+        seen = seen.saturating_add(line.0.len());
+        if seen <= read && line.0.ends_with(b"\n") {
             text.extend_from_slice(drawn(output, line))?;
         }
     }
@@ -270,7 +228,7 @@ fn write_fails(
 /// Whether the read at this call is never made where the first write fails: the capture comes byte by byte.
 fn stops_at_the_first_write(alloc: Global) -> Result<bool, AllocError> {
     let bytes = capture(alloc, Output::Replies)?;
-    let first = ORDER[0].bytes.len();
+    let first = ORDER[0].0.len();
     let source = Source::failing(bytes.as_slice(), first.saturating_add(1));
     let mut out = Dribble::failing(alloc, 1, false)?;
     follows(alloc, Output::Replies, source, &mut out, CANNOT_WRITE, b"")
@@ -288,34 +246,6 @@ fn each_write_over_a_capture_fails_in_turn(rt: HostRuntime) -> Result<(), Troubl
         }
     }
     holds(stops_at_the_first_write(alloc))
-}
-
-/// Whether a run to which each read brings so many bytes writes the whole text.
-fn is_in_pieces(alloc: Global, output: Output, at_once: usize) -> Result<bool, AllocError> {
-    let bytes = capture(alloc, output)?;
-    let text = whole(alloc, output)?;
-    let source = Source {
-        bytes: bytes.as_slice(),
-        feeds: 0,
-        at_once,
-        calls: 0,
-        fails_at: 0,
-    };
-    let mut out = Dribble::failing(alloc, 0, false)?;
-    follows(alloc, output, source, &mut out, WELL, text.as_slice())
-}
-
-/// However a capture is cut into reads, it writes the same.
-#[test]
-fn pieces_of_each_length(rt: HostRuntime) -> Result<(), Trouble> {
-    let alloc = rt.alloc();
-    for output in OUTPUTS {
-        let len = capture(alloc, output)?.len();
-        for at_once in 1..=len {
-            holds_at(at_once, is_in_pieces(alloc, output, at_once))?;
-        }
-    }
-    Ok(())
 }
 
 const LACKING: End<'static> = End {

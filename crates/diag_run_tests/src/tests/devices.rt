@@ -360,19 +360,3 @@ fn reads_of_a_whole_file(rt: HostRuntime) -> Result<(), Trouble> {
     holds(is_read_once(rt.alloc(), b""))?;
     holds(is_read_once(rt.alloc(), config()))
 }
-
-/// A second log that is one byte past its limit.
-#[test]
-fn a_log_past_its_limit(rt: HostRuntime) -> Result<(), Trouble> {
-    let files = [Source::whole(b""), Source::line_feeds(67_108_865)];
-    let run = Run {
-        job: PLAY,
-        config: Source::whole(config()),
-        files: &files,
-    };
-    let end = End {
-        line: b"uds_play: file 2: too long\n",
-        status: 3,
-    };
-    holds(ends_unwritten(&rt, run, end))
-}

@@ -48,17 +48,6 @@ impl<'a> Source<'a> {
         }
     }
 
-    /// A reader of so many line feeds that never fails.
-    pub fn line_feeds(count: usize) -> Source<'a> {
-        Source {
-            bytes: &[],
-            feeds: count,
-            at_once: 4096,
-            calls: 0,
-            fails_at: 0,
-        }
-    }
-
     /// A reader that brings one byte at a time, and fails at this call.
     pub fn failing(bytes: &'a [u8], fails_at: usize) -> Source<'a> {
         Source {
@@ -205,15 +194,6 @@ pub fn ends_unwritten<T: Threads + Wait + Sync + AllocGlobal>(
     let mut out = Vec::new(rt.alloc());
     let told = ends(rt, run, &mut out, end);
     Ok(told? && out.is_empty())
-}
-
-/// A log of so many ticks.
-pub fn ticks(alloc: Global, count: usize) -> Result<Vec<u8>, AllocError> {
-    let mut text = Vec::new(alloc);
-    for _ in 0..count {
-        text.extend_from_slice(b"tick\n")?;
-    }
-    Ok(text)
 }
 
 /// Why a test did not come to its end: memory was refused, or a run did what it must not.

@@ -1,6 +1,6 @@
 //! Runs with a thread for each tester.
 
-use super::given::{PLAY, Run, SERIAL, Source, Trouble, WELL, config, ends, holds, ticks};
+use super::given::{Run, Source, Trouble, WELL, config, ends, holds};
 use diag_can::Timing;
 use diag_run::Job;
 use std::alloc::{AllocError, Global};
@@ -22,34 +22,6 @@ fn plays<T: Threads + Wait + Sync + AllocGlobal>(
         files: &files,
     };
     ends(rt, run, out, WELL)
-}
-
-/// A log of one request, and the text of its run.
-const LOG: &[u8] = b"(0000000000.000000) can0 7E0#021003\n";
-
-const TEXT: &[u8] = b"(0000000000.000000) A 7E8#065003003201F4CC
-diag-journal 1
-1 P 1003 5003003201F4
-session extended
-holder A
-code 012345 2F
-";
-
-/// Whether a run of tester A alone writes its text.
-fn writes_reply<T: Threads + Wait + Sync + AllocGlobal>(
-    rt: &T,
-    job: Job,
-) -> Result<bool, AllocError> {
-    let mut out = Vec::with_capacity(rt.alloc(), 4096)?;
-    let well = plays(rt, job, LOG, b"", &mut out);
-    Ok(well? && out.as_slice() == TEXT)
-}
-
-/// Tester A alone: the text is the same on one thread and on two.
-#[test]
-fn first_reply(rt: HostRuntime) -> Result<(), Trouble> {
-    holds(writes_reply(&rt, SERIAL))?;
-    holds(writes_reply(&rt, PLAY))
 }
 
 /// How often the tester of an entry is another than that of the entry before it.
@@ -93,6 +65,9 @@ fn one_mixes<T: Threads + Wait + Sync + AllocGlobal>(rt: &T, log: &[u8]) -> Resu
 /// In one of a hundred plays of 20,000 ticks each the testers mix.
 #[test]
 fn play_mixes(rt: HostRuntime) -> Result<(), Trouble> {
-    let log = ticks(rt.alloc(), 20_000)?;
+    let mut log = Vec::new(rt.alloc());
+    for _ in 0..20_000 {
+        log.extend_from_slice(b"tick\n")?;
+    }
     one_mixes(&rt, log.as_slice())
 }
