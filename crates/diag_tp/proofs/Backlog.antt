@@ -68,7 +68,7 @@ started-message : (s : LinkSetup) (W : List (List ℕ)) → Each IsOfMessage (st
 started-message s [] = tt
 started-message s (P ∷ W) =
     let first = Each-take IsOfMessage 1 (cut P s.pad) (cut-message P s.pad) in
-    elim (nat_le (frame_count s P) 1) as (λ b. Each IsOfMessage (if b then before_these (take 1 (cut P s.pad)) (started s W) else record { due = take 1 (cut P s.pad); current = Some (record { message = P; gone = 1; phase = AwaitsFlow s.n_bs }); waiting = W }).due) [
+    elim (nat_le (frame_count s P) 1) as (λ b. Each IsOfMessage (if b then before_these (take 1 (cut P s.pad)) (started s W) else record { due = take 1 (cut P s.pad); current = Some (record { message = P; next = 1; due = 0; phase = AwaitsFlow s.n_bs }); waiting = W }).due) [
       | true ↦ Each-append IsOfMessage (take 1 (cut P s.pad)) (started s W).due first (started-message s W)
       | false ↦ first
     ]
@@ -79,7 +79,7 @@ settled-message s (Some c) W =
     let all = cut c.message s.pad in
     let frames = take c.due (drop c.next all) in
     let these = Each-take IsOfMessage c.due (drop c.next all) (Each-drop IsOfMessage c.next all (cut-message c.message s.pad)) in
-    elim (c.next + c.due == frame_count s c.message) as (λ b. Each IsOfMessage (if b then before_these frames (started s W) else record { due = frames; current = Some (record { message = c.message; gone = c.next + c.due; phase = c.phase }); waiting = W }).due) [
+    elim (c.next + c.due == frame_count s c.message) as (λ b. Each IsOfMessage (if b then before_these frames (started s W) else record { due = frames; current = Some (record { message = c.message; next = c.next + c.due; due = 0; phase = c.phase }); waiting = W }).due) [
       | true ↦ Each-append IsOfMessage frames (started s W).due these (started-message s W)
       | false ↦ these
     ]
@@ -129,5 +129,5 @@ settled-total s None W = let same = frames-same s W in let all = started-total s
 settled-total s (Some c) W =
     let same = frames-same s W in
     let one = frames-count c.message s.pad in
-    let all = advanced-total s c.due c.phase (record { message = c.message; gone = c.next; phase = c.phase }) W in
+    let all = advanced-total s c.due c.phase c W in
     omega arith

@@ -15,7 +15,8 @@ use Rattle.diag_tp.specs.Kind.{kind}
 use Rattle.diag_tp.specs.Cut.{cut}
 use Rattle.diag_tp.specs.Sending.{Decision, Go, Wait, GiveUp, block_size, flow_decision}
 use Rattle.diag_tp.proofs.Settled.{some-frame}
-use Rattle.diag_tp.specs.Sender.{Current, SenderState, frame_count, current_left, started, before_these, resting, in_phase, advanced, within_block, block_begun, decided_so, flow_in, ticks_in, sender_flow, sender_ticks, sender_frame, sender_event, no_flow, replied, replied_in}
+use Rattle.diag_tp.specs.declared.sending.Sending.{Sending as Current}
+use Rattle.diag_tp.specs.Sender.{SenderState, frame_count, frames_of, current_left, started, before_these, in_phase, with, advanced, within_block, settled_in, tick_fields, flow_fields, sender_flow, sender_ticks, sender_frame, sender_event, no_flow, replied, replied_in}
 
 -- the frames that a sender may still hand out
 abbrev pub total : LinkSetup → SenderState → ℕ
@@ -37,7 +38,7 @@ started-total s (P ∷ W) =
     let one = length-take 1 (cut P s.pad) in
     let some = some-frame s P in
     let more = length-append (take 1 (cut P s.pad)) (started s W).due in
-    elim (nat_le (frame_count s P) 1) as (λ b. nat_le (frame_count s P) 1 ≡ b → total s (if b then before_these (take 1 (cut P s.pad)) (started s W) else record { due = take 1 (cut P s.pad); current = Some (record { message = P; gone = 1; phase = AwaitsFlow s.n_bs }); waiting = W }) ≡ sum_by (frame_count s) (P ∷ W)) [
+    elim (nat_le (frame_count s P) 1) as (λ b. nat_le (frame_count s P) 1 ≡ b → total s (if b then before_these (take 1 (cut P s.pad)) (started s W) else record { due = take 1 (cut P s.pad); current = Some (record { message = P; next = 1; due = 0; phase = AwaitsFlow s.n_bs }); waiting = W }) ≡ sum_by (frame_count s) (P ∷ W)) [
       | true ↦ λ t. let short : frame_count s P ≤ 1 = grind (arith, nat_tests) in omega arith
       | false ↦ λ f. let long : 1 < frame_count s P = grind (arith, nat_tests) in omega arith
     ] refl
@@ -46,11 +47,11 @@ pub advanced-total : (s : LinkSetup) (k : ℕ) (phase : Phase) (c : Current) (W 
 advanced-total s k phase c W =
     let rest = started-total s W in
     let all = cut c.message s.pad in
-    let taken = length-take k (drop c.gone all) in
-    let kept = length-drop c.gone all in
-    let more = length-append (take k (drop c.gone all)) (started s W).due in
-    elim (c.gone + k == frame_count s c.message) as (λ b. (c.gone + k == frame_count s c.message) ≡ b → total s (if b then before_these (take k (drop c.gone all)) (started s W) else record { due = take k (drop c.gone all); current = Some (record { message = c.message; gone = c.gone + k; phase = phase }); waiting = W }) ≡ left s (Some c) W) [
-      | true ↦ λ t. let whole : c.gone + k ≡ frame_count s c.message = grind (arith, nat_tests) in omega arith
+    let taken = length-take k (drop c.next all) in
+    let kept = length-drop c.next all in
+    let more = length-append (take k (drop c.next all)) (started s W).due in
+    elim (c.next + k == frame_count s c.message) as (λ b. (c.next + k == frame_count s c.message) ≡ b → total s (if b then before_these (take k (drop c.next all)) (started s W) else record { due = take k (drop c.next all); current = Some (record { message = c.message; next = c.next + k; due = 0; phase = phase }); waiting = W }) ≡ left s (Some c) W) [
+      | true ↦ λ t. let whole : c.next + k ≡ frame_count s c.message = grind (arith, nat_tests) in omega arith
       | false ↦ λ f. omega arith
     ] refl
 
@@ -63,7 +64,7 @@ started-within s (P ∷ W) =
     let sum = sum_by-cons (frame_count s) P W in
     let one = length-take 1 (cut P s.pad) in
     let more = length-append (take 1 (cut P s.pad)) (started s W).due in
-    elim (nat_le (frame_count s P) 1) as (λ b. nat_le (frame_count s P) 1 ≡ b → IsWithin s (if b then before_these (take 1 (cut P s.pad)) (started s W) else record { due = take 1 (cut P s.pad); current = Some (record { message = P; gone = 1; phase = AwaitsFlow s.n_bs }); waiting = W }) (sum_by (frame_count s) (P ∷ W)) (suc (length W))) [
+    elim (nat_le (frame_count s P) 1) as (λ b. nat_le (frame_count s P) 1 ≡ b → IsWithin s (if b then before_these (take 1 (cut P s.pad)) (started s W) else record { due = take 1 (cut P s.pad); current = Some (record { message = P; next = 1; due = 0; phase = AwaitsFlow s.n_bs }); waiting = W }) (sum_by (frame_count s) (P ∷ W)) (suc (length W))) [
       | true ↦ λ t. record { frames = omega arith; replies = omega arith }
       | false ↦ λ f. let long : 1 < frame_count s P = grind (arith, nat_tests) in record { frames = omega arith; replies = omega arith }
     ] refl
@@ -74,16 +75,13 @@ advanced-within s k phase c W =
     let frames = rest.frames in
     let replies = rest.replies in
     let all = cut c.message s.pad in
-    let taken = length-take k (drop c.gone all) in
-    let kept = length-drop c.gone all in
-    let more = length-append (take k (drop c.gone all)) (started s W).due in
-    elim (c.gone + k == frame_count s c.message) as (λ b. (c.gone + k == frame_count s c.message) ≡ b → IsWithin s (if b then before_these (take k (drop c.gone all)) (started s W) else record { due = take k (drop c.gone all); current = Some (record { message = c.message; gone = c.gone + k; phase = phase }); waiting = W }) (left s (Some c) W) (length W)) [
+    let taken = length-take k (drop c.next all) in
+    let kept = length-drop c.next all in
+    let more = length-append (take k (drop c.next all)) (started s W).due in
+    elim (c.next + k == frame_count s c.message) as (λ b. (c.next + k == frame_count s c.message) ≡ b → IsWithin s (if b then before_these (take k (drop c.next all)) (started s W) else record { due = take k (drop c.next all); current = Some (record { message = c.message; next = c.next + k; due = 0; phase = phase }); waiting = W }) (left s (Some c) W) (length W)) [
       | true ↦ λ t. record { frames = omega arith; replies = omega arith }
       | false ↦ λ f. record { frames = omega arith; replies = omega arith }
     ] refl
-
-resting-within : (s : LinkSetup) (c : Current) (phase : Phase) (W : List (List ℕ)) → IsWithin s (resting (in_phase c phase) W) (left s (Some c) W) (length W)
-resting-within s c phase W = record { frames = omega arith; replies = omega arith }
 
 started-left : (s : LinkSetup) (c : Current) (W : List (List ℕ)) → IsWithin s (started s W) (left s (Some c) W) (length W)
 started-left s c W =
@@ -91,33 +89,28 @@ started-left s c W =
     let frames = h.frames in
     record { frames = omega arith; replies = h.replies }
 
-tick-within : (s : LinkSetup) (n : ℕ) (p : Phase) (c : Current) (W : List (List ℕ)) → IsWithin s (ticks_in s n p c W) (left s (Some c) W) (length W)
+tick-within : (s : LinkSetup) (n : ℕ) (p : Phase) (c : Current) (W : List (List ℕ)) → IsWithin s (settled_in s (tick_fields s n c p) W) (left s (Some c) W) (length W)
 tick-within s n (AwaitsFlow ticks) c W =
-    elim (nat_le ticks n) as (λ b. IsWithin s (if b then started s W else resting (in_phase c (AwaitsFlow (ticks - n))) W) (left s (Some c) W) (length W)) [
+    elim (nat_le ticks n) as (λ b. IsWithin s (settled_in s (if b then None else Some (in_phase c (AwaitsFlow (ticks - n)))) W) (left s (Some c) W) (length W)) [
       | true ↦ started-left s c W
-      | false ↦ resting-within s c (AwaitsFlow (ticks - n)) W
+      | false ↦ advanced-within s c.due (AwaitsFlow (ticks - n)) c W
     ]
 tick-within s n (InBlock rest gap ticks) c W =
-    elim (nat_le ticks n) as (λ b. IsWithin s (if b then advanced s 1 (within_block s (rest - 1) gap) c W else resting (in_phase c (InBlock rest gap (ticks - n))) W) (left s (Some c) W) (length W)) [
+    elim (nat_le ticks n) as (λ b. IsWithin s (settled_in s (if b then Some (with c 1 (within_block s (rest - 1) gap)) else Some (in_phase c (InBlock rest gap (ticks - n)))) W) (left s (Some c) W) (length W)) [
       | true ↦ advanced-within s 1 (within_block s (rest - 1) gap) c W
-      | false ↦ resting-within s c (InBlock rest gap (ticks - n)) W
+      | false ↦ advanced-within s c.due (InBlock rest gap (ticks - n)) c W
     ]
 
-block-within : (s : LinkSetup) (b gap : ℕ) (c : Current) (W : List (List ℕ)) → IsWithin s (block_begun s b gap c W) (left s (Some c) W) (length W)
-block-within s b gap c W =
-    elim (gap == 0) as (λ v. IsWithin s (if v then advanced s b (AwaitsFlow s.n_bs) c W else advanced s 1 (within_block s (b - 1) gap) c W) (left s (Some c) W) (length W)) [
+flow-within : (s : LinkSetup) (p : Phase) (choice : Decision) (c : Current) (W : List (List ℕ)) → IsWithin s (settled_in s (flow_fields s c choice p) W) (left s (Some c) W) (length W)
+flow-within s (InBlock rest gap ticks) choice c W = advanced-within s c.due c.phase c W
+flow-within s (AwaitsFlow ticks) GiveUp c W = started-left s c W
+flow-within s (AwaitsFlow ticks) Wait c W = advanced-within s c.due (AwaitsFlow s.n_bs) c W
+flow-within s (AwaitsFlow ticks) (Go block gap) c W =
+    let b = block_size block (frames_of c.message - c.next) in
+    elim (gap == 0) as (λ v. IsWithin s (settled_in s (Some (if v then with c b (AwaitsFlow s.n_bs) else with c 1 (within_block s (b - 1) gap))) W) (left s (Some c) W) (length W)) [
       | true ↦ advanced-within s b (AwaitsFlow s.n_bs) c W
       | false ↦ advanced-within s 1 (within_block s (b - 1) gap) c W
     ]
-
-decided-within : (s : LinkSetup) (choice : Decision) (c : Current) (W : List (List ℕ)) → IsWithin s (decided_so s choice c W) (left s (Some c) W) (length W)
-decided-within s (Go block gap) c W = block-within s (block_size block (frame_count s c.message - c.gone)) gap c W
-decided-within s Wait c W = resting-within s c (AwaitsFlow s.n_bs) W
-decided-within s GiveUp c W = started-left s c W
-
-flow-within : (s : LinkSetup) (p : Phase) (choice : Decision) (c : Current) (W : List (List ℕ)) → IsWithin s (flow_in s p choice c W) (left s (Some c) W) (length W)
-flow-within s (AwaitsFlow ticks) choice c W = decided-within s choice c W
-flow-within s (InBlock rest gap ticks) choice c W = record { frames = omega arith; replies = omega arith }
 
 sender-flow-within : (s : LinkSetup) (choice : Decision) (cur : Option Current) (W : List (List ℕ)) → IsWithin s (sender_flow s choice cur W) (left s cur W) (length W)
 sender-flow-within s choice None W = record { frames = omega arith; replies = omega arith }
@@ -153,7 +146,7 @@ replied-numbers s P r = go r.current
     go None =
         let one = length-take 1 (cut P s.pad) in
         let none : List (List ℕ) = [] in
-        elim (nat_le (frame_count s P) 1) as (λ b. (n : SenderState) → n ≡ (if b then before_these (take 1 (cut P s.pad)) (started s []) else record { due = take 1 (cut P s.pad); current = Some (record { message = P; gone = 1; phase = AwaitsFlow s.n_bs }); waiting = none }) → (length (r.due ++ n.due) ≤ length r.due + 1) × (length n.waiting ≤ length r.waiting + 1)) [
+        elim (nat_le (frame_count s P) 1) as (λ b. (n : SenderState) → n ≡ (if b then before_these (take 1 (cut P s.pad)) (started s []) else record { due = take 1 (cut P s.pad); current = Some (record { message = P; next = 1; due = 0; phase = AwaitsFlow s.n_bs }); waiting = none }) → (length (r.due ++ n.due) ≤ length r.due + 1) × (length n.waiting ≤ length r.waiting + 1)) [
           | true ↦ λ n e.
               let due = ap (λ q. length q.due) e in
               let waiting = ap (λ q. length q.waiting) e in

@@ -12,7 +12,9 @@ use Rattle.diag_tp.specs.declared.sending.Phase.TheVariants.{AwaitsFlow, InBlock
 use Rattle.diag_tp.specs.Moments.{moments}
 use Rattle.diag_tp.specs.Wire.{Placed}
 use Rattle.diag_tp.specs.Receiver.{Partial, one_tick_later, ticks_later}
-use Rattle.diag_tp.specs.Sender.{Current, SenderState, in_phase, resting, started, advanced, within_block, ticks_in, sender_tick, sender_ticks}
+use Rattle.diag_tp.specs.declared.sending.Sending.{Sending as Current}
+use Rattle.diag_tp.specs.Sender.{SenderState, in_phase, with, resting, within_block, settled_in, tick_fields, sender_ticks}
+use Rattle.diag_tp.proofs.Settled.{IsStill, rests}
 use Rattle.diag_tp.specs.State.{LinkState, due}
 use Rattle.diag_tp.specs.Quiet.{reception_quiet, phase_quiet, sender_quiet}
 use Rattle.diag_tp.specs.Link.{StandsFor, last_tick, quiet}
@@ -61,20 +63,21 @@ partial-next n_cr k (Some p) h =
     rw soon (ap (λ (n : ℕ). let q : Partial = record { len = p.len; count = p.count; bytes = p.bytes; silence = n } in Some q) e)
 
 -- one tick more of a message that waits
-phase-next : (s : LinkSetup) (k : ℕ) (c : Current) (W : List (List ℕ)) (p : Phase) → suc k < phase_quiet p → resting (in_phase c (phase_later (suc k) p)) W ≡ ticks_in s 1 (phase_later k p) (in_phase c (phase_later k p)) W
-phase-next s k c W (AwaitsFlow ticks) h =
+phase-next : (s : LinkSetup) (k : ℕ) (c : Current) (W : List (List ℕ)) (p : Phase) → IsStill (Some c) → suc k < phase_quiet p →
+    resting (in_phase c (phase_later (suc k) p)) W ≡ settled_in s (tick_fields s 1 (in_phase c (phase_later k p)) (phase_later k p)) W
+phase-next s k c W (AwaitsFlow ticks) still h =
     let later : nat_le (ticks - k) 1 ≡ false = grind (arith, nat_tests) in
     let e : ticks - suc k ≡ ticks - k - 1 = omega arith in
-    rw later (ap (λ (n : ℕ). resting (in_phase c (AwaitsFlow n)) W) e)
-phase-next s k c W (InBlock rest gap ticks) h =
+    rw later (ap (λ (n : ℕ). resting (in_phase c (AwaitsFlow n)) W) e ∙ sym (rests s c (AwaitsFlow (ticks - k - 1)) W still.0 still.1))
+phase-next s k c W (InBlock rest gap ticks) still h =
     let later : nat_le (ticks - k) 1 ≡ false = grind (arith, nat_tests) in
     let e : ticks - suc k ≡ ticks - k - 1 = omega arith in
-    rw later (ap (λ (n : ℕ). resting (in_phase c (InBlock rest gap n)) W) e)
+    rw later (ap (λ (n : ℕ). resting (in_phase c (InBlock rest gap n)) W) e ∙ sym (rests s c (InBlock rest gap (ticks - k - 1)) W still.0 still.1))
 
-sender-next : (s : LinkSetup) (k : ℕ) (cur : Option Current) (W : List (List ℕ)) → suc k < sender_quiet cur →
-    (let r : SenderState = record { due = []; current = option_map (current_later (suc k)) cur; waiting = W } in r) ≡ sender_tick s (option_map (current_later k) cur) W
-sender-next s k None W h = refl
-sender-next s k (Some c) W h = phase-next s k c W c.phase h
+sender-next : (s : LinkSetup) (k : ℕ) (cur : Option Current) (W : List (List ℕ)) → IsStill cur → suc k < sender_quiet cur →
+    (let r : SenderState = record { due = []; current = option_map (current_later (suc k)) cur; waiting = W } in r) ≡ sender_ticks s 1 (option_map (current_later k) cur) W
+sender-next s k None W still h = refl
+sender-next s k (Some c) W still h = phase-next s k c W c.phase still h
 
 -- the last tick
 partial-last : (n_cr k : ℕ) (o : Option Partial) → option_and_then (ticks_later n_cr (suc k)) o ≡ option_and_then (one_tick_later n_cr) (option_map (partial_later k) o)
@@ -83,21 +86,21 @@ partial-last n_cr k (Some p) =
     let e : p.silence + suc k ≡ p.silence + k + 1 = omega arith in
     ap (λ (n : ℕ). if nat_lt n n_cr then (let q : Partial = record { len = p.len; count = p.count; bytes = p.bytes; silence = n } in Some q) else None) e
 
-phase-last : (s : LinkSetup) (k : ℕ) (c : Current) (W : List (List ℕ)) (p : Phase) → ticks_in s (suc k) p c W ≡ ticks_in s 1 (phase_later k p) (in_phase c (phase_later k p)) W
-phase-last s k c W (AwaitsFlow ticks) =
+phase-last : (s : LinkSetup) (k : ℕ) (c : Current) (p : Phase) → tick_fields s (suc k) c p ≡ tick_fields s 1 (in_phase c (phase_later k p)) (phase_later k p)
+phase-last s k c (AwaitsFlow ticks) =
     let same : nat_le ticks (suc k) ≡ nat_le (ticks - k) 1 = grind (arith, nat_tests) in
     let e : ticks - suc k ≡ ticks - k - 1 = omega arith in
-    ap (λ (b : Bool). if b then started s W else resting (in_phase c (AwaitsFlow (ticks - suc k))) W) same
-    ∙ ap (λ (n : ℕ). if nat_le (ticks - k) 1 then started s W else resting (in_phase c (AwaitsFlow n)) W) e
-phase-last s k c W (InBlock rest gap ticks) =
+    ap (λ (b : Bool). if b then None else Some (in_phase c (AwaitsFlow (ticks - suc k)))) same
+    ∙ ap (λ (n : ℕ). if nat_le (ticks - k) 1 then None else Some (in_phase c (AwaitsFlow n))) e
+phase-last s k c (InBlock rest gap ticks) =
     let same : nat_le ticks (suc k) ≡ nat_le (ticks - k) 1 = grind (arith, nat_tests) in
     let e : ticks - suc k ≡ ticks - k - 1 = omega arith in
-    ap (λ (b : Bool). if b then advanced s 1 (within_block s (rest - 1) gap) c W else resting (in_phase c (InBlock rest gap (ticks - suc k))) W) same
-    ∙ ap (λ (n : ℕ). if nat_le (ticks - k) 1 then advanced s 1 (within_block s (rest - 1) gap) c W else resting (in_phase c (InBlock rest gap n)) W) e
+    ap (λ (b : Bool). if b then Some (with c 1 (within_block s (rest - 1) gap)) else Some (in_phase c (InBlock rest gap (ticks - suc k)))) same
+    ∙ ap (λ (n : ℕ). if nat_le (ticks - k) 1 then Some (with c 1 (within_block s (rest - 1) gap)) else Some (in_phase c (InBlock rest gap n))) e
 
-sender-last : (s : LinkSetup) (k : ℕ) (cur : Option Current) (W : List (List ℕ)) → sender_ticks s (suc k) cur W ≡ sender_tick s (option_map (current_later k) cur) W
+sender-last : (s : LinkSetup) (k : ℕ) (cur : Option Current) (W : List (List ℕ)) → sender_ticks s (suc k) cur W ≡ sender_ticks s 1 (option_map (current_later k) cur) W
 sender-last s k None W = refl
-sender-last s k (Some c) W = phase-last s k c W c.phase
+sender-last s k (Some c) W = ap (λ o. settled_in s o W) (phase-last s k c c.phase)
 
 quiet-parts : (link : LinkState) (k : ℕ) → due link ≡ [] → suc k < quiet link → (suc k < reception_quiet link.setup.n_cr link.partial) × (suc k < sender_quiet link.sender.current)
 unfolding quiet
@@ -108,9 +111,9 @@ quiet-parts link k none h =
 
 -- k ticks of a link of which nothing falls due
 pub stands_later :
-    (s : LinkSetup) (link : LinkState) (E : List Event) (A : List Placed) (Q : List Sent) (k : ℕ) → due link ≡ [] → k < quiet link → StandsFor s link E A Q →
+    (s : LinkSetup) (link : LinkState) (E : List Event) (A : List Placed) (Q : List Sent) (k : ℕ) → IsStill link.sender.current → due link ≡ [] → k < quiet link → StandsFor s link E A Q →
     StandsFor s (link_later k link) (E ++ Ticks k ∷ []) A Q
-stands_later s link E A Q zero none h stands =
+stands_later s link E A Q zero still none h stands =
     let parts = drained-parts link.grant link.sender.due (ap length none) in
     let same : moments E ≡ moments (E ++ Ticks 0 ∷ []) = sym (moments-append E (Ticks 0 ∷ []) ∙ append-nil (moments E)) in
     let before = stands.now in
@@ -119,35 +122,35 @@ stands_later s link E A Q zero none h stands =
     (ap (λ o. let r : SenderState = record { due = []; current = o; waiting = link.sender.waiting } in r) (current-zero link.sender.current)
     ∙ ap (λ l. let r : SenderState = record { due = l; current = link.sender.current; waiting = link.sender.waiting } in r) (sym parts.1))
     (partial-zero link.partial) refl (grind (arith, before)) stands)
-stands_later s link E A Q (suc k) none h stands =
+stands_later s link E A Q (suc k) still none h stands =
     let fewer : k < quiet link = omega arith in
-    let rest = stands_later s link E A Q k none fewer stands in
+    let rest = stands_later s link E A Q k still none fewer stands in
     let parts = quiet-parts link k none h in
     let one : k + 1 ≡ suc k = omega arith in
     stands_moments s (link_later (suc k) link) ((E ++ Ticks k ∷ []) ++ Ticks 1 ∷ []) (E ++ Ticks (suc k) ∷ []) A Q
     (moments-sum E k 1 ∙ ap (λ (n : ℕ). moments (E ++ Ticks n ∷ [])) one)
     (stands_more s (link_later k link) (link_later (suc k) link) (E ++ Ticks k ∷ []) A Q (Ticks 1) refl tt refl refl
-    (sender-next link.setup k link.sender.current link.sender.waiting parts.1)
+    (sender-next link.setup k link.sender.current link.sender.waiting still parts.1)
     (partial-next link.setup.n_cr k link.partial parts.0) refl (omega arith) rest)
 
 -- ticks, before the last of which nothing falls due
 pub stands_ticks :
-    (s : LinkSetup) (link link' : LinkState) (E : List Event) (A : List Placed) (Q : List Sent) (n : ℕ) → 1 ≤ n → n ≤ quiet link → due link ≡ [] → link'.grant ≡ None →
+    (s : LinkSetup) (link link' : LinkState) (E : List Event) (A : List Placed) (Q : List Sent) (n : ℕ) → IsStill link.sender.current → 1 ≤ n → n ≤ quiet link → due link ≡ [] → link'.grant ≡ None →
     link'.sender ≡ sender_ticks link.setup n link.sender.current link.sender.waiting → link'.partial ≡ option_and_then (ticks_later link.setup.n_cr n) link.partial →
     link'.setup ≡ link.setup → link'.now ≡ min (link.now + n) last_tick → StandsFor s link E A Q → StandsFor s link' (E ++ Ticks n ∷ []) A Q
-stands_ticks s link link' E A Q zero some h none grant sender partial same now stands = absurd (omega arith)
-stands_ticks s link link' E A Q (suc k) some h none grant sender partial same now stands =
+stands_ticks s link link' E A Q zero still some h none grant sender partial same now stands = absurd (omega arith)
+stands_ticks s link link' E A Q (suc k) still some h none grant sender partial same now stands =
     let one : k + 1 ≡ suc k = omega arith in
     stands_moments s link' ((E ++ Ticks k ∷ []) ++ Ticks 1 ∷ []) (E ++ Ticks (suc k) ∷ []) A Q
     (moments-sum E k 1 ∙ ap (λ (n : ℕ). moments (E ++ Ticks n ∷ [])) one)
     (stands_more s (link_later k link) link' (E ++ Ticks k ∷ []) A Q (Ticks 1) refl tt refl grant
     (sender ∙ sender-last link.setup k link.sender.current link.sender.waiting)
     (partial ∙ partial-last link.setup.n_cr k link.partial)
-    same (omega (arith, now)) (stands_later s link E A Q k none (omega arith) stands))
+    same (omega (arith, now)) (stands_later s link E A Q k still none (omega arith) stands))
 
 -- before the last tick nothing falls due
-pub silent : (s : LinkSetup) (n : ℕ) (link link' : LinkState) → 1 ≤ n → due link ≡ [] → n < quiet link → link'.grant ≡ None → link'.sender ≡ sender_ticks s n link.sender.current link.sender.waiting → length (due link') ≡ 0
-silent s zero link link' some none h grant sender = absurd (omega arith)
-silent s (suc k) link link' some none h grant sender =
+pub silent : (s : LinkSetup) (n : ℕ) (link link' : LinkState) → IsStill link.sender.current → 1 ≤ n → due link ≡ [] → n < quiet link → link'.grant ≡ None → link'.sender ≡ sender_ticks s n link.sender.current link.sender.waiting → length (due link') ≡ 0
+silent s zero link link' still some none h grant sender = absurd (omega arith)
+silent s (suc k) link link' still some none h grant sender =
     let parts = quiet-parts link k none h in
-    ap (λ g. length (option_to_list g ++ link'.sender.due)) grant ∙ ap (λ r. length r.due) (sender ∙ (sender-last s k link.sender.current link.sender.waiting ∙ sym (sender-next s k link.sender.current link.sender.waiting parts.1)))
+    ap (λ g. length (option_to_list g ++ link'.sender.due)) grant ∙ ap (λ r. length r.due) (sender ∙ (sender-last s k link.sender.current link.sender.waiting ∙ sym (sender-next s k link.sender.current link.sender.waiting still parts.1)))

@@ -4,7 +4,6 @@ use Rattle.diag_tp.specs.declared.sending.Sending.{Sending}
 use Rattle.diag_tp.specs.declared.sending.Phase.{Phase}
 use Rattle.diag_tp.specs.declared.sending.Phase.TheVariants.{AwaitsFlow, InBlock}
 use Rattle.diag_tp.specs.Receiver.{Partial}
-use Rattle.diag_tp.specs.Sender.{Current}
 
 -- for ever
 abbrev pub always : ℕ
@@ -20,11 +19,6 @@ phase_quiet (AwaitsFlow ticks) = ticks
 phase_quiet (InBlock rest gap ticks) = ticks
 
 -- until the current message is given up, or its next frame goes
-abbrev pub sender_quiet : Option Current → ℕ
+abbrev pub sender_quiet : Option Sending → ℕ
 sender_quiet None = always
 sender_quiet (Some c) = phase_quiet c.phase
-
--- the same of what is in memory
-abbrev pub fields_quiet : Option Sending → ℕ
-fields_quiet None = always
-fields_quiet (Some c) = phase_quiet c.phase

@@ -24,7 +24,7 @@ ghost use Rattle.std.specs.Prelude.{
 };
 ghost use Rattle.diag_tp.specs.Kind.{kind};
 ghost use Rattle.diag_tp.specs.Gives.{is_request};
-ghost use Rattle.diag_tp.specs.Sender.{sender_event, sender_frame, sender_ticks};
+ghost use Rattle.diag_tp.specs.Sender.{frames_of, sender_event, sender_frame, sender_ticks};
 ghost use Rattle.diag_tp.specs.Receiver.{
   open_after,
   completed_by,
@@ -366,6 +366,8 @@ impl Link {
         requires drained { self.old.state.sender.due ≡ [] }
         ensures partial { self.new.state.partial
             ≡ option_and_then (ticks_later self.old.state.setup.n_cr count) self.old.state.partial }
+        ensures still { IfSome self.old.state.sender.current (λ c.
+            (c.next < frames_of c.message) × (c.due ≡ 0)) }
         ensures grant { self.new.state.grant ≡ self.old.state.grant }
         ensures sender { self.new.state.sender
             ≡ sender_ticks self.old.state.setup count

@@ -31,8 +31,8 @@ returns c =
     let now = done.now ∙ ap (λ k. min (old.now + k) last_tick) same in
     let numbers = ticks-numbers old new n grant done.setup sender in
     record {
-      stands = λ s E A Q h. stands_ticks s old new E A Q n (omega arith) c.requires.quiet none grant sender partial done.setup now h;
-      silent = λ h. silent old.setup n old new (omega arith) none h grant sender;
+      stands = λ s E A Q h. stands_ticks s old new E A Q n done.still (omega arith) c.requires.quiet none grant sender partial done.setup now h;
+      silent = λ h. silent old.setup n old new done.still (omega arith) none h grant sender;
       room = keeps-room c.args.self.now c.pass.new.self done.setup (let same = done.room in omega arith);
       reply_room = keeps-reply-room c.args.self.now c.pass.new.self (let same = done.reply_room in omega arith);
       unsent = let fewer = numbers.frames in omega arith;
