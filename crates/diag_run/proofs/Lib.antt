@@ -4,3 +4,4 @@ pub mod Order
 pub mod Pieces
 pub mod Plays
 pub mod Reading
+pub mod Runs

@@ -1,5 +1,6 @@
 -- What a play gives for its logs is what a run wants for them.
 use Rattle.std.proofs.Common.{◌≡◌, ℕ, suc, ◌+◌, Bool, length, map, List, [], ◌∷◌, Result, Ok, Err, IfOk, IfErr, refl, sym, ap, ◌∙◌}
+use Rattle.std.specs.Global.{Vec}
 use Rattle.std.proofs.lemmas.List.{length-map}
 use Rattle.diag_can.specs.Log.{events}
 use Rattle.diag_can.specs.declared.fault.LogFault.{LogFault}
@@ -15,7 +16,7 @@ use Rattle.diag_workers.specs.Play.{before_rest, logs_from, logs_of}
 use Rattle.diag_text.specs.declared.fault.RunFault.{RunFault}
 use Rattle.diag_text.specs.declared.fault.RunFault.TheVariants.{Memory}
 use Rattle.diag_run.specs.Files.{bad_log, or_bad_log}
-use Rattle.diag_run.specs.Run.{GivesWoven, answered, played_text}
+use Rattle.diag_run.specs.Run.{GivesWoven, answered, joined, played_text}
 
 -- there are as many logs as texts
 count_more : (n : ℕ) (log : Result (List Event) LogFault) (rest : Result (List (List Event)) (ℕ × LogFault)) (k : ℕ)
@@ -44,8 +45,8 @@ module _ (timing : Timing) (setup : RawSetup) where
     gives_woven only_journal desk sent text play is = rw well (record { desk = desk; sent = sent; play = play; is = is })
 
     -- what is answered for its parts is its text, or that memory was refused
-    pub answers_woven : {A : Type 0} (bytes : A → List ℕ) (only_journal : Bool) (desk : Run) (sent : List (List Sent)) (r : Result A RunFault)
-        → IsPlay setup (weave (link_of setup) desk.journal logs) logs desk sent → IfOk r (λ parts. bytes parts ≡ played_text only_journal timing setup desk sent)
-        → IfErr r (λ fault. fault ≡ Memory) → GivesWoven only_journal timing setup (or_bad_log (logs_of setup timing texts)) (answered bytes r)
-    answers_woven bytes only_journal desk sent (Ok parts) play is refused = gives_woven only_journal desk sent (bytes parts) play is
-    answers_woven bytes only_journal desk sent (Err fault) play is refused = rw refused tt
+    pub answers_woven : (only_journal : Bool) (desk : Run) (sent : List (List Sent)) (r : Result (Vec (Vec ℕ)) RunFault)
+        → IsPlay setup (weave (link_of setup) desk.journal logs) logs desk sent → IfOk r (λ parts. joined parts ≡ played_text only_journal timing setup desk sent)
+        → IfErr r (λ fault. fault ≡ Memory) → GivesWoven only_journal timing setup (or_bad_log (logs_of setup timing texts)) (answered r)
+    answers_woven only_journal desk sent (Ok parts) play is refused = gives_woven only_journal desk sent (joined parts) play is
+    answers_woven only_journal desk sent (Err fault) play is refused = rw refused tt

@@ -1,6 +1,8 @@
 -- What a run writes for its config and its files, or the fault that it answers.
 use Rattle.std.specs.Prelude.{◌≡◌, ◌≢◌, ◌≤◌, ◌<◌, ◌⊎◌, ℕ, Bool, if◌then◌else◌, List, [], ◌∷◌, length, map, Option, Some, Result, Ok, Err, IsOk, IsOkAnd, IfSome}
-use Rattle.std.specs.Io.KnownBytes.{Appends, Keeps}
+use Rattle.std.specs.Global.{Vec}
+use Rattle.std.specs.Io.KnownBytes.{Appends, IsAtEnd, Keeps}
+use Rattle.std.specs.List.{concat}
 use Rattle.diag_can.specs.declared.frame.Event.{Event}
 use Rattle.diag_can.specs.declared.log.Timing.{Timing}
 use Rattle.diag_setup.specs.declared.raw.RawSetup.{RawSetup}
@@ -74,12 +76,33 @@ pub record HasRead {R : Type 0} (remaining : R → Option (List ℕ)) (job : Job
   pub each : ReadEach remaining files files' texts
   pub says : P (read_of job bytes texts)
 
+-- where it is known what the readers have left, P holds of what those bytes say
+abbrev pub WhereKnown : {R : Type 0} → (R → Option (List ℕ)) → Job → R → List R
+    → (Result Inputs Refusal → Type 0) → Type 0
+WhereKnown remaining job config files P =
+    (bytes : List ℕ) (known : List (List ℕ))
+    → remaining config ≡ Some bytes
+    → AreKnown remaining files known
+    → P (read_of job bytes known)
+
+-- a failed read names a file that there is
+abbrev pub NamesAFile : {X : Type 0} → ℕ → Result X RunFault → Type 0
+NamesAFile count result = (n : ℕ) → result ≡ Err (Read n) → n ≤ count
+
+-- where the read of another file than the config failed, the config was read to its end
+abbrev pub ReadsConfigFirst : {X : Type 0} → Option (List ℕ) → Result X RunFault → Type 0
+ReadsConfigFirst left result = (n : ℕ) → result ≡ Err (Read n) → 1 ≤ n → IsAtEnd left
+
 -- ---- what is answered for it
 
+-- the bytes of a text in parts
+abbrev pub joined : Vec (Vec ℕ) → List ℕ
+joined parts = concat (map (λ part. part.items) parts.items)
+
 -- the bytes of a text that was made
-abbrev pub answered : {A : Type 0} → (A → List ℕ) → Result A RunFault → Result (List ℕ) RunFault
-answered bytes (Ok text) = Ok (bytes text)
-answered bytes (Err fault) = Err fault
+abbrev pub answered : Result (Vec (Vec ℕ)) RunFault → Result (List ℕ) RunFault
+answered (Ok parts) = Ok (joined parts)
+answered (Err fault) = Err fault
 
 -- the text of a play: the journal alone where that is asked for
 abbrev pub played_text : Bool → Timing → RawSetup → Run → List (List Sent) → List ℕ
@@ -194,6 +217,23 @@ ReadingStops remaining job config config' files files' fault =
     (ConfigEnds (remaining config) (remaining config') fault × (files' ≡ files))
     ⊎ FilesStop remaining job config config' files files' fault
 
+-- the text was not made: the fault came in reading; or all was read whole, and the fault is that of what was read, and
+-- no failed read
+abbrev pub TextStops : {R : Type 0} → (R → Option (List ℕ)) → Job → R → R → List R → List R → RunFault
+    → Type 0
+TextStops remaining job config config' files files' fault =
+    ReadingStops remaining job config config' files files' fault
+    ⊎ (((n : ℕ) → fault ≢ Read n)
+    × HasRead remaining job config config' files files' (λ said. GivesRun job said (Err fault)))
+
+-- the text that was made went out, or after a fault a front of it; where none was made, nothing
+abbrev pub Writes : Result (List ℕ) RunFault → Option (List ℕ) → Option (List ℕ)
+    → Result (Unit {0}) RunFault → Type 0
+Writes (Ok text) old new (Ok _) = Appends old new text
+Writes (Ok text) old new (Err e) = (e ≡ Write) × AppendsFront old new text
+Writes (Err fault) old new (Ok _) = ⊥
+Writes (Err fault) old new (Err e) = (fault ≡ e) × Keeps old new
+
 -- ---- how it is told
 
 -- the fault of a writing comes after a front of the text, any other is that of what was read
@@ -216,10 +256,7 @@ pub record IsFaultOf {R : Type 0} (remaining : R → Option (List ℕ)) (job : J
     (files : List R) (old new : Option (List ℕ)) (fault : RunFault) : Type 0 where
   pub nothing : fault ≢ Write → Keeps old new
   pub device : (n : ℕ) → fault ≡ Read n → n ≤ length files
-  pub answer : (bytes : List ℕ) (known : List (List ℕ))
-      → remaining config ≡ Some bytes
-      → AreKnown remaining files known
-      → AnswersFault job (read_of job bytes known) old new fault
+  pub answer : WhereKnown remaining job config files (λ said. AnswersFault job said old new fault)
 
 -- where it ends with a fault, the line and the status are those of a fault of which P holds
 abbrev pub TellsOf : (RunFault → Type 0) → Outcome → Type 0

@@ -1,15 +1,14 @@
 //! What a run writes for what it has read: the text of a play, or of a replay.
 
 ghost use Rattle.std.specs.Prelude.{◌≡◌, ◌≢◌, ℕ, length, map, IfOk, IfErr, Err};
-ghost use Rattle.std.specs.List.{concat};
 ghost use Rattle.diag_workers.specs.Play.{logs_of};
 ghost use Rattle.diag_run.specs.Files.{or_bad_log};
-ghost use Rattle.diag_run.specs.Run.{GivesPlayed, GivesWoven, GivesReplayed, played_text, answered};
+ghost use Rattle.diag_run.specs.Run.{GivesPlayed, GivesWoven, GivesReplayed, played_text, answered, joined};
 
 use diag_can::Timing;
 use diag_desk::{JournalFault, ReplayFault, read_journal, replay};
 use diag_setup::Setup;
-use diag_text::{RunFault, journal_part, one_part, play_parts, play_text, replay_text};
+use diag_text::{RunFault, journal_part, one_part, play_parts, play_parts_beside, replay_text};
 use diag_workers::{NoWatch, play, read_logs};
 use diag_world::{Played, serial};
 use std::alloc::Global;
@@ -27,12 +26,12 @@ pub(crate) fn played_text(
     requires { length texts.now ≡ length setup.now.testers }
     ensures gives { GivesPlayed only_journal timing setup.now
         (or_bad_log (logs_of setup.now timing (map (λ text. text.items) texts.now)))
-        (answered (λ parts. concat (map (λ part. part.items) parts.items)) result) }
+        (answered result) }
     ensures device { (n : ℕ) → result ≢ Err (RunFault.Read n) }
 {
     let logs = read_logs(alloc, setup, texts, timing)?;
     let played = serial(alloc, setup, logs.as_slice())?;
-    in_one(alloc, setup, &played, only_journal, timing)
+    parts_in_turn(alloc, setup, &played, only_journal, timing)
 }
 
 /// Plays the logs, a thread for each tester, and says what the play writes.
@@ -48,15 +47,15 @@ pub(crate) fn woven_text<R: Threads + Wait + Sync>(
     requires { length texts.now ≡ length setup.now.testers }
     ensures gives { GivesWoven only_journal timing setup.now
         (or_bad_log (logs_of setup.now timing (map (λ text. text.items) texts.now)))
-        (answered (λ parts. concat (map (λ part. part.items) parts.items)) result) }
+        (answered result) }
     ensures device { (n : ℕ) → result ≢ Err (RunFault.Read n) }
 {
     let played = play(rt, alloc, setup, texts, &NoWatch, timing)?;
-    in_parts(rt, alloc, setup, &played, only_journal, timing)
+    parts_beside(rt, alloc, setup, &played, only_journal, timing)
 }
 
 /// What is written of a play, in parts that are made beside each other: the journal alone where that is asked for.
-fn in_parts<R: Threads + Sync>(
+fn parts_beside<R: Threads + Sync>(
     rt: &R,
     alloc: Global,
     setup: &Setup,
@@ -66,21 +65,20 @@ fn in_parts<R: Threads + Sync>(
 ) -> Result<Vec<Vec<u8>>, RunFault>
     requires { length played.now.sent.items ≡ length setup.now.testers }
     ensures ok { IfOk result (λ parts.
-        concat (map (λ part. part.items) parts.items)
-        ≡ played_text only_journal timing setup.now played.now.desk
+        joined parts ≡ played_text only_journal timing setup.now played.now.desk
         (map (λ sent. sent.items) played.now.sent.items)) }
     ensures err { IfErr result (λ fault. fault ≡ RunFault.Memory) }
 {
     let parts = if only_journal {
         one_part(alloc, journal_part(alloc, timing, played.desk.journal())?)?
     } else {
-        play_parts(rt, alloc, setup, played, timing)?
+        play_parts_beside(rt, alloc, setup, played, timing)?
     };
     Ok(parts)
 }
 
-/// The same in one part.
-fn in_one(
+/// The same in parts that are made one behind the other.
+fn parts_in_turn(
     alloc: Global,
     setup: &Setup,
     played: &Played,
@@ -89,17 +87,16 @@ fn in_one(
 ) -> Result<Vec<Vec<u8>>, RunFault>
     requires { length played.now.sent.items ≡ length setup.now.testers }
     ensures ok { IfOk result (λ parts.
-        concat (map (λ part. part.items) parts.items)
-        ≡ played_text only_journal timing setup.now played.now.desk
+        joined parts ≡ played_text only_journal timing setup.now played.now.desk
         (map (λ sent. sent.items) played.now.sent.items)) }
     ensures err { IfErr result (λ fault. fault ≡ RunFault.Memory) }
 {
-    let text = if only_journal {
-        journal_part(alloc, timing, played.desk.journal())?
+    let parts = if only_journal {
+        one_part(alloc, journal_part(alloc, timing, played.desk.journal())?)?
     } else {
-        play_text(alloc, setup, played, timing)?
+        play_parts(alloc, setup, played, timing)?
     };
-    Ok(one_part(alloc, text)?)
+    Ok(parts)
 }
 
 /// Replays the journal that these bytes say, and says what the replay writes.
@@ -109,7 +106,7 @@ pub(crate) fn replayed_text(
     bytes: &[u8],
 ) -> Result<Vec<Vec<u8>>, RunFault>
     ensures gives { GivesReplayed setup.now bytes.now
-        (answered (λ parts. concat (map (λ part. part.items) parts.items)) result) }
+        (answered result) }
     ensures device { (n : ℕ) → result ≢ Err (RunFault.Read n) }
 {
     let journal = match read_journal(alloc, bytes) {

@@ -1,10 +1,9 @@
 //! A whole run: the config and the files in, one text out.
 
 ghost use Rattle.std.specs.Prelude.{◌≡◌, ◌≢◌, ◌≤◌, ◌<◌, ◌⊎◌, ◌^◌, ℕ, List, length, map, IfOk, IfErr, OnOk, Some, Ok, Err};
-ghost use Rattle.std.specs.Io.KnownBytes.{IsAtEnd, Keeps};
-ghost use Rattle.std.specs.List.{concat};
+ghost use Rattle.std.specs.Io.KnownBytes.{Keeps};
 ghost use Rattle.diag_run.specs.Files.{AreKnown, Gives};
-ghost use Rattle.diag_run.specs.Run.{job_of, wanted, limit, read_of, HasRead, ReadingStops, RunStops, GivesText, GivesRun, Wrote, WroteFront, IsFaultOf, TellsOf, inputs_of, answered};
+ghost use Rattle.diag_run.specs.Run.{NamesAFile, ReadsConfigFirst, TextStops, WhereKnown, Writes, joined, job_of, wanted, limit, read_of, HasRead, ReadingStops, RunStops, GivesText, GivesRun, Wrote, WroteFront, IsFaultOf, TellsOf, inputs_of, answered};
 
 use crate::answer::{played_text, replayed_text, woven_text};
 use crate::files::{read_config, read_files};
@@ -96,13 +95,8 @@ fn read_all<R: Read>(
         → R.remaining config.old ≡ Some bytes
         → AreKnown R.remaining files.old known
         → Gives inputs_of result (read_of job bytes known) }
-    ensures device { (n : ℕ)
-        → result ≡ Err (RunFault.Read n)
-        → n ≤ length files.old }
-    ensures config { (n : ℕ)
-        → result ≡ Err (RunFault.Read n)
-        → 1 ≤ n
-        → IsAtEnd (R.remaining config.new) }
+    ensures device { NamesAFile (length files.old) result }
+    ensures config { ReadsConfigFirst (R.remaining config.new) result }
     ensures wanted { IfOk result (λ given. length given.texts.items ≡ wanted job given.setup) }
     ensures reads { IfOk result (λ given.
         HasRead R.remaining job config.old config.new files.old files.new
@@ -129,7 +123,7 @@ fn read_all<R: Read>(
 fn text_alone(alloc: Global, job: Alone, given: &Given) -> Result<Vec<Vec<u8>>, RunFault>
     requires { length given.now.texts.items ≡ wanted (job_of job) given.now.setup }
     ensures gives { GivesText (job_of job) (inputs_of given.now)
-        (answered (λ parts. concat (map (λ part. part.items) parts.items)) result) }
+        (answered result) }
     ensures device { (n : ℕ) → result ≢ Err (RunFault.Read n) }
 {
     let texts = given.texts.as_slice();
@@ -142,6 +136,38 @@ fn text_alone(alloc: Global, job: Alone, given: &Given) -> Result<Vec<Vec<u8>>, 
     }
 }
 
+/// The text that is written for what was read, in parts.
+fn text_of<T: Threads + Wait + Sync>(
+    rt: &T,
+    alloc: Global,
+    job: Job,
+    given: &Given,
+) -> Result<Vec<Vec<u8>>, RunFault>
+    requires { length given.now.texts.items ≡ wanted job given.now.setup }
+    ensures gives { GivesText job (inputs_of given.now) (answered result) }
+    ensures device { (n : ℕ) → result ≢ Err (RunFault.Read n) }
+{
+    let texts = given.texts.as_slice();
+    match job {
+        Job::Serial {
+            only_journal,
+            timing,
+        } => text_alone(
+            alloc,
+            Alone::Serial {
+                only_journal,
+                timing,
+            },
+            given,
+        ),
+        Job::Play {
+            only_journal,
+            timing,
+        } => woven_text(rt, alloc, &given.setup, texts, only_journal, timing),
+        Job::Replay => text_alone(alloc, Alone::Replay, given),
+    }
+}
+
 /// The whole text of a run that needs no thread, in parts.
 fn whole_alone<R: Read>(
     alloc: Global,
@@ -149,80 +175,18 @@ fn whole_alone<R: Read>(
     config: &mut R,
     files: &mut [R],
 ) -> Result<Vec<Vec<u8>>, RunFault>
-    ensures answer { (bytes : List ℕ) (known : List (List ℕ))
-        → R.remaining config.old ≡ Some bytes
-        → AreKnown R.remaining files.old known
-        → GivesRun (job_of job) (read_of (job_of job) bytes known)
-        (answered (λ parts. concat (map (λ part. part.items) parts.items)) result) }
-    ensures device { (n : ℕ)
-        → result ≡ Err (RunFault.Read n)
-        → n ≤ length files.old }
-    ensures config { (n : ℕ)
-        → result ≡ Err (RunFault.Read n)
-        → 1 ≤ n
-        → IsAtEnd (R.remaining config.new) }
+    ensures answer { WhereKnown R.remaining (job_of job) config.old files.old
+        (λ said. GivesRun (job_of job) said (answered result)) }
+    ensures device { NamesAFile (length files.old) result }
+    ensures config { ReadsConfigFirst (R.remaining config.new) result }
     ensures reads { IfOk result (λ parts.
         HasRead R.remaining (job_of job) config.old config.new files.old files.new
-        (λ said. GivesRun (job_of job) said
-        (Ok (concat (map (λ part. part.items) parts.items))))) }
-    ensures stops { IfErr result (λ e.
-        ReadingStops R.remaining (job_of job) config.old config.new files.old files.new e
-        ⊎ (((n : ℕ) → e ≢ RunFault.Read n)
-        × HasRead R.remaining (job_of job) config.old config.new files.old files.new
-        (λ said. GivesRun (job_of job) said (Err e)))) }
+        (λ said. GivesRun (job_of job) said (Ok (joined parts)))) }
+    ensures stops { IfErr result
+        (TextStops R.remaining (job_of job) config.old config.new files.old files.new) }
 {
     match read_all(alloc, job.job(), config, files) {
         Ok(given) => text_alone(alloc, job, &given),
-        Err(fault) => Err(fault),
-    }
-}
-
-/// The whole text of a threaded play, in parts.
-fn whole_woven<T: Threads + Wait + Sync, R: Read>(
-    rt: &T,
-    alloc: Global,
-    only_journal: bool,
-    timing: Timing,
-    config: &mut R,
-    files: &mut [R],
-) -> Result<Vec<Vec<u8>>, RunFault>
-    ensures answer { (bytes : List ℕ) (known : List (List ℕ))
-        → R.remaining config.old ≡ Some bytes
-        → AreKnown R.remaining files.old known
-        → GivesRun (Job.Play only_journal timing)
-        (read_of (Job.Play only_journal timing) bytes known)
-        (answered (λ parts. concat (map (λ part. part.items) parts.items)) result) }
-    ensures device { (n : ℕ)
-        → result ≡ Err (RunFault.Read n)
-        → n ≤ length files.old }
-    ensures config { (n : ℕ)
-        → result ≡ Err (RunFault.Read n)
-        → 1 ≤ n
-        → IsAtEnd (R.remaining config.new) }
-    ensures reads { IfOk result (λ parts.
-        HasRead R.remaining (Job.Play only_journal timing) config.old config.new files.old files.new
-        (λ said. GivesRun (Job.Play only_journal timing) said
-        (Ok (concat (map (λ part. part.items) parts.items))))) }
-    ensures stops { IfErr result (λ e.
-        ReadingStops R.remaining (Job.Play only_journal timing)
-        config.old config.new files.old files.new e
-        ⊎ (((n : ℕ) → e ≢ RunFault.Read n)
-        × HasRead R.remaining (Job.Play only_journal timing) config.old config.new files.old files.new
-        (λ said. GivesRun (Job.Play only_journal timing) said (Err e)))) }
-{
-    let job = Job::Play {
-        only_journal,
-        timing,
-    };
-    match read_all(alloc, job, config, files) {
-        Ok(given) => woven_text(
-            rt,
-            alloc,
-            &given.setup,
-            given.texts.as_slice(),
-            only_journal,
-            timing,
-        ),
         Err(fault) => Err(fault),
     }
 }
@@ -239,44 +203,33 @@ pub fn run_text<T: Threads + Wait + Sync, R: Read>(
     config: &mut R,
     files: &mut [R],
 ) -> Result<Vec<Vec<u8>>, RunFault>
-    ensures answer { (bytes : List ℕ) (known : List (List ℕ))
-        → R.remaining config.old ≡ Some bytes
-        → AreKnown R.remaining files.old known
-        → GivesRun job (read_of job bytes known)
-        (answered (λ parts. concat (map (λ part. part.items) parts.items)) result) }
-    ensures device { (n : ℕ)
-        → result ≡ Err (RunFault.Read n)
-        → n ≤ length files.old }
-    ensures config { (n : ℕ)
-        → result ≡ Err (RunFault.Read n)
-        → 1 ≤ n
-        → IsAtEnd (R.remaining config.new) }
+    ensures answer { WhereKnown R.remaining job config.old files.old
+        (λ said. GivesRun job said (answered result)) }
+    ensures device { NamesAFile (length files.old) result }
+    ensures config { ReadsConfigFirst (R.remaining config.new) result }
     ensures reads { IfOk result (λ parts.
         HasRead R.remaining job config.old config.new files.old files.new
-        (λ said. GivesRun job said
-        (Ok (concat (map (λ part. part.items) parts.items))))) }
-    ensures stops { IfErr result (λ e.
-        ReadingStops R.remaining job config.old config.new files.old files.new e
-        ⊎ (((n : ℕ) → e ≢ RunFault.Read n)
-        × HasRead R.remaining job config.old config.new files.old files.new
-        (λ said. GivesRun job said (Err e)))) }
+        (λ said. GivesRun job said (Ok (joined parts)))) }
+    ensures stops { IfErr result
+        (TextStops R.remaining job config.old config.new files.old files.new) }
 {
-    match job {
-        Job::Serial {
-            only_journal,
-            timing,
-        } => {
-            let job = Alone::Serial {
-                only_journal,
-                timing,
-            };
-            whole_alone(alloc, job, config, files)
-        }
-        Job::Play {
-            only_journal,
-            timing,
-        } => whole_woven(rt, alloc, only_journal, timing, config, files),
-        Job::Replay => whole_alone(alloc, Alone::Replay, config, files),
+    match read_all(alloc, job, config, files) {
+        Ok(given) => text_of(rt, alloc, job, &given),
+        Err(fault) => Err(fault),
+    }
+}
+
+/// Writes the text that was made, or answers why none was.
+fn written<W: Write>(out: &mut W, made: Result<Vec<Vec<u8>>, RunFault>) -> Result<(), RunFault>
+    ensures { Writes (answered made) (W.contents out.old) (W.contents out.new) result }
+{
+    let parts = match made {
+        Ok(parts) => parts,
+        Err(fault) => return Err(fault),
+    };
+    match write_whole(out, parts.as_slice()) {
+        Ok(()) => Ok(()),
+        Err(_) => Err(RunFault::Write),
     }
 }
 
@@ -292,25 +245,16 @@ pub fn run_alone<R: Read + Drop, W: Write>(
     mut files: Vec<R>,
     out: &mut W,
 ) -> Result<(), RunFault>
-    ensures done { OnOk result ((bytes : List ℕ) (known : List (List ℕ))
-        → R.remaining config ≡ Some bytes
-        → AreKnown R.remaining files.items known
-        → Wrote (job_of job) (read_of (job_of job) bytes known)
-        (W.contents out.old) (W.contents out.new)) }
+    ensures done { OnOk result (WhereKnown R.remaining (job_of job) config files.items
+        (λ said. Wrote (job_of job) said (W.contents out.old) (W.contents out.new))) }
     ensures fault { IfErr result (λ e. e ≢ RunFault.Write
-        → (bytes : List ℕ) (known : List (List ℕ))
-        → R.remaining config ≡ Some bytes
-        → AreKnown R.remaining files.items known
-        → GivesRun (job_of job) (read_of (job_of job) bytes known) (Err e)) }
-    ensures device { (n : ℕ) → result ≡ Err (RunFault.Read n) → n ≤ length files.items }
+        → WhereKnown R.remaining (job_of job) config files.items (λ said. GivesRun (job_of job) said (Err e))) }
+    ensures device { NamesAFile (length files.items) result }
     ensures nothing { IfErr result (λ e.
         e ≢ RunFault.Write → Keeps (W.contents out.old) (W.contents out.new)) }
     ensures front { result ≡ Err RunFault.Write
-        → (bytes : List ℕ) (known : List (List ℕ))
-        → R.remaining config ≡ Some bytes
-        → AreKnown R.remaining files.items known
-        → WroteFront (job_of job) (read_of (job_of job) bytes known)
-        (W.contents out.old) (W.contents out.new) }
+        → WhereKnown R.remaining (job_of job) config files.items
+        (λ said. WroteFront (job_of job) said (W.contents out.old) (W.contents out.new)) }
     ensures reads { OnOk result ((config' : R) × (files' : List R)
         × HasRead R.remaining (job_of job) config config' files.items files'
         (λ said. Wrote (job_of job) said (W.contents out.old) (W.contents out.new))) }
@@ -318,14 +262,8 @@ pub fn run_alone<R: Read + Drop, W: Write>(
         × RunStops R.remaining (job_of job) config config' files.items files'
         (W.contents out.old) (W.contents out.new) e) }
 {
-    let parts = match whole_alone(alloc, job, &mut config, files.as_mut_slice()) {
-        Ok(parts) => parts,
-        Err(fault) => return Err(fault),
-    };
-    match write_whole(out, parts.as_slice()) {
-        Ok(()) => Ok(()),
-        Err(_) => Err(RunFault::Write),
-    }
+    let made = whole_alone(alloc, job, &mut config, files.as_mut_slice());
+    written(out, made)
 }
 
 /// Reads the config and the files, plays or replays, and writes the text of the run and nothing else. Nothing is
@@ -342,23 +280,16 @@ pub fn run<T: Threads + Wait + Sync, R: Read + Drop, W: Write>(
     mut files: Vec<R>,
     out: &mut W,
 ) -> Result<(), RunFault>
-    ensures done { OnOk result ((bytes : List ℕ) (known : List (List ℕ))
-        → R.remaining config ≡ Some bytes
-        → AreKnown R.remaining files.items known
-        → Wrote job (read_of job bytes known) (W.contents out.old) (W.contents out.new)) }
+    ensures done { OnOk result (WhereKnown R.remaining job config files.items
+        (λ said. Wrote job said (W.contents out.old) (W.contents out.new))) }
     ensures fault { IfErr result (λ e. e ≢ RunFault.Write
-        → (bytes : List ℕ) (known : List (List ℕ))
-        → R.remaining config ≡ Some bytes
-        → AreKnown R.remaining files.items known
-        → GivesRun job (read_of job bytes known) (Err e)) }
-    ensures device { (n : ℕ) → result ≡ Err (RunFault.Read n) → n ≤ length files.items }
+        → WhereKnown R.remaining job config files.items (λ said. GivesRun job said (Err e))) }
+    ensures device { NamesAFile (length files.items) result }
     ensures nothing { IfErr result (λ e.
         e ≢ RunFault.Write → Keeps (W.contents out.old) (W.contents out.new)) }
     ensures front { result ≡ Err RunFault.Write
-        → (bytes : List ℕ) (known : List (List ℕ))
-        → R.remaining config ≡ Some bytes
-        → AreKnown R.remaining files.items known
-        → WroteFront job (read_of job bytes known) (W.contents out.old) (W.contents out.new) }
+        → WhereKnown R.remaining job config files.items
+        (λ said. WroteFront job said (W.contents out.old) (W.contents out.new)) }
     ensures reads { OnOk result ((config' : R) × (files' : List R)
         × HasRead R.remaining job config config' files.items files'
         (λ said. Wrote job said (W.contents out.old) (W.contents out.new))) }
@@ -366,14 +297,8 @@ pub fn run<T: Threads + Wait + Sync, R: Read + Drop, W: Write>(
         × RunStops R.remaining job config config' files.items files'
         (W.contents out.old) (W.contents out.new) e) }
 {
-    let parts = match run_text(rt, alloc, job, &mut config, files.as_mut_slice()) {
-        Ok(parts) => parts,
-        Err(fault) => return Err(fault),
-    };
-    match write_whole(out, parts.as_slice()) {
-        Ok(()) => Ok(()),
-        Err(_) => Err(RunFault::Write),
-    }
+    let made = run_text(rt, alloc, job, &mut config, files.as_mut_slice());
+    written(out, made)
 }
 
 /// How a run ended, and what is to be told of it.
@@ -394,11 +319,8 @@ pub fn run_and_tell<T: Threads + Wait + Sync, R: Read + Drop, W: Write>(
     files: Vec<R>,
     out: &mut W,
 ) -> Outcome
-    ensures done { result ≡ Outcome.Done
-        → (bytes : List ℕ) (known : List (List ℕ))
-        → R.remaining config ≡ Some bytes
-        → AreKnown R.remaining files.items known
-        → Wrote job (read_of job bytes known) (W.contents out.old) (W.contents out.new) }
+    ensures done { result ≡ Outcome.Done → WhereKnown R.remaining job config files.items
+        (λ said. Wrote job said (W.contents out.old) (W.contents out.new)) }
     ensures reads { result ≡ Outcome.Done → (config' : R) × (files' : List R)
         × HasRead R.remaining job config config' files.items files'
         (λ said. Wrote job said (W.contents out.old) (W.contents out.new)) }

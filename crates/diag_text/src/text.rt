@@ -17,33 +17,33 @@ use diag_world::Played;
 use std::alloc::{AllocError, Global};
 use std::thread::{Threads, join};
 
-/// All that a play writes: the reply lines of each tester, tester by tester, the journal, and the end.
+/// All that a play writes, in parts that are made one behind the other: the reply lines of each tester, the journal,
+/// and the end.
 ///
 /// # Errors
 /// `AllocError` where memory is refused.
-pub fn play_text(
+pub fn play_parts(
     alloc: Global,
     setup: &Setup,
     played: &Played,
     timing: Timing,
-) -> Result<Vec<u8>, AllocError>
+) -> Result<Vec<Vec<u8>>, AllocError>
     requires { length played.now.sent.items ≡ length setup.now.testers }
-    ensures { IfOk result (λ text. text.items ≡ whole_text timing setup.now played.now.desk
+    ensures { IfOk result (λ parts. concat (map (λ part. part.items) parts.items)
+        ≡ whole_text timing setup.now played.now.desk
         (map (λ sent. sent.items) played.now.sent.items)) }
 {
-    let mut text = reply_lines(alloc, setup, played.sent.as_slice())?;
+    let lines = lines_in_turn(alloc, setup, played.sent.as_slice())?;
     let journal = journal_part(alloc, timing, played.desk.journal())?;
-    text.extend_from_slice(journal.as_slice())?;
     let end = end_text(alloc, setup, played.desk.ecu())?;
-    text.extend_from_slice(end.as_slice())?;
-    Ok(text)
+    with_end(lines, journal, end)
 }
 
-/// The parts of the same text, made beside each other: the reply lines of each tester, the journal, and the end.
+/// The same text in parts that are made beside each other.
 ///
 /// # Errors
 /// `AllocError` where memory is refused.
-pub fn play_parts<R: Threads + Sync>(
+pub fn play_parts_beside<R: Threads + Sync>(
     rt: &R,
     alloc: Global,
     setup: &Setup,
@@ -72,9 +72,19 @@ pub fn play_parts<R: Threads + Sync>(
                 text.items ≡ journal_part timing journal.entry.now.entries) }
         { journal_part(alloc, timing, journal) },
     );
-    let mut parts = lines?;
-    let journal = journal?;
     let end = end_text(alloc, setup, played.desk.ecu())?;
+    with_end(lines?, journal?, end)
+}
+
+/// The parts of the reply lines, and behind them the journal and the end.
+fn with_end(
+    mut parts: Vec<Vec<u8>>,
+    journal: Vec<u8>,
+    end: Vec<u8>,
+) -> Result<Vec<Vec<u8>>, AllocError>
+    ensures { IfOk result (λ all. concat (map (λ part. part.items) all.items)
+        ≡ concat (map (λ part. part.items) parts.items) ++ (journal.items ++ end.items)) }
+{
     add_part(&mut parts, journal)?;
     add_part(&mut parts, end)?;
     Ok(parts)
@@ -206,20 +216,25 @@ fn tester_lines(alloc: Global, name: &[u8], sent: &[Sent]) -> Result<Vec<u8>, Al
 /// What a line of eight bytes has beside its name, where its time is below 10,000,000,000 seconds.
 const USUAL_LINE: usize = 42;
 
-/// The reply lines, tester by tester.
-fn reply_lines(alloc: Global, setup: &Setup, sent: &[Vec<Sent>]) -> Result<Vec<u8>, AllocError>
+/// The reply lines of each tester, a part each.
+fn lines_in_turn(
+    alloc: Global,
+    setup: &Setup,
+    sent: &[Vec<Sent>],
+) -> Result<Vec<Vec<u8>>, AllocError>
     requires { length sent.now ≡ length setup.now.testers }
-    ensures { IfOk result (λ text.
-        text.items ≡ lines_from setup.now 1 (map (λ frames. frames.items) sent.now)) }
+    ensures { IfOk result (λ parts. concat (map (λ part. part.items) parts.items)
+        ≡ lines_from setup.now 1 (map (λ frames. frames.items) sent.now)) }
 {
-    let mut text = Vec::new(alloc);
+    let mut parts = Vec::new(alloc);
     for (index, frames) in sent.iter().enumerate() {
         let Some(who) = setup.who(index) else {
             unreachable!()
         };
-        add_lines(&mut text, setup.name(who), frames.as_slice())?;
+        let lines = tester_lines(alloc, setup.name(who), frames.as_slice())?;
+        add_part(&mut parts, lines)?;
     }
-    Ok(text)
+    Ok(parts)
 }
 
 /// Adds the lines of the frames that one tester was sent.

@@ -1,11 +1,10 @@
 use Rattle.std.proofs.Common.{◌∙◌, map}
-use Rattle.std.specs.List.{concat}
 use Rattle.std.proofs.lemmas.List.{length-map}
 use Rattle.diag_run.proofs.Plays.{answers_woven, as_many_frames}
 use Rattle.diag_run.proofs.answer.woven_text.Goals as goal
 
-pub in_parts-requires-after_bounds : goal.in_parts-requires-after_bounds
-in_parts-requires-after_bounds g c κs within =
+pub parts_beside-requires-after_bounds : goal.parts_beside-requires-after_bounds
+parts_beside-requires-after_bounds g c κs within =
     let played = c.in_ok-played.ensures.played in
     as_many_frames c.args.timing c.args.setup.now _ played.0 played.1 (λ sent. sent.items) c.in_ok-played.played.sent.items _ c.in_ok-played.played.desk played.2
     (length-map c.args.texts.now (λ text. text.items) ∙ c.requires)
@@ -13,5 +12,5 @@ in_parts-requires-after_bounds g c κs within =
 pub returns-clause-gives : goal.returns-clause-gives
 returns-clause-gives g c =
     let played = c.in_ok-played.ensures.played in
-    answers_woven c.args.timing c.args.setup.now _ played.0 played.1 (λ parts. concat (map (λ part. part.items) parts.items)) c.args.only_journal c.in_ok-played.played.desk
-    (map (λ sent. sent.items) c.in_ok-played.played.sent.items) c.in_parts.result played.2 c.in_parts.ensures.ok c.in_parts.ensures.err
+    answers_woven c.args.timing c.args.setup.now _ played.0 played.1 c.args.only_journal c.in_ok-played.played.desk
+    (map (λ sent. sent.items) c.in_ok-played.played.sent.items) c.parts_beside.result played.2 c.parts_beside.ensures.ok c.parts_beside.ensures.err
