@@ -280,6 +280,23 @@ fn plays(rt: HostRuntime) -> Result<(), Fail> {
     Ok(())
 }
 
+/// After a thousand reads, and three times N_Bs without flow control, four replies have begun.
+#[test]
+fn thousand_replies(rt: HostRuntime) -> Result<(), Fail> {
+    let mut link = Link::new(rt.alloc(), settings(0, 4095).ok_or("settings")?);
+    let mut text = Vec::new(rt.alloc());
+    for _ in 0..1000 {
+        go(rt.alloc(), &mut link, &ASKS, Pace::Moves, &mut text)?;
+    }
+    for _ in 0..3 {
+        wait(&mut link, 1000, Pace::Moves, &mut text)?;
+    }
+    assert_eq!(rt; link.waiting(), 996);
+    assert_eq!(rt; link.backlog(), 2990);
+    assert_eq!(rt; link.now(), 3000);
+    Ok(())
+}
+
 /// Room that is made for a frame outlasts a reply, which comes first.
 #[test]
 fn room_is_kept(rt: HostRuntime) -> Result<(), Fail> {
