@@ -9,9 +9,10 @@ use Rattle.diag_tp.specs.declared.setup.LinkSetup.{LinkSetup}
 use Rattle.diag_tp.specs.declared.taken.Taken.{Taken}
 use Rattle.diag_tp.specs.declared.taken.Taken.TheVariants.{Whole, Read}
 use Rattle.diag_tp.specs.declared.sent.Sent.{Sent}
+use Rattle.diag_tp.specs.declared.sending.Sending.{Sending}
 use Rattle.diag_tp.specs.Kind.{kind}
 use Rattle.diag_tp.specs.Receiver.{Partial, open_after, granted_by}
-use Rattle.diag_tp.specs.Sender.{Current, sender_frame, sender_event, frame_count, current_left}
+use Rattle.diag_tp.specs.Sender.{sender_frame, sender_event, frame_count, current_left}
 use Rattle.diag_tp.specs.State.{LinkState}
 use Rattle.diag_tp.specs.Wire.{Placed}
 use Rattle.diag_tp.specs.Link.{is_frame, partial_after, grant_after, pending, StandsFor}
@@ -36,7 +37,7 @@ granted-left s o (Consecutive number part) = refl
 granted-left s o (FlowControl status block gap) = refl
 granted-left s o Ignored = refl
 
-sender-left : (s : LinkSetup) (k : Pci) (current : Option Current) (W : List (List ℕ)) →
+sender-left : (s : LinkSetup) (k : Pci) (current : Option Sending) (W : List (List ℕ)) →
     sender_after s (left_of_kind k) current W ≡ sender_frame s k current W
 sender-left s (Single payload) current W = refl
 sender-left s (First len head) current W = refl
@@ -55,7 +56,7 @@ granted-event s o (Physical bytes) h = granted-left s o (kind bytes s.max_reques
 granted-event s o (Functional bytes) h = refl
 granted-event s o (Ticks n) h = cc
 
-sender-taken-event : (s : LinkSetup) (e : Event) (current : Option Current) (W : List (List ℕ)) → IsTrue (is_frame e) →
+sender-taken-event : (s : LinkSetup) (e : Event) (current : Option Sending) (W : List (List ℕ)) → IsTrue (is_frame e) →
     sender_after s (taken_of s e) current W ≡ sender_event s e current W
 sender-taken-event s (Physical bytes) current W h = sender-left s (kind bytes s.max_request) current W
 sender-taken-event s (Functional bytes) current W h = refl
@@ -78,7 +79,7 @@ settles s link link' E A Q e taken is drained grant partial same now sender h =
     ∙ sender-taken-event link.setup e link.sender.current link.sender.waiting is.frame))
     h
 
-within-taken : (s : LinkSetup) (taken : Taken) (current : Option Current) (W : List (List ℕ)) →
+within-taken : (s : LinkSetup) (taken : Taken) (current : Option Sending) (W : List (List ℕ)) →
     IsWithin s (sender_after s taken current W) (current_left s current + sum_by (frame_count s) W) (length W)
 within-taken s Whole current W = no-flow-within s current W
 within-taken s (Read k) current W = frame-within s k current W

@@ -7,9 +7,10 @@ use Rattle.diag_tp.specs.declared.pci.Pci.TheVariants.{Single, First, Overflow, 
 use Rattle.diag_tp.specs.declared.setup.LinkSetup.{LinkSetup}
 use Rattle.diag_tp.specs.declared.taken.Taken.{Taken}
 use Rattle.diag_tp.specs.declared.taken.Taken.TheVariants.{Whole, Read}
+use Rattle.diag_tp.specs.declared.sending.Sending.{Sending}
 use Rattle.diag_tp.specs.Kind.{kind}
 use Rattle.diag_tp.specs.Receiver.{Partial, open_after, granted_by, needed_for, IsRead}
-use Rattle.diag_tp.specs.Sender.{Current, SenderState, no_flow, sender_frame}
+use Rattle.diag_tp.specs.Sender.{SenderState, no_flow, sender_frame}
 use Rattle.diag_tp.specs.State.{LinkView}
 use Rattle.diag_tp.specs.Link.{is_frame, IsReadHere}
 
@@ -48,6 +49,6 @@ abbrev pub granted_after : LinkSetup → Option Partial → Taken → Option (Li
 granted_after s o Whole = None
 granted_after s o (Read k) = granted_by s o k
 
-abbrev pub sender_after : LinkSetup → Taken → Option Current → List (List ℕ) → SenderState
+abbrev pub sender_after : LinkSetup → Taken → Option Sending → List (List ℕ) → SenderState
 sender_after s Whole current W = no_flow current W
 sender_after s (Read k) current W = sender_frame s k current W
