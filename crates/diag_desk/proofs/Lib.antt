@@ -7,4 +7,5 @@ pub mod ClockLemmas
 pub mod FlatLemmas
 pub mod ReadLemmas
 pub mod Runs
+pub mod FollowLemmas
 pub mod Unlocking

@@ -49,7 +49,7 @@ prefix_is_legal = λ s journal seen begins h. legal_part s seen begins.0 (subst 
 
 -- ---- replaying
 
-testers_more : (n : ℕ) (es : List Entry) (e : Entry) → AreTesters n es → e.who ≤ n → AreTesters n (es ++ e ∷ [])
+pub testers_more : (n : ℕ) (es : List Entry) (e : Entry) → AreTesters n es → e.who ≤ n → AreTesters n (es ++ e ∷ [])
 testers_more n [] e h k = (k, tt)
 testers_more n (x ∷ xs) e h k = (h.0, testers_more n xs e h.1 k)
 

@@ -9,4 +9,5 @@ pub mod Clocks
 pub mod PartRead
 pub mod Legal
 pub mod Replay
+pub mod Following
 pub mod Unlocking

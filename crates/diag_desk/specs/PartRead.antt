@@ -1,20 +1,12 @@
 -- What was read so far of a journal's text.
 use Rattle.std.specs.Prelude.{◌≡◌, ◌≢◌, ◌<◌, ℕ, Bool, List, ◌++◌, ◌∷◌, [], length}
 use Rattle.diag_desk.specs.declared.entry.Entry.{Entry}
-use Rattle.diag_desk.specs.declared.line.Line.{Line}
 use Rattle.diag_desk.specs.Entry.{IsEntry}
 use Rattle.diag_desk.specs.Text.{line_after}
-use Rattle.diag_desk.specs.Line.{HasHex, line_entry}
 
 pub record PartRead : Type 0 where
   pub stamped : Bool
   pub entries : List Entry
-
--- what was read of the line that comes next
-pub record IsNext (r : PartRead) (text : List ℕ) (line : Line) : Type 0 where
-  pub hex : HasHex line.step
-  pub entry : IsEntry (line_entry line)
-  pub is : line_after r.stamped r.entries (line_entry line) ≡ text
 
 -- no entry has the line that comes next
 abbrev pub IsNoNext : PartRead → List ℕ → Type 0

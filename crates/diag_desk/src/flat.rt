@@ -187,7 +187,7 @@ pub(crate) fn head_of_line(bytes: &mut Vec<u8>, line: &Line<'_>) -> Result<Head,
 }
 
 /// The number of bytes that hex text says.
-fn decoded_len(text: &[u8]) -> usize
+pub(crate) fn decoded_len(text: &[u8]) -> usize
     requires { IsHex text.now }
     ensures same { result ≡ length (decoded text.now) }
     ensures half { result ≡ length text.now / 2 }
@@ -209,7 +209,7 @@ fn reply_len(text: Option<&[u8]>) -> usize
 }
 
 /// Appends the bytes of a message's hex text where there is room.
-fn append_hex(bytes: &mut Vec<u8>, text: &[u8])
+pub(crate) fn append_hex(bytes: &mut Vec<u8>, text: &[u8])
     requires hex { IsHex text.now }
     requires room { vec_len bytes.old + length (decoded text.now) ≤ vec_capacity bytes.old }
     ensures items { bytes.new.items ≡ bytes.old.items ++ decoded text.now }

@@ -4,12 +4,13 @@ ghost use Rattle.diag_desk.specs.declared.entry.Entry.{Entry};
 ghost use Rattle.diag_desk.specs.Fault.{FaultAt, IsTextOf};
 ghost use Rattle.diag_desk.specs.Entry.{IsJournal, IsEntry};
 ghost use Rattle.diag_desk.specs.Line.{line_entry};
-ghost use Rattle.diag_desk.specs.PartRead.{HasNoNext, IsNext, IsNoNext, Took};
+ghost use Rattle.diag_desk.specs.PartRead.{HasNoNext, Took};
 ghost use Rattle.diag_desk.specs.Text.{header, ticks_in, ticks_of};
 
 use crate::clocks::Clocks;
 use crate::journal::{Journal, JournalPush};
-use crate::line::{Line, LineStep, cut, entry_in, is_decimal};
+use crate::line::cut;
+use crate::next::{LineFault, clock_with, next_line};
 use std::alloc::Global;
 use std::marker::Model;
 use thiserror::Error;
@@ -22,13 +23,6 @@ pub enum JournalFault {
     Line(usize),
     /// Memory was refused.
     #[error("no memory")]
-    Memory,
-}
-
-/// Why a line was not taken.
-#[derive(Clone, Copy, Drop)]
-enum LineFault {
-    Wrong,
     Memory,
 }
 
@@ -64,39 +58,6 @@ impl Reader {
         }
     }
 
-    /// The ticks of a line's tester up to and with it.
-    fn clock_of(&self, line: &Line<'_>) -> u64
-        requires { IsEntry (line_entry line.now) }
-        ensures { result
-            ≡ ticks_of line.now.who self.now.entries + ticks_in (line_entry line.now).step }
-    {
-        let before = self.clocks.at(line.who);
-        match line.step {
-            LineStep::Request { .. } => before,
-            LineStep::Ticks(count) => before + u64::from(count.get()),
-        }
-    }
-
-    /// The entry of the line that comes next.
-    fn next<'a>(&self, line: &'a [u8]) -> Option<Line<'a>>
-        ensures some { IfSome result (IsNext self.now line.now) }
-        ensures none { IfNone result (IsNoNext self.now line.now) }
-    {
-        if !self.stamped {
-            return entry_in(line);
-        }
-        let Some((at, line)) = cut(line, b' ') else {
-            return None;
-        };
-        let Some(entry) = entry_in(line) else {
-            return None;
-        };
-        if !is_decimal(at, self.clock_of(&entry)) {
-            return None;
-        }
-        Some(entry)
-    }
-
     /// Takes the line that comes next.
     fn take(&mut self, line: &[u8]) -> Result<(), LineFault>
         ensures ok { OnOk result (Took self.old self.new line.now) }
@@ -104,10 +65,10 @@ impl Reader {
             fault ≡ LineFault.Wrong → HasNoNext self.old line.now) }
         ensures journal { IsJournal self.new.entries }
     {
-        let Some(entry) = self.next(line) else {
+        let Some(entry) = next_line(self.stamped, &self.clocks, line) else {
             return Err(LineFault::Wrong);
         };
-        let clock = self.clock_of(&entry);
+        let clock = clock_with(&self.clocks, &entry);
         match self.journal.push_line(&entry) {
             Ok(()) => {
                 self.clocks.set(entry.who, clock);
@@ -120,7 +81,7 @@ impl Reader {
 }
 
 /// Whether a header is that of a stamped text; None where it is none.
-fn is_stamped(line: &[u8]) -> Option<bool>
+pub(crate) fn is_stamped(line: &[u8]) -> Option<bool>
     ensures some { IfSome result (λ stamped. line.now ≡ header stamped) }
     ensures none { IfNone result ((stamped : Bool) → line.now ≢ header stamped) }
 {

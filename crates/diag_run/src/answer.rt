@@ -6,9 +6,9 @@ ghost use Rattle.diag_run.specs.Files.{or_bad_log};
 ghost use Rattle.diag_run.specs.Run.{GivesPlayed, GivesWoven, GivesReplayed, played_text, answered, joined};
 
 use diag_can::Timing;
-use diag_desk::{JournalFault, ReplayFault, read_journal, replay};
+use diag_desk::{TextFault, replay_lines};
 use diag_setup::Setup;
-use diag_text::{RunFault, journal_part, one_part, play_parts, play_parts_beside, replay_text};
+use diag_text::{RunFault, counted_text, journal_part, one_part, play_parts, play_parts_beside};
 use diag_workers::{NoWatch, play, read_logs};
 use diag_world::{Played, serial};
 use std::alloc::Global;
@@ -31,7 +31,8 @@ pub(crate) fn played_text(
 {
     let logs = read_logs(alloc, setup, texts, timing)?;
     let played = serial(alloc, setup, logs.as_slice())?;
-    parts_in_turn(alloc, setup, &played, only_journal, timing)
+    drop(logs);
+    parts_in_turn(alloc, setup, played, only_journal, timing)
 }
 
 /// Plays the logs, a thread for each tester, and says what the play writes.
@@ -77,18 +78,18 @@ fn parts_beside<R: Threads + Sync>(
     Ok(parts)
 }
 
-/// The same in parts that are made one behind the other.
+/// The same in parts that are made one behind the other. What was played is let go as it is written.
 fn parts_in_turn(
     alloc: Global,
     setup: &Setup,
-    played: &Played,
+    played: Played,
     only_journal: bool,
     timing: Timing,
 ) -> Result<Vec<Vec<u8>>, RunFault>
-    requires { length played.now.sent.items ≡ length setup.now.testers }
+    requires { length played.sent.items ≡ length setup.now.testers }
     ensures ok { IfOk result (λ parts.
-        joined parts ≡ played_text only_journal timing setup.now played.now.desk
-        (map (λ sent. sent.items) played.now.sent.items)) }
+        joined parts ≡ played_text only_journal timing setup.now played.desk
+        (map (λ sent. sent.items) played.sent.items)) }
     ensures err { IfErr result (λ fault. fault ≡ RunFault.Memory) }
 {
     let parts = if only_journal {
@@ -109,14 +110,13 @@ pub(crate) fn replayed_text(
         (answered result) }
     ensures device { (n : ℕ) → result ≢ Err (RunFault.Read n) }
 {
-    let journal = match read_journal(alloc, bytes) {
-        Ok(journal) => journal,
-        Err(JournalFault::Line(n)) => return Err(RunFault::JournalLine(n)),
-        Err(JournalFault::Memory) => return Err(RunFault::Memory),
-    };
-    match replay(alloc, setup, &journal) {
-        Ok(ecu) => Ok(one_part(alloc, replay_text(alloc, setup, &journal, &ecu)?)?),
-        Err(ReplayFault::Differs(n)) => Err(RunFault::Differs(n)),
-        Err(ReplayFault::Memory) => Err(RunFault::Memory),
+    match replay_lines(alloc, setup, bytes) {
+        Ok(replayed) => {
+            let text = counted_text(alloc, setup, replayed.entries, &replayed.ecu)?;
+            Ok(one_part(alloc, text)?)
+        }
+        Err(TextFault::Line(n)) => Err(RunFault::JournalLine(n)),
+        Err(TextFault::Differs(n)) => Err(RunFault::Differs(n)),
+        Err(TextFault::Memory) => Err(RunFault::Memory),
     }
 }

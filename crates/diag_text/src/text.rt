@@ -18,25 +18,38 @@ use std::alloc::{AllocError, Global};
 use std::thread::{Threads, join};
 
 /// All that a play writes, in parts that are made one behind the other: the reply lines of each tester, the journal,
-/// and the end.
+/// and the end. The frames are let go once their lines are made.
 ///
 /// # Errors
 /// `AllocError` where memory is refused.
 pub fn play_parts(
     alloc: Global,
     setup: &Setup,
-    played: &Played,
+    played: Played,
     timing: Timing,
 ) -> Result<Vec<Vec<u8>>, AllocError>
-    requires { length played.now.sent.items ≡ length setup.now.testers }
+    requires { length played.sent.items ≡ length setup.now.testers }
     ensures { IfOk result (λ parts. concat (map (λ part. part.items) parts.items)
-        ≡ whole_text timing setup.now played.now.desk
-        (map (λ sent. sent.items) played.now.sent.items)) }
+        ≡ whole_text timing setup.now played.desk (map (λ sent. sent.items) played.sent.items)) }
 {
-    let lines = lines_in_turn(alloc, setup, played.sent.as_slice())?;
-    let journal = journal_part(alloc, timing, played.desk.journal())?;
-    let end = end_text(alloc, setup, played.desk.ecu())?;
+    let Played { desk, sent } = played;
+    let lines = lines_from(alloc, setup, sent)?;
+    let journal = journal_part(alloc, timing, desk.journal())?;
+    let end = end_text(alloc, setup, desk.ecu())?;
     with_end(lines, journal, end)
+}
+
+/// The reply lines of these frames, which are let go.
+fn lines_from(
+    alloc: Global,
+    setup: &Setup,
+    sent: Vec<Vec<Sent>>,
+) -> Result<Vec<Vec<u8>>, AllocError>
+    requires { length sent.items ≡ length setup.now.testers }
+    ensures { IfOk result (λ parts. concat (map (λ part. part.items) parts.items)
+        ≡ lines_from setup.now 1 (map (λ frames. frames.items) sent.items)) }
+{
+    lines_in_turn(alloc, setup, sent.as_slice())
 }
 
 /// The same text in parts that are made beside each other.
@@ -351,7 +364,21 @@ pub fn replay_text(
     ensures { IfOk result (λ text.
         text.items ≡ replay_text setup.now (length journal.now.entries) ecu.now) }
 {
-    let count = journal.len();
+    counted_text(alloc, setup, journal.len(), ecu)
+}
+
+/// The same of a replay that counted the entries and kept none.
+///
+/// # Errors
+/// `AllocError` where memory is refused.
+pub fn counted_text(
+    alloc: Global,
+    setup: &Setup,
+    count: usize,
+    ecu: &Ecu,
+) -> Result<Vec<u8>, AllocError>
+    ensures { IfOk result (λ text. text.items ≡ replay_text setup.now count ecu.now) }
+{
     let mut text = format!(in alloc; "entries {count}\n")?.into_bytes();
     let end = end_text(alloc, setup, ecu)?;
     text.extend_from_slice(end.as_slice())?;

@@ -1,0 +1,56 @@
+-- Replaying a journal's text as it is read.
+use Rattle.std.specs.Prelude.{◌≡◌, ℕ, Bool, List, [], ◌∷◌, ◌++◌, length, Some, None}
+use Rattle.diag_setup.specs.declared.raw.RawSetup.{RawSetup}
+use Rattle.diag_ecu.specs.State.{State, opening}
+use Rattle.diag_desk.specs.declared.entry.Entry.{Entry}
+use Rattle.diag_desk.specs.declared.following.Follower.{Follower}
+use Rattle.diag_desk.specs.declared.following.Play.{Play}
+use Rattle.diag_desk.specs.Clocks.{Tells}
+use Rattle.diag_desk.specs.Entry.{IsEntry, IsJournal}
+use Rattle.diag_desk.specs.Fault.{IsTextOf}
+use Rattle.diag_desk.specs.Legal.{after}
+use Rattle.diag_desk.specs.PartRead.{PartRead}
+use Rattle.diag_desk.specs.Replay.{DiffersAt, IsRun}
+use Rattle.diag_desk.specs.Text.{line_after}
+
+-- the text is that of these entries, which are a run of the setup and leave this state
+pub record IsReplayed (setup : RawSetup) (text : List ℕ) (count : ℕ) (s : State) : Type 0 where
+  pub entries : List Entry
+  pub journal : IsJournal entries
+  pub read : IsTextOf text entries
+  pub run : IsRun setup entries
+  pub counted : count ≡ length entries
+  pub state : s ≡ after (opening setup) entries
+
+-- the text is that of entries of which the n-th is the first that differs
+pub record TextDiffers (setup : RawSetup) (text : List ℕ) (n : ℕ) : Type 0 where
+  pub entries : List Entry
+  pub journal : IsJournal entries
+  pub read : IsTextOf text entries
+  pub at : DiffersAt setup entries n
+
+-- these ticks are told of some journal
+abbrev pub AreTold : List ℕ → Type 0
+AreTold ticks = (past : List Entry) × IsJournal past × Tells ticks past
+
+abbrev pub read_so_far : Bool → List Entry → PartRead
+read_so_far stamped past = record { stamped = stamped; entries = past }
+
+-- what a play has made of the entries so far: the ECU is where they lead, or one differs
+pub record Plays (setup : RawSetup) (play : Play) (past : List Entry) : Type 0 where
+  pub run : play.differs ≡ None → IsRun setup past × (play.ecu ≡ after (opening setup) past)
+  pub differs : (n : ℕ) → play.differs ≡ Some n → DiffersAt setup past n
+
+-- what was read and played so far
+pub record Follows (setup : RawSetup) (f : Follower) (past : List Entry) : Type 0 where
+  pub journal : IsJournal past
+  pub clocks : Tells f.clocks.ticks past
+  pub count : f.count ≡ length past
+  pub play : Plays setup f.play past
+
+-- one line more
+pub record Followed (setup : RawSetup) (f new : Follower) (past : List Entry) (text : List ℕ) : Type 0 where
+  pub entry : Entry
+  pub is_entry : IsEntry entry
+  pub line : line_after f.stamped past entry ≡ text
+  pub follows : Follows setup new (past ++ entry ∷ [])

@@ -1,0 +1,282 @@
+//! Replaying a journal's text as it is read, entry by entry; none is kept.
+ghost use Rattle.std.specs.Prelude.{◌≡◌, ◌+◌, ◌++◌, ◌∷◌, ◌≤◌, ◌↔◌, [], ℕ, List, length, IfOk, IfErr, OnOk, IsTrue, option_copied, option_map};
+ghost use Rattle.std.specs.Bool.{OnTrue, OnFalse};
+ghost use Rattle.diag_ecu.specs.Respond as ecu;
+ghost use Rattle.diag_desk.specs.declared.entry.Entry.{Entry};
+ghost use Rattle.diag_desk.specs.Entry.{IsEntry};
+ghost use Rattle.diag_desk.specs.Fault.{FaultAt, IsTextOf};
+ghost use Rattle.diag_desk.specs.Following.{Followed, Follows, IsReplayed, Plays, TextDiffers, read_so_far};
+ghost use Rattle.diag_desk.specs.Legal.{after_step, reply_to};
+ghost use Rattle.diag_desk.specs.Line.{HasHex, IsHex, IsHexReply, decoded, line_entry};
+ghost use Rattle.diag_desk.specs.PartRead.{HasNoNext};
+
+use crate::clocks::Clocks;
+use crate::entry::MOST_ENTRIES;
+use crate::flat::{append_hex, decoded_len};
+use crate::line::{Line, LineStep, cut};
+use crate::next::{LineFault, clock_with, next_line};
+use crate::read::{JournalFault, is_stamped};
+use diag_ecu::Ecu;
+use diag_store::{Setup, TesterId};
+use diag_tp::Message;
+use std::alloc::{AllocError, Global};
+use thiserror::Error;
+
+/// What the replay of a text leaves.
+#[derive(Drop)]
+pub struct Replayed {
+    /// The number of entries.
+    pub entries: usize,
+    /// The ECU after them.
+    pub ecu: Ecu,
+}
+
+/// Why a text is not replayed to its end.
+#[derive(Clone, Copy, PartialEq, Eq, Debug, Drop, Error)]
+pub enum TextFault {
+    /// The first line at fault, counted from 1.
+    #[error("journal line {0}")]
+    Line(usize),
+    /// No line is at fault. The first entry, counted from 1, whose tester isn't in the setup or whose reply isn't the
+    /// ECU's.
+    #[error("entry {0} differs")]
+    Differs(usize),
+    /// Memory was refused.
+    #[error("no memory")]
+    Memory,
+}
+
+/// The ECU that plays the entries, up to the first that differs.
+#[derive(Drop)]
+pub(crate) struct Play {
+    ecu: Ecu,
+    /// The first entry that differs, counted from 1.
+    differs: Option<usize>,
+    /// The messages of one line.
+    bytes: Vec<u8>,
+}
+
+/// What is known of the entries that were read so far.
+#[derive(Drop)]
+pub(crate) struct Follower {
+    stamped: bool,
+    clocks: Clocks,
+    count: usize,
+    play: Play,
+}
+
+impl Play {
+    /// Plays an entry, the one of this number, unless one before it differs.
+    fn take(
+        &mut self,
+        alloc: Global,
+        setup: &Setup,
+        number: usize,
+        line: &Line<'_>,
+    ) -> Result<(), AllocError>
+        requires hex { HasHex line.now.step }
+        requires entry { IsEntry (line_entry line.now) }
+        ensures { OnOk result ((past : List Entry)
+            → number ≡ length past + 1
+            → Plays setup.now self.old past
+            → Plays setup.now self.new (past ++ line_entry line.now ∷ [])) }
+    {
+        if self.differs.is_some() {
+            return Ok(());
+        }
+        if self.plays(alloc, setup, line)? {
+            return Ok(());
+        }
+        self.differs = Some(number);
+        Ok(())
+    }
+
+    /// Plays an entry where its tester is in the setup and the ECU's reply is its own; whether it is so.
+    fn plays(&mut self, alloc: Global, setup: &Setup, line: &Line<'_>) -> Result<bool, AllocError>
+        requires hex { HasHex line.now.step }
+        requires entry { IsEntry (line_entry line.now) }
+        ensures differs { self.new.differs ≡ self.old.differs }
+        ensures yes { IfOk result (λ same. OnTrue same (let e = line_entry line.now in
+            (e.who ≤ length setup.now.testers)
+            × (e.reply ≡ reply_to self.old.ecu e.who e.step)
+            × (self.new.ecu ≡ after_step self.old.ecu e.who e.step))) }
+        ensures no { IfOk result (λ same. OnFalse same (let e = line_entry line.now in
+            e.who ≤ length setup.now.testers
+            → e.reply ≡ reply_to self.old.ecu e.who e.step
+            → ⊥)) }
+    {
+        if setup.testers() < usize::from(line.who.place()) {
+            return Ok(false);
+        }
+        match line.step {
+            LineStep::Request {
+                functional,
+                message,
+                reply,
+            } => self.answers(alloc, line.who, functional, message, reply),
+            LineStep::Ticks(count) => {
+                self.ecu.ticks(line.who, count);
+                Ok(true)
+            }
+        }
+    }
+
+    /// Whether the ECU's reply to a request is this one; where it is, the ECU settles.
+    fn answers(
+        &mut self,
+        alloc: Global,
+        who: TesterId,
+        functional: bool,
+        message: &[u8],
+        reply: Option<&[u8]>,
+    ) -> Result<bool, AllocError>
+        requires hex { IsHex message.now }
+        requires reply { IsHexReply (option_copied reply) }
+        ensures differs { self.new.differs ≡ self.old.differs }
+        ensures reply { IfOk result (λ same. IsTrue same
+            ↔ (option_map decoded (option_copied reply.entry)
+            ≡ ecu.reply self.old.ecu who functional (decoded message.now))) }
+        ensures state { IfOk result (λ same. OnTrue same
+            (self.new.ecu ≡ ecu.after_request self.old.ecu who functional (decoded message.now))) }
+    {
+        read_into(&mut self.bytes, message)?;
+        let message = Message::of(alloc, self.bytes.as_slice())?;
+        let said = self.ecu.reply(who, functional, &message)?;
+        if !is_said(&mut self.bytes, reply, said.as_ref())? {
+            return Ok(false);
+        }
+        self.ecu.settle(who, functional, &message);
+        Ok(true)
+    }
+}
+
+/// The bytes of a message's hex text, in place of what the list had.
+fn read_into(bytes: &mut Vec<u8>, text: &[u8]) -> Result<(), AllocError>
+    requires { IsHex text.now }
+    ensures { OnOk result (bytes.new.items ≡ decoded text.now) }
+{
+    bytes.clear();
+    bytes.reserve(decoded_len(text))?;
+    append_hex(bytes, text);
+    Ok(())
+}
+
+/// Whether a reply in hex is the ECU's.
+fn is_said(
+    bytes: &mut Vec<u8>,
+    text: Option<&[u8]>,
+    said: Option<&Message>,
+) -> Result<bool, AllocError>
+    requires { IsHexReply (option_copied text) }
+    ensures { IfOk result (λ same. IsTrue same
+        ↔ (option_map decoded (option_copied text.entry) ≡ option_copied said.entry)) }
+{
+    match (text, said) {
+        (Some(text), Some(said)) => {
+            read_into(bytes, text)?;
+            Ok(bytes.as_slice() == said.bytes())
+        }
+        (None, None) => Ok(true),
+        _ => Ok(false),
+    }
+}
+
+impl Follower {
+    /// Takes the line that comes next.
+    fn take(&mut self, alloc: Global, setup: &Setup, line: &[u8]) -> Result<(), LineFault>
+        requires { (past : List Entry) × Follows setup.now self.old past }
+        ensures ok { OnOk result ((past : List Entry)
+            → Follows setup.now self.old past
+            → Followed setup.now self.old self.new past line.now) }
+        ensures stamped { self.new.stamped ≡ self.old.stamped }
+        ensures wrong { IfErr result (λ fault. fault ≡ LineFault.Wrong
+            → (past : List Entry)
+            → Follows setup.now self.old past
+            → HasNoNext (read_so_far self.old.stamped past) line.now) }
+    {
+        let Some(entry) = next_line(self.stamped, &self.clocks, line) else {
+            return Err(LineFault::Wrong);
+        };
+        if self.count >= MOST_ENTRIES {
+            return Err(LineFault::Wrong);
+        }
+        let clock = clock_with(&self.clocks, &entry);
+        let number = self.count + 1;
+        match self.play.take(alloc, setup, number, &entry) {
+            Ok(()) => {}
+            Err(_) => return Err(LineFault::Memory),
+        }
+        self.clocks.set(entry.who, clock);
+        self.count = number;
+        Ok(())
+    }
+}
+
+/// Reads the header, and then reads and plays line by line.
+fn follow(alloc: Global, setup: &Setup, text: &[u8]) -> Result<Follower, JournalFault>
+    ensures ok { IfOk result (λ follower. (past : List Entry)
+        × Follows setup.now follower past
+        × IsTextOf text.now past) }
+    ensures line { IfErr result (λ fault.
+        (n : ℕ) → fault ≡ JournalFault.Line n → FaultAt text.now n) }
+{
+    let Some((first, mut rest)) = cut(text, b'\n') else {
+        return Err(JournalFault::Line(1));
+    };
+    let Some(stamped) = is_stamped(first) else {
+        return Err(JournalFault::Line(1));
+    };
+    let Ok(ecu) = Ecu::new(alloc, setup) else {
+        return Err(JournalFault::Memory);
+    };
+    let mut follower = Follower {
+        stamped,
+        clocks: Clocks::new(),
+        count: 0,
+        play: Play {
+            ecu,
+            differs: None,
+            bytes: Vec::new(alloc),
+        },
+    };
+    while !rest.is_empty() {
+        let number = follower.count + 2;
+        let Some((line, after)) = cut(rest, b'\n') else {
+            return Err(JournalFault::Line(number));
+        };
+        match follower.take(alloc, setup, line) {
+            Ok(()) => {}
+            Err(LineFault::Wrong) => return Err(JournalFault::Line(number)),
+            Err(LineFault::Memory) => return Err(JournalFault::Memory),
+        }
+        rest = after;
+    }
+    Ok(follower)
+}
+
+/// Replays a journal's text of either version, in one pass and without keeping its entries.
+///
+/// It is `read_journal` and then `replay`: a line at fault comes first, wherever it stands, and then the first entry
+/// that differs. Memory can be refused at any line.
+pub fn replay_lines(alloc: Global, setup: &Setup, text: &[u8]) -> Result<Replayed, TextFault>
+    ensures ok { IfOk result (λ r. IsReplayed setup.now text.now r.entries r.ecu) }
+    ensures line { IfErr result (λ fault.
+        (n : ℕ) → fault ≡ TextFault.Line n → FaultAt text.now n) }
+    ensures differs { IfErr result (λ fault.
+        (n : ℕ) → fault ≡ TextFault.Differs n → TextDiffers setup.now text.now n) }
+{
+    let follower = match follow(alloc, setup, text) {
+        Ok(follower) => follower,
+        Err(JournalFault::Line(n)) => return Err(TextFault::Line(n)),
+        Err(JournalFault::Memory) => return Err(TextFault::Memory),
+    };
+    let Follower { count, play, .. } = follower;
+    let Play { ecu, differs, .. } = play;
+    match differs {
+        None => Ok(Replayed {
+            entries: count,
+            ecu,
+        }),
+        Some(n) => Err(TextFault::Differs(n)),
+    }
+}
