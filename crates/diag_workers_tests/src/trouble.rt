@@ -5,7 +5,7 @@ use diag_desk::{JournalFault, ReplayFault, StepFault};
 use diag_gate::TryFault;
 use diag_tp::MessageFault;
 use diag_workers::PlayFault;
-use std::alloc::{AllocError, AllocFailed, Global};
+use std::alloc::{AllocError, AllocFailed};
 
 /// Why a test did not come to its end: memory was refused, or a call answered what it must not. Two workers that are
 /// held for each other and didn't meet are `NotMet`: a thread that finds no memory at its start leaves its work to its
@@ -100,16 +100,4 @@ impl From<PlayFault> for Trouble {
 /// What was tried came to its end and holds.
 pub(crate) fn holds(tried: Result<bool, Trouble>) -> Result<(), Trouble> {
     if tried? { Ok(()) } else { Err(Trouble::Wrong) }
-}
-
-/// Whether what was tried was refused so.
-pub(crate) fn is_refused<T: Drop>(
-    tried: Result<T, Trouble>,
-    wanted: Trouble,
-) -> Result<bool, Trouble> {
-    match tried {
-        Ok(_) => Ok(false),
-        Err(Trouble::Memory) => Err(Trouble::Memory),
-        Err(trouble) => Ok(trouble == wanted),
-    }
 }

@@ -1,10 +1,101 @@
-//! The world: worked examples as the whole texts that logs of two testers leave, events that are given again where
-//! memory was refused, and a full journal.
+//! A world of two testers, event by event: one that is refused for want of memory is given again.
 
-mod given;
-mod long_messages;
-mod play;
-mod sessions;
-mod text;
-mod times;
-mod unit;
+ghost use Rattle.std.specs.Prelude.{◌≡◌, ◌≤◌, length};
+
+use crate::trouble::{Trouble, holds};
+use diag_can::{Event, read_line, write_line};
+use diag_desk::journal_text;
+use diag_fixtures::two_testers;
+use diag_setup::{Setup, TesterId};
+use diag_stored::PLAYED;
+use diag_world::{StepFault, World};
+use std::alloc::Global;
+
+/// The events of both testers' logs in turn: the tester's place from 0, and its line.
+const TURNS: [(usize, &[u8]); 13] = [
+    (0, b"(0.000000) can0 7E0#021003"),
+    (1, b"tick"),
+    (0, b"(0.000000) can0 7E0#022701"),
+    (1, b"tick"),
+    (0, b"(0.000000) can0 7E0#062702AABBCCDD"),
+    (1, b"tick"),
+    (0, b"(0.000000) can0 7E0#10142EF190414243"),
+    (1, b"(0.000000) can0 7E1#0322F190"),
+    (0, b"(0.000000) can0 7E0#214445464748494A"),
+    (1, b"(0.000000) can0 7E1#300000"),
+    (0, b"(0.000000) can0 7E0#224B4C4D4E4F5051"),
+    (1, b"(0.000000) can0 7E1#0322F190"),
+    (1, b"(0.000000) can0 7E1#300000"),
+];
+
+/// Gives an event, and where memory is refused gives it once more.
+fn give(world: &mut World, who: TesterId, event: &Event) -> Result<(), StepFault>
+    requires { who ≤ length world.old.sent }
+    ensures { length world.new.sent ≡ length world.old.sent }
+{
+    match world.event(who, event) {
+        Err(StepFault::Memory) => world.event(who, event),
+        answer => answer,
+    }
+}
+
+/// Gives the event of a tester's line.
+fn give_line(world: &mut World, setup: &Setup, index: usize, line: &[u8]) -> Result<(), Trouble>
+    requires { length world.old.sent ≡ length setup.now.testers }
+    ensures { length world.new.sent ≡ length world.old.sent }
+{
+    let Some(who) = setup.who(index) else {
+        return Err(Trouble::Wrong);
+    };
+    match read_line(line, &setup.ids(who)) {
+        Ok(Some(event)) => Ok(give(world, who, &event)?),
+        _ => Err(Trouble::Wrong),
+    }
+}
+
+fn give_all(world: &mut World, setup: &Setup) -> Result<(), Trouble>
+    requires { length world.old.sent ≡ length setup.now.testers }
+    ensures { length world.new.sent ≡ length world.old.sent }
+{
+    for (index, line) in &TURNS {
+        give_line(world, setup, *index, line)?;
+    }
+    Ok(())
+}
+
+/// Adds the lines of the frames that a tester was sent.
+fn add_frames(text: &mut Vec<u8>, world: &World, setup: &Setup, index: usize) -> Result<(), Trouble>
+    requires { length world.now.sent ≡ length setup.now.testers }
+{
+    let Some(who) = setup.who(index) else {
+        return Err(Trouble::Wrong);
+    };
+    for sent in world.sent(who) {
+        write_line(text, setup.name(who), sent.at, &sent.frame)?;
+    }
+    Ok(())
+}
+
+/// The frames of both testers and the journal.
+fn told(alloc: Global, world: &World, setup: &Setup) -> Result<Vec<u8>, Trouble>
+    requires { length world.now.sent ≡ length setup.now.testers }
+{
+    let mut text = Vec::new(alloc);
+    add_frames(&mut text, world, setup, 0)?;
+    add_frames(&mut text, world, setup, 1)?;
+    text.extend_from_slice(journal_text(alloc, world.journal())?.as_slice())?;
+    Ok(text)
+}
+
+fn tells(alloc: Global) -> Result<bool, Trouble> {
+    let setup = two_testers(alloc)?;
+    let mut world = World::new(alloc, &setup)?;
+    give_all(&mut world, &setup)?;
+    let text = told(alloc, &world, &setup)?;
+    Ok(text.as_slice() == PLAYED.as_bytes())
+}
+
+#[test]
+fn refused_event_again(rt: HostRuntime) -> Result<(), Trouble> {
+    holds(tells(rt.alloc()))
+}

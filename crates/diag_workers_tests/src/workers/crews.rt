@@ -6,7 +6,7 @@ ghost use Rattle.diag_tp.specs.Moments.{counted_from};
 use crate::trouble::{Trouble, holds};
 use crate::workers::given::setup_of_two;
 use crate::workers::meeting::Meeting;
-use crate::workers::plays::{READERS_PLAY, SECOND_BEGINS_PLAY, tried};
+use crate::workers::plays::readers_play;
 use diag_can::{Event, TickCount};
 use diag_desk::{Journal, Step, StepFault};
 use diag_setup::{Setup, TesterId};
@@ -141,8 +141,8 @@ fn crew_meets<R: Threads + Sync>(rt: &R, alloc: Global) -> Result<bool, Trouble>
 /// Whether the two workers of a play meet, and the watch is told of each of their steps once.
 fn play_meets<R: Threads + Wait + Sync>(rt: &R, alloc: Global) -> Result<bool, Trouble> {
     let meeting = Meeting::new(1);
-    let played = tried(rt, alloc, &READERS_PLAY, &meeting)?;
-    Ok(meeting.is_met(2, 3)? && played)
+    let left = readers_play(rt, alloc, &meeting)?;
+    Ok(meeting.is_met(2, 3)? && left.right)
 }
 
 /// Each tester's first step is held until the other tester was called, for at most 1,000,000 turns.
@@ -156,8 +156,8 @@ fn two_workers_meet(rt: HostRuntime) -> Result<(), Trouble> {
 /// third step, so that the second's two steps before it begin the journal.
 fn is_told_first<R: Threads + Wait + Sync>(rt: &R, alloc: Global) -> Result<bool, Trouble> {
     let meeting = Meeting::new(3);
-    let second_begins = tried(rt, alloc, &SECOND_BEGINS_PLAY, &meeting)?;
-    Ok(meeting.is_met(2, 3)? && second_begins)
+    let left = readers_play(rt, alloc, &meeting)?;
+    Ok(meeting.is_met(2, 3)? && left.right && left.second_begins)
 }
 
 /// A watch is told of a step before it is taken.
@@ -166,26 +166,22 @@ fn watch_is_told_before_the_step(rt: HostRuntime) -> Result<(), Trouble> {
     holds(is_told_first(&rt, rt.alloc()))
 }
 
-/// Refuses its second step.
-const FULL_LATE: Answers = Answers {
-    steps: 1,
-    then: StepFault::JournalFull,
-};
-
-const FULL_AT_ONCE: Answers = Answers {
-    steps: 0,
-    then: StepFault::JournalFull,
-};
-
-const NO_MEMORY_LATE: Answers = Answers {
-    steps: 1,
-    then: StepFault::Memory,
-};
-
-const NO_MEMORY_AT_ONCE: Answers = Answers {
-    steps: 0,
-    then: StepFault::Memory,
-};
+/// What the doors of a crew answer, each so many steps and then a refusal, and what refuses the crew: the refusal of the
+/// first tester, in order, that was refused.
+const REFUSALS: [([(u32, StepFault); 2], StepFault); 3] = [
+    (
+        [(1, StepFault::JournalFull), (0, StepFault::Memory)],
+        StepFault::JournalFull,
+    ),
+    (
+        [(1, StepFault::Memory), (0, StepFault::JournalFull)],
+        StepFault::Memory,
+    ),
+    (
+        [(2, StepFault::Memory), (1, StepFault::JournalFull)],
+        StepFault::JournalFull,
+    ),
+];
 
 /// Whether a crew with these doors is refused so.
 fn is_refused<R: Threads + Sync>(
@@ -202,17 +198,11 @@ fn is_refused<R: Threads + Sync>(
     }
 }
 
-fn first_counts<R: Threads + Sync>(rt: &R, alloc: Global) -> Result<bool, Trouble> {
-    let (full, memory) = (StepFault::JournalFull, StepFault::Memory);
-    Ok(
-        is_refused(rt, alloc, [FULL_LATE, NO_MEMORY_AT_ONCE], full)?
-            && is_refused(rt, alloc, [NO_MEMORY_LATE, FULL_AT_ONCE], memory)?
-            && is_refused(rt, alloc, [WELL, FULL_LATE], full)?,
-    )
-}
-
-/// A refusal is that of the first tester, in order, that was refused.
 #[test]
 fn the_first_refusal_counts(rt: HostRuntime) -> Result<(), Trouble> {
-    holds(first_counts(&rt, rt.alloc()))
+    for (left, wanted) in &REFUSALS {
+        let left = left.map(|(steps, then)| Answers { steps, then });
+        holds(is_refused(&rt, rt.alloc(), left, *wanted))?;
+    }
+    Ok(())
 }

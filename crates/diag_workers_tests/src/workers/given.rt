@@ -16,31 +16,18 @@ pub(crate) const FIRST_READER: [&str; 3] = ["7E0#021003", "7E0#0322F190", "7E0#3
 /// The log of the second reader, which reads the codes and the value.
 pub(crate) const SECOND_READER: [&str; 3] = ["7E1#031902FF", "tick 10", "7E1#0322F190"];
 
-/// The log of a tester that writes a value.
-pub(crate) const WRITER: [&str; 6] = [
-    "7E0#021003",
-    "7E0#022701",
-    "7E0#062702AABBCCDD",
-    "7E0#10142EF190414243",
-    "7E0#214445464748494A",
-    "7E0#224B4C4D4E4F5051",
-];
-
 /// The reply that begins the session.
-pub(crate) const SESSION: [u8; 8] = [0x06, 0x50, 0x03, 0x00, 0x32, 0x01, 0xF4, 0xCC];
+const SESSION: [u8; 8] = [0x06, 0x50, 0x03, 0x00, 0x32, 0x01, 0xF4, 0xCC];
 
 /// The reply with the code and its status.
-pub(crate) const CODES: [u8; 8] = [0x07, 0x59, 0x02, 0xFF, 0x01, 0x23, 0x45, 0x2F];
+const CODES: [u8; 8] = [0x07, 0x59, 0x02, 0xFF, 0x01, 0x23, 0x45, 0x2F];
 
 /// The three frames of the reply with the value of F190 as it was at first.
-pub(crate) const OLD_VALUE: [[u8; 8]; 3] = [
+const OLD_VALUE: [[u8; 8]; 3] = [
     [0x10, 0x14, 0x62, 0xF1, 0x90, 0x54, 0x45, 0x53],
     [0x21, 0x54, 0x56, 0x49, 0x4E, 0x30, 0x31, 0x32],
     [0x22, 0x33, 0x34, 0x35, 0x36, 0x37, 0x38, 0x39],
 ];
-
-/// The first frame of the reply with the value that the first tester writes.
-pub(crate) const NEW_VALUE: [u8; 8] = [0x10, 0x14, 0x62, 0xF1, 0x90, 0x41, 0x42, 0x43];
 
 /// A setup of two testers.
 pub(crate) fn setup_of_two(alloc: Global) -> Result<Setup, Trouble>
@@ -89,7 +76,7 @@ pub(crate) fn events_of(
 }
 
 /// Whether a frame was sent at this time, with this identifier and these bytes.
-pub(crate) fn is_frame(sent: &Sent, at: u64, id: u16, bytes: &[u8]) -> bool {
+fn is_frame(sent: &Sent, at: u64, id: u16, bytes: &[u8]) -> bool {
     sent.at == at && sent.frame.id.get() == id && sent.frame.bytes.as_slice() == bytes
 }
 
