@@ -91,7 +91,7 @@ impl MidLine {
         enter(
             self.output,
             self.server.now(who),
-            asked.as_ref(),
+            asked.entry.as_ref(),
             &mut self.text,
         )?;
         self.server.settle(who, event, asked, out);

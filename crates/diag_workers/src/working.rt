@@ -15,7 +15,7 @@ use diag_desk::{Journal, StepFault};
 use diag_gate::Door;
 use diag_store::{Setup, TesterId};
 use diag_tp::{LinkSetup, Sent};
-use diag_world::Channel;
+use diag_world::{Channel, Prepared};
 use std::alloc::Global;
 
 /// What one worker did: what it asked, with the answers, and the frames that it sent.
@@ -100,7 +100,8 @@ impl Worker {
         ensures tester { D.tester door.new ≡ D.tester door.old }
         ensures home { D.home door.new ≡ D.home door.old }
     {
-        match self.channel.prepare(event)? {
+        let Prepared { step, taken } = self.channel.prepare(event)?;
+        match step {
             Some(step) => {
                 self.entries.make_room(&step)?;
                 let who = door.who();
@@ -108,11 +109,11 @@ impl Worker {
                 if self.entries.push(who, &step, reply.as_ref()).is_err() {
                     unreachable!();
                 }
-                self.channel.settle(event, reply);
+                self.channel.settle(event, taken, reply);
                 Ok(())
             }
             None => {
-                self.channel.settle(event, None);
+                self.channel.settle(event, taken, None);
                 Ok(())
             }
         }

@@ -4,6 +4,7 @@ use Rattle.diag_can.specs.declared.frame.Event.{Event}
 use Rattle.diag_tp.specs.declared.setup.LinkSetup.{LinkSetup}
 use Rattle.diag_tp.specs.declared.sent.Sent.{Sent}
 use Rattle.diag_tp.specs.declared.step.Step.{Step}
+use Rattle.diag_tp.specs.declared.taken.Taken.{Taken}
 use Rattle.diag_tp.specs.Gives.{steps}
 use Rattle.diag_tp.specs.Moments.{last_time}
 use Rattle.diag_tp.specs.Placing.{placed, drawn}
@@ -32,8 +33,9 @@ abbrev pub waiting : ChannelState → ℕ
 waiting channel = waiting_count channel.link
 
 -- room was made for the event: in the link, and for the frames that may fall due
-abbrev pub HasRoom : Channel → Event → Type 0
-HasRoom channel e = HasRoomFor channel.link e (vec_len channel.sent) (vec_capacity channel.sent)
+abbrev pub HasRoom : Channel → Event → Taken → Type 0
+HasRoom channel e taken =
+    HasRoomFor channel.link e taken (vec_len channel.sent) (vec_capacity channel.sent)
 
 -- a step that can have a reply is that of a frame
 abbrev pub RepliesToFrame : Event → Step → Type 0

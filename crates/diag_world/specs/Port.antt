@@ -10,7 +10,9 @@ use Rattle.diag_tp.specs.Moments.{last_time}
 use Rattle.diag_tp.specs.Placing.{placed, drawn}
 use Rattle.diag_tp.specs.Wire.{Placed, wire}
 use Rattle.diag_tp.specs.State.{LinkState, LinkView}
-use Rattle.diag_tp.specs.Link.{StandsFor, has_room, has_reply_room, last_tick, unsent}
+use Rattle.diag_tp.specs.declared.taken.Taken.{Taken}
+use Rattle.diag_tp.specs.Taken.{IsTaken, FitsIn}
+use Rattle.diag_tp.specs.Link.{StandsFor, has_reply_room, last_tick, unsent}
 use Rattle.diag_desk.specs.declared.entry.Entry.{Entry}
 use Rattle.diag_desk.specs.Entries.{asked, entry, replies}
 use Rattle.diag_tp.specs.declared.step.Step.{Step}
@@ -26,16 +28,22 @@ pub record Grew {X : Type 0} (old new : List X) (P : List X → Type 0) : Type 0
   pub grown : new ≡ old ++ more
   pub holds : P more
 
--- room was made for the event: in the link for it and for a reply, and for the frames that may fall due in a list of
--- this length and capacity
-abbrev pub HasRoomFor : LinkView → Event → ℕ → ℕ → Type 0
-HasRoomFor link (Ticks n) len capacity = len + unsent link.state ≤ capacity
-HasRoomFor link (Physical bytes) len capacity = IsTrue (has_room link (Physical bytes))
-    × IsTrue (has_reply_room link)
-    × (len + unsent link.state + 2 ≤ capacity)
-HasRoomFor link (Functional bytes) len capacity = IsTrue (has_room link (Functional bytes))
-    × IsTrue (has_reply_room link)
-    × (len + unsent link.state + 2 ≤ capacity)
+-- a frame was read, of which this is left, and room was made: in the link for it and for a reply, and for the frames that
+-- may fall due in a list of this length and capacity
+pub record HasFrameRoom (link : LinkView) (e : Event) (taken : Taken) (len capacity : ℕ)
+    : Type 0 where
+  pub is : IsTaken link.state.setup e taken
+  pub fits : FitsIn link taken
+  pub reply_room : IsTrue (has_reply_room link)
+  pub room : len + unsent link.state + 2 ≤ capacity
+
+-- room was made for the event; of ticks nothing is left, and they need none but that for the frames
+abbrev pub HasRoomFor : LinkView → Event → Taken → ℕ → ℕ → Type 0
+HasRoomFor link (Ticks n) taken len capacity = len + unsent link.state ≤ capacity
+HasRoomFor link (Physical bytes) taken len capacity =
+    HasFrameRoom link (Physical bytes) taken len capacity
+HasRoomFor link (Functional bytes) taken len capacity =
+    HasFrameRoom link (Functional bytes) taken len capacity
 
 -- the time that a link tells after an event, where it told this time before
 abbrev pub time_after : ℕ → Event → ℕ

@@ -5,6 +5,7 @@ use Rattle.diag_can.specs.declared.frame.Event.{Event}
 use Rattle.diag_tp.specs.declared.setup.LinkSetup.{LinkSetup}
 use Rattle.diag_tp.specs.declared.sent.Sent.{Sent}
 use Rattle.diag_tp.specs.declared.step.Step.TheVariants as step
+use Rattle.diag_tp.specs.declared.taken.Taken.{Taken}
 use Rattle.diag_tp.specs.Gives.{gives}
 use Rattle.diag_tp.specs.Moments.{is_tick}
 use Rattle.diag_tp.specs.Placing.{drawn}
@@ -66,10 +67,11 @@ pub record Served (setup : RawSetup) (server : ServerState) (M : List (ℕ × Ev
 abbrev pub closing_time : ℕ
 closing_time = 2 ^ 63
 
--- At this link the tester's event asks this entry, its reply being what the ECU answers; all room for it is made.
+-- At this link the tester's event asks this entry, its reply being what the ECU answers, and this is left of it; all
+-- room for it is made.
 pub record PortAsked (ecu : State) (link : LinkView) (who : ℕ) (e : Event) (asked : Option Entry)
-    (len capacity : ℕ) : Type 0 where
-  pub room : HasRoomFor link e len capacity
+    (taken : Taken) (len capacity : ℕ) : Type 0 where
+  pub room : HasRoomFor link e taken len capacity
   pub early : link.state.now ≤ closing_time
   pub ticks : IsTrue (is_tick e) → IsSome asked
   pub step : EachHistory link.state (λ s E A Q. option_map (λ k. k.step) asked ≡ gives s E e)
@@ -93,10 +95,10 @@ pub record PortSettled (old new : LinkView) (who : ℕ) (e : Event) (asked : Opt
       ≡ drawn s E (replies K) ++ more)
 
 -- the same at the link of the tester, in a server
-abbrev pub IsAsked : ServerView → ℕ → Event → Option Entry → ℕ → ℕ → Type 0
-IsAsked server who e asked len capacity = (link : LinkView)
+abbrev pub IsAsked : ServerView → ℕ → Event → Option Entry → Taken → ℕ → ℕ → Type 0
+IsAsked server who e asked taken len capacity = (link : LinkView)
     → slice_get server.links (who - 1) ≡ Some link
-    → PortAsked server.ecu link who e asked len capacity
+    → PortAsked server.ecu link who e asked taken len capacity
 
 -- The link at this place took the event, by which it moved on in time, and sent these frames; the others are as before.
 -- A clock goes on by at most 60000 with an entry, and without one not at all: ticks always ask an entry.

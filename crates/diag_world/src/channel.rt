@@ -25,9 +25,9 @@ ghost use Rattle.diag_desk.specs.declared.entry.Entry.{Entry as AnEntry};
 ghost use Rattle.diag_world.specs.Port.{entries_of};
 ghost use Rattle.diag_world.specs.Channel.{due, channel_of, waiting, HasRoom, ChannelStands, RepliesToFrame};
 
-use crate::port::{prepare, settle};
+use crate::port::{Prepared, prepare, settle};
 use diag_can::Event;
-use diag_tp::{Link, LinkSetup, Message, Sent, Step, gives_law, time_law};
+use diag_tp::{Link, LinkSetup, Message, Sent, Taken, gives_law, time_law};
 use std::alloc::{AllocError, Global};
 
 /// One tester's link, and the frames that the tester was sent.
@@ -56,24 +56,24 @@ impl Channel {
         }
     }
 
-    /// Makes room for the event, and answers the step that it gives. Nothing else changes, whatever the answer.
-    pub fn prepare(&mut self, event: &Event) -> Result<Option<Step>, AllocError>
+    /// Reads the event, makes room for it, and answers the step that it gives. Nothing else changes, whatever the answer.
+    pub fn prepare(&mut self, event: &Event) -> Result<Prepared, AllocError>
         requires drained { due (channel_of self.old) ≡ 0 }
         ensures same { channel_of self.new ≡ channel_of self.old }
-        ensures room { OnOk result (HasRoom self.new event.now) }
-        ensures step { IfOk result (λ step. (s : ALinkSetup) (E : List AnEvent) (K : List AnEntry)
+        ensures room { IfOk result (λ p. HasRoom self.new event.now p.taken) }
+        ensures step { IfOk result (λ p. (s : ALinkSetup) (E : List AnEvent) (K : List AnEntry)
             → ChannelStands s (channel_of self.old) E K
-            → step ≡ gives s E event.now) }
-        ensures replies { IfOk result (λ step.
-            IfSome step (λ step. RepliesToFrame event.now step)) }
+            → p.step ≡ gives s E event.now) }
+        ensures replies { IfOk result (λ p.
+            IfSome p.step (λ step. RepliesToFrame event.now step)) }
     {
         prepare(&mut self.link, event, &mut self.sent)
     }
 
-    /// Takes an event for which room was made, with the reply to the step that it gives, and sends what is due.
-    pub fn settle(&mut self, event: &Event, reply: Option<Message>)
+    /// Takes an event that was read and has room, with the reply to the step that it gives, and sends what is due.
+    pub fn settle(&mut self, event: &Event, taken: Taken, reply: Option<Message>)
         requires drained { due (channel_of self.old) ≡ 0 }
-        requires room { HasRoom self.old event.now }
+        requires room { HasRoom self.old event.now taken }
         requires frame { IsSome reply → IsTrue (is_frame event.now) }
         ensures took { (s : ALinkSetup) (who : ℕ) (E : List AnEvent) (K : List AnEntry)
             → ChannelStands s (channel_of self.old) E K
@@ -88,7 +88,7 @@ impl Channel {
     {
         gives_law();
         time_law();
-        settle(&mut self.link, event, reply, &mut self.sent);
+        settle(&mut self.link, event, taken, reply, &mut self.sent);
     }
 
     /// The frames that were sent, in order.

@@ -13,6 +13,7 @@ pub use channel::Channel;
 pub use diag_desk::{Desk, Journal, StepFault, writes_follow_unlocking};
 pub use diag_tp::Sent;
 pub use laws::{interleaving_law, turns_law, weaving_law};
+pub use port::Prepared;
 pub use serial_play::{Played, serial};
-pub use server::{Server, ServerFault};
+pub use server::{Asked, Server, ServerFault};
 pub use world::World;

@@ -23,12 +23,13 @@ ghost use Rattle.diag_tp.specs.declared.setup.LinkSetup.{LinkSetup as ALinkSetup
 ghost use Rattle.diag_tp.specs.declared.sent.Sent.{Sent as ASent};
 ghost use Rattle.diag_tp.specs.Moments.{last_moment, last_time};
 ghost use Rattle.diag_tp.specs.Placing.{placed_at};
+ghost use Rattle.diag_tp.specs.Taken.{IsTaken, FitsIn};
 ghost use Rattle.diag_tp.specs.Wire.{Placed};
-ghost use Rattle.diag_tp.specs.Link.{StandsFor, has_room, has_reply_room, is_frame, last_tick, pending, quiet, unsent, waiting_count};
+ghost use Rattle.diag_tp.specs.Link.{StandsFor, has_reply_room, last_tick, pending, quiet, unsent, waiting_count};
 ghost use Rattle.diag_world.specs.Port.{AreWithin, Grew, HandedOut, Passed};
 
 use diag_can::{Event, TickCount};
-use diag_tp::{Link, Message, Sent, moments_law, time_law};
+use diag_tp::{Link, Message, Sent, Taken, moments_law, time_law};
 use std::alloc::AllocError;
 
 /// Lets so many ticks pass, and hands out what falls due. Refused, nothing has changed: room is asked for where a frame may
@@ -117,11 +118,17 @@ fn pass_in_moves(link: &mut Link, count: TickCount, out: &mut Vec<Sent>)
     }
 }
 
-/// Takes a frame, places the reply to the request that it completes, and hands out what is due.
-pub(crate) fn receive(link: &mut Link, event: &Event, reply: Option<Message>, out: &mut Vec<Sent>)
-    requires frame { IsTrue (is_frame event.now) }
+/// Takes a frame that was read, places the reply to the request that it completes, and hands out what is due.
+pub(crate) fn receive(
+    link: &mut Link,
+    event: &Event,
+    taken: Taken,
+    reply: Option<Message>,
+    out: &mut Vec<Sent>,
+)
+    requires taken { IsTaken link.old.state.setup event.now taken }
     requires drained { pending link.old.state ≡ 0 }
-    requires link_room { IsTrue (has_room link.old event.now) }
+    requires fits { FitsIn link.old taken }
     requires reply_room { IsTrue (has_reply_room link.old) }
     requires room { vec_len out.old + unsent link.old.state + 2 ≤ vec_capacity out.old }
     ensures received { Grew out.old.items out.new.items (λ more. AreWithin link.old.state.now link.new.state.now more
@@ -136,7 +143,9 @@ pub(crate) fn receive(link: &mut Link, event: &Event, reply: Option<Message>, ou
     ensures none_waits { reply ≡ None
         → waiting_count link.new.state ≤ waiting_count link.old.state }
 {
-    link.feed(event);
+    // (for its contract: the event is that of which this is left)
+    let _ = event;
+    link.settle(taken);
     if let Some(reply) = reply {
         link.answer(reply);
     }

@@ -24,14 +24,14 @@ ghost use Rattle.diag_can.specs.declared.frame.Event.{Event as AnEvent};
 ghost use Rattle.diag_tp.specs.declared.setup.LinkSetup.{LinkSetup as ALinkSetup};
 ghost use Rattle.diag_tp.specs.Gives.{gives};
 ghost use Rattle.diag_tp.specs.Moments.{is_tick, last_time};
-ghost use Rattle.diag_tp.specs.Link.{EachHistory, is_frame, last_tick, pending, waiting_count};
+ghost use Rattle.diag_tp.specs.Link.{EachHistory, asked_of, is_frame, last_tick, pending, waiting_count};
 ghost use Rattle.diag_desk.specs.declared.entry.Entry.{Entry as AnEntry};
 ghost use Rattle.diag_world.specs.Channel.{RepliesToFrame};
 ghost use Rattle.diag_world.specs.Port.{AreWithin, Grew, HasRoomFor, PortStands, PortTook, time_after};
 
 use crate::passing::{pass, receive};
 use diag_can::Event;
-use diag_tp::{Link, Message, Sent, Step, gives_law, time_law};
+use diag_tp::{Begun, Link, Message, Pci, Request, Sent, Step, Taken, gives_law, time_law};
 use std::alloc::AllocError;
 
 /// Whether the event gives a step.
@@ -46,48 +46,77 @@ pub(crate) fn gives_step(link: &Link, event: &Event) -> bool
     }
 }
 
-/// Makes room for the event, and answers the step that it gives. Nothing else changes, whatever the answer.
+/// An event that was read and has room: the step that it gives, and what is left of it for its link.
+#[derive(Debug, Drop)]
+pub struct Prepared {
+    /// The step that it gives, if any.
+    pub step: Option<Step>,
+    /// What is left of a frame once its step is taken; of ticks nothing is.
+    pub taken: Taken,
+}
+
+/// Reads the event, makes room for it, and answers the step that it gives. Nothing else changes, whatever the answer.
 pub(crate) fn prepare(
     link: &mut Link,
     event: &Event,
     out: &mut Vec<Sent>,
-) -> Result<Option<Step>, AllocError>
+) -> Result<Prepared, AllocError>
     requires drained { pending link.old.state ≡ 0 }
     ensures same { link.new.state ≡ link.old.state }
     ensures out { out.new.items ≡ out.old.items }
-    ensures room { OnOk result
-        (HasRoomFor link.new event.now (vec_len out.new) (vec_capacity out.new)) }
-    ensures step { IfOk result (λ step. EachHistory link.old.state (λ s E A Q.
-        step ≡ gives s E event.now)) }
-    ensures replies { IfOk result (λ step.
-        IfSome step (λ step. RepliesToFrame event.now step)) }
-    ensures ticks { IfOk result (λ step. IsTrue (is_tick event.now) → IsSome step) }
+    ensures room { IfOk result (λ p. HasRoomFor
+        link.new event.now p.taken (vec_len out.new) (vec_capacity out.new)) }
+    ensures step { IfOk result (λ p. EachHistory link.old.state (λ s E A Q.
+        p.step ≡ gives s E event.now)) }
+    ensures replies { IfOk result (λ p.
+        IfSome p.step (λ step. RepliesToFrame event.now step)) }
+    ensures ticks { IfOk result (λ p. IsTrue (is_tick event.now) → IsSome p.step) }
 {
     gives_law();
     match event {
         Event::Ticks(count) => {
             out.reserve(link.backlog() as usize)?;
-            Ok(Some(Step::Ticks(*count)))
+            Ok(Prepared {
+                step: Some(Step::Ticks(*count)),
+                taken: Taken::Read(Pci::Ignored),
+            })
         }
         Event::Physical(_) | Event::Functional(_) => {
-            let request = link.prepare(event)?;
+            let Begun { request, taken } = link.begin(event)?;
             let most = link.backlog().saturating_add(2) as usize;
             out.reserve(most)?;
-            match request {
-                Some(request) => Ok(Some(Step::Request {
-                    functional: request.functional,
-                    message: request.message,
-                })),
-                None => Ok(None),
-            }
+            Ok(Prepared {
+                step: step_of(request),
+                taken,
+            })
         }
     }
 }
 
-/// Takes an event for which room was made, with the reply to the step that it gives, and hands out what is due.
-pub(crate) fn settle(link: &mut Link, event: &Event, reply: Option<Message>, out: &mut Vec<Sent>)
+/// The step of a request.
+fn step_of(request: Option<Request>) -> Option<Step>
+    ensures { result ≡ asked_of request }
+{
+    match request {
+        Some(request) => Some(Step::Request {
+            functional: request.functional,
+            message: request.message,
+        }),
+        None => None,
+    }
+}
+
+/// Takes an event that was read and has room, with the reply to the step that it gives, and hands out what is due.
+pub(crate) fn settle(
+    link: &mut Link,
+    event: &Event,
+    taken: Taken,
+    reply: Option<Message>,
+    out: &mut Vec<Sent>,
+)
     requires drained { pending link.old.state ≡ 0 }
-    requires room { HasRoomFor link.old event.now (vec_len out.old) (vec_capacity out.old) }
+    requires room { HasRoomFor
+        link.old event.now taken (vec_len out.old) (vec_capacity out.old) }
     requires frame { IsSome reply → IsTrue (is_frame event.now) }
     ensures took { Grew out.old.items out.new.items (λ more.
         AreWithin link.old.state.now link.new.state.now more
@@ -109,6 +138,6 @@ pub(crate) fn settle(link: &mut Link, event: &Event, reply: Option<Message>, out
     time_law();
     match event {
         Event::Ticks(count) => pass(link, *count, out),
-        Event::Physical(_) | Event::Functional(_) => receive(link, event, reply, out),
+        Event::Physical(_) | Event::Functional(_) => receive(link, event, taken, reply, out),
     }
 }

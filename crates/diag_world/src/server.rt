@@ -37,12 +37,12 @@ ghost use Rattle.diag_world.specs.Port.{Grew};
 ghost use Rattle.diag_world.specs.Server.{closing_time, entry_of_ticks, quiet_of, server_of, EachRun, IsAsked, IsClosed, PortAsked, PortSettled, Serves, Settled};
 
 use crate::passing::let_pass;
-use crate::port::{gives_step, prepare, settle};
+use crate::port::{Prepared, gives_step, prepare, settle};
 use diag_can::{Event, TickCount};
 use diag_desk::{Entry, reply_of, settle_step};
 use diag_ecu::Ecu;
 use diag_store::{Setup, TesterId};
-use diag_tp::{Link, Sent};
+use diag_tp::{Link, Sent, Taken};
 use std::alloc::{AllocError, Global};
 use std::marker::Model;
 use thiserror::Error;
@@ -70,6 +70,15 @@ impl From<AllocError> for ServerFault {
 
 /// The last time of a link, in ticks, at which an event is taken.
 const CLOSING_TIME: u64 = 1 << 63;
+
+/// What an event asks: its entry, and what is left of it for its tester's link.
+#[derive(Drop)]
+pub struct Asked {
+    /// The entry that it gives, if any.
+    pub entry: Option<Entry>,
+    /// What is left of it once the entry is taken.
+    pub taken: Taken,
+}
 
 /// The ECU and each tester's link.
 ///
@@ -124,17 +133,18 @@ impl Server {
         who: TesterId,
         event: &Event,
         out: &mut Vec<Sent>,
-    ) -> Result<Option<Entry>, ServerFault>
+    ) -> Result<Asked, ServerFault>
         requires in_setup { who ≤ length self.old.links }
         ensures same { server_of self.new ≡ server_of self.old }
         ensures out { out.new.items ≡ out.old.items }
         ensures asked { IfOk result (λ asked.
-            IsAsked self.new who event.now asked (vec_len out.new) (vec_capacity out.new)) }
+            IsAsked self.new who event.now asked.entry asked.taken
+            (vec_len out.new) (vec_capacity out.new)) }
         ensures step { IfOk result (λ asked. EachRun (server_of self.old) (λ setup M K.
-            option_map (λ k. k.step) asked
+            option_map (λ k. k.step) asked.entry
             ≡ gives (link_of setup who) (items_of M who) event.now)) }
         ensures answer { IfOk result (λ asked.
-            IfSome asked (λ k. k.reply ≡ reply_to self.old.ecu k.who k.step)) }
+            IfSome asked.entry (λ k. k.reply ≡ reply_to self.old.ecu k.who k.step)) }
         ensures clock { result ≡ Err ServerFault.Clock
             → EachRun (server_of self.old) (λ setup M K.
             closing_time < last_time (items_of M who)) }
@@ -147,18 +157,12 @@ impl Server {
     }
 
     /// Takes an event of a tester with the entry that it gives, and hands out the frames that it draws.
-    pub fn settle(
-        &mut self,
-        who: TesterId,
-        event: &Event,
-        asked: Option<Entry>,
-        out: &mut Vec<Sent>,
-    )
+    pub fn settle(&mut self, who: TesterId, event: &Event, asked: Asked, out: &mut Vec<Sent>)
         requires in_setup { who ≤ length self.old.links }
-        requires asked { IsAsked self.old who event.now asked
+        requires asked { IsAsked self.old who event.now asked.entry asked.taken
             (vec_len out.old) (vec_capacity out.old) }
         ensures took { Grew out.old.items out.new.items (λ more.
-            Settled (server_of self.old) (server_of self.new) who event.now asked more) }
+            Settled (server_of self.old) (server_of self.new) who event.now asked.entry more) }
     {
         let index = usize::from(who.place()) - 1;
         let link = &mut self.links[index];
@@ -272,21 +276,24 @@ fn ask_at(
     who: TesterId,
     event: &Event,
     out: &mut Vec<Sent>,
-) -> Result<Option<Entry>, ServerFault>
+) -> Result<Asked, ServerFault>
     requires drained { pending link.old.state ≡ 0 }
     ensures same { link.new.state ≡ link.old.state }
     ensures out { out.new.items ≡ out.old.items }
     ensures asked { IfOk result (λ asked.
-        PortAsked ecu.now link.new who event.now asked (vec_len out.new) (vec_capacity out.new)) }
+        PortAsked ecu.now link.new who event.now asked.entry asked.taken
+        (vec_len out.new) (vec_capacity out.new)) }
     ensures clock { result ≡ Err ServerFault.Clock → closing_time < link.old.state.now }
 {
     look_at_clock(link)?;
-    match prepare(link, event, out)? {
+    let Prepared { step, taken } = prepare(link, event, out)?;
+    match step {
         Some(step) => {
             let reply = reply_of(ecu, who, &step)?;
-            Ok(Some(Entry { who, step, reply }))
+            let entry = Some(Entry { who, step, reply });
+            Ok(Asked { entry, taken })
         }
-        None => Ok(None),
+        None => Ok(Asked { entry: None, taken }),
     }
 }
 
@@ -322,18 +329,19 @@ fn settle_at(
     ecu: &mut Ecu,
     who: TesterId,
     event: &Event,
-    asked: Option<Entry>,
+    asked: Asked,
     out: &mut Vec<Sent>,
 )
     requires drained { pending link.old.state ≡ 0 }
-    requires asked { PortAsked ecu.old link.old who event.now asked
+    requires asked { PortAsked ecu.old link.old who event.now asked.entry asked.taken
         (vec_len out.old) (vec_capacity out.old) }
     ensures took { Grew out.old.items out.new.items (λ more.
-        PortSettled link.old link.new who event.now asked more) }
+        PortSettled link.old link.new who event.now asked.entry more) }
     ensures drained { pending link.new.state ≡ 0 }
-    ensures ecu { ecu.new ≡ after ecu.old (option_to_list asked) }
+    ensures ecu { ecu.new ≡ after ecu.old (option_to_list asked.entry) }
 {
-    match asked {
+    let Asked { entry, taken } = asked;
+    match entry {
         Some(
             Entry {
                 who: _,
@@ -342,8 +350,8 @@ fn settle_at(
             },
         ) => {
             settle_step(ecu, who, &step);
-            settle(link, event, reply, out);
+            settle(link, event, taken, reply, out);
         }
-        None => settle(link, event, None, out),
+        None => settle(link, event, taken, None, out),
     }
 }

@@ -186,7 +186,7 @@ fn take(
         Err(ServerFault::Memory) => return Err(StepFault::Memory),
         Err(ServerFault::Clock) => unreachable!(),
     };
-    enter(journal, &asked)?;
+    enter(journal, &asked.entry)?;
     server.settle(who, event, asked, sent);
     Ok(())
 }

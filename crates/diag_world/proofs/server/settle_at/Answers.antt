@@ -17,7 +17,7 @@ returns-in-Some-clause-took c =
     let e = c.args.event.now in
     let who = c.args.who in
     let took = c.settle.ensures.took in
-    let asked = c.args.asked in
+    let asked = c.args.asked.entry in
     record {
       more = took.more;
       grown = took.grown;
@@ -44,7 +44,7 @@ returns-in-None-clause-took c =
     let e = c.args.event.now in
     let who = c.args.who in
     let took = c.settle-in-None.ensures.took in
-    let asked = c.args.asked in
+    let asked = c.args.asked.entry in
     record {
       more = took.more;
       grown = took.grown;

@@ -12,10 +12,10 @@ some_step None o is h = cc
 some_step (Some k) o is h = rw (sym is) refl
 
 pub enter-requires : goal.enter-requires
-enter-requires c = record { ticks_unanswered = quiet_asked c.args.server.now.ecu c.in-Ok.asked c.in-Ok.ensures.answer }
+enter-requires c = record { ticks_unanswered = quiet_asked c.args.server.now.ecu c.in-Ok.asked.entry c.in-Ok.ensures.answer }
 
 pub returns-in_err-enter-clause-full : goal.returns-in_err-enter-clause-full
 returns-in_err-enter-clause-full c = λ is.
     let fault = err_from_is_err_and c.from_residual.result c.from_residual.ensures.1 in
     let full = c.in_err-enter.ensures.full (ap (λ f. Err f) (sym fault.2) ∙ (sym fault.1 ∙ is)) in
-    (full.0, λ setup M K h. some_step c.in-Ok.asked _ (c.in-Ok.ensures.step setup M K h) full.1)
+    (full.0, λ setup M K h. some_step c.in-Ok.asked.entry _ (c.in-Ok.ensures.step setup M K h) full.1)

@@ -30,7 +30,7 @@ returns-clause-ok c = λ setup base before M h.
     let drawn = old.drawn.items in
     let i = c.from-index.result - 1 in
     let who = c.args.who in
-    let asked = c.in-Ok.asked in
+    let asked = c.in-Ok.asked.entry in
     let is : who ≡ i + 1 = omega (arith, c.from-index.ensures, c.place.ensures.same, c.place.ensures.fits.0) in
     let within : i < length drawn = omega (arith, is, c.requires.in_setup, c.requires.lists) in
     let list = c.index_mut-out.result.now in
@@ -66,8 +66,8 @@ unreachable-requires c =
 pub returns-clause-pace : goal.returns-clause-pace
 returns-clause-pace c =
     let grew = c.settle.ensures.took in
-    let settled = subst (λ (s : ServerState). Settled s (server_of c.settle.new.self) c.args.who c.args.event.now c.in-Ok.asked grew.more) c.in-Ok.ensures.same grew.holds in
-    went_on c.args.self.now.server c.settle.new.self (c.args.who - 1) 0 c.args.event.now c.in-Ok.asked grew.more settled.moved (frame_time c.args.event.now c.requires.frame)
+    let settled = subst (λ (s : ServerState). Settled s (server_of c.settle.new.self) c.args.who c.args.event.now c.in-Ok.asked.entry grew.more) c.in-Ok.ensures.same grew.holds in
+    went_on c.args.self.now.server c.settle.new.self (c.args.who - 1) 0 c.args.event.now c.in-Ok.asked.entry grew.more settled.moved (frame_time c.args.event.now c.requires.frame)
 
 pub returns-in-Err-Memory-clause-pace : goal.returns-in-Err-Memory-clause-pace
 returns-in-Err-Memory-clause-pace c = stays c.args.self.now.server c.ask.new.self (c.args.who - 1) 0 c.ask.ensures.same
@@ -92,7 +92,7 @@ returns-clause-sent c =
     let drawn = old.drawn.items in
     let i = c.from-index.result - 1 in
     let who = c.args.who in
-    let asked = c.in-Ok.asked in
+    let asked = c.in-Ok.asked.entry in
     let is : who ≡ i + 1 = omega (arith, c.from-index.ensures, c.place.ensures.same, c.place.ensures.fits.0) in
     let within : i < length drawn = omega (arith, is, c.requires.in_setup, c.requires.lists) in
     let list = c.index_mut-out.result.now in

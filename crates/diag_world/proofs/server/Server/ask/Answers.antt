@@ -35,7 +35,7 @@ returns-clause-asked c =
     let links = c.self.inside.links.items in
     if_ok _ _ c.ask_at.result (λ asked h. λ link at.
     let here = set_here links (c.from-index.result - 1) (c.args.who - 1) c.ask_at.new.link link (omega (arith, place c)) at in
-    subst (λ (l : LinkView). PortAsked c.self.inside.ecu l c.args.who c.args.event.now asked (vec_len c.ask_at.new.out) (vec_capacity c.ask_at.new.out)) (sym here) h)
+    subst (λ (l : LinkView). PortAsked c.self.inside.ecu l c.args.who c.args.event.now asked.entry asked.taken (vec_len c.ask_at.new.out) (vec_capacity c.ask_at.new.out)) (sym here) h)
     c.ask_at.ensures.asked
 
 pub returns-clause-clock : goal.returns-clause-clock
@@ -74,5 +74,5 @@ returns-clause-step c =
 pub returns-clause-answer : goal.returns-clause-answer
 returns-clause-answer c =
     if_ok _ _ c.ask_at.result (λ asked h.
-    subst (λ (v : ServerView). IfSome asked (λ k. k.reply ≡ reply_to v.ecu k.who k.step)) c.self.view_is h.answer)
+    subst (λ (v : ServerView). IfSome asked.entry (λ k. k.reply ≡ reply_to v.ecu k.who k.step)) c.self.view_is h.answer)
     c.ask_at.ensures.asked

@@ -5,7 +5,7 @@ use Rattle.diag_world.proofs.server.Server.event.Goals as goal
 pub returns-clause-ok : goal.returns-clause-ok
 returns-clause-ok c =
     let took = c.settle.ensures.took in
-    let asked = c.in_ok-asked.asked in (
+    let asked = c.in_ok-asked.asked.entry in (
       asked,
       record {
         more = took.more;
