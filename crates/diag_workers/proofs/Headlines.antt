@@ -25,7 +25,7 @@ use Rattle.diag_world.specs.Weaving.{weave, log_at, AsksItsLog, WeavingLaw}
 use Rattle.diag_gate.specs.Views.{owns_from}
 use Rattle.diag_gate.specs.Seats.{SeatView, HostView, of_host, new_host, AllHome, Closed}
 use Rattle.diag_workers.specs.declared.working.WorkerRecord.{WorkerRecord}
-use Rattle.diag_workers.specs.Crew.{AllWorked}
+use Rattle.diag_workers.specs.Crew.{AllWorked, Worked}
 use Rattle.diag_workers.specs.Seating.{Out, Back}
 use Rattle.diag_workers.proofs.Recording.{asks_of}
 
@@ -54,11 +54,11 @@ pub places_are : (z : TableId) (n : ℕ) (seats : List SeatView) → FreshFrom z
 places_are z n [] f = refl
 places_are z n (s ∷ seats) f = ap₂ (λ (x : ℕ) (xs : List ℕ). x ∷ xs) f.1 (places_are z (n + 1) seats f.3 ∙ ap (λ (m : ℕ). counted_from m (length seats)) (add-one n))
 
--- ---- the logs of testers in order, and their records
+-- ---- the logs of testers in order, and the entries that their seats have
 
-abbrev entries_at : ℕ → List WorkerRecord → ℕ → List Entry
+abbrev entries_at : ℕ → List SeatView → ℕ → List Entry
 entries_at n [] t = []
-entries_at n (r ∷ rs) t = if n == t then r.entries.entries else entries_at (n + 1) rs t
+entries_at n (s ∷ seats) t = if n == t then s.own else entries_at (n + 1) seats t
 
 here_reads : (n t : ℕ) (A : Type 0) (x y : A) → n ≡ t → cond (eqb n t) x y ≡ x
 here_reads n t A x y is = ap (λ b. cond b x y) (eq-eqb n t is)
@@ -66,33 +66,30 @@ here_reads n t A x y is = ap (λ b. cond b x y) (eq-eqb n t is)
 past_reads : (n t : ℕ) (A : Type 0) (x y : A) → n ≢ t → cond (eqb n t) x y ≡ y
 past_reads n t A x y not = ap (λ b. cond b x y) (ne_eqb n t not)
 
-entries_before : (n : ℕ) (rs : List WorkerRecord) (t : ℕ) → t < n → entries_at n rs t ≡ []
+entries_before : (n : ℕ) (seats : List SeatView) (t : ℕ) → t < n → entries_at n seats t ≡ []
 entries_before n [] t h = refl
-entries_before n (r ∷ rs) t h =
+entries_before n (s ∷ seats) t h =
     let later : t < n + 1 = omega arith in
-    past_reads n t (List Entry) r.entries.entries (entries_at (n + 1) rs t) (λ e. omega arith) ∙ entries_before (n + 1) rs t later
+    past_reads n t (List Entry) s.own (entries_at (n + 1) seats t) (λ e. omega arith) ∙ entries_before (n + 1) seats t later
 
-entries_past : (n : ℕ) (rs : List WorkerRecord) (t : ℕ) → n + length rs ≤ t → entries_at n rs t ≡ []
+entries_past : (n : ℕ) (seats : List SeatView) (t : ℕ) → n + length seats ≤ t → entries_at n seats t ≡ []
 entries_past n [] t h = refl
-entries_past n (r ∷ rs) t h =
-    let above : n + 1 + length rs ≤ t = omega arith in
-    past_reads n t (List Entry) r.entries.entries (entries_at (n + 1) rs t) (λ e. omega arith) ∙ entries_past (n + 1) rs t above
+entries_past n (s ∷ seats) t h =
+    let above : n + 1 + length seats ≤ t = omega arith in
+    past_reads n t (List Entry) s.own (entries_at (n + 1) seats t) (λ e. omega arith) ∙ entries_past (n + 1) seats t above
 
 some_same : {A : Type 0} (x y : A) → Some x ≡ Some y → x ≡ y
 some_same x y e = cc
 
 -- the crew's doors have seats
-abbrev Done : {D : Type 0} → (D → SeatView) → (ℕ → LinkSetup) → List (List Event) → List D → List (WorkerRecord × D) → Type 0
-Done seat links logs doors done = AllWorked links (λ d. (seat d).who) (λ d. (seat d).own) (λ d. Some (seat d).gate) logs doors done
+abbrev Done : {D K : Type 0} → (D → SeatView) → (ℕ → LinkSetup) → (K → List Entry → Type 0) → List (List Event) → List D → List (WorkerRecord K × D) → Type 0
+Done seat links keeps logs doors done = AllWorked links (λ d. (seat d).who) (λ d. (seat d).own) (λ d. Some (seat d).gate) keeps logs doors done
 
-abbrev records : {D : Type 0} → List (WorkerRecord × D) → List WorkerRecord
-records done = map (λ r. r.0) done
-
-abbrev seats_of : {D : Type 0} → (D → SeatView) → List (WorkerRecord × D) → List SeatView
+abbrev seats_of : {D K : Type 0} → (D → SeatView) → List (WorkerRecord K × D) → List SeatView
 seats_of seat done = map (λ r. seat r.1) done
 
-module _ {D : Type 0} (seat : D → SeatView) (links : ℕ → LinkSetup) (z : TableId) where
-  done_count : (logs : List (List Event)) (doors : List D) (done : List (WorkerRecord × D)) → Done seat links logs doors done → (length done ≡ length logs) × (length doors ≡ length logs)
+module _ {D K : Type 0} (seat : D → SeatView) (links : ℕ → LinkSetup) (keeps : K → List Entry → Type 0) (z : TableId) where
+  done_count : (logs : List (List Event)) (doors : List D) (done : List (WorkerRecord K × D)) → Done seat links keeps logs doors done → (length done ≡ length logs) × (length doors ≡ length logs)
   done_count [] [] [] all = (refl, refl)
   done_count (log ∷ logs) (door ∷ doors) (r ∷ rs) all = let c = done_count logs doors rs all.1 in (ap suc c.0, ap suc c.1)
   done_count [] [] (r ∷ rs) all = absurd all
@@ -100,21 +97,26 @@ module _ {D : Type 0} (seat : D → SeatView) (links : ℕ → LinkSetup) (z : T
   done_count (log ∷ logs) [] rs all = absurd all
   done_count (log ∷ logs) (door ∷ doors) [] all = absurd all
 
-  -- each seat is home's, with what its worker recorded
-  record Kept (n k : ℕ) (rs : List WorkerRecord) (s : SeatView) : Type 0 where
+  -- each seat is home's
+  record Kept (n k : ℕ) (seats : List SeatView) (s : SeatView) : Type 0 where
     gate : s.gate ≡ z
     who : s.who ≡ n + k
-    own_is : s.own ≡ entries_at n rs (n + k)
+    own_is : s.own ≡ entries_at n seats (n + k)
 
-  seats_kept : (n : ℕ) (logs : List (List Event)) (doors : List D) (done : List (WorkerRecord × D)) → FreshFrom z n (map seat doors) → Done seat links logs doors done
-      → (k : ℕ) (d : SeatView) → k < length done → Kept n k (records done) (get_or (seats_of seat done) k d)
+  -- the entries of a seat that was fresh are those that its worker asked
+  own_played : (n : ℕ) (log : List Event) (door : D) (r : WorkerRecord K × D) → IsFresh z n (seat door) → (w : Worked links (λ d. (seat d).who) (λ d. (seat d).own) (λ d. Some (seat d).gate) keeps log door r.0 r.1)
+      → (seat r.1).own ≡ w.played.entries
+  own_played n log door r f w = w.played.given ∙ ap (λ l. l ++ w.played.entries) f.2
+
+  seats_kept : (n : ℕ) (logs : List (List Event)) (doors : List D) (done : List (WorkerRecord K × D)) → FreshFrom z n (map seat doors) → Done seat links keeps logs doors done
+      → (k : ℕ) (d : SeatView) → k < length done → Kept n k (seats_of seat done) (get_or (seats_of seat done) k d)
   seats_kept n [] [] [] f all k d h = absurd (omega arith)
   seats_kept n (log ∷ logs) (door ∷ doors) (r ∷ rs) f all zero d h =
       let w = all.0 in
       let same : n ≡ n + 0 = omega arith in record {
         gate = some_same _ _ w.home ∙ f.0;
         who = w.tester ∙ (f.1 ∙ same);
-        own_is = w.given ∙ (ap (λ l. l ++ r.0.entries.entries) f.2 ∙ sym (here_reads n (n + 0) (List Entry) r.0.entries.entries (entries_at (n + 1) (records rs) (n + 0)) same));
+        own_is = sym (here_reads n (n + 0) (List Entry) (seat r.1).own (entries_at (n + 1) (seats_of seat rs) (n + 0)) same);
       }
   seats_kept n (log ∷ logs) (door ∷ doors) (r ∷ rs) f all (suc k) d h =
       let within : k < length rs = omega arith in
@@ -123,44 +125,48 @@ module _ {D : Type 0} (seat : D → SeatView) (links : ℕ → LinkSetup) (z : T
         gate = rest.gate;
         who = rest.who ∙ shift;
         own_is = rest.own_is
-            ∙ (ap (λ (t : ℕ). entries_at (n + 1) (records rs) t) shift
-            ∙ sym (past_reads n (n + suc k) (List Entry) r.0.entries.entries (entries_at (n + 1) (records rs) (n + suc k)) (λ e. omega arith)));
+            ∙ (ap (λ (t : ℕ). entries_at (n + 1) (seats_of seat rs) t) shift
+            ∙ sym (past_reads n (n + suc k) (List Entry) (seat r.1).own (entries_at (n + 1) (seats_of seat rs) (n + suc k)) (λ e. omega arith)));
       }
   seats_kept n [] [] (r ∷ rs) f all k d h = absurd all
   seats_kept n [] (door ∷ doors) rs f all k d h = absurd all
   seats_kept n (log ∷ logs) [] rs f all k d h = absurd all
   seats_kept n (log ∷ logs) (door ∷ doors) [] f all k d h = absurd all
 
-  asks_at : (n : ℕ) (logs : List (List Event)) (doors : List D) (done : List (WorkerRecord × D)) (t : ℕ) → FreshFrom z n (map seat doors) → Done seat links logs doors done
-      → asked (entries_at n (records done) t) ≡ steps (links t) (log_at n logs t)
+  asks_at : (n : ℕ) (logs : List (List Event)) (doors : List D) (done : List (WorkerRecord K × D)) (t : ℕ) → FreshFrom z n (map seat doors) → Done seat links keeps logs doors done
+      → asked (entries_at n (seats_of seat done) t) ≡ steps (links t) (log_at n logs t)
   asks_at n [] [] [] t f all = refl
   asks_at n (log ∷ logs) (door ∷ doors) (r ∷ rs) t f all =
-      let rest = entries_at (n + 1) (records rs) t in
+      let rest = entries_at (n + 1) (seats_of seat rs) t in
       let rest_log = log_at (n + 1) logs t in
-      let entries = r.0.entries.entries in dite (ℕ_discrete n t)
-      (λ is. ap asked (here_reads n t (List Entry) entries rest is) ∙ (asks_of (seat door).who entries (steps (links (seat door).who) log) all.0.asked ∙ (ap (λ (m : ℕ). steps (links m) log) (f.1 ∙ is) ∙ ap (steps (links t)) (sym (here_reads n t (List Event) log rest_log is)))))
+      let entries = (seat r.1).own in
+      let played = all.0.played in
+      let own = own_played n log door r (f.0, f.1, f.2) all.0 in dite (ℕ_discrete n t)
+      (λ is. ap asked (here_reads n t (List Entry) entries rest is ∙ own) ∙ (asks_of (seat door).who played.entries (steps (links (seat door).who) log) played.asked ∙ (ap (λ (m : ℕ). steps (links m) log) (f.1 ∙ is) ∙ ap (steps (links t)) (sym (here_reads n t (List Event) log rest_log is)))))
       (λ not. ap asked (past_reads n t (List Entry) entries rest not) ∙ (asks_at (n + 1) logs doors rs t f.3 all.1 ∙ ap (steps (links t)) (sym (past_reads n t (List Event) log rest_log not))))
   asks_at n [] [] (r ∷ rs) t f all = absurd all
   asks_at n [] (door ∷ doors) rs t f all = absurd all
   asks_at n (log ∷ logs) [] rs t f all = absurd all
   asks_at n (log ∷ logs) (door ∷ doors) [] t f all = absurd all
 
-  sent_at : (n : ℕ) (logs : List (List Event)) (doors : List D) (done : List (WorkerRecord × D)) (i : ℕ) (frames : List Sent) → FreshFrom z n (map seat doors) → Done seat links logs doors done
-      → slice_get (map (λ r. r.0.sent.items) done) i ≡ Some frames → frames ≡ drawn (links (n + i)) (log_at n logs (n + i)) (replies (entries_at n (records done) (n + i)))
+  sent_at : (n : ℕ) (logs : List (List Event)) (doors : List D) (done : List (WorkerRecord K × D)) (i : ℕ) (frames : List Sent) → FreshFrom z n (map seat doors) → Done seat links keeps logs doors done
+      → slice_get (map (λ r. r.0.sent.items) done) i ≡ Some frames → frames ≡ drawn (links (n + i)) (log_at n logs (n + i)) (replies (entries_at n (seats_of seat done) (n + i)))
   sent_at n [] [] [] i frames f all at = absurd (let low = slice_get_within [] i frames at in omega arith)
   sent_at n (log ∷ logs) (door ∷ doors) (r ∷ rs) zero frames f all at =
       let same : n ≡ n + 0 = omega arith in
-      sym (some_same _ _ at) ∙ (all.0.sent
+      let own = own_played n log door r (f.0, f.1, f.2) all.0 in
+      sym (some_same _ _ at) ∙ (all.0.played.sent
+      ∙ (ap (λ l. drawn (links (seat door).who) log (replies l)) (sym own)
       ∙ (λ i. drawn (links ((f.1 ∙ same) i)) (sym (here_reads n (n + 0) (List Event) log (log_at (n + 1) logs (n + 0)) same) i)
-      (replies (sym (here_reads n (n + 0) (List Entry) r.0.entries.entries (entries_at (n + 1) (records rs) (n + 0)) same) i))))
+      (replies (sym (here_reads n (n + 0) (List Entry) (seat r.1).own (entries_at (n + 1) (seats_of seat rs) (n + 0)) same) i)))))
   sent_at n (log ∷ logs) (door ∷ doors) (r ∷ rs) (suc i) frames f all at =
       let shift : n + 1 + i ≡ n + suc i = omega arith in
       let t : ℕ = n + suc i in
       let not : n ≢ t = λ e. omega arith in
       sent_at (n + 1) logs doors rs i frames f.3 all.1 at
-      ∙ (ap (λ (m : ℕ). drawn (links m) (log_at (n + 1) logs m) (replies (entries_at (n + 1) (records rs) m))) shift
+      ∙ (ap (λ (m : ℕ). drawn (links m) (log_at (n + 1) logs m) (replies (entries_at (n + 1) (seats_of seat rs) m))) shift
       ∙ (λ j. drawn (links t) (sym (past_reads n t (List Event) log (log_at (n + 1) logs t) not) j)
-      (replies (sym (past_reads n t (List Entry) r.0.entries.entries (entries_at (n + 1) (records rs) t) not) j))))
+      (replies (sym (past_reads n t (List Entry) (seat r.1).own (entries_at (n + 1) (seats_of seat rs) t) not) j))))
   sent_at n [] [] (r ∷ rs) i frames f all at = absurd all
   sent_at n [] (door ∷ doors) rs i frames f all at = absurd all
   sent_at n (log ∷ logs) [] rs i frames f all at = absurd all
@@ -230,14 +236,14 @@ home_again setup h h1 h2 n out_seats seats few many o out back (suc k) low = eli
 
 -- ---- the headline
 
-module _ {D : Type 0} (seat : D → SeatView) (setup : RawSetup) (h h1 : HostView) (n : ℕ) (few : n ≤ 8) (out_seats : List SeatView) (logs : List (List Event)) (doors : List D) (done : List (WorkerRecord × D))
-    (o : Opened setup h) (out : Out h h1 n out_seats) (doors_are : map seat doors ≡ out_seats) (all : Done seat (link_of setup) logs doors done) where
+module _ {D K : Type 0} (seat : D → SeatView) (keeps : K → List Entry → Type 0) (setup : RawSetup) (h h1 : HostView) (n : ℕ) (few : n ≤ 8) (out_seats : List SeatView) (logs : List (List Event)) (doors : List D) (done : List (WorkerRecord K × D))
+    (o : Opened setup h) (out : Out h h1 n out_seats) (doors_are : map seat doors ≡ out_seats) (all : Done seat (link_of setup) keeps logs doors done) where
   doors_fresh : FreshFrom h.gate 1 (map seat doors)
   doors_fresh = subst (FreshFrom h.gate 1) (sym doors_are) (out_is_fresh setup h h1 n out_seats few o out)
 
   done_many : length done ≡ n
   done_many =
-      let counts = done_count seat (link_of setup) h.gate logs doors done all in
+      let counts = done_count seat (link_of setup) keeps h.gate logs doors done all in
       counts.0 ∙ (sym counts.1 ∙ (sym (length-map doors seat) ∙ (ap length doors_are ∙ out.many)))
 
   pub seats_many : length (seats_of seat done) ≡ n
@@ -247,32 +253,32 @@ module _ {D : Type 0} (seat : D → SeatView) (setup : RawSetup) (h h1 : HostVie
   pub seats_home : (k : ℕ) (s : SeatView) → k < length (seats_of seat done) → ((get_or (seats_of seat done) k s).gate ≡ h.gate) × ((get_or (seats_of seat done) k s).who ≡ k + 1)
   seats_home k s low =
       let within : k < length done = omega (arith, low, length-map done (λ r. seat r.1)) in
-      let kept = seats_kept seat (link_of setup) h.gate 1 logs doors done doors_fresh all k s within in
+      let kept = seats_kept seat (link_of setup) keeps h.gate 1 logs doors done doors_fresh all k s within in
       let same : 1 + k ≡ k + 1 = omega arith in
       (kept.gate, kept.who ∙ same)
 
-module _ {D : Type 0} (seat : D → SeatView) (setup : RawSetup) (h h1 h2 : HostView) (n : ℕ) (few : n ≤ 8) (out_seats : List SeatView) (logs : List (List Event)) (doors : List D) (done : List (WorkerRecord × D)) (d : Run)
-    (o : Opened setup h) (out : Out h h1 n out_seats) (doors_are : map seat doors ≡ out_seats) (all : Done seat (link_of setup) logs doors done) (back : Back h1 h2 (seats_of seat done)) where
-  abbrev rs : List WorkerRecord
-  rs = records done
+module _ {D K : Type 0} (seat : D → SeatView) (keeps : K → List Entry → Type 0) (setup : RawSetup) (h h1 h2 : HostView) (n : ℕ) (few : n ≤ 8) (out_seats : List SeatView) (logs : List (List Event)) (doors : List D) (done : List (WorkerRecord K × D)) (d : Run)
+    (o : Opened setup h) (out : Out h h1 n out_seats) (doors_are : map seat doors ≡ out_seats) (all : Done seat (link_of setup) keeps logs doors done) (back : Back h1 h2 (seats_of seat done)) where
+  abbrev rs : List SeatView
+  rs = seats_of seat done
 
   fresh_here : FreshFrom h.gate 1 (map seat doors)
-  fresh_here = doors_fresh seat setup h h1 n few out_seats logs doors done o out doors_are all
+  fresh_here = doors_fresh seat keeps setup h h1 n few out_seats logs doors done o out doors_are all
 
   many_done : length done ≡ n
-  many_done = done_many seat setup h h1 n few out_seats logs doors done o out doors_are all
+  many_done = done_many seat keeps setup h h1 n few out_seats logs doors done o out doors_are all
 
   many_seats : length (seats_of seat done) ≡ n
-  many_seats = seats_many seat setup h h1 n few out_seats logs doors done o out doors_are all
+  many_seats = seats_many seat keeps setup h h1 n few out_seats logs doors done o out doors_are all
 
-  -- each tester's entries are those of its record, and nobody else has one
+  -- each tester's entries are those of its seat, and nobody else has one
   own_is : Closed h2 d → AreEntries d.journal → (t : ℕ) → own d.journal t ≡ entries_at 1 rs t
   own_is closed placed zero = own_outside d.journal zero placed (inl refl) ∙ sym (entries_before 1 rs zero (let low : 0 < 1 = omega arith in low))
   own_is closed placed (suc k) = elim (cases_lt k n) [
     | inl lt ↦ (
         let within : k < length done = omega (arith, lt, many_done) in
         let low : k < length (seats_of seat done) = omega (arith, lt, many_seats) in
-        let kept = seats_kept seat (link_of setup) h.gate 1 logs doors done fresh_here all k nobody within in
+        let kept = seats_kept seat (link_of setup) keeps h.gate 1 logs doors done fresh_here all k nobody within in
         let place : k + 1 ≡ suc k = omega arith in
         let same : 1 + k ≡ suc k = omega arith in
         closed.owns (suc k) (get_or (seats_of seat done) k nobody).own (ap (of_host h2) (sym place) ∙ back.each k nobody low) ∙ (kept.own_is ∙ ap (entries_at 1 rs) same)
@@ -280,8 +286,8 @@ module _ {D : Type 0} (seat : D → SeatView) (setup : RawSetup) (h h1 h2 : Host
     | inr ge ↦ (
         let past : n < suc k = omega (arith, ge) in
         let past_seats : length (seats_of seat done) < suc k = omega (arith, past, many_seats) in
-        let past_records : 1 + length rs ≤ suc k = omega (arith, ge, many_done, length-map done (λ (r : WorkerRecord × D). r.0)) in
-        nothing_past (suc k) past past_seats ∙ sym (entries_past 1 rs (suc k) past_records)
+        let past_own : 1 + length rs ≤ suc k = omega (arith, ge, many_seats) in
+        nothing_past (suc k) past past_seats ∙ sym (entries_past 1 rs (suc k) past_own)
         )
   ]
     where
@@ -298,9 +304,9 @@ module _ {D : Type 0} (seat : D → SeatView) (setup : RawSetup) (h h1 h2 : Host
       → IsPlay setup (weave (link_of setup) d.journal logs) logs d sent
   headline law closed placed sent sent_is =
       let same = own_is closed placed in
-      let asks : AsksItsLog (link_of setup) d.journal logs = λ t. ap asked (same t) ∙ asks_at seat (link_of setup) h.gate 1 logs doors done t fresh_here all in
+      let asks : AsksItsLog (link_of setup) d.journal logs = λ t. ap asked (same t) ∙ asks_at seat (link_of setup) keeps h.gate 1 logs doors done t fresh_here all in
       let woven = law (link_of setup) d.journal logs asks in
-      let counts = done_count seat (link_of setup) h.gate logs doors done all in record {
+      let counts = done_count seat (link_of setup) keeps h.gate logs doors done all in record {
         opening = closed.opening ∙ (back.same.1 ∙ (out.same.1 ∙ o.opening_is));
         legal = subst (λ s. Legal s d.journal) (sym closed.opening) closed.legal;
         interleaving = woven.0;
@@ -309,7 +315,7 @@ module _ {D : Type 0} (seat : D → SeatView) (setup : RawSetup) (h h1 h2 : Host
         testers = ap length sent_is ∙ (length-map done (λ r. r.0.sent.items) ∙ counts.0);
         frames = λ i frames at.
             let place : 1 + i ≡ i + 1 = omega arith in
-            sent_at seat (link_of setup) h.gate 1 logs doors done i frames fresh_here all (ap (λ l. slice_get l i) (sym sent_is) ∙ at)
+            sent_at seat (link_of setup) keeps h.gate 1 logs doors done i frames fresh_here all (ap (λ l. slice_get l i) (sym sent_is) ∙ at)
             ∙ (ap (λ (t : ℕ). drawn (link_of setup t) (log_at 1 logs t) (replies (entries_at 1 rs t))) place
             ∙ ap (λ l. drawn (link_of setup (i + 1)) (log_at 1 logs (i + 1)) (replies l)) (sym (same (i + 1))));
       }

@@ -1,5 +1,5 @@
 -- What one more event makes of a worker's record.
-use Rattle.std.proofs.Common.{◌≡◌, ℕ, Option, Some, None, List, [], ◌∷◌, ◌++◌, take, drop, refl, ap, ap₂, subst, sym, ◌∙◌, append_assoc, append-nil}
+use Rattle.std.proofs.Common.{◌≡◌, ◌≤◌, ℕ, Option, Some, None, length, length-append, arith, List, [], ◌∷◌, ◌++◌, take, drop, refl, ap, ap₂, subst, sym, ◌∙◌, append_assoc, append-nil}
 use Rattle.std.specs.Option.{option_to_list}
 use Rattle.std.proofs.lemmas.List.{take-append-drop, map-append}
 use Rattle.diag_can.specs.declared.frame.Event.{Event}
@@ -11,7 +11,7 @@ use Rattle.diag_desk.specs.Entries.{entry, asked, asked_by}
 use Rattle.diag_world.specs.Port.{entries_of}
 use Rattle.diag_world.specs.Channel.{ChannelState, ChannelStands}
 use Rattle.diag_world.specs.Weaving.{all_by}
-use Rattle.diag_workers.specs.Work.{AreBy, MoreOf}
+use Rattle.diag_workers.specs.Work.{AreBy, PlayedLog, WorkerStands}
 
 steps_after-append : (s : LinkSetup) (p xs ys : List Event) → steps_after s p (xs ++ ys) ≡ steps_after s p xs ++ steps_after s (p ++ xs) ys
 steps_after-append s p [] ys = ap (λ q. steps_after s q ys) (sym (append-nil p))
@@ -43,10 +43,6 @@ by_append who xs ys h i =
     ∙ (ap₂ (λ v w. v ++ w) h i
     ∙ (sym (map-append (λ x. (who, x)) (asked xs) (asked ys)) ∙ ap (all_by who) (sym (map-append (λ (e : Entry). e.step) xs ys))))
 
--- the tester's entries are still all of that tester
-pub more_by : (who : ℕ) (given given' entries entries' : List Entry) → AreBy who entries → MoreOf who given given' entries entries' → AreBy who entries'
-more_by who given given' entries entries' mine more = subst (AreBy who) (sym more.3) (by_append who entries more.0 mine more.1)
-
 first_step : Step → List (ℕ × Step) → Step
 first_step d [] = d
 first_step d (p ∷ ps) = p.1
@@ -71,14 +67,53 @@ asks_of who (k ∷ ks) (x ∷ xs) h =
 some_none : {X : Type 0} (x : X) → Some x ≡ None → ⊥
 some_none x e = cc
 
--- an event that gives a step, whose entry was added
-pub stands_more : (s : LinkSetup) (who : ℕ) (channel : ChannelState) (E : List Event) (e : Event) (K K' : List Entry) (step : Step) (reply : Option (List ℕ)) → Some step ≡ gives s E e → K' ≡ K ++ entry who step reply ∷ []
-    → ((gives s E e ≡ None → reply ≡ None) → ChannelStands s channel (E ++ e ∷ []) (K ++ entries_of who (gives s E e) reply)) → ChannelStands s channel (E ++ e ∷ []) K'
-stands_more s who channel E e K K' step reply is grown took =
-    subst (ChannelStands s channel (E ++ e ∷ [])) (ap (λ o. K ++ entries_of who o reply) (sym is) ∙ sym grown) (took (λ none. absurd (some_none step (is ∙ none))))
+-- what settling an event with this reply makes of the channel
+abbrev Settles : LinkSetup → ℕ → ChannelState → ChannelState → List Event → Event → Option (List ℕ) → Type 0
+Settles s who channel channel' E e reply = (K : List Entry)
+    → ChannelStands s channel E K
+    → length K ≤ 1000000
+    → (gives s E e ≡ None → reply ≡ None)
+    → ChannelStands s channel' (E ++ e ∷ []) (K ++ entries_of who (gives s E e) reply)
 
--- an event that gives none
-pub stands_quiet : (s : LinkSetup) (channel : ChannelState) (E : List Event) (e : Event) (K : List Entry) (reply : Option (List ℕ)) → None ≡ gives s E e → reply ≡ None
-    → ((gives s E e ≡ None → reply ≡ None) → ChannelStands s channel (E ++ e ∷ []) (K ++ entries_of 0 (gives s E e) reply)) → ChannelStands s channel (E ++ e ∷ []) K
-stands_quiet s channel E e K reply is silent took =
-    subst (ChannelStands s channel (E ++ e ∷ [])) (ap (λ o. K ++ entries_of 0 o reply) (sym is) ∙ append-nil K) (took (λ none. silent))
+module _ (s : LinkSetup) (who : ℕ) (channel channel' : ChannelState) (E : List Event) (e : Event) (before given given' : List Entry) (P P' : List Entry → Type 0)
+    (few : length E ≤ 1000000) (old : WorkerStands s who channel E before given P) where
+  few_entries : length old.entries ≤ 1000000
+  few_entries = omega (arith, few, old.short)
+
+  -- an event that gives a step, whose entry the door has given and is kept
+  pub worker_more : (step : Step) (reply : Option (List ℕ)) → Some step ≡ gives s E e → given' ≡ given ++ entry who step reply ∷ []
+      → ((K : List Entry) → P K → P' (K ++ entry who step reply ∷ [])) → Settles s who channel channel' E e reply → WorkerStands s who channel' (E ++ e ∷ []) before given' P'
+  worker_more step reply is more keeps took =
+      let one : List Entry = entry who step reply ∷ [] in
+      let mine : AreBy who one = refl in record {
+        entries = old.entries ++ one;
+        stands = subst (λ o. ChannelStands s channel' (E ++ e ∷ []) (old.entries ++ entries_of who o reply)) (sym is) (took old.entries old.stands few_entries (λ none. absurd (some_none step (is ∙ none))));
+        given = more ∙ (ap (λ l. l ++ one) old.given ∙ append_assoc before old.entries one);
+        mine = by_append who old.entries one old.mine mine;
+        short = omega (arith, old.short, length-append old.entries one, length-append E (e ∷ []));
+        kept = keeps old.entries old.kept;
+      }
+
+  -- an event that gives none
+  pub worker_quiet : None ≡ gives s E e → given' ≡ given → ((K : List Entry) → P K → P' K) → Settles s 0 channel channel' E e None → WorkerStands s who channel' (E ++ e ∷ []) before given' P'
+  worker_quiet is same keeps took = record {
+    entries = old.entries;
+    stands = subst (ChannelStands s channel' (E ++ e ∷ []))
+        (ap (λ o. old.entries ++ entries_of 0 o None) (sym is) ∙ append-nil old.entries)
+        (took old.entries old.stands few_entries (λ none. refl));
+    given = same ∙ old.given;
+    mine = old.mine;
+    short = omega (arith, old.short, length-append E (e ∷ []));
+    kept = keeps old.entries old.kept;
+  }
+
+-- all events were taken
+pub worker_done : (s : LinkSetup) (who : ℕ) (channel : ChannelState) (E : List Event) (before given : List Entry) (P : List Entry → Type 0)
+    → WorkerStands s who channel E before given P → PlayedLog s who E before given channel.sent P
+worker_done s who channel E before given P w = record {
+  entries = w.entries;
+  given = w.given;
+  asked = w.mine ∙ ap (all_by who) w.stands.asks;
+  sent = w.stands.all_sent;
+  kept = w.kept;
+}

@@ -1,11 +1,15 @@
 -- What a worker does.
-use Rattle.std.specs.Prelude.{◌≡◌, ℕ, List, ◌++◌}
+use Rattle.std.specs.Prelude.{◌≡◌, ◌<◌, ◌≤◌, ℕ, List, ◌++◌, length}
 use Rattle.diag_can.specs.declared.frame.Event.{Event}
+use Rattle.diag_tp.specs.declared.sent.Sent.{Sent}
 use Rattle.diag_tp.specs.declared.setup.LinkSetup.{LinkSetup}
 use Rattle.diag_tp.specs.declared.step.Step.{Step}
 use Rattle.diag_tp.specs.Gives.{steps}
+use Rattle.diag_tp.specs.Placing.{drawn}
 use Rattle.diag_desk.specs.declared.entry.Entry.{Entry}
-use Rattle.diag_desk.specs.Entries.{asked, asked_by}
+use Rattle.diag_desk.specs.Entry.{Kept}
+use Rattle.diag_desk.specs.Entries.{asked, asked_by, replies}
+use Rattle.diag_world.specs.Channel.{ChannelState, ChannelStands}
 use Rattle.diag_world.specs.Weaving.{all_by}
 
 -- a tester's door that was asked for some of the events' steps, in order, each once, from the first on
@@ -19,9 +23,31 @@ AskedSome s who E before after = (more : List Entry)
 abbrev pub AreBy : ℕ → List Entry → Type 0
 AreBy who entries = asked_by entries ≡ all_by who (asked entries)
 
--- the same entries of one tester were added to both
-abbrev pub MoreOf : ℕ → List Entry → List Entry → List Entry → List Entry → Type 0
-MoreOf who given given' entries entries' = (more : List Entry)
-    × AreBy who more
-    × (given' ≡ given ++ more)
-    × (entries' ≡ entries ++ more)
+-- the journal has these entries
+abbrev pub holds : Kept → List Entry → Type 0
+holds journal entries = journal.entries ≡ entries
+
+-- what is kept is that of fewer entries than a journal may have
+abbrev pub CanKeep : {K : Type 0} → (K → List Entry → Type 0) → K → Type 0
+CanKeep keeps kept = (entries : List Entry) × keeps kept entries × (length entries < 1000000)
+
+-- Between two events: the tester's channel took the events E, for which its door has given these entries more than
+-- before, and P holds of them
+pub record WorkerStands (s : LinkSetup) (who : ℕ) (channel : ChannelState) (E : List Event)
+    (before after : List Entry) (P : List Entry → Type 0) : Type 0 where
+  pub entries : List Entry
+  pub stands : ChannelStands s channel E entries
+  pub given : after ≡ before ++ entries
+  pub mine : AreBy who entries
+  pub short : length entries ≤ length E
+  pub kept : P entries
+
+-- A worker played a log: its door has given entries more than before, which are what the log asks for its tester, the
+-- frames are those of their replies, and P holds of them.
+pub record PlayedLog (s : LinkSetup) (who : ℕ) (log : List Event) (before after : List Entry)
+    (frames : List Sent) (P : List Entry → Type 0) : Type 0 where
+  pub entries : List Entry
+  pub given : after ≡ before ++ entries
+  pub asked : asked_by entries ≡ all_by who (steps s log)
+  pub sent : frames ≡ drawn s log (replies entries)
+  pub kept : P entries

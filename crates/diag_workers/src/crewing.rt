@@ -5,8 +5,10 @@ ghost use Rattle.std.specs.Thread.{IsSync, IsSend};
 ghost use Rattle.diag_tp.specs.Moments.{counted_from};
 ghost use Rattle.diag_setup.specs.Setup.{link_of};
 ghost use Rattle.diag_workers.specs.Crew.{Worked, AllWorked};
+ghost use Rattle.diag_workers.specs.Work.{holds};
 
-use crate::working::{WorkerRecord, work};
+use crate::keeping::Keep;
+use crate::working::{WorkerRecord, work_keeping};
 use diag_can::Event;
 use diag_desk::StepFault;
 use diag_gate::Door;
@@ -29,25 +31,42 @@ pub fn crew<D: Door + Send + Drop, R: Threads + Sync>(
     requires logs { length logs.now ≡ length setup.now.testers }
     requires limits { AllByRecursion (λ log. vec_len log ≤ 1000000) logs.now }
     requires doors { map D.tester doors.items ≡ counted_from 1 (length setup.now.testers) }
-    ensures { IfOk result (λ done. AllWorked (link_of setup.now) D.tester D.given D.home
+    ensures { IfOk result (λ done. AllWorked (link_of setup.now) D.tester D.given D.home holds
+        (map (λ log. log.items) logs.now) doors.items done.items) }
+{
+    crew_keeping(rt, alloc, setup, logs, doors)
+}
+
+/// The same, with whatever each worker keeps.
+pub(crate) fn crew_keeping<K: Keep + Send + Drop, D: Door + Send + Drop, R: Threads + Sync>(
+    rt: &R,
+    alloc: Global,
+    setup: &Setup,
+    logs: &[Vec<Event>],
+    doors: Vec<D>,
+) -> Result<Vec<(WorkerRecord<K>, D)>, StepFault>
+    requires logs { length logs.now ≡ length setup.now.testers }
+    requires limits { AllByRecursion (λ log. vec_len log ≤ 1000000) logs.now }
+    requires doors { map D.tester doors.items ≡ counted_from 1 (length setup.now.testers) }
+    ensures { IfOk result (λ done. AllWorked (link_of setup.now) D.tester D.given D.home K.keeps
         (map (λ log. log.items) logs.now) doors.items done.items) }
 {
     crew_of(rt, alloc, setup, logs, doors)
 }
 
 /// The first tester's worker beside those of the rest. The last worker needs no thread of its own.
-fn crew_of<D: Door + Send + Drop, R: Threads + Sync>(
+fn crew_of<K: Keep + Send + Drop, D: Door + Send + Drop, R: Threads + Sync>(
     rt: &R,
     alloc: Global,
     setup: &Setup,
     logs: &[Vec<Event>],
     mut doors: Vec<D>,
-) -> Result<Vec<(WorkerRecord, D)>, StepFault>
+) -> Result<Vec<(WorkerRecord<K>, D)>, StepFault>
     requires as_many { length doors.items ≡ length logs.now }
     requires limits { AllByRecursion (λ log. vec_len log ≤ 1000000) logs.now }
     requires in_setup { AllByRecursion
         (λ door. D.tester door ≤ length setup.now.testers) doors.items }
-    ensures { IfOk result (λ done. AllWorked (link_of setup.now) D.tester D.given D.home
+    ensures { IfOk result (λ done. AllWorked (link_of setup.now) D.tester D.given D.home K.keeps
         (map (λ log. log.items) logs.now) doors.items done.items) }
 {
     let Some((log, logs)) = logs.split_first() else {
@@ -60,19 +79,20 @@ fn crew_of<D: Door + Send + Drop, R: Threads + Sync>(
     }
     let (one, others) = join(
         rt,
-        move || -> Result<(WorkerRecord, D), StepFault>
+        move || -> Result<(WorkerRecord<K>, D), StepFault>
             requires { (vec_len log.now ≤ 1000000) × (D.tester door ≤ length setup.now.testers) }
             ensures { IfOk result (λ r. Worked (link_of setup.entry.now)
-                D.tester D.given D.home log.entry.now.items door r.0 r.1) }
+                D.tester D.given D.home K.keeps log.entry.now.items door r.0 r.1) }
         { worked(alloc, setup, log, door) },
-        move || -> Result<Vec<(WorkerRecord, D)>, StepFault>
+        move || -> Result<Vec<(WorkerRecord<K>, D)>, StepFault>
             requires { IsSync R.row
+                × IsSend K.row
                 × IsSend D.row
                 × (length doors.items ≡ length logs.now)
                 × AllByRecursion (λ log. vec_len log ≤ 1000000) logs.now
                 × AllByRecursion (λ door. D.tester door ≤ length setup.now.testers) doors.items }
             ensures { IfOk result (λ done. AllWorked (link_of setup.entry.now) D.tester
-                D.given D.home (map (λ log. log.items) logs.entry.now) doors.items done.items) }
+                D.given D.home K.keeps (map (λ log. log.items) logs.entry.now) doors.items done.items) }
         { crew_of(rt, alloc, setup, logs, doors) },
     );
     let one = one?;
@@ -101,18 +121,18 @@ pub(crate) fn first_of<T>(items: &mut Vec<T>) -> T
 }
 
 /// Plays a log through a door, and hands the door back.
-fn worked<D: Door + Drop>(
+fn worked<K: Keep + Drop, D: Door + Drop>(
     alloc: Global,
     setup: &Setup,
     log: &[Event],
     mut door: D,
-) -> Result<(WorkerRecord, D), StepFault>
+) -> Result<(WorkerRecord<K>, D), StepFault>
     requires limit { length log.now ≤ 1000000 }
     requires in_setup { D.tester door ≤ length setup.now.testers }
     ensures { IfOk result (λ r.
-        Worked (link_of setup.now) D.tester D.given D.home log.now door r.0 r.1) }
+        Worked (link_of setup.now) D.tester D.given D.home K.keeps log.now door r.0 r.1) }
 {
     let who = door.who();
-    let record = work(alloc, setup, who, log, &mut door)?;
+    let record = work_keeping(alloc, setup, who, log, &mut door)?;
     Ok((record, door))
 }

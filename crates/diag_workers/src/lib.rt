@@ -3,6 +3,7 @@
 
 mod agreeing;
 mod crewing;
+mod keeping;
 mod playing;
 mod reading;
 mod seating;
@@ -13,6 +14,7 @@ pub use agreeing::agree;
 pub use crewing::crew;
 pub use diag_gate::{Door, Gate, GateDoor, Guard, Host, LockDoor, Seat, TryFault};
 pub use diag_world::Played;
+pub use keeping::Keep;
 pub use playing::{PlayFault, play};
 pub use reading::{read_logs, read_logs_beside};
 pub use watch::{NoWatch, Watch};

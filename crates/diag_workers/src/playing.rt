@@ -8,7 +8,8 @@ ghost use Rattle.diag_world.specs.Headline.{IsPlay};
 ghost use Rattle.diag_world.specs.Weaving.{weave};
 ghost use Rattle.diag_workers.specs.Play.{logs_of};
 
-use crate::crewing::crew;
+use crate::crewing::crew_keeping;
+use crate::keeping::Unkept;
 use crate::reading::read_logs_beside;
 use crate::seating::{doors_of, give_out, take_apart, take_in};
 use crate::watch::Watch;
@@ -97,7 +98,7 @@ fn play_logs<W: Watch + Sync, R: Threads + Wait + Sync>(
     let (gate, mut host) = Gate::new(alloc, desk)?;
     let seats = give_out(alloc, &gate, &mut host, setup.testers() as u8)?;
     let doors = doors_of(rt, alloc, &gate, watch, seats)?;
-    let done = crew(rt, alloc, setup, logs, doors)?;
+    let done = crew_keeping::<Unkept, _, _>(rt, alloc, setup, logs, doors)?;
     let (seats, sent) = take_apart(alloc, done)?;
     take_in(&gate, &mut host, seats);
     let desk = gate.close(host);

@@ -3,6 +3,7 @@ ghost use Rattle.std.specs.Prelude.{◌≡◌, ◌≤◌, ◌<◌, ◌+◌, ℕ,
 ghost use Rattle.diag_gate.specs.Seats.{SeatView, was_given};
 ghost use Rattle.diag_workers.specs.Seating.{Out, Back};
 
+use crate::keeping::Unkept;
 use crate::watch::{Watch, WatchedDoor};
 use crate::working::WorkerRecord;
 use diag_gate::{Gate, GateDoor, Host, Seat};
@@ -60,7 +61,7 @@ pub(crate) fn doors_of<'a, W: Watch, R: Wait>(
 /// What the workers did, taken apart: the seats of their doors, and the frames that they sent.
 pub(crate) fn take_apart<W: Watch, R: Wait>(
     alloc: Global,
-    done: Vec<(WorkerRecord, WatchedDoor<'_, GateDoor<'_, R>, W>)>,
+    done: Vec<(WorkerRecord<Unkept>, WatchedDoor<'_, GateDoor<'_, R>, W>)>,
 ) -> Result<(Vec<Seat>, Vec<Vec<Sent>>), AllocError>
     ensures seats { IfOk result (λ r. r.0.items ≡ map (λ d. d.1.door) done.entry.items) }
     ensures sent { IfOk result (λ r.

@@ -1,15 +1,17 @@
 //! One tester's worker.
-ghost use Rattle.std.specs.Prelude.{◌≡◌, ◌+◌, ◌≤◌, ◌<◌, List, [], ◌∷◌, ◌++◌, length, IfOk, OnOk, OnErr};
+ghost use Rattle.std.specs.Prelude.{◌≡◌, ◌≤◌, ◌<◌, List, [], ◌∷◌, ◌++◌, length, IfOk, OnOk, OnErr};
 ghost use Rattle.diag_can.specs.declared.frame.Event.{Event as AnEvent};
 ghost use Rattle.diag_tp.specs.declared.setup.LinkSetup.{LinkSetup as ALinkSetup};
 ghost use Rattle.diag_tp.specs.Gives.{steps};
 ghost use Rattle.diag_tp.specs.Placing.{drawn};
 ghost use Rattle.diag_setup.specs.Setup.{link_of};
+ghost use Rattle.diag_desk.specs.declared.entry.Entry.{Entry as AnEntry};
 ghost use Rattle.diag_desk.specs.Entries.{asked_by, replies};
 ghost use Rattle.diag_world.specs.Channel.{due, channel_of, ChannelStands};
 ghost use Rattle.diag_world.specs.Weaving.{all_by};
-ghost use Rattle.diag_workers.specs.Work.{AskedSome, MoreOf};
+ghost use Rattle.diag_workers.specs.Work.{AskedSome, CanKeep, PlayedLog, WorkerStands};
 
+use crate::keeping::Keep;
 use diag_can::Event;
 use diag_desk::{Journal, StepFault};
 use diag_gate::Door;
@@ -18,11 +20,11 @@ use diag_tp::{LinkSetup, Sent};
 use diag_world::{Channel, Prepared};
 use std::alloc::Global;
 
-/// What one worker did: what it asked, with the answers, and the frames that it sent.
+/// What one worker did: what it keeps of what it asked, and the frames that it sent.
 #[derive(Drop)]
-pub struct WorkerRecord {
+pub struct WorkerRecord<K = Journal> {
     /// What it asked, with the answers, in order.
-    pub entries: Journal,
+    pub entries: K,
     /// The frames that it sent, in order, each with its time in ticks.
     pub sent: Vec<Sent>,
 }
@@ -54,6 +56,27 @@ pub fn work<D: Door>(
     ensures tester { D.tester door.new ≡ D.tester door.old }
     ensures home { D.home door.new ≡ D.home door.old }
 {
+    work_keeping(alloc, setup, who, events, door)
+}
+
+/// The same, with whatever is kept.
+pub(crate) fn work_keeping<K: Keep + Drop, D: Door>(
+    alloc: Global,
+    setup: &Setup,
+    who: TesterId,
+    events: &[Event],
+    door: &mut D,
+) -> Result<WorkerRecord<K>, StepFault>
+    requires limit { length events.now ≤ 1000000 }
+    requires in_setup { who ≤ length setup.now.testers }
+    requires own_door { D.tester door.old ≡ who }
+    ensures played { IfOk result (λ r. PlayedLog (link_of setup.now who) who events.now
+        (D.given door.old) (D.given door.new) r.sent.items (K.keeps r.entries)) }
+    ensures refused { OnErr result
+        (AskedSome (link_of setup.now who) who events.now (D.given door.old) (D.given door.new)) }
+    ensures tester { D.tester door.new ≡ D.tester door.old }
+    ensures home { D.home door.new ≡ D.home door.old }
+{
     let mut worker = Worker::new(alloc, setup.link(who));
     for event in events {
         worker.take(event, door)?;
@@ -67,35 +90,34 @@ pub fn work<D: Door>(
 
 /// A worker between two events.
 #[derive(Drop)]
-struct Worker {
+struct Worker<K> {
     channel: Channel,
-    entries: Journal,
+    entries: K,
 }
 
-impl Worker {
-    fn new(alloc: Global, link: LinkSetup) -> Worker
-        ensures stands { ChannelStands link (channel_of result.channel) [] result.entries.entries }
+impl<K: Keep> Worker<K> {
+    fn new(alloc: Global, link: LinkSetup) -> Worker<K>
+        ensures stands { ChannelStands link (channel_of result.channel) [] [] }
         ensures drained { due (channel_of result.channel) ≡ 0 }
-        ensures empty { result.entries.entries ≡ [] }
+        ensures empty { K.keeps result.entries [] }
     {
         Worker {
             channel: Channel::new(alloc, link),
-            entries: Journal::new(alloc),
+            entries: K::none(alloc),
         }
     }
 
     /// Takes one event. All that can be refused but the door's step comes before it.
     fn take<D: Door>(&mut self, event: &Event, door: &mut D) -> Result<(), StepFault>
         requires drained { due (channel_of self.old.channel) ≡ 0 }
-        requires limit { length self.old.entries.entries < 1000000 }
-        ensures stands { OnOk result ((s : ALinkSetup) (E : List AnEvent)
-            → ChannelStands s (channel_of self.old.channel) E self.old.entries.entries
-            → ChannelStands s (channel_of self.new.channel) (E ++ event.now ∷ []) self.new.entries.entries) }
+        requires limit { CanKeep K.keeps self.old.entries }
+        ensures stands { OnOk result ((s : ALinkSetup) (E : List AnEvent) (before : List AnEntry)
+            → length E ≤ 1000000
+            → WorkerStands s (D.tester door.old) (channel_of self.old.channel) E before
+            (D.given door.old) (K.keeps self.old.entries)
+            → WorkerStands s (D.tester door.old) (channel_of self.new.channel) (E ++ event.now ∷ [])
+            before (D.given door.new) (K.keeps self.new.entries)) }
         ensures drained { OnOk result (due (channel_of self.new.channel) ≡ 0) }
-        ensures given { OnOk result (MoreOf (D.tester door.old) (D.given door.old)
-            (D.given door.new) self.old.entries.entries self.new.entries.entries) }
-        ensures longer { OnOk result
-            (length self.new.entries.entries ≤ length self.old.entries.entries + 1) }
         ensures refused { OnErr result (D.given door.new ≡ D.given door.old) }
         ensures tester { D.tester door.new ≡ D.tester door.old }
         ensures home { D.home door.new ≡ D.home door.old }
@@ -103,12 +125,10 @@ impl Worker {
         let Prepared { step, taken } = self.channel.prepare(event)?;
         match step {
             Some(step) => {
-                self.entries.make_room(&step)?;
+                self.entries.prepare(&step)?;
                 let who = door.who();
                 let reply = door.step(&step)?;
-                if self.entries.push(who, &step, reply.as_ref()).is_err() {
-                    unreachable!();
-                }
+                self.entries.enter(who, &step, reply.as_ref());
                 self.channel.settle(event, taken, reply);
                 Ok(())
             }

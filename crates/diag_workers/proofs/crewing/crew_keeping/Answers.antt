@@ -1,6 +1,6 @@
 use Rattle.std.proofs.Common.{length, ◌≤◌, ◌+◌, sym, ◌∙◌, arith}
 use Rattle.diag_workers.proofs.Places.{places_count, places_below}
-use Rattle.diag_workers.proofs.crewing.crew.Goals as goal
+use Rattle.diag_workers.proofs.crewing.crew_keeping.Goals as goal
 
 pub crew_of-requires-clause-as_many : goal.crew_of-requires-clause-as_many
 crew_of-requires-clause-as_many g c κs within =

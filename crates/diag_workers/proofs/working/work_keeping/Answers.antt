@@ -1,0 +1,52 @@
+use Rattle.std.proofs.Common.{◌≡◌, ◌≤◌, ◌+◌, ◌++◌, ◌∷◌, [], ℕ, List, length, take, drop, ap, sym, subst, ◌∙◌, arith}
+use Rattle.std.proofs.lemmas.Grind.{common_steps}
+use Rattle.std.proofs.lemmas.List.{length-take-le, take_more}
+use Rattle.diag_can.specs.declared.frame.Event.{Event}
+use Rattle.diag_world.specs.Channel.{channel_of}
+use Rattle.diag_workers.specs.Work.{WorkerStands}
+use Rattle.std.proofs.lemmas.Result.{err_from_is_err_and}
+use Rattle.diag_setup.specs.Setup.{link_of}
+use Rattle.diag_tp.specs.Gives.{steps_after}
+use Rattle.diag_workers.proofs.Recording.{asks_first_by, worker_done}
+use Rattle.diag_workers.proofs.working.work_keeping.Goals as goal
+
+pub returns-in_err-take-clause-refused : goal.returns-in_err-take-clause-refused
+returns-in_err-take-clause-refused g c =
+    let s = link_of c.args.setup.now c.args.who in
+    let stood = c.loop-event.invariant.stands in
+    let kept : g.D.Door.given c.take.new.door ≡ g.D.Door.given c.loop-event.door = c.in_err-take.ensures.refused in
+    let p = err_from_is_err_and c.from_residual.result c.from_residual.ensures.1 in
+    rw p.1 (
+      stood.entries,
+      steps_after s (take c.loop-event.event-index c.args.events.now) (drop c.loop-event.event-index c.args.events.now),
+      kept ∙ stood.given,
+      asks_first_by s c.args.who c.args.events.now c.loop-event.event-index stood.entries stood.mine stood.stands.asks,
+    )
+
+pub loop-event-preserved : goal.loop-event-preserved
+loop-event-preserved g c =
+    let s = link_of c.args.setup.now c.args.who in
+    let events = c.args.events.now in
+    let i = c.loop-event.event-index in
+    let event = c.event-item.result in
+    let before = g.D.Door.given c.args.door.now in
+    let tester : g.D.Door.tester c.loop-event.door ≡ c.args.who = c.loop-event.invariant.tester ∙ c.requires.own_door in
+    let few : length (take i events) ≤ 1000000 = omega (arith, length-take-le i events (omega arith)) in
+    let old = subst (λ (w : ℕ). WorkerStands s w (channel_of c.loop-event.worker.channel) (take i events) before (g.D.Door.given c.loop-event.door) (g.K.Keep.keeps c.loop-event.worker.entries)) (sym tester) c.loop-event.invariant.stands in
+    let taken = subst (λ (w : ℕ). WorkerStands s w (channel_of c.take.new.self.channel) (take i events ++ event ∷ []) before (g.D.Door.given c.take.new.door) (g.K.Keep.keeps c.take.new.self.entries)) tester (c.in_ok-take.ensures.stands s (take i events) before few old) in
+    let next : take (i + 1) events ≡ take i events ++ event ∷ [] = take_more events i event c.loop-event-test.true ∙ ap (λ (e : Event). take i events ++ e ∷ []) (sym c.event-item.is) in
+    record {
+      tester = c.in_ok-take.ensures.tester ∙ c.loop-event.invariant.tester;
+      home = c.in_ok-take.ensures.home ∙ c.loop-event.invariant.home;
+      drained = c.in_ok-take.ensures.drained;
+      stands = rw next taken;
+    }
+
+pub returns-clause-played : goal.returns-clause-played
+returns-clause-played g c =
+    let s = link_of c.args.setup.now c.args.who in
+    let events = c.args.events.now in
+    let before = g.D.Door.given c.args.door.now in
+    let all : take c.loop-event.event-index events ≡ events = grind (arith, common_steps) in
+    let stood = subst (λ (E : List Event). WorkerStands s c.args.who (channel_of c.loop-event.worker.channel) E before (g.D.Door.given c.loop-event.door) (g.K.Keep.keeps c.loop-event.worker.entries)) all c.loop-event.invariant.stands in
+    rw c.into_sent.ensures (worker_done s c.args.who (channel_of c.loop-event.worker.channel) events before (g.D.Door.given c.loop-event.door) (g.K.Keep.keeps c.loop-event.worker.entries) stood)
