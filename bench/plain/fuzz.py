@@ -1,0 +1,184 @@
+#!/usr/bin/env python3
+"""Holds the plain twin against the proved program over random setups, logs, captures and journals. A check of the twin.
+
+    bench/plain/fuzz.py PROGRAM PLAIN [--rounds N] [--seed N]
+
+Status, output and fault have to be the same. It ends at the first case that differs, and leaves its files.
+"""
+import argparse
+import random
+import subprocess
+import sys
+import tempfile
+
+NAMES = "ABCDEFGH"
+
+
+def setup(dice, testers):
+    keys = [f"delay_ms = {dice.choice([1, 7, 50, 2000])}", f"attempts = {dice.choice([1, 2, 3])}"]
+    keys += [f"s3_ms = {dice.choice([1, 20, 300, 5000])}", f"availability = {dice.choice([255, 0x2F, 0])}"]
+    keys += [f"n_bs_ms = {dice.choice([1, 30, 1000])}", f"n_cr_ms = {dice.choice([1, 30, 1000])}"]
+    keys += [f"block_size = {dice.choice([0, 0, 1, 2, 8])}", f"st_min = {dice.choice([0, 5, 127, 241, 249])}"]
+    keys += [f"max_request = {dice.choice([8, 100, 4095, 65535])}", f"pad = {dice.choice(['true', 'false'])}"]
+    keys += [f"pad_byte = {dice.choice([0xCC, 0, 0x55])}", f"p2_ms = {dice.randrange(65536)}"]
+    rows = [f'[[tester]]\nname = "{NAMES[it]}{"x" * dice.choice([0, 3, 15])}"\nrequest = {0x7E0 + it}\nresponse = {0x7E8 + it}' for it in range(testers)]
+    level = lambda: dice.choice([0, 0, 1, 3])
+    for did, size in ((0xF190, 17), (0x0100, 1), (0x0101, 255), (0x0102, 4)):
+        rows.append(f'[[did]]\nid = {did}\nvalue = "{dice.randbytes(size).hex()}"\nread_level = {level()}\nwrite = {dice.choice(["true", "false"])}\nwrite_level = {level()}')
+    for code in (0x012345, 0x000001, 0xC10000):
+        rows.append(f"[[code]]\ncode = {code}\nstatus = {dice.randrange(256)}")
+    for routine in (0x0203, 0x0204):
+        rows.append(f'[[routine]]\nid = {routine}\ntime_ms = {dice.choice([1, 10, 20, 100])}\nresult = "{dice.randbytes(dice.choice([0, 1, 9])).hex()}"\nlevel = {level()}\ncode = {dice.choice([0x012345, 1])}\nstatus = {dice.randrange(256)}')
+    for sub, size in ((1, 2), (3, 4)):
+        rows.append(f"[[level]]\nsub = {sub}")
+        rows += [f'[[level.row]]\nseed = "{dice.randrange(1, 256):02x}{dice.randbytes(size - 1).hex()}"\nkey = "{sub:02x}0{it}"' for it in range(3)]
+    return "\n".join(keys + rows) + "\n"
+
+
+def request(dice):
+    did = dice.choice(["F190", "0100", "0101", "0102", "FFFF"])
+    suppress = dice.choice([0, 0, 0, 0x80])
+    sub = lambda *of: f"{dice.choice(of) | suppress:02X}"
+    return dice.choice([
+        lambda: f"10{sub(1, 3, 3, 3, 3, 2)}", lambda: f"10{sub(3)}", lambda: f"11{sub(1, 2, 3, 4)}", lambda: "11",
+        lambda: "14" + dice.choice(["FFFFFF", "012345", "000001", "0000"]),
+        lambda: f"19{sub(1, 2)}{dice.randrange(256):02X}", lambda: f"19{sub(0x0A, 3)}",
+        lambda: "22" + "".join(dice.choice(["F190", "0100", "0101", "0102", "FFFF"]) for _ in range(dice.choice([1, 1, 2, 3, 20]))),
+        lambda: f"27{sub(1, 3, 1, 3, 5)}", lambda: f"27{sub(2)}010{dice.randrange(3)}", lambda: f"27{sub(4)}030{dice.randrange(3)}",
+        lambda: f"2E{did}{dice.randbytes({'F190': 17, '0100': 1, '0101': 255, '0102': 4}.get(did, 2)).hex()}", lambda: f"2E{did}00",
+        lambda: f"31{sub(1, 1, 2, 3, 3, 4)}{dice.choice(['0203', '0204', '0205'])}", lambda: f"3E{sub(0, 0, 1)}",
+        lambda: f"85{sub(1, 2, 3)}{dice.choice(['', '', 'FFFFFF', '000000', '00'])}", lambda: dice.randbytes(dice.randrange(1, 9)).hex(),
+    ])().upper()
+
+
+def frames(dice, own, data):
+    """The frames of a request, now and then with one that is wrong."""
+    size = len(data) // 2
+    if size < 8:
+        return [f"{own}#{size:02X}{data}{dice.choice(['', 'AA' * (7 - size)])}"]
+    if dice.random() < 0.2:
+        head, rest = f"1000{size:08X}{data[:4]}", data[4:]
+    else:
+        head, rest = f"1{size:03X}{data[:12]}", data[12:]
+    made = [f"{own}#{head}"]
+    for number, at in enumerate(range(0, len(rest), 14), 1):
+        number += dice.random() < 0.01
+        made.append(f"{own}#{0x20 + number % 16:02X}{rest[at : at + 14]}{dice.choice(['', '', '00'])}"[: len(own) + 17])
+    return made
+
+
+def flow(dice, own):
+    return f"{own}#3{dice.choice('0000012345')}{dice.choice([0, 0, 1, 2, 5]):02X}{dice.choice([0, 0, 1, 5, 0x7F, 0xF1, 0xFA]):02X}"
+
+
+FOREIGN = ["123#DEADBEEF", "18DB33F1#0210030000000000", "7E0#R8", "7E0##1021001", "7E8#065003003201F4", "7FF#", "00000000#zz"]
+WRONG = ["7E0#023", "7E0#021003000000000000", "800#00", "FFF#R", "7E0#02G", "07E0#00", "7E0#021003_9", "7E0#023E00AAAAAAAAAA_", "7E0", ""]
+BAD = ["tick 0", "tick 60001", "tick 01", "tick  5", "tickle", "tick 5 ", "can0 7E0#00", "(0.00000) can0 7E0#00", "(1.000000)can0 7E0#00", "(0.000000) 7E0#00", "\r", "x" * 5000, "(1.0000000000) can0 7E0#00"]
+
+
+def lines(dice, testers, count, faults):
+    """The lines of a log or a capture around some testers."""
+    now = dice.choice([0, 1_000_000_000, 999_999_999, 99_999_999_999]) * 1_000_000
+    made = []
+    while len(made) < count:
+        own = f"{0x7E0 + dice.choice(testers):03X}"
+        kind = dice.random()
+        if kind < 0.35:
+            texts = frames(dice, own, request(dice))
+        elif kind < 0.5:
+            texts = [flow(dice, own)]
+        elif kind < 0.6:
+            texts = frames(dice, "7DF", request(dice)[:14])
+        elif kind < 0.7:
+            texts = [f"tick {dice.choice([1, 2, 5, 10, 30, 999, 1000, 60000])}", "tick"][: dice.randrange(1, 3)]
+        elif kind < 0.8:
+            texts = [f"{dice.choice([own, own.lower(), '7DF'])}#{dice.randbytes(dice.randrange(9)).hex()}"]
+        elif kind < 0.82:
+            texts = [""]
+        else:
+            texts = [dice.choice(FOREIGN)]
+        if faults and dice.random() < 0.01:
+            texts.append(dice.choice(WRONG))
+        for text in texts:
+            end = dice.choice(["\n"] * 9 + ["\r\n"])
+            if faults and dice.random() < 0.003:
+                made.append(dice.choice(BAD) + end)
+            if text.startswith("tick") or text == "" and not (faults and dice.random() < 0.1):
+                made.append(text + end)
+                continue
+            now += dice.choice([0, 1, 400, 1000, 5000, 20_000, -3000, 1_000_000, 200_000_000] if dice.random() < 0.2 else [0, 100, 900])
+            whole = f"{max(now, 0) // 1_000_000}".zfill(dice.choice([10, 10, 10, 1, 12]))
+            part = f"{max(now, 0) % 1_000_000:06d}{dice.choice(['', '', '', '000'])}"
+            tail = dice.choice(["", "", "", " R", " T x"]) if "R8" not in text else ""
+            if len(text) == 20 and dice.random() < 0.2:
+                tail = f"_9{tail}"
+            gap = dice.choice([" ", " ", "   "])
+            made.append(f"({whole}.{part}){gap}{dice.choice(['can0', 'vcan1'])}{gap}{text}{tail}{end}")
+    if dice.random() < 0.3:
+        made[-1] = made[-1].rstrip("\n")
+    return "".join(made)
+
+
+def ran(program, words, text=None):
+    it = subprocess.run([program, *words], input=text, stdout=subprocess.PIPE, stderr=subprocess.PIPE, check=False)
+    return it.returncode, it.stdout, it.stderr
+
+
+def case(dice, room, programs, counts):
+    def same(*words, text=None):
+        found = [ran(it, words, text) for it in programs]
+        if found[0] != found[1]:
+            print(f"differs: {' '.join(words)}: {[(it[0], len(it[1]), it[2]) for it in found]}; files in {room.name}")
+            room._finalizer.detach()
+            sys.exit(1)
+        counts[words[0], found[0][0]] = counts.get((words[0], found[0][0]), 0) + 1
+        return found[0]
+
+    def put(name, text):
+        with open(f"{room.name}/{name}", "wb") as it:
+            it.write(text if isinstance(text, bytes) else text.encode())
+        return f"{room.name}/{name}"
+
+    testers = dice.choice([1, 1, 2, 3, 8])
+    config = put("setup", setup(dice, testers))
+    faults = dice.random() < 0.3
+    logs = [put(f"{it}.log", lines(dice, [it], dice.randrange(1, 200), faults)) for it in range(testers)]
+    stamps = dice.choice([[], ["--stamps"]])
+    same("serial", *stamps, config, *logs)
+    status, journal, _ = same("serial", *stamps, "--journal", config, *logs)
+    if status == 0:
+        path = put("journal", journal)
+        same("replay", config, path)
+        texts = journal.split(b"\n")
+        at = dice.randrange(len(texts))
+        change = dice.choice(["cut", "byte", "drop", "twice"])
+        if change == "byte" and texts[at]:
+            place = dice.randrange(len(texts[at]))
+            texts[at] = texts[at][:place] + dice.choice([b"0", b"1", b"F", b"a", b" ", b"-"]) + texts[at][place + 1 :]
+        elif change == "drop":
+            del texts[at]
+        elif change == "twice":
+            texts.insert(at, texts[at])
+        same("replay", config, put("journal", b"\n".join(texts)[: -1 if change == "cut" else None]))
+    capture = lines(dice, range(testers), dice.randrange(1, 600), faults)
+    path = put("capture", capture)
+    for flags in ([], ["--journal"], ["--end"]):
+        same("bus", *flags, config, path)
+    same("bus", config, text=capture.encode())
+
+
+def main():
+    options = argparse.ArgumentParser(description=__doc__, formatter_class=argparse.RawDescriptionHelpFormatter)
+    options.add_argument("programs", nargs=2)
+    options.add_argument("--rounds", type=int, default=200)
+    options.add_argument("--seed", type=int, default=1)
+    given = options.parse_args()
+    counts = {}
+    room = tempfile.TemporaryDirectory()
+    for number in range(given.rounds):
+        case(random.Random(f"{given.seed} {number}"), room, given.programs, counts)
+    print(f"{given.rounds} rounds, {sum(counts.values())} runs the same: {dict(sorted(counts.items()))}")
+
+
+if __name__ == "__main__":
+    main()

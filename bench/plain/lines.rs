@@ -1,0 +1,265 @@
+//! The lines of a log and of a capture, in the notation of `candump -L`.
+
+use crate::hex::{self, DIGIT};
+
+/// The most ticks of one event.
+pub const MOST_TICKS: u16 = 60_000;
+
+/// A data frame with an identifier of 11 bits.
+#[derive(Clone, Copy, Default)]
+pub struct CanFrame {
+    pub id: u16,
+    len: u8,
+    bytes: [u8; 8],
+}
+
+impl CanFrame {
+    pub fn bytes(&self) -> &[u8] {
+        &self.bytes[..self.len as usize]
+    }
+}
+
+/// What a line says: a stamped one its moment in whole milliseconds, and whether it has a frame that isn't passed over.
+pub enum Line {
+    Empty,
+    Ticks(u16),
+    Stamped { moment: u64, has_frame: bool },
+}
+
+#[derive(Clone, Copy, PartialEq)]
+pub enum LineFault {
+    BadLine,
+    BadTick,
+    TooManyBytes,
+}
+
+/// The lines of a text, of which those before a place were taken.
+pub struct Lines<'a> {
+    text: &'a [u8],
+    at: usize,
+}
+
+impl<'a> Lines<'a> {
+    pub fn new(text: &'a [u8], at: usize) -> Lines<'a> {
+        Lines { text, at }
+    }
+
+    /// Returns where the next line begins.
+    pub fn at(&self) -> usize {
+        self.at
+    }
+
+    /// Takes a line and says what it is; its frame is left in `frame`. `TIMED` tells whether its moment is wanted.
+    #[inline(always)]
+    pub fn next<const TIMED: bool>(&mut self, frame: &mut CanFrame) -> Option<Result<Line, LineFault>> {
+        match self.peek()? {
+            b'(' => Some(self.stamped::<TIMED>(frame)),
+            b't' if self.text[self.at..].starts_with(b"tick") => {
+                self.at += 4;
+                Some(self.ticks().ok_or(LineFault::BadTick))
+            }
+            _ => Some(if self.ends() { Ok(Line::Empty) } else { Err(LineFault::BadLine) }),
+        }
+    }
+
+    /// Takes the rest of a line, whatever it is.
+    pub fn skip(&mut self) {
+        let rest = &self.text[self.at..];
+        self.at += rest.iter().position(|&it| it == b'\n').map_or(rest.len(), |it| it + 1);
+    }
+
+    #[inline]
+    fn peek(&self) -> Option<u8> {
+        self.text.get(self.at).copied()
+    }
+
+    /// Takes the end of a line, with one CR before it.
+    #[inline(always)]
+    fn ends(&mut self) -> bool {
+        if self.peek() == Some(b'\n') {
+            self.at += 1;
+            return true;
+        }
+        self.ends_otherwise()
+    }
+
+    #[inline(never)]
+    fn ends_otherwise(&mut self) -> bool {
+        let len = match self.text[self.at..] {
+            [b'\r'] => 1,
+            [b'\r', b'\n', ..] => 2,
+            [] => 0,
+            _ => return false,
+        };
+        self.at += len;
+        true
+    }
+
+    fn ticks(&mut self) -> Option<Line> {
+        if self.ends() {
+            return Some(Line::Ticks(1));
+        }
+        self.at += 1;
+        let digits = self.digits(5)?;
+        let ticks = decimal(digits);
+        let good = self.text[self.at - digits.len() - 1] == b' ' && digits[0] != b'0' && ticks <= MOST_TICKS as u64;
+        (good && self.ends()).then_some(Line::Ticks(ticks as u16))
+    }
+
+    #[inline(always)]
+    fn stamped<const TIMED: bool>(&mut self, frame: &mut CanFrame) -> Result<Line, LineFault> {
+        let moment = self.stamp::<TIMED>().ok_or(LineFault::BadLine)?;
+        let named = self.run(|it| it == b' ') && self.run(|it| it != b' ' && it != b'\n') && self.run(|it| it == b' ');
+        if !named {
+            return Err(LineFault::BadLine);
+        }
+        Ok(Line::Stamped { moment, has_frame: self.frame(frame)? })
+    }
+
+    /// Takes bytes as long as they are such, and returns whether there was one.
+    #[inline]
+    fn run(&mut self, is_such: impl Fn(u8) -> bool) -> bool {
+        let from = self.at;
+        while self.peek().is_some_and(&is_such) {
+            self.at += 1;
+        }
+        self.at > from
+    }
+
+    #[inline(always)]
+    fn stamp<const TIMED: bool>(&mut self) -> Option<u64> {
+        if let Some(moment) = self.text[self.at..].first_chunk().and_then(usual_stamp::<TIMED>) {
+            self.at += 19;
+            return Some(moment);
+        }
+        self.any_stamp()
+    }
+
+    #[cold]
+    fn any_stamp(&mut self) -> Option<u64> {
+        self.at += 1;
+        let seconds = self.digits(12)?;
+        self.byte(b'.')?;
+        let fraction = self.digits(9).filter(|it| it.len() >= 6)?;
+        self.byte(b')')?;
+        Some(decimal(seconds) * 1000 + decimal(&fraction[..3]))
+    }
+
+    fn byte(&mut self, wanted: u8) -> Option<()> {
+        let found = self.peek() == Some(wanted);
+        self.at += 1;
+        found.then_some(())
+    }
+
+    /// Takes a run of digits, which are as many at most, and one at least.
+    fn digits(&mut self, most: usize) -> Option<&'a [u8]> {
+        let rest = self.text.get(self.at..)?;
+        let count = rest.iter().take_while(|it| it.is_ascii_digit()).count();
+        self.at += count;
+        (1..=most).contains(&count).then_some(&rest[..count])
+    }
+
+    /// Takes a frame and the rest of its line. False says that it is passed over.
+    #[inline(always)]
+    fn frame(&mut self, frame: &mut CanFrame) -> Result<bool, LineFault> {
+        let Some(&[a, b, c, b'#']) = self.text[self.at..].first_chunk() else {
+            return self.long_identifier();
+        };
+        let [a, b, c] = [a, b, c].map(|it| DIGIT[it as usize]);
+        if a > 7 || (b | c) > 15 {
+            return Err(LineFault::BadLine);
+        }
+        self.at += 4;
+        if matches!(self.peek(), Some(b'#' | b'R')) {
+            self.skip();
+            return Ok(false);
+        }
+        frame.id = (a as u16) << 8 | (b << 4 | c) as u16;
+        self.data(frame)?;
+        Ok(true)
+    }
+
+    #[cold]
+    fn long_identifier(&mut self) -> Result<bool, LineFault> {
+        let is_long = match self.text[self.at..].first_chunk::<9>() {
+            Some([digits @ .., b'#']) => digits.iter().all(u8::is_ascii_hexdigit),
+            _ => false,
+        };
+        if !is_long {
+            return Err(LineFault::BadLine);
+        }
+        self.skip();
+        Ok(false)
+    }
+
+    /// Takes the bytes of a data frame and the rest of its line.
+    #[inline(always)]
+    fn data(&mut self, frame: &mut CanFrame) -> Result<(), LineFault> {
+        let len = hex::read_front(&self.text[self.at..], &mut frame.bytes);
+        frame.len = len as u8;
+        self.at += 2 * len;
+        if len == 8 {
+            self.behind_eight()?;
+        }
+        if !self.ends() {
+            if self.peek() != Some(b' ') {
+                return Err(LineFault::BadLine);
+            }
+            self.skip();
+        }
+        Ok(())
+    }
+
+    /// Takes what may stand behind eight bytes alone: a raw DLC.
+    #[inline]
+    fn behind_eight(&mut self) -> Result<(), LineFault> {
+        match self.peek() {
+            Some(b'_') => {
+                let digit = self.text.get(self.at + 1);
+                self.at += 2;
+                if digit.is_some_and(u8::is_ascii_hexdigit) {
+                    Ok(())
+                } else {
+                    Err(LineFault::BadLine)
+                }
+            }
+            Some(it) if it.is_ascii_hexdigit() => Err(LineFault::TooManyBytes),
+            _ => Ok(()),
+        }
+    }
+}
+
+/// Returns the moment of a stamp as candump writes it, with ten digits before its point and six behind it.
+#[inline]
+fn usual_stamp<const TIMED: bool>(stamp: &[u8; 19]) -> Option<u64> {
+    let [b'(', a, b, c, d, e, f, g, h, i, j, b'.', k, l, m, n, o, p, b')'] = *stamp else { return None };
+    let front = Eight::read([a, b, c, d, e, f, g, h])?;
+    let back = Eight::read([i, j, k, l, m, n, o, p])?;
+    Some(if TIMED { front.value() * 100_000 + back.value() / 1000 } else { 0 })
+}
+
+/// The values of eight digits, a byte each, the first one lowest.
+struct Eight(u64);
+
+impl Eight {
+    #[inline]
+    fn read(digits: [u8; 8]) -> Option<Eight> {
+        let values = u64::from_le_bytes(digits) ^ u64::from_le_bytes(*b"00000000");
+        // a value above 9 has its highest bit, or gets it
+        let over = (values | (values.wrapping_add(0x7676_7676_7676_7676))) & 0x8080_8080_8080_8080;
+        (over == 0).then_some(Eight(values))
+    }
+
+    /// Returns the number that they make: pairs of them are joined, then pairs of pairs, then the two that are left.
+    #[inline]
+    fn value(&self) -> u64 {
+        let twos = (self.0 * 10 + (self.0 >> 8)) & 0x00FF_00FF_00FF_00FF;
+        let fours = (twos * 100 + (twos >> 16)) & 0x0000_FFFF_0000_FFFF;
+        (fours * 10_000 + (fours >> 32)) & 0xFFFF_FFFF
+    }
+}
+
+/// Returns the value of digits, which are few enough.
+fn decimal(digits: &[u8]) -> u64 {
+    digits.iter().fold(0, |value, it| value * 10 + (it - b'0') as u64)
+}
