@@ -39,6 +39,38 @@ pub fn play_parts(
     with_end(lines, journal, end)
 }
 
+/// The same text in one piece, of a play that stays; for those who embed this crate.
+///
+/// # Errors
+/// `AllocError` where memory is refused.
+pub fn play_text(
+    alloc: Global,
+    setup: &Setup,
+    played: &Played,
+    timing: Timing,
+) -> Result<Vec<u8>, AllocError>
+    requires { length played.now.sent.items ≡ length setup.now.testers }
+    ensures { IfOk result (λ text. text.items ≡ whole_text timing setup.now played.now.desk
+        (map (λ sent. sent.items) played.now.sent.items)) }
+{
+    let lines = lines_in_turn(alloc, setup, played.sent.as_slice())?;
+    let journal = journal_part(alloc, timing, played.desk.journal())?;
+    let end = end_text(alloc, setup, played.desk.ecu())?;
+    let parts = with_end(lines, journal, end)?;
+    one_text(alloc, parts.as_slice())
+}
+
+/// The parts as one text.
+fn one_text(alloc: Global, parts: &[Vec<u8>]) -> Result<Vec<u8>, AllocError>
+    ensures { IfOk result (λ text. text.items ≡ concat (map (λ part. part.items) parts.now)) }
+{
+    let mut text = Vec::new(alloc);
+    for part in parts {
+        text.extend_from_slice(part.as_slice())?;
+    }
+    Ok(text)
+}
+
 /// The reply lines of these frames, which are let go.
 fn lines_from(
     alloc: Global,
