@@ -253,9 +253,7 @@ impl Link {
                 self.receiver.end();
                 self.grant = None;
             }
-            Taken::Read(kind) => {
-                let _message = self.take_kind(&kind);
-            }
+            Taken::Read(kind) => self.take_kind(&kind),
         }
     }
 
@@ -318,16 +316,17 @@ impl Link {
             self.old.state.sender.current self.old.state.sender.waiting }
     {
         let kind = self.kind(bytes);
-        self.take_kind(&kind)
+        let message = self.receiver.complete(&kind);
+        self.take_kind(&kind);
+        message
     }
 
-    /// Takes a frame of this kind with the tester's own identifier.
-    fn take_kind(&mut self, kind: &Pci) -> Option<Message>
+    /// Takes a frame of this kind with the tester's own identifier, whose message, if any, was handed over.
+    fn take_kind(&mut self, kind: &Pci)
         requires drained { self.old.state.sender.due ≡ [] }
         requires read { IsRead self.old.state.setup.max_request kind.now }
         requires room { needed_for kind.now ≤ self.old.room }
         ensures partial { self.new.state.partial ≡ open_after self.old.state.partial kind.now }
-        ensures message { result ≡ completed_by self.old.state.partial kind.now }
         ensures grant { self.new.state.grant
             ≡ granted_by self.old.state.setup self.old.state.partial kind.now }
         ensures reply_room { self.new.reply_room ≡ self.old.reply_room }
@@ -345,9 +344,7 @@ impl Link {
             self.sender
                 .flow(&self.setup, *flow_status, *block_size, *st_min);
         }
-        let received = self.receiver.receive(&self.setup, kind);
-        self.grant = received.grant;
-        received.message
+        self.grant = self.receiver.take(&self.setup, kind);
     }
 
     /// The message of a frame with the functional identifier, which changes nothing.
