@@ -1,6 +1,6 @@
 use Rattle.std.proofs.Common.{◌≡◌, ◌∙◌, [], ap, sym, refl, rules}
 use Rattle.std.specs.Prelude.{None}
-use Rattle.diag_tp.specs.Sender.{settled, settled_in, replied, begun_sending}
+use Rattle.diag_tp.specs.Sender.{settled, settled_in, replied}
 use Rattle.diag_tp.proofs.Settled.{begins-so, settled-reply}
 use Rattle.diag_tp.proofs.sender.Sender.answer.Goals as goal
 
