@@ -56,7 +56,6 @@ ghost use Rattle.diag_tp.specs.Link.{
   IsReadHere,
 };
 
-use crate::kind::only_single;
 use crate::link::Link;
 use crate::message::Message;
 use crate::pci::Pci;
@@ -74,12 +73,10 @@ impl Link {
         ensures kept { self.old.room ≤ self.new.room }
         ensures reply_kept { self.old.reply_room ≤ self.new.reply_room }
     {
-        let kind = match event {
-            Event::Physical(bytes) => self.kind(bytes),
-            Event::Functional(bytes) => only_single(self.kind(bytes)),
-            Event::Ticks(_) => Pci::Ignored,
-        };
-        self.receiver.make_room(&kind)?;
+        if let Event::Physical(bytes) = event {
+            let kind = self.kind(bytes);
+            self.receiver.make_room(&kind)?;
+        }
         self.sender.make_room()
     }
 
@@ -159,25 +156,19 @@ impl Link {
             asked_of request ≡ step_after self.now.state.setup self.now.state.partial event.now) }
     {
         match event {
-            Event::Physical(bytes) => self.peek_kind(false, &self.kind(bytes)),
-            Event::Functional(bytes) => self.peek_kind(true, &only_single(self.kind(bytes))),
+            Event::Physical(bytes) => self.peek_kind(&self.kind(bytes)),
+            Event::Functional(bytes) => Ok(asked(true, single_of(self.kind(bytes)))),
             Event::Ticks(_) => Ok(None),
         }
     }
 
-    /// What feeding a frame of this kind would answer.
-    fn peek_kind(&self, functional: bool, kind: &Pci) -> Result<Option<Request>, AllocError>
+    /// What feeding a frame of this kind would answer that has the tester's own identifier.
+    fn peek_kind(&self, kind: &Pci) -> Result<Option<Request>, AllocError>
         requires read { IsRead 65535 kind.now }
         ensures { IfOk result (λ request. asked_of request
-            ≡ ask_of functional (completed_by self.now.state.partial kind.now)) }
+            ≡ ask_of false (completed_by self.now.state.partial kind.now)) }
     {
-        match self.receiver.peek(kind)? {
-            Some(message) => Ok(Some(Request {
-                functional,
-                message,
-            })),
-            None => Ok(None),
-        }
+        Ok(asked(false, self.receiver.peek(kind)?))
     }
 
     /// Reads a frame and makes room for it, from the fields.
@@ -204,7 +195,10 @@ impl Link {
             Event::Functional(bytes) => {
                 let kind = self.kind(bytes);
                 self.sender.make_room()?;
-                Ok(functional_begun(kind))
+                Ok(Begun {
+                    request: asked(true, single_of(kind)),
+                    taken: Taken::Read(Pci::Ignored),
+                })
             }
             Event::Ticks(_) => unreachable!(),
         }
@@ -219,14 +213,11 @@ impl Link {
     {
         match kind {
             Pci::Single(payload) => Ok(Begun {
-                request: Some(Request {
-                    functional: false,
-                    message: Message::in_place(payload),
-                }),
+                request: asked(false, Some(Message::in_place(payload))),
                 taken: Taken::Whole,
             }),
             kind => {
-                let request = self.peek_kind(false, &kind)?;
+                let request = self.peek_kind(&kind)?;
                 Ok(Begun {
                     request,
                     taken: Taken::Read(kind),
@@ -253,9 +244,7 @@ impl Link {
                 self.receiver.end();
                 self.grant = None;
             }
-            Taken::Read(kind) => {
-                let _message = self.take_kind(&kind);
-            }
+            Taken::Read(kind) => self.take_kind(&kind),
         }
     }
 
@@ -280,54 +269,22 @@ impl Link {
     {
         match event {
             Event::Physical(bytes) => {
-                let message = self.physical(bytes)?;
-                Some(Request {
-                    functional: false,
-                    message,
-                })
+                let kind = self.kind(bytes);
+                let message = self.receiver.complete(&kind);
+                self.take_kind(&kind);
+                asked(false, message)
             }
-            Event::Functional(bytes) => {
-                let message = self.functional(bytes)?;
-                Some(Request {
-                    functional: true,
-                    message,
-                })
-            }
+            Event::Functional(bytes) => asked(true, single_of(self.kind(bytes))),
             Event::Ticks(_) => None,
         }
     }
 
-    /// Takes a frame with the tester's own identifier.
-    fn physical(&mut self, bytes: &FrameBytes) -> Option<Message>
-        requires drained { self.old.state.sender.due ≡ [] }
-        requires room { needed_for (kind bytes.now self.old.state.setup.max_request)
-            ≤ self.old.room }
-        ensures read { IsRead self.old.state.setup.max_request
-            (kind bytes.now self.old.state.setup.max_request) }
-        ensures partial { self.new.state.partial
-            ≡ open_after self.old.state.partial (kind bytes.now self.old.state.setup.max_request) }
-        ensures message { result ≡ completed_by self.old.state.partial
-            (kind bytes.now self.old.state.setup.max_request) }
-        ensures grant { self.new.state.grant ≡ granted_by self.old.state.setup
-            self.old.state.partial (kind bytes.now self.old.state.setup.max_request) }
-        ensures reply_room { self.new.reply_room ≡ self.old.reply_room }
-        ensures setup { self.new.state.setup ≡ self.old.state.setup }
-        ensures now { self.new.state.now ≡ self.old.state.now }
-        ensures sender { self.new.state.sender
-            ≡ sender_frame self.old.state.setup (kind bytes.now self.old.state.setup.max_request)
-            self.old.state.sender.current self.old.state.sender.waiting }
-    {
-        let kind = self.kind(bytes);
-        self.take_kind(&kind)
-    }
-
-    /// Takes a frame of this kind with the tester's own identifier.
-    fn take_kind(&mut self, kind: &Pci) -> Option<Message>
+    /// Takes a frame of this kind with the tester's own identifier, whose message, if any, was handed over.
+    fn take_kind(&mut self, kind: &Pci)
         requires drained { self.old.state.sender.due ≡ [] }
         requires read { IsRead self.old.state.setup.max_request kind.now }
         requires room { needed_for kind.now ≤ self.old.room }
         ensures partial { self.new.state.partial ≡ open_after self.old.state.partial kind.now }
-        ensures message { result ≡ completed_by self.old.state.partial kind.now }
         ensures grant { self.new.state.grant
             ≡ granted_by self.old.state.setup self.old.state.partial kind.now }
         ensures reply_room { self.new.reply_room ≡ self.old.reply_room }
@@ -345,20 +302,7 @@ impl Link {
             self.sender
                 .flow(&self.setup, *flow_status, *block_size, *st_min);
         }
-        let received = self.receiver.receive(&self.setup, kind);
-        self.grant = received.grant;
-        received.message
-    }
-
-    /// The message of a frame with the functional identifier, which changes nothing.
-    fn functional(&self, bytes: &FrameBytes) -> Option<Message>
-        ensures { result ≡ completed_by None
-            (single_only (kind bytes.now self.now.state.setup.max_request)) }
-    {
-        match self.kind(bytes) {
-            Pci::Single(payload) => Some(Message::short(payload.as_slice())),
-            _ => None,
-        }
+        self.grant = self.receiver.take(&self.setup, kind);
     }
 
     /// So many ticks, before the last of which nothing falls due.
@@ -395,21 +339,26 @@ impl Link {
     }
 }
 
-/// What a functional frame asks, and what is left of it, which is nothing.
-fn functional_begun(kind: Pci) -> Begun
+/// The message of a SingleFrame: of a functional frame nothing else counts.
+fn single_of(kind: Pci) -> Option<Message>
     requires { IsRead 65535 kind }
-    ensures request { asked_of result.request ≡ ask_of true (completed_by None (single_only kind)) }
-    ensures taken { result.taken ≡ Taken.Read Pci.Ignored }
+    ensures { result ≡ completed_by None (single_only kind) }
 {
-    let request = match kind {
-        Pci::Single(payload) => Some(Request {
-            functional: true,
-            message: Message::in_place(payload),
-        }),
+    match kind {
+        Pci::Single(payload) => Some(Message::in_place(payload)),
         _ => None,
-    };
-    Begun {
-        request,
-        taken: Taken::Read(Pci::Ignored),
+    }
+}
+
+/// The request of this message, if there is one.
+fn asked(functional: bool, message: Option<Message>) -> Option<Request>
+    ensures { asked_of result ≡ ask_of functional message }
+{
+    match message {
+        Some(message) => Some(Request {
+            functional,
+            message,
+        }),
+        None => None,
     }
 }

@@ -7,7 +7,6 @@ ghost use Rattle.std.specs.Prelude.{
   slice_get,
   Some,
   None,
-  IsSome,
   if◌then◌else◌,
 };
 ghost use Rattle.diag_tp.specs.Cut.{cut};
@@ -24,7 +23,7 @@ ghost use Rattle.diag_tp.specs.Sender.{
   one_gone,
 };
 
-use crate::frames::frame_of;
+use crate::frames::frame_at;
 use crate::message::Message;
 use crate::queue::frames_of;
 use crate::setup::LinkSetup;
@@ -170,12 +169,11 @@ impl Sending {
     }
 
     /// The next frame.
-    pub(crate) fn frame(&self, setup: &LinkSetup) -> Option<FrameBytes>
+    pub(crate) fn frame(&self, setup: &LinkSetup) -> FrameBytes
         requires sound { IsSound self.now }
-        ensures some { IsSome result }
-        ensures frame { result ≡ slice_get (cut self.now.message setup.now.pad) self.now.next }
+        ensures { slice_get (cut self.now.message setup.now.pad) self.now.next ≡ Some result }
     {
-        frame_of(&self.message, usize::from(self.next), setup.pad)
+        frame_at(&self.message, self.next, setup.pad)
     }
 
     /// The next frame goes; false where it is the last.
