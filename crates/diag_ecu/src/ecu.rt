@@ -1,7 +1,7 @@
 //! The ECU: what it holds, and what it does with a request.
-ghost use Rattle.std.specs.Prelude.{◌≡◌, ◌≤◌, ◌+◌, ◌++◌, None, Some, length, IfOk, IfNone, OnOk, OnErr};
+ghost use Rattle.std.specs.Prelude.{◌≡◌, ◌≤◌, ◌+◌, ◌++◌, ℕ, List, None, Some, length, IfOk, IfNone, OnOk, OnErr, IsTrue};
 ghost use Rattle.diag_setup.specs.Setup.{first_holding};
-ghost use Rattle.diag_ecu.specs.State.{opening, is_holder, is_held_by_another, is_open};
+ghost use Rattle.diag_ecu.specs.State.{State, opening, is_holder, is_held_by_another, is_open};
 ghost use Rattle.diag_ecu.specs.Respond.{common_checks, own_checks, checks, after_request, reply, outcome, served, effect, positive_reply, kept_alive, sent_negative};
 ghost use Rattle.diag_ecu.specs.Service.{row as row_of};
 
@@ -218,6 +218,9 @@ impl Ecu {
         requires { 1 ≤ length p.now }
         ensures { self.new ≡ (served self.old who (Some service) p.now).state }
     {
+        if changes_nothing(service) {
+            return;
+        }
         let row = service.row();
         match self.refusal(who, service, &row, p) {
             None => self.take_effect(who, service, p),
@@ -324,4 +327,22 @@ fn negative_reply(functional: bool, sid: u8, nrc: Nrc) -> Option<Message>
         return None;
     }
     Some(say(&[0x7F, sid, nrc.code()]))
+}
+
+/// Whether a service changes nothing but S3, whatever a request of it is answered.
+fn changes_nothing(service: Service) -> bool
+    ensures { IsTrue result
+        → (s : State) → (who : ℕ) → (p : List ℕ) → (served s who (Some service) p).state ≡ s }
+{
+    match service {
+        Service::ReadDtcInformation | Service::ReadDataByIdentifier | Service::TesterPresent =>
+            true,
+        Service::DiagnosticSessionControl
+        | Service::EcuReset
+        | Service::ClearDiagnosticInformation
+        | Service::SecurityAccess
+        | Service::WriteDataByIdentifier
+        | Service::RoutineControl
+        | Service::ControlDtcSetting => false,
+    }
 }
