@@ -1,13 +1,15 @@
 //! The ECU: what it holds, and what it does with a request.
-ghost use Rattle.std.specs.Prelude.{◌≡◌, ◌≤◌, ◌+◌, ◌++◌, None, Some, length, IfOk, IfNone, OnOk, OnErr};
+ghost use Rattle.std.specs.Prelude.{◌≡◌, ◌≤◌, ◌+◌, ◌++◌, ℕ, List, None, Some, length, IfOk, IfNone, OnOk, OnErr, IsTrue};
 ghost use Rattle.diag_setup.specs.Setup.{first_holding};
-ghost use Rattle.diag_ecu.specs.State.{opening, is_holder, is_held_by_another, is_open};
+ghost use Rattle.diag_ecu.specs.State.{State, opening, is_holder, is_held_by_another, is_open};
 ghost use Rattle.diag_ecu.specs.Respond.{common_checks, own_checks, checks, after_request, reply, outcome, served, effect, positive_reply, kept_alive, sent_negative};
 ghost use Rattle.diag_ecu.specs.Service.{row as row_of};
 
 use crate::bytes::sub_of;
 use crate::service::{Nrc, Service, ServiceRow};
 use crate::trouble_codes::setting_refusal;
+use crate::write_data::write_reply;
+use diag_can::FrameBytes;
 use diag_store::{Dids, DtcMemory, Routines, Security, ServerParameters, Setup, TesterId};
 use diag_tp::Message;
 use std::alloc::{AllocError, Global};
@@ -100,11 +102,11 @@ impl Ecu {
     {
         let p = message.bytes();
         let Some(service) = Service::of(p[0]) else {
-            return self.negative_reply(functional, p[0], Nrc::ServiceNotSupported);
+            return Ok(negative_reply(functional, p[0], Nrc::ServiceNotSupported));
         };
         let row = service.row();
         match self.refusal(who, service, &row, p) {
-            Some(nrc) => self.negative_reply(functional, p[0], nrc),
+            Some(nrc) => Ok(negative_reply(functional, p[0], nrc)),
             None if row.asks_for_silence(p) => Ok(None),
             None => {
                 let reply = self.positive_reply(who, service, p)?;
@@ -189,33 +191,17 @@ impl Ecu {
         ensures { IfOk result (λ reply. reply ≡ positive_reply self.now service p.now) }
     {
         match service {
-            Service::DiagnosticSessionControl => self.session_reply(p),
-            Service::EcuReset => self.say(&[0x51, sub_of(p)]),
-            Service::ClearDiagnosticInformation => self.say(&[0x54]),
+            Service::DiagnosticSessionControl => Ok(self.session_reply(p)),
+            Service::EcuReset => Ok(say(&[0x51, sub_of(p)])),
+            Service::ClearDiagnosticInformation => Ok(say(&[0x54])),
             Service::ReadDtcInformation => self.codes_reply(p),
-            Service::ReadDataByIdentifier => self.data_reply(p),
+            Service::ReadDataByIdentifier => self.data_reply(who, p),
             Service::SecurityAccess => self.security_reply(who, p),
-            Service::WriteDataByIdentifier => self.write_reply(p),
+            Service::WriteDataByIdentifier => Ok(write_reply(p)),
             Service::RoutineControl => self.routine_reply(p),
-            Service::TesterPresent => self.say(&[0x7E, 0x00]),
-            Service::ControlDtcSetting => self.say(&[0xC5, sub_of(p)]),
+            Service::TesterPresent => Ok(say(&[0x7E, 0x00])),
+            Service::ControlDtcSetting => Ok(say(&[0xC5, sub_of(p)])),
         }
-    }
-
-    /// What is sent where a negative response code is the answer.
-    fn negative_reply(
-        &self,
-        functional: bool,
-        sid: u8,
-        nrc: Nrc,
-    ) -> Result<Option<Message>, AllocError>
-        ensures { IfOk result (λ r. r ≡ sent_negative functional sid nrc) }
-    {
-        if functional && nrc.is_silent() {
-            return Ok(None);
-        }
-        let reply = self.say(&[0x7F, sid, nrc.code()])?;
-        Ok(Some(reply))
     }
 
     /// Does what a request does, but for S3.
@@ -232,6 +218,9 @@ impl Ecu {
         requires { 1 ≤ length p.now }
         ensures { self.new ≡ (served self.old who (Some service) p.now).state }
     {
+        if changes_nothing(service) {
+            return;
+        }
         let row = service.row();
         match self.refusal(who, service, &row, p) {
             None => self.take_effect(who, service, p),
@@ -299,24 +288,61 @@ impl Ecu {
         self.dids.alloc()
     }
 
-    /// The message of these bytes.
-    pub(crate) fn say(&self, bytes: &[u8]) -> Result<Message, AllocError>
-        requires some { 1 ≤ length bytes.now }
-        requires fits { length bytes.now ≤ 65535 }
-        ensures { IfOk result (λ message. message ≡ bytes.now) }
-    {
-        Message::of(self.alloc(), bytes)
-    }
-
-    /// The message of these bytes, the second part right after the first.
+    /// The reply of these bytes, the second part right after the first.
     pub(crate) fn say_with(&self, head: &[u8], tail: &[u8]) -> Result<Message, AllocError>
         requires some { 1 ≤ length head.now }
         requires fits { length head.now + length tail.now ≤ 65535 }
         ensures { IfOk result (λ message. message ≡ head.now ++ tail.now) }
     {
-        let mut bytes = Vec::with_capacity(self.alloc(), head.len() + tail.len())?;
+        let len = head.len() + tail.len();
+        if len <= IN_PLACE {
+            let mut bytes = FrameBytes::from_slice(head);
+            bytes.append(tail);
+            return Ok(Message::in_place(bytes));
+        }
+        let mut bytes = Vec::with_capacity(self.alloc(), len)?;
         bytes.extend_from_slice(head)?;
         bytes.extend_from_slice(tail)?;
         Ok(Message::from_vec(bytes))
+    }
+}
+
+/// The most bytes of a reply that takes no memory: those of a frame.
+const IN_PLACE: usize = 8;
+
+/// The reply of these bytes, which takes no memory.
+pub(crate) fn say(bytes: &[u8]) -> Message
+    requires some { 1 ≤ length bytes.now }
+    requires fits { length bytes.now ≤ 8 }
+    ensures { result ≡ bytes.now }
+{
+    Message::in_place(FrameBytes::from_slice(bytes))
+}
+
+/// What is sent where a negative response code is the answer.
+fn negative_reply(functional: bool, sid: u8, nrc: Nrc) -> Option<Message>
+    ensures { result ≡ sent_negative functional sid nrc }
+{
+    if functional && nrc.is_silent() {
+        return None;
+    }
+    Some(say(&[0x7F, sid, nrc.code()]))
+}
+
+/// Whether a service changes nothing but S3, whatever a request of it is answered.
+fn changes_nothing(service: Service) -> bool
+    ensures { IsTrue result
+        → (s : State) → (who : ℕ) → (p : List ℕ) → (served s who (Some service) p).state ≡ s }
+{
+    match service {
+        Service::ReadDtcInformation | Service::ReadDataByIdentifier | Service::TesterPresent =>
+            true,
+        Service::DiagnosticSessionControl
+        | Service::EcuReset
+        | Service::ClearDiagnosticInformation
+        | Service::SecurityAccess
+        | Service::WriteDataByIdentifier
+        | Service::RoutineControl
+        | Service::ControlDtcSetting => false,
     }
 }

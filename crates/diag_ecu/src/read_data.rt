@@ -1,15 +1,26 @@
 //! Reading data by identifier (ISO 14229-1:2013, 10.2).
-ghost use Rattle.std.specs.Prelude.{◌≡◌, ◌↔◌, ◌≤◌, ◌++◌, ◌∷◌, [], length, IsSome, IfSome, IfOk, OnOk, Some, None};
+ghost use Rattle.std.specs.Prelude.{◌≡◌, ◌≤◌, ◌++◌, ◌∷◌, [], length, min, IfOk, OnOk, Some};
 ghost use Rattle.std.specs.List.{list_any, list_all};
 ghost use Rattle.diag_setup.specs.Setup.{first_holding};
 ghost use Rattle.diag_ecu.specs.Respond.{ids_in, knows, may_read, data_records, data_reply, did_record, read_checks};
 
 use crate::bytes::{bytes_16, number_16};
-use crate::ecu::Ecu;
+use crate::ecu::{Ecu, say};
 use crate::service::Nrc;
 use diag_store::TesterId;
 use diag_tp::Message;
 use std::alloc::AllocError;
+
+/// What the identifiers of a request to read data come to.
+#[derive(Drop)]
+struct Reading {
+    /// Whether one of them at least is known.
+    any_known: bool,
+    /// Whether the tester may read all that are known.
+    all_open: bool,
+    /// How many bytes the reply has, up to the first that is too many.
+    length: usize,
+}
 
 impl Ecu {
     /// The code of the first check of the identifiers that holds.
@@ -17,83 +28,73 @@ impl Ecu {
         requires { 1 ≤ length p.now }
         ensures { result ≡ first_holding (read_checks self.now who p.now) }
     {
-        let ids = &p[1..];
-        if !self.knows_any(ids) {
+        let reading = self.reading(who, &p[1..]);
+        if !reading.any_known {
             return Some(Nrc::RequestOutOfRange);
         }
-        if !self.may_read_all(who, ids) {
+        if !reading.all_open {
             return Some(Nrc::SecurityAccessDenied);
         }
-        if self.records_length(ids).is_none() {
+        if reading.length > Message::MAX {
             return Some(Nrc::ResponseTooLong);
         }
         None
     }
 
     /// The values of the known identifiers, in the order of the request.
-    pub(crate) fn data_reply(&self, p: &[u8]) -> Result<Message, AllocError>
+    pub(crate) fn data_reply(&self, who: TesterId, p: &[u8]) -> Result<Message, AllocError>
         requires some { 1 ≤ length p.now }
         requires fits { length (data_reply self.now p.now) ≤ 65535 }
         ensures { IfOk result (λ reply. reply ≡ data_reply self.now p.now) }
     {
+        if let [_, high, low] = p {
+            return self.record_reply(number_16(*high, *low));
+        }
         let ids = &p[1..];
-        match self.records_length(ids) {
-            Some(length) => {
-                let bytes = self.records(ids, length)?;
-                Ok(Message::from_vec(bytes))
+        let bytes = self.records(ids, self.reading(who, ids).length)?;
+        Ok(Message::from_vec(bytes))
+    }
+
+    /// The reply to a request for one identifier.
+    fn record_reply(&self, id: u16) -> Result<Message, AllocError>
+        requires { length (data_records self.now (id ∷ [])) ≤ 65535 }
+        ensures { IfOk result (λ reply. reply ≡ data_records self.now (id ∷ [])) }
+    {
+        match self.dids.get(id) {
+            Some(value) => {
+                let [high, low] = bytes_16(id);
+                self.say_with(&[0x62, high, low], value)
             }
-            None => unreachable!(),
+            None => Ok(say(&[0x62])),
         }
     }
 
-    fn knows_any(&self, ids: &[u8]) -> bool
-        ensures { result ≡ list_any (knows self.now) (ids_in ids.now) }
+    fn reading(&self, who: TesterId, ids: &[u8]) -> Reading
+        ensures known { result.any_known ≡ list_any (knows self.now) (ids_in ids.now) }
+        ensures open { result.all_open ≡ list_all (may_read self.now who) (ids_in ids.now) }
+        ensures length { result.length
+            ≡ min (length (data_records self.now (ids_in ids.now))) 65536 }
     {
-        let mut rest = ids;
-        while let [high, low, tail @ ..] = rest {
-            if self.dids.get(number_16(*high, *low)).is_some() {
-                return true;
-            }
-            rest = tail;
-        }
-        false
-    }
-
-    fn may_read_all(&self, who: TesterId, ids: &[u8]) -> bool
-        ensures { result ≡ list_all (may_read self.now who) (ids_in ids.now) }
-    {
-        let mut rest = ids;
-        while let [high, low, tail @ ..] = rest {
-            if let Some(rule) = self.dids.rule(number_16(*high, *low))
-                && !self.is_open(who, rule.read_level)
-            {
-                return false;
-            }
-            rest = tail;
-        }
-        true
-    }
-
-    /// The length of the reply, if a message can have so many bytes.
-    fn records_length(&self, ids: &[u8]) -> Option<usize>
-        ensures fits { IsSome result ↔ (length (data_records self.now (ids_in ids.now)) ≤ 65535) }
-        ensures same { IfSome result (λ n. n ≡ length (data_records self.now (ids_in ids.now))) }
-    {
+        let mut any_known = false;
+        let mut all_open = true;
         let mut length = 1;
         let mut rest = ids;
         while let [high, low, tail @ ..] = rest {
-            if let Some(value) = self.dids.get(number_16(*high, *low)) {
-                length += 2 + value.len();
-                if length > Message::MAX {
-                    return None;
-                }
+            if let Some(row) = self.dids.row(number_16(*high, *low)) {
+                any_known = true;
+                all_open = all_open && self.is_open(who, row.rule.read_level);
+                length = (length + 2 + row.value.len()).min(Message::MAX + 1);
             }
             rest = tail;
         }
-        Some(length)
+        Reading {
+            any_known,
+            all_open,
+            length,
+        }
     }
 
-    /// The bytes of the reply, which has that length.
+    /// The bytes of the reply, in room for so many.
     fn records(&self, ids: &[u8], length: usize) -> Result<Vec<u8>, AllocError>
         ensures { IfOk result (λ bytes. bytes.items ≡ data_records self.now (ids_in ids.now)) }
     {

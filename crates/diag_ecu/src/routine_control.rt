@@ -5,7 +5,7 @@ ghost use Rattle.diag_ecu.specs.Respond.{routine_checks, routine_of, routine_eff
 ghost use Rattle.diag_ecu.specs.Bytes.{number_16};
 
 use crate::bytes::{bytes_16, number_16_at, sub_of};
-use crate::ecu::Ecu;
+use crate::ecu::{Ecu, say};
 use crate::service::{Nrc, Service};
 use diag_store::{RoutineState, TesterId};
 use diag_tp::Message;
@@ -45,7 +45,7 @@ impl Ecu {
         let [high, low] = bytes_16(id);
         if sub == 0x03 {
             match self.routines.state(id) {
-                Some(RoutineState::Running(_)) => return self.say(&[0x71, sub, high, low, 0x01]),
+                Some(RoutineState::Running(_)) => return Ok(say(&[0x71, sub, high, low, 0x01])),
                 Some(RoutineState::Done) => {
                     if let Some(result) = self.routines.result(id) {
                         return self.say_with(&[0x71, sub, high, low, 0x00], result);
@@ -54,7 +54,7 @@ impl Ecu {
                 _ => {}
             }
         }
-        self.say(&[0x71, sub, high, low])
+        Ok(say(&[0x71, sub, high, low]))
     }
 
     /// Starts or stops a routine.

@@ -5,7 +5,7 @@ ghost use Rattle.diag_store.specs.Security.{level_of, is_delayed};
 ghost use Rattle.diag_ecu.specs.Respond.{own_outcome, security_checks, positive_reply, is_sub_function, sub, seed_refusal, key_refusal};
 
 use crate::bytes::sub_of;
-use crate::ecu::Ecu;
+use crate::ecu::{Ecu, say};
 use crate::service::{Nrc, Service, SubFunctions};
 use diag_store::{KeyAnswer, SeedAnswer, TesterId};
 use diag_tp::Message;
@@ -40,7 +40,7 @@ impl Ecu {
         {
             return self.say_with(&[0x67, sub], seed.as_slice());
         }
-        self.say(&[0x67, sub])
+        Ok(say(&[0x67, sub]))
     }
 
     /// Gives a seed, or takes a key: what a key does that is wrong is here too.

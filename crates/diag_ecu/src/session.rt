@@ -1,14 +1,13 @@
 //! Diagnostic session control and ECU reset (ISO 14229-1:2013, 9.2 and 9.3).
-ghost use Rattle.std.specs.Prelude.{◌≡◌, IfOk};
+ghost use Rattle.std.specs.Prelude.{◌≡◌};
 ghost use Rattle.diag_ecu.specs.Respond.{positive_reply, session_effect, sub};
 ghost use Rattle.diag_ecu.specs.State.{session_of, session_ended};
 
 use crate::bytes::{bytes_16, sub_of};
-use crate::ecu::Ecu;
+use crate::ecu::{Ecu, say};
 use crate::service::Service;
 use diag_store::TesterId;
 use diag_tp::Message;
-use std::alloc::AllocError;
 
 /// The session of a tester.
 #[derive(Clone, Copy, PartialEq, Eq, Debug, Drop)]
@@ -32,13 +31,12 @@ impl Ecu {
     }
 
     /// The reply to session control: the sub-function, P2 in milliseconds and P2* in units of 10 milliseconds.
-    pub(crate) fn session_reply(&self, p: &[u8]) -> Result<Message, AllocError>
-        ensures { IfOk result (λ reply.
-            reply ≡ positive_reply self.now Service.DiagnosticSessionControl p.now) }
+    pub(crate) fn session_reply(&self, p: &[u8]) -> Message
+        ensures { result ≡ positive_reply self.now Service.DiagnosticSessionControl p.now }
     {
         let [p2_high, p2_low] = bytes_16(self.values.p2_ms);
         let [star_high, star_low] = bytes_16(self.values.p2_star_10ms);
-        self.say(&[0x50, sub_of(p), p2_high, p2_low, star_high, star_low])
+        say(&[0x50, sub_of(p), p2_high, p2_low, star_high, star_low])
     }
 
     /// Enters or leaves the extended session. Who enters it again finds all locked again.

@@ -7,7 +7,7 @@ ghost use Rattle.diag_ecu.specs.Bytes as spec;
 ghost use Rattle.diag_ecu.specs.Respond.{sub, clear_checks, setting_checks, report, dtc_reply, counted_reply, all_reply};
 
 use crate::bytes::{bytes_16, bytes_24, number_24, sub_of};
-use crate::ecu::Ecu;
+use crate::ecu::{Ecu, say};
 use crate::service::Nrc;
 use diag_store::ALL_GROUPS;
 use diag_tp::Message;
@@ -74,7 +74,7 @@ impl Ecu {
         match sub_of(p) {
             0x01 => {
                 let [high, low] = bytes_16(self.dtcs.count(mask));
-                self.say(&[0x59, 0x01, availability, 0x01, high, low])
+                Ok(say(&[0x59, 0x01, availability, 0x01, high, low]))
             }
             0x02 => self.report_counted(mask),
             _ => self.report_all(),

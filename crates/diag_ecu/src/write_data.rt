@@ -1,16 +1,15 @@
 //! Writing data by identifier (ISO 14229-1:2013, 10.7).
-ghost use Rattle.std.specs.Prelude.{◌≡◌, ◌≤◌, length, drop, option_map, Some, IfOk};
+ghost use Rattle.std.specs.Prelude.{◌≡◌, ◌≤◌, ◌∷◌, length, drop, option_map, Some};
 ghost use Rattle.diag_setup.specs.Setup.{first_holding};
 ghost use Rattle.diag_store.specs.Dids.{value_of, with_value};
-ghost use Rattle.diag_ecu.specs.Bytes.{number_16};
-ghost use Rattle.diag_ecu.specs.Respond.{write_checks, positive_reply, sub};
+ghost use Rattle.diag_ecu.specs.Bytes.{number_16, bytes_16 as bytes_of};
+ghost use Rattle.diag_ecu.specs.Respond.{write_checks};
 
 use crate::bytes::{bytes_16, number_16_at};
-use crate::ecu::Ecu;
-use crate::service::{Nrc, Service};
+use crate::ecu::{Ecu, say};
+use crate::service::Nrc;
 use diag_store::TesterId;
 use diag_tp::Message;
-use std::alloc::AllocError;
 
 impl Ecu {
     /// The code of the first check of a value to be written that holds.
@@ -34,16 +33,6 @@ impl Ecu {
         }
     }
 
-    /// The identifier that was written.
-    pub(crate) fn write_reply(&self, p: &[u8]) -> Result<Message, AllocError>
-        requires { 4 ≤ length p.now }
-        ensures { IfOk result (λ reply.
-            reply ≡ positive_reply self.now Service.WriteDataByIdentifier p.now) }
-    {
-        let [high, low] = bytes_16(number_16_at(p, 1));
-        self.say(&[0x6E, high, low])
-    }
-
     /// Writes a value of an identifier, of the length of the one that is kept.
     pub(crate) fn write_data(&mut self, p: &[u8])
         requires long { 4 ≤ length p.now }
@@ -55,4 +44,13 @@ impl Ecu {
     {
         let _ = self.dids.write(number_16_at(p, 1), &p[3..]);
     }
+}
+
+/// The reply to a value that is written: its identifier.
+pub(crate) fn write_reply(p: &[u8]) -> Message
+    requires { 4 ≤ length p.now }
+    ensures { result ≡ 0x6E ∷ bytes_of (number_16 p.now 1) }
+{
+    let [high, low] = bytes_16(number_16_at(p, 1));
+    say(&[0x6E, high, low])
 }

@@ -1,7 +1,7 @@
 //! The data identifiers (ISO 14229-1:2013, 10.2 and 10.7).
 
 ghost use Rattle.std.specs.Prelude.{◌≡◌, ◌≤◌, true, OnOk, OnErr, IfOk, IsTrue, option_copied, position, length};
-ghost use Rattle.diag_store.specs.Dids.{id_of, has_id, value_of, rule_of, write_answer, with_value};
+ghost use Rattle.diag_store.specs.Dids.{id_of, has_id, row_of, value_of, rule_of, write_answer, with_value};
 ghost use Rattle.diag_setup.specs.Fits.{DidFits};
 ghost use Rattle.diag_setup.specs.Rows.{is_rising};
 ghost use Rattle.diag_store.specs.Opening.{opening_dids, did_row};
@@ -102,6 +102,13 @@ impl Dids {
         *self.rows.allocator()
     }
 
+    /// The row of an identifier, with its value and its rule.
+    pub fn row(&self, id: u16) -> Option<&DidRow>
+        ensures { option_copied result ≡ row_of self.now id }
+    {
+        find_row(&self.rows, u32::from(id))
+    }
+
     /// The value of an identifier; each stands once, in rising order.
     pub fn get(&self, id: u16) -> Option<&[u8]>
         ensures same { option_copied result ≡ value_of self.now id }
@@ -116,7 +123,7 @@ impl Dids {
     pub fn rule(&self, id: u16) -> Option<DidRule>
         ensures { result ≡ rule_of self.now id }
     {
-        let row = find_row(&self.rows, u32::from(id))?;
+        let row = self.row(id)?;
         Some(row.rule)
     }
 

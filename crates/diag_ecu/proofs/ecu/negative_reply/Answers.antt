@@ -1,5 +1,5 @@
 use Rattle.std.proofs.Common.{rules}
-use Rattle.diag_ecu.proofs.ecu.Ecu.negative_reply.Goals as goal
+use Rattle.diag_ecu.proofs.ecu.negative_reply.Goals as goal
 
 pub returns : goal.returns
 returns c = search rules
