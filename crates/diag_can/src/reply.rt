@@ -32,19 +32,13 @@ pub fn write_line(text: &mut Vec<u8>, name: &[u8], at: u64, frame: &Frame) -> Re
         return Err(AllocError);
     };
     text.reserve(room)?;
-    if at / 1000 < TEN_DIGITS {
-        let alloc = *text.allocator();
-        // (in a variable of its own, so that the text's place and length stay in registers)
-        let mut line = mem::replace(text, Vec::new(alloc));
-        add(&mut line, &short_stamp(at));
-        add(&mut line, name);
-        add_frame(&mut line, frame);
-        *text = line;
-    } else {
-        add_long_stamp(text, at);
-        add(text, name);
-        add_frame(text, frame);
-    }
+    let alloc = *text.allocator();
+    // (in a variable of its own, so that the text's place and length stay in registers)
+    let mut line = mem::replace(text, Vec::new(alloc));
+    add_stamp(&mut line, at);
+    add(&mut line, name);
+    add_frame(&mut line, frame);
+    *text = line;
     Ok(())
 }
 
@@ -61,6 +55,21 @@ fn add(text: &mut Vec<u8>, bytes: &[u8])
     }
 }
 
+/// The stamp of a time in milliseconds and a space, where there is room.
+#[inline(always)]
+fn add_stamp(text: &mut Vec<u8>, at: u64)
+    requires { vec_len text.old + 32 ≤ vec_capacity text.old }
+    ensures items { text.new.items ≡ text.old.items ++ (stamp at ++ codes " ") }
+    ensures len { vec_len text.new ≤ vec_len text.old + 32 }
+    ensures capacity { vec_capacity text.new ≡ vec_capacity text.old }
+{
+    if at / 1000 < TEN_DIGITS {
+        add(text, &short_stamp(at));
+    } else {
+        add_long_stamp(text, at);
+    }
+}
+
 /// The stamp of a time with ten digits of seconds, and a space.
 fn short_stamp(at: u64) -> [u8; 20]
     requires { at / 1000 < 10 ^ 10 }
@@ -74,12 +83,13 @@ fn short_stamp(at: u64) -> [u8; 20]
 }
 
 /// The stamp of a time with more digits of seconds, and a space, where there is room.
+#[inline(always)]
 fn add_long_stamp(text: &mut Vec<u8>, at: u64)
     requires late { 10 ^ 10 ≤ at / 1000 }
     requires room { vec_len text.old + 32 ≤ vec_capacity text.old }
     ensures items { text.new.items ≡ text.old.items ++ (stamp at ++ codes " ") }
     ensures len { vec_len text.new ≤ vec_len text.old + 32 }
-    ensures capacity { vec_capacity text.old ≤ vec_capacity text.new }
+    ensures capacity { vec_capacity text.new ≡ vec_capacity text.old }
 {
     let mut buffer = Buffer::new();
     add(text, b"(");
