@@ -106,9 +106,22 @@ by_pairs : (count n : ℕ) → last_digits (double count) n ≡ last_pairs count
 by_pairs zero n = refl
 by_pairs (suc count) n = last_two (double count) n ∙ ap (λ (xs : List ℕ). xs ++ two (n % 100)) (by_pairs count (n / 100))
 
--- the five pairs of ten digits
-pub ten_by_pairs : (n : ℕ) → n < 10 ^ 10 → n < 2 ^ 64 → zero_filled 10 (decimal n) ≡ last_pairs 5 n
-ten_by_pairs n few small = zero_filled-digits 9 n few small ∙ by_pairs 5 n
+-- the two pairs of four digits
+pub four_by_pairs : (n : ℕ) → n < 10 ^ 4 → zero_filled 4 (decimal n) ≡ (48 + n / 100 / 10) ∷ (48 + n / 100 % 10) ∷ two (n % 100)
+four_by_pairs n few =
+    let first : n / 100 % 100 ≡ n / 100 = omega arith in
+    rw first at (zero_filled-digits 3 n few (omega arith) ∙ by_pairs 2 n)
+
+-- the five pairs of ten digits, by two and twice four
+pub ten_by_pairs : (n : ℕ) → n < 10 ^ 10 → n < 2 ^ 64 → zero_filled 10 (decimal n)
+    ≡ two (n / 10 ^ 8) ++ two (n % 10 ^ 8 / 10 ^ 4 / 100) ++ two (n % 10 ^ 8 / 10 ^ 4 % 100) ++ two (n % 10 ^ 8 % 10 ^ 4 / 100) ++ two (n % 10 ^ 8 % 10 ^ 4 % 100)
+ten_by_pairs n few small =
+    let a : n / 100 / 100 / 100 / 100 % 100 ≡ n / 10 ^ 8 = omega arith in
+    let b : n / 100 / 100 / 100 % 100 ≡ n % 10 ^ 8 / 10 ^ 4 / 100 = omega arith in
+    let c : n / 100 / 100 % 100 ≡ n % 10 ^ 8 / 10 ^ 4 % 100 = omega arith in
+    let d : n / 100 % 100 ≡ n % 10 ^ 8 % 10 ^ 4 / 100 = omega arith in
+    let e : n % 100 ≡ n % 10 ^ 8 % 10 ^ 4 % 100 = omega arith in
+    rw (a, b, c, d, e) at (zero_filled-digits 9 n few small ∙ by_pairs 5 n)
 
 -- a digit and a pair
 pub three_by_pairs : (n : ℕ) → n < 1000 → zero_filled 3 (decimal n) ≡ (48 + n / 100) ∷ two (n % 100)

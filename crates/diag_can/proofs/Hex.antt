@@ -1,8 +1,13 @@
 -- What is written in upper-case hex.
-use Rattle.std.proofs.Common.{◌≡◌, ℕ, ◌+◌, ◌/◌, ◌%◌, ◌<◌, true, List, [], ◌∷◌, ◌++◌, length, take, get_or, slice_get, slice_index, Some, refl, sym, ap, ◌∙◌, append_assoc, append-nil, arith}
-use Rattle.std.proofs.lemmas.List.{take_more}
+use Rattle.std.proofs.Common.{◌≡◌, ℕ, zero, suc, ◌+◌, ◌*◌, ◌/◌, ◌%◌, ◌<◌, true, cond, eqb, List, [], ◌∷◌, ◌++◌, map, length, take, get_or, slice_get, slice_index, Some, refl, sym, ap, subst, ◌∙◌, append_assoc, append-nil, arith}
+use Rattle.std.proofs.lemmas.List.{take_all, take_more}
 use Rattle.std.proofs.lemmas.Option.{slice_get_within, get_or_from_slice_get}
-use Rattle.std.proofs.lemmas.Bool.{agree_below_at}
+use Rattle.std.proofs.lemmas.Bool.{agree_below_at, eqb-true}
+use Rattle.std.proofs.lemmas.Simd.{swz_l, SwzOk, SwzOk-from_below, pick_l_whole}
+use Rattle.std.proofs.Math.Seq.{take-append-add}
+use lib.Lanes.{pick_l, Each1}
+use mir.Syntax.{w8}
+use mir.Val.{Fits, zeroes}
 use Rattle.std.proofs.lemmas.Slice.Eq.{bytes_eq-Decides}
 use Rattle.std.specs.Fmt.{digits}
 use Rattle.std.specs.Str.{bytes_eq}
@@ -52,27 +57,66 @@ pub three_parts : (id text : List ℕ) (n : ℕ) → n < 2048 → id ≡ zero_fi
 unfolding encode_with
 three_parts id text n below is = rw (is, three_digits n below) refl
 
--- the digits of eight bytes, two by two
-eight : (xs : List ℕ) → length xs ≡ 8
-    → xs ≡ get_or xs 0 0 ∷ get_or xs 1 0 ∷ get_or xs 2 0 ∷ get_or xs 3 0 ∷ get_or xs 4 0 ∷ get_or xs 5 0 ∷ get_or xs 6 0 ∷ get_or xs 7 0 ∷ []
-eight [] len = absurd (omega arith)
-eight (a ∷ []) len = absurd (omega arith)
-eight (a ∷ b ∷ []) len = absurd (omega arith)
-eight (a ∷ b ∷ c ∷ []) len = absurd (omega arith)
-eight (a ∷ b ∷ c ∷ d ∷ []) len = absurd (omega arith)
-eight (a ∷ b ∷ c ∷ d ∷ e ∷ []) len = absurd (omega arith)
-eight (a ∷ b ∷ c ∷ d ∷ e ∷ f ∷ []) len = absurd (omega arith)
-eight (a ∷ b ∷ c ∷ d ∷ e ∷ f ∷ g ∷ []) len = absurd (omega arith)
-eight (a ∷ b ∷ c ∷ d ∷ e ∷ f ∷ g ∷ h ∷ []) len = refl
-eight (a ∷ b ∷ c ∷ d ∷ e ∷ f ∷ g ∷ h ∷ i ∷ xs) len = absurd (omega arith)
+-- ---- the digits of eight bytes, looked at together
 
-abbrev both : List ℕ → List ℕ → List ℕ
-both pair text = get_or pair 0 0 ∷ get_or pair 1 0 ∷ text
+-- a digit, as one lane is looked up
+abbrev lane : ℕ → ℕ
+lane n = cond (zeroes 16 w8 n) 0 (get_or upper_digits (0 + n) 0)
 
-pub eight_pairs : (xs p q r s t u v w : List ℕ) → length xs ≡ 8
-    → p ≡ encode_upper (get_or xs 0 0 ∷ []) → q ≡ encode_upper (get_or xs 1 0 ∷ []) → r ≡ encode_upper (get_or xs 2 0 ∷ []) → s ≡ encode_upper (get_or xs 3 0 ∷ [])
-    → t ≡ encode_upper (get_or xs 4 0 ∷ []) → u ≡ encode_upper (get_or xs 5 0 ∷ []) → v ≡ encode_upper (get_or xs 6 0 ∷ []) → w ≡ encode_upper (get_or xs 7 0 ∷ [])
-    → both p (both q (both r (both s (both t (both u (both v (both w []))))))) ≡ encode_upper xs
+abbrev lanes : List ℕ → List ℕ
+lanes [] = []
+lanes (b ∷ bytes) = lane (b / 16) ∷ lane (b % 16) ∷ lanes bytes
+
+lane-is : (n : ℕ) → n < 16 → lane n ≡ slice_index upper_digits n
+lane-is n below = eqb-true (lane n) (slice_index upper_digits n) (agree_below_at (λ n. eqb (lane n) (slice_index upper_digits n)) (λ n. true) 16 n refl below)
+
+lanes-are : (bytes : List ℕ) → Each1 (Fits w8) bytes → lanes bytes ≡ encode_upper bytes
 unfolding encode_with
-eight_pairs xs p q r s t u v w len a b c d e f g h =
-    rw (a, b, c, d, e, f, g, h) (sym (ap encode_upper (eight xs len)))
+lanes-are [] fits = refl
+lanes-are (b ∷ bytes) fits =
+    let byte = fits.0.fits in
+    let high = lane-is (b / 16) (omega arith) in
+    let low = lane-is (b % 16) (omega arith) in
+    rw (high, low) (ap (λ text. slice_index upper_digits (b / 16) ∷ slice_index upper_digits (b % 16) ∷ text) (lanes-are bytes fits.1))
+
+-- the halves of the bytes in their order
+abbrev halves : List ℕ → List ℕ → List ℕ
+halves high low = pick_l 0 (high ++ low) (0 ∷ 8 ∷ 1 ∷ 9 ∷ 2 ∷ 10 ∷ 3 ∷ 11 ∷ 4 ∷ 12 ∷ 5 ∷ 13 ∷ 6 ∷ 14 ∷ 7 ∷ 15 ∷ [])
+
+-- the halves of each byte, which are below 16
+abbrev values : List ℕ → List ℕ
+values [] = []
+values (b ∷ bytes) = (b / 16) ∷ (b % 16) ∷ values bytes
+
+values-below : (bytes : List ℕ) → Each1 (Fits w8) bytes → Each1 (λ j. j < 16) (values bytes)
+values-below [] fits = tt
+values-below (b ∷ bytes) fits = (let byte = fits.0.fits in omega arith, (omega arith, values-below bytes fits.1))
+
+-- what the lanes make of the halves of the bytes
+abbrev IsLookedUp : List ℕ → Type 0
+IsLookedUp v = let js = halves (map (λ x. x / 16) v) (map (λ x. x % 16) v) in
+    Each1 (Fits w8) v → (swz_l w8 16 upper_digits 0 js ≡ encode_upper v) × SwzOk w8 16 16 0 js
+
+looked_up : (a b c d e f g h : ℕ) → IsLookedUp (a ∷ b ∷ c ∷ d ∷ e ∷ f ∷ g ∷ h ∷ [])
+looked_up a b c d e f g h fits =
+    let v : List ℕ = a ∷ b ∷ c ∷ d ∷ e ∷ f ∷ g ∷ h ∷ [] in
+    (lanes-are v fits, SwzOk-from_below w8 16 1 16 0 (values v) refl (omega arith) (values-below v fits))
+
+pub eight_digits : (v high low : List ℕ) → length v ≡ 8 → Each1 (Fits w8) v → high ≡ map (λ x. x / 16) v → low ≡ map (λ x. x % 16) v
+    → (swz_l w8 16 upper_digits 0 (halves high low) ≡ encode_upper v) × SwzOk w8 16 16 0 (halves high low)
+eight_digits v high low eight fits h l = rw (h, l) (subst IsLookedUp (pick_l_whole 0 v 8 eight) (looked_up _ _ _ _ _ _ _ _) fits)
+
+-- ---- the digits behind a frame's length are taken back
+
+upper-take : (n : ℕ) (bytes : List ℕ) → take (2 * n) (encode_upper bytes) ≡ encode_upper (take n bytes)
+unfolding encode_with
+upper-take zero bytes = refl
+upper-take (suc n) [] = take_all (2 * suc n) [] (omega arith)
+upper-take (suc n) (b ∷ bytes) =
+    let more : 2 * suc n ≡ suc (suc (2 * n)) = omega arith in
+    rw more (ap (λ text. slice_index upper_digits (b / 16) ∷ slice_index upper_digits (b % 16) ∷ text) (upper-take n bytes))
+
+pub taken_back : (a b digits places bytes : List ℕ) (end : ℕ) → b ≡ a ++ digits → digits ≡ encode_upper places → take (length bytes) places ≡ bytes
+    → end ≡ length a + 2 * length bytes → take end b ≡ a ++ encode_upper bytes
+taken_back a b digits places bytes end p q r s =
+    rw (s, p, q) (take-append-add a (encode_upper places) (2 * length bytes) ∙ ap (λ (t : List ℕ). a ++ t) (upper-take (length bytes) places ∙ ap encode_upper r))

@@ -7,9 +7,10 @@ ghost use Rattle.diag_can.specs.Reply.{zero_filled, stamp, frame_text, reply_lin
 
 use crate::frame::{CanId, Frame};
 use crate::table::{decimals, digits};
-use crate::upper::add_hex;
+use crate::upper::digits_of_eight;
 use itoa::Buffer;
 use std::alloc::AllocError;
+use std::mem;
 
 /// More bytes than a line has beside its name.
 const LINE_ROOM: usize = 64;
@@ -31,29 +32,36 @@ pub fn write_line(text: &mut Vec<u8>, name: &[u8], at: u64, frame: &Frame) -> Re
         return Err(AllocError);
     };
     text.reserve(room)?;
-    add_stamp(text, at);
-    add(text, name);
-    add_frame(text, frame);
+    let alloc = *text.allocator();
+    // (in a variable of its own, so that the text's place and length stay in registers)
+    let mut line = mem::replace(text, Vec::new(alloc));
+    add_stamp(&mut line, at);
+    add(&mut line, name);
+    add_frame(&mut line, frame);
+    *text = line;
     Ok(())
 }
 
 /// Appends bytes for which there is room.
+#[inline(always)]
 fn add(text: &mut Vec<u8>, bytes: &[u8])
     requires { vec_len text.old + length bytes.now ≤ vec_capacity text.old }
     ensures items { text.new.items ≡ text.old.items ++ bytes.now }
     ensures len { vec_len text.new ≡ vec_len text.old + length bytes.now }
-    ensures capacity { vec_capacity text.old ≤ vec_capacity text.new }
+    ensures capacity { vec_capacity text.new ≡ vec_capacity text.old }
 {
-    let added = text.extend_from_slice(bytes).is_ok();
-    prove!(added);
+    for byte in bytes {
+        text.push_reserved(*byte);
+    }
 }
 
 /// The stamp of a time in milliseconds and a space, where there is room.
+#[inline(always)]
 fn add_stamp(text: &mut Vec<u8>, at: u64)
     requires { vec_len text.old + 32 ≤ vec_capacity text.old }
     ensures items { text.new.items ≡ text.old.items ++ (stamp at ++ codes " ") }
     ensures len { vec_len text.new ≤ vec_len text.old + 32 }
-    ensures capacity { vec_capacity text.old ≤ vec_capacity text.new }
+    ensures capacity { vec_capacity text.new ≡ vec_capacity text.old }
 {
     if at / 1000 < TEN_DIGITS {
         add(text, &short_stamp(at));
@@ -75,12 +83,13 @@ fn short_stamp(at: u64) -> [u8; 20]
 }
 
 /// The stamp of a time with more digits of seconds, and a space, where there is room.
+#[inline(always)]
 fn add_long_stamp(text: &mut Vec<u8>, at: u64)
     requires late { 10 ^ 10 ≤ at / 1000 }
     requires room { vec_len text.old + 32 ≤ vec_capacity text.old }
     ensures items { text.new.items ≡ text.old.items ++ (stamp at ++ codes " ") }
     ensures len { vec_len text.new ≤ vec_len text.old + 32 }
-    ensures capacity { vec_capacity text.old ≤ vec_capacity text.new }
+    ensures capacity { vec_capacity text.new ≡ vec_capacity text.old }
 {
     let mut buffer = Buffer::new();
     add(text, b"(");
@@ -95,16 +104,21 @@ fn ten_digits(number: u64) -> [u8; 10]
     requires { number < 10 ^ 10 }
     ensures { result ≡ zero_filled 10 (decimal number) }
 {
-    let fourth = number / 100;
-    let third = fourth / 100;
-    let second = third / 100;
-    let first = second / 100;
-    let [a, b] = decimals(first);
-    let [c, d] = decimals(second % 100);
-    let [e, f] = decimals(third % 100);
-    let [g, h] = decimals(fourth % 100);
-    let [i, j] = decimals(number % 100);
+    let last = number % 100_000_000;
+    let [a, b] = decimals(number / 100_000_000);
+    let [c, d, e, f] = four_digits(last / 10_000);
+    let [g, h, i, j] = four_digits(last % 10_000);
     [a, b, c, d, e, f, g, h, i, j]
+}
+
+/// The four digits of a number.
+fn four_digits(number: u64) -> [u8; 4]
+    requires { number < 10 ^ 4 }
+    ensures { result ≡ zero_filled 4 (decimal number) }
+{
+    let [a, b] = decimals(number / 100);
+    let [c, d] = decimals(number % 100);
+    [a, b, c, d]
 }
 
 /// The three digits of a number.
@@ -116,55 +130,26 @@ fn three_digits(number: u64) -> [u8; 3]
     [b'0' + (number / 100) as u8, b, c]
 }
 
-/// A space, the identifier, `#`, the bytes and LF, where there is room.
+/// A space, the identifier, `#`, the bytes and LF, where there is room. The digits of all eight places are written, and
+/// those behind the frame's length taken back.
+#[inline(always)]
 fn add_frame(text: &mut Vec<u8>, frame: &Frame)
-    requires { vec_len text.old + 22 ≤ vec_capacity text.old }
-    ensures { text.new.items
-        ≡ text.old.items ++ (codes " " ++ frame_text frame.now ++ codes "\n") }
-{
-    let bytes = frame.bytes.as_slice();
-    if bytes.len() == 8 {
-        add(text, &full_frame(frame.id, bytes));
-    } else {
-        add_short_frame(text, frame);
-    }
-}
-
-/// A space, the identifier, `#`, eight bytes and LF.
-fn full_frame(id: CanId, bytes: &[u8]) -> [u8; 22]
-    requires { length bytes.now ≡ 8 }
-    ensures { result
-        ≡ codes " " ++ (zero_filled 3 (digits 16 true id) ++ codes "#" ++ encode_upper bytes.now) ++ codes "\n" }
-{
-    let [x, y, z] = identifier(id);
-    let [a, b] = digits(bytes[0]);
-    let [c, d] = digits(bytes[1]);
-    let [e, f] = digits(bytes[2]);
-    let [g, h] = digits(bytes[3]);
-    let [i, j] = digits(bytes[4]);
-    let [k, l] = digits(bytes[5]);
-    let [m, n] = digits(bytes[6]);
-    let [o, p] = digits(bytes[7]);
-    [
-        b' ', x, y, z, b'#', a, b, c, d, e, f, g, h, i, j, k, l, m, n, o, p, b'\n',
-    ]
-}
-
-/// A space, the identifier, `#`, any bytes and LF, where there is room.
-fn add_short_frame(text: &mut Vec<u8>, frame: &Frame)
     requires { vec_len text.old + 22 ≤ vec_capacity text.old }
     ensures { text.new.items
         ≡ text.old.items ++ (codes " " ++ frame_text frame.now ++ codes "\n") }
 {
     let [x, y, z] = identifier(frame.id);
     add(text, &[b' ', x, y, z, b'#']);
-    add_hex(text, frame.bytes.as_slice());
-    add(text, b"\n");
+    let end = text.len() + 2 * frame.bytes.len();
+    add(text, &digits_of_eight(&frame.bytes.places()));
+    text.truncate(end);
+    text.push_reserved(b'\n');
 }
 
 /// The three digits of an identifier.
 fn identifier(id: CanId) -> [u8; 3]
-    ensures { result ≡ zero_filled 3 (digits 16 true id) }
+    ensures digits { result ≡ zero_filled 3 (digits 16 true id) }
+    ensures in_range { id < 2048 }
 {
     let number = id.get();
     let [y, z] = digits((number % 256) as u8);

@@ -5,6 +5,7 @@ ghost use Rattle.hex.specs.Hex.{encode_upper};
 
 use crate::table::digits;
 use std::alloc::AllocError;
+use std::simd::prelude::*;
 
 /// Appends bytes in upper-case hex, two digits a byte.
 ///
@@ -20,7 +21,7 @@ pub fn write_hex(text: &mut Vec<u8>, bytes: &[u8]) -> Result<(), AllocError>
 }
 
 /// Appends bytes in upper-case hex, where there is room for them.
-pub(crate) fn add_hex(text: &mut Vec<u8>, bytes: &[u8])
+fn add_hex(text: &mut Vec<u8>, bytes: &[u8])
     requires { vec_len text.old + 2 * length bytes.now ≤ vec_capacity text.old }
     ensures items { text.new.items ≡ text.old.items ++ encode_upper bytes.now }
     ensures len { vec_len text.new ≡ vec_len text.old + 2 * length bytes.now }
@@ -31,4 +32,18 @@ pub(crate) fn add_hex(text: &mut Vec<u8>, bytes: &[u8])
         text.push_reserved(high);
         text.push_reserved(low);
     }
+}
+
+/// Eight bytes in upper-case hex, which are looked at together.
+#[inline(always)]
+pub(crate) fn digits_of_eight(bytes: &[u8; 8]) -> [u8; 16]
+    ensures { result ≡ encode_upper bytes.now }
+{
+    let v = u8x8::from_array(*bytes);
+    let high = v / u8x8::splat(16);
+    let low = v % u8x8::splat(16);
+    let values = high.shuffle(low, [0, 8, 1, 9, 2, 10, 3, 11, 4, 12, 5, 13, 6, 14, 7, 15]);
+    u8x16::from_array(*b"0123456789ABCDEF")
+        .swizzle_dyn(values)
+        .to_array()
 }
