@@ -1,6 +1,6 @@
 """The slow twin of a link: what receptions, flow control and time make of a tester's log, looked up in whole lists each
-time. Each function is one of docs/DEFINITIONS.md, Transport, and none goes on from what another call has kept. For
-tools/twin.py and tools/examples.py, which compare it with what the program sends; no part of what is proved."""
+time. It says what docs/DEFINITIONS.md, Transport, says, by another way: no function goes on from what another call has
+kept. For tools/twin.py and tools/examples.py, which compare it with what the program sends; no part of what is proved."""
 import re
 import tomllib
 from dataclasses import dataclass

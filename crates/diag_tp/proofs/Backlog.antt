@@ -8,7 +8,7 @@ use Rattle.diag_tp.specs.declared.setup.LinkSetup.{LinkSetup}
 use Rattle.diag_tp.specs.declared.sending.Phase.TheVariants.{AwaitsFlow}
 use Rattle.diag_tp.specs.declared.sending.Sending.{Sending}
 use Rattle.diag_tp.specs.declared.sent.Sent.{Sent}
-use Rattle.diag_tp.specs.Moments.{moments, counted_from, last_moment}
+use Rattle.diag_tp.specs.Moments.{counted_from, last_time}
 use Rattle.diag_tp.specs.Reception.{head_size, consecutive_count}
 use Rattle.diag_tp.specs.Cut.{filled, single_bytes, first_bytes, consecutive_bytes, part_of, cut}
 use Rattle.diag_tp.specs.Wire.{Placed, stamped, wire}
@@ -85,20 +85,20 @@ settled-message s (Some c) W =
     ]
 
 -- how many of the frames that are due are of messages
-message-count : (s : LinkSetup) (M : List Event) (m : ℕ) (frames : List (List ℕ)) → Each IsOfMessage frames → message_frames (map (stamped s M m) frames) ≡ length frames
-message-count s M m [] h = refl
-message-count s M m (bytes ∷ frames) h =
-    let rest = message-count s M m frames h.1 in
-    let all = sum_by-cons (λ (f : Sent). cond (not (is_flow f.frame.bytes)) 1 0) (stamped s M m bytes) (map (stamped s M m) frames) in
-    let one : cond {A = ℕ} (not (is_flow (stamped s M m bytes).frame.bytes)) 1 0 ≡ 1 = ap (λ (b : Bool). cond {A = ℕ} (not b) 1 0) h.0 in
+message-count : (s : LinkSetup) (t : ℕ) (frames : List (List ℕ)) → Each IsOfMessage frames → message_frames (map (stamped s t) frames) ≡ length frames
+message-count s t [] h = refl
+message-count s t (bytes ∷ frames) h =
+    let rest = message-count s t frames h.1 in
+    let all = sum_by-cons (λ (f : Sent). cond (not (is_flow f.frame.bytes)) 1 0) (stamped s t bytes) (map (stamped s t) frames) in
+    let one : cond {A = ℕ} (not (is_flow (stamped s t bytes).frame.bytes)) 1 0 ≡ 1 = ap (λ (b : Bool). cond {A = ℕ} (not b) 1 0) h.0 in
     omega arith
 
-due-count : (s : LinkSetup) (M : List Event) (m : ℕ) (g : Option (List ℕ)) (frames : List (List ℕ)) → IsFlow g → Each IsOfMessage frames → message_frames (map (stamped s M m) (option_to_list g ++ frames)) ≡ length frames
-due-count s M m None frames g h = message-count s M m frames h
-due-count s M m (Some bytes) frames g h =
-    let rest = message-count s M m frames h in
-    let all = sum_by-cons (λ (f : Sent). cond (not (is_flow f.frame.bytes)) 1 0) (stamped s M m bytes) (map (stamped s M m) frames) in
-    let none : cond {A = ℕ} (not (is_flow (stamped s M m bytes).frame.bytes)) 1 0 ≡ 0 = ap (λ (b : Bool). cond {A = ℕ} (not b) 1 0) g in
+due-count : (s : LinkSetup) (t : ℕ) (g : Option (List ℕ)) (frames : List (List ℕ)) → IsFlow g → Each IsOfMessage frames → message_frames (map (stamped s t) (option_to_list g ++ frames)) ≡ length frames
+due-count s t None frames g h = message-count s t frames h
+due-count s t (Some bytes) frames g h =
+    let rest = message-count s t frames h in
+    let all = sum_by-cons (λ (f : Sent). cond (not (is_flow f.frame.bytes)) 1 0) (stamped s t bytes) (map (stamped s t) frames) in
+    let none : cond {A = ℕ} (not (is_flow (stamped s t bytes).frame.bytes)) 1 0 ≡ 0 = ap (λ (b : Bool). cond {A = ℕ} (not b) 1 0) g in
     omega arith
 
 drop-all : {X : Type 0} (xs ys : List X) → drop (length xs) (xs ++ ys) ≡ ys
@@ -109,9 +109,9 @@ drop-all (x ∷ xs) ys = drop-all xs ys
 pub left-all : (s : LinkSetup) (link : LinkState) (E : List Event) (A : List Placed) (Q : List Sent) → IsFlow link.grant → Each IsOfMessage link.sender.due → StandsFor s link E A Q →
     total s link.sender ≡ frames_left s E A Q
 left-all s link E A Q g each h =
-    let rest : drop (length Q) (wire s E A) ≡ map (stamped s (moments E) (last_moment E)) (due link) =
-    ap (λ l. drop (length Q) l) (sym h.out) ∙ drop-all Q (map (stamped s (moments E) (last_moment E)) (due link)) in
-    let count = ap message_frames rest ∙ due-count s (moments E) (last_moment E) link.grant link.sender.due g each in
+    let rest : drop (length Q) (wire s E A) ≡ map (stamped s (last_time E)) (due link) =
+    ap (λ l. drop (length Q) l) (sym h.out) ∙ drop-all Q (map (stamped s (last_time E)) (due link)) in
+    let count = ap message_frames rest ∙ due-count s (last_time E) link.grant link.sender.due g each in
     let others = frames-left s link E A Q h in
     omega arith
 

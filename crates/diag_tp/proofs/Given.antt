@@ -1,5 +1,5 @@
 -- What ticks and frames give.
-use Rattle.std.proofs.Common.{◌≡◌, ℕ, Bool, true, false, cond, List, [], ◌∷◌, ◌++◌, refl}
+use Rattle.std.proofs.Common.{◌≡◌, ℕ, Bool, true, false, cond, List, ◌∷◌, refl}
 use Rattle.std.specs.Prelude.{Option, Some, None, IsSome, IsTrue}
 use Rattle.diag_can.specs.declared.frame.Event.{Event}
 use Rattle.diag_can.specs.declared.frame.Event.TheVariants.{Physical, Functional, Ticks}
@@ -8,8 +8,8 @@ use Rattle.diag_tp.specs.declared.pci.Pci.{Pci}
 use Rattle.diag_tp.specs.declared.pci.Pci.TheVariants.{Single, First, Overflow, Consecutive, FlowControl, Ignored}
 use Rattle.diag_tp.specs.declared.step.Step.TheVariants as step
 use Rattle.diag_tp.specs.Kind.{kind}
-use Rattle.diag_tp.specs.Moments.{moments}
-use Rattle.diag_tp.specs.Reception.{Reception, Open, is_whole, message_of}
+use Rattle.diag_tp.specs.Moments.{history}
+use Rattle.diag_tp.specs.Reception.{Reception, open_at, is_whole, message_of}
 use Rattle.diag_tp.specs.Gives.{completed, functional_step, gives, is_request, physical_step}
 use Rattle.diag_tp.specs.Link.{is_frame}
 
@@ -29,7 +29,7 @@ frame_gives s E (Functional bytes) h some = of_functional (kind bytes s.max_requ
     of_functional (Consecutive number part) some = cc
     of_functional (FlowControl status block gap) some = cc
     of_functional Ignored some = cc
-frame_gives s E (Physical bytes) h some = of_physical (moments E ++ Physical bytes ∷ []) (kind bytes s.max_request) some
+frame_gives s E (Physical bytes) h some = of_physical (Physical bytes ∷ history E) (kind bytes s.max_request) some
   where
     of_whole : (b : Bool) (message : List ℕ) → IsSome (cond b (Some (step.Request false message)) None) → IsTrue (is_request (cond b (Some (step.Request false message)) None))
     of_whole true message some = refl
@@ -41,7 +41,7 @@ frame_gives s E (Physical bytes) h some = of_physical (moments E ++ Physical byt
 
     of_physical : (M : List Event) (k : Pci) → IsSome (physical_step s M k) → IsTrue (is_request (physical_step s M k))
     of_physical M (Single payload) some = refl
-    of_physical M (Consecutive number part) some = of_completed (Open s M) some
+    of_physical M (Consecutive number part) some = of_completed (open_at s M) some
     of_physical M (First len head) some = cc
     of_physical M Overflow some = cc
     of_physical M (FlowControl status block gap) some = cc

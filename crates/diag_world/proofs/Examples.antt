@@ -7,7 +7,7 @@ use Rattle.diag_tp.specs.declared.step.Step.TheVariants as step
 use Rattle.diag_tp.specs.Gives.{gives, steps}
 use Rattle.diag_tp.specs.Kind.{kind}
 use Rattle.diag_tp.specs.Placing.{moments_of_steps, placed}
-use Rattle.diag_tp.specs.Reception.{Open, last_start, gaps}
+use Rattle.diag_tp.specs.Reception.{open_at}
 use Rattle.diag_desk.specs.declared.entry.Entry.{Entry}
 use Rattle.diag_world.specs.Weaving.{steps_of, turns, weave}
 
@@ -32,23 +32,23 @@ abbrev short_log : List Event
 short_log = Physical (2 ∷ 62 ∷ 0 ∷ []) ∷ []
 
 long_steps : steps (links 1) long_log ≡ step.Ticks 2 ∷ step.Request false (1 ∷ 2 ∷ 3 ∷ 4 ∷ 5 ∷ 6 ∷ 7 ∷ 8 ∷ []) ∷ []
-unfolding gives kind Open last_start gaps
+unfolding gives kind open_at
 long_steps = refl
 
 -- the request is given at moment 4: a frame, two unit ticks, a frame
 long_moments : moments_of_steps (links 1) long_log ≡ 3 ∷ 4 ∷ []
-unfolding gives kind Open last_start gaps
+unfolding gives kind open_at
 long_moments = refl
 
 long_placed : placed (links 1) long_log (None ∷ Some (126 ∷ 0 ∷ []) ∷ []) ≡ record { moment = 4; message = 126 ∷ 0 ∷ [] } ∷ []
-unfolding gives kind Open last_start gaps
+unfolding gives kind open_at
 long_placed = refl
 
 in_turn : turns (long_log ∷ short_log ∷ []) ≡ (1, Physical (16 ∷ 8 ∷ 1 ∷ 2 ∷ 3 ∷ 4 ∷ 5 ∷ 6 ∷ [])) ∷ (2, Physical (2 ∷ 62 ∷ 0 ∷ [])) ∷ (1, Ticks 2) ∷ (1, Physical (33 ∷ 7 ∷ 8 ∷ [])) ∷ []
 in_turn = refl
 
 steps_in_turn : steps_of links (turns (long_log ∷ short_log ∷ [])) ≡ (2, step.Request false (62 ∷ 0 ∷ [])) ∷ (1, step.Ticks 2) ∷ (1, step.Request false (1 ∷ 2 ∷ 3 ∷ 4 ∷ 5 ∷ 6 ∷ 7 ∷ 8 ∷ [])) ∷ []
-unfolding gives kind Open last_start gaps
+unfolding gives kind open_at
 steps_in_turn = refl
 
 -- the second tester's request stands between the first one's steps
@@ -60,5 +60,5 @@ journal =
 
 woven : weave links journal (long_log ∷ short_log ∷ [])
     ≡ (1, Physical (16 ∷ 8 ∷ 1 ∷ 2 ∷ 3 ∷ 4 ∷ 5 ∷ 6 ∷ [])) ∷ (1, Ticks 2) ∷ (2, Physical (2 ∷ 62 ∷ 0 ∷ [])) ∷ (1, Physical (33 ∷ 7 ∷ 8 ∷ [])) ∷ []
-unfolding gives kind Open last_start gaps
+unfolding gives kind open_at
 woven = refl

@@ -10,7 +10,7 @@ use Rattle.diag_tp.specs.declared.setup.LinkSetup.{LinkSetup}
 use Rattle.diag_tp.specs.declared.sent.Sent.{Sent}
 use Rattle.diag_tp.specs.declared.step.Step.{Step}
 use Rattle.diag_tp.specs.declared.step.Step.TheVariants as step
-use Rattle.diag_tp.specs.Moments.{is_tick, moments, last_moment}
+use Rattle.diag_tp.specs.Moments.{is_tick}
 use Rattle.diag_tp.specs.Wire.{stamped}
 use Rattle.diag_tp.proofs.Lists.{length-zero}
 use Rattle.diag_tp.specs.Gives.{gives}
@@ -121,7 +121,7 @@ unfolding pending
 fresh_port s link h none = record { stands = subst (λ (Q : List Sent). StandsFor s link [] [] Q) (nothing_due s link h none) h; asks = refl }
   where
     nothing_due : (s : LinkSetup) (link : LinkState) → StandsFor s link [] [] [] → length (due link) ≡ 0 → [] ≡ drawn s [] []
-    nothing_due s link h none = sym (ap (λ (d : List (List ℕ)). map (stamped s (moments []) (last_moment [])) d) (length-zero (due link) none)) ∙ h.out
+    nothing_due s link h none = sym (ap (λ (d : List (List ℕ)). map (stamped s 0) d) (length-zero (due link) none)) ∙ h.out
 
 -- the tester's link, of a server
 pub port_at : (setup : RawSetup) (server : ServerView) (M : List (ℕ × Event)) (K : List Entry) (who i : ℕ) (link : LinkView) → Serves setup (server_of server) M K → who ≡ i + 1

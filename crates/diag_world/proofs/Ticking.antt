@@ -5,7 +5,7 @@ use Rattle.diag_can.specs.declared.frame.Event.{Event}
 use Rattle.diag_can.specs.declared.frame.Event.TheVariants.{Ticks}
 use Rattle.diag_tp.specs.declared.setup.LinkSetup.{LinkSetup}
 use Rattle.diag_tp.specs.declared.sent.Sent.{Sent}
-use Rattle.diag_tp.specs.Moments.{moments, last_moment, last_time}
+use Rattle.diag_tp.specs.Moments.{last_moment, last_time}
 use Rattle.diag_tp.specs.Placing.{placed, placed_at, drawn}
 use Rattle.diag_tp.specs.State.{LinkState, LinkView, due}
 use Rattle.diag_tp.specs.Link.{StandsFor, last_tick, pending}
@@ -22,7 +22,7 @@ all_out : (s : LinkSetup) (link : LinkState) (E : List Event) (A : List Placed) 
 unfolding pending
 all_out s link E A Q h none = record {
   stands = h;
-  all = sym (append-nil Q) ∙ (ap (λ (d : List (List ℕ)). Q ++ map (stamped s (moments E) (last_moment E)) d) (sym (length-zero (due link) none)) ∙ h.out);
+  all = sym (append-nil Q) ∙ (ap (λ (d : List (List ℕ)). Q ++ map (stamped s (last_time E)) d) (sym (length-zero (due link) none)) ∙ h.out);
 }
 
 -- ticks after which nothing is due hand out nothing
