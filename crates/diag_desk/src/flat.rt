@@ -48,7 +48,7 @@ fn tell_bytes(bytes: &[u8])
 {}
 
 /// The bytes of a message.
-fn message_bytes(message: &Message) -> &[u8]
+pub(crate) fn message_bytes(message: &Message) -> &[u8]
     ensures same { result.now ≡ message.now }
     ensures message { IsMessage message.now }
 {
