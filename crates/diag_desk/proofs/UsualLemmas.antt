@@ -1,15 +1,17 @@
 -- Entries of the usual form, which are read from the front of a text.
-use Rattle.std.proofs.Common.{◌≡◌, ℕ, ◌+◌, ◌-◌, ◌*◌, ◌/◌, ◌%◌, ◌<◌, ◌≤◌, ◌==◌, eqb, nat_lt, Bool, true, false, ◌&&◌, ◌||◌, List, [], ◌∷◌, ◌++◌, length, take, drop, get_or, slice_get, slice_index, Option, Some, refl, sym, ap, ◌∙◌, append_assoc, arith}
+use Rattle.std.proofs.Common.{◌≡◌, ℕ, ◌+◌, ◌-◌, ◌*◌, ◌/◌, ◌%◌, ◌<◌, ◌≤◌, ◌==◌, eqb, nat_lt, Bool, true, false, ◌&&◌, ◌||◌, List, [], ◌∷◌, ◌++◌, length, take, drop, get_or, slice_get, slice_index, Option, Some, None, refl, sym, ap, ◌∙◌, append_assoc, arith, decimal}
 use Rattle.std.proofs.lemmas.Bool.{agree_below_at, eqb-true}
 use Rattle.std.proofs.lemmas.Bool.Decides.{nat_tests}
+use Rattle.std.proofs.lemmas.Fmt.{decimal_digit, decimal_step}
 use Rattle.std.proofs.lemmas.List.{take_all, take_more}
 use Rattle.std.proofs.lemmas.Option.{slice_get_within, get_or_from_slice_get}
 use Rattle.hex.specs.Hex.{encode_upper, encode_with, upper_digits}
 use Rattle.diag_desk.specs.Text.{entry_line, reply_text, upper_value}
 use Rattle.diag_desk.specs.Line.{fronted, kind_code, request_kind}
 use Rattle.diag_desk.specs.Entries.{entry}
+use Rattle.diag_desk.specs.declared.line.Kind.TheVariants as kind
 use Rattle.diag_desk.specs.declared.table.TheConstants.{VALUES}
-use Rattle.diag_tp.specs.declared.step.Step.TheVariants.{Request}
+use Rattle.diag_tp.specs.declared.step.Step.TheVariants.{Request, Ticks}
 
 -- ---- the table
 
@@ -83,3 +85,27 @@ pub usual_line : (functional : Bool) (who : ℕ) (m : List ℕ) (r : Option (Lis
 usual_line functional who m r text body rest t b =
     t ∙ ap (fronted (48 + who) (kind_code (request_kind functional))) (b ∙ sym (append_assoc (encode_upper m) (32 ∷ reply_text r) (10 ∷ rest)))
     ∙ ap (λ l. l ++ 10 ∷ rest) (sym (line_joined functional who m r))
+
+pub ticks_line : (who count : ℕ) (text body rest : List ℕ) → text ≡ fronted (48 + who) (kind_code kind.Ticks) body → body ≡ decimal count ++ 10 ∷ rest
+    → text ≡ entry_line (entry who (Ticks count) None) ++ 10 ∷ rest
+ticks_line who count text body rest t b = t ∙ ap (fronted (48 + who) (kind_code kind.Ticks)) b
+
+-- ---- a number at the front
+
+pub number-first : (text tail : List ℕ) (first number : ℕ) → text ≡ first ∷ tail → 49 ≤ first → first ≤ 57 → number ≡ first - 48 → text ≡ decimal number ++ tail
+number-first text tail first number t low high is =
+    let one : first ≡ 48 + number = omega arith in
+    t ∙ ap (λ c. c ∷ tail) one ∙ ap (λ l. l ++ tail) (sym (decimal_digit number (omega arith)))
+
+pub number-more : (text rest tail : List ℕ) (number digit next : ℕ) → text ≡ decimal number ++ rest → rest ≡ digit ∷ tail → 1 ≤ number → number ≤ 6000 → 48 ≤ digit → digit ≤ 57
+    → next ≡ number * 10 + (digit - 48) → text ≡ decimal next ++ tail
+number-more text rest tail number digit next t r some few low high is =
+    let front : next / 10 ≡ number = omega arith in
+    let end : 48 + next % 10 ≡ digit = omega arith in
+    let step : decimal next ≡ decimal number ++ digit ∷ [] = decimal_step next (omega arith) (omega arith) ∙ (λ i. decimal (front i) ++ (end i ∷ [])) in
+    t ∙ ap (λ l. decimal number ++ l) r ∙ sym (append_assoc (decimal number) (digit ∷ []) tail) ∙ ap (λ l. l ++ tail) (sym step)
+
+-- the byte at the front, and what follows it
+pub front_one : (rest : List ℕ) → 1 ≤ length rest → rest ≡ get_or rest 0 0 ∷ take (length rest - 1) (drop 1 rest)
+front_one [] one = absurd (omega arith)
+front_one (x ∷ rest) one = ap (λ l. x ∷ l) (sym (take_all (length (x ∷ rest) - 1) rest (omega arith)))

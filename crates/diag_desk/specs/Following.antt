@@ -1,5 +1,5 @@
 -- Replaying a journal's text as it is read.
-use Rattle.std.specs.Prelude.{◌≡◌, ℕ, Bool, List, [], ◌∷◌, ◌++◌, length, Some, None}
+use Rattle.std.specs.Prelude.{◌≡◌, ◌<◌, ◌≤◌, ℕ, Bool, false, List, [], ◌∷◌, ◌++◌, length, Some, None}
 use Rattle.diag_setup.specs.declared.raw.RawSetup.{RawSetup}
 use Rattle.hex.specs.Hex.{encode_upper}
 use Rattle.diag_ecu.specs.Respond.{after_request, reply}
@@ -64,6 +64,13 @@ pub record Answered (s new : State) (who : ℕ) (functional : Bool) (text rest :
   pub is_reply : IsReply (reply s who functional message)
   pub is : text ≡ encode_upper message ++ 32 ∷ (reply_text (reply s who functional message) ++ 10 ∷ rest)
   pub state : new ≡ after_request s who functional message
+
+-- the next entry has room and no stamp, none before it differs, and its tester is in the setup
+pub record IsUsual (setup : RawSetup) (f : Follower) (who : ℕ) : Type 0 where
+  pub stamped : f.stamped ≡ false
+  pub count : f.count < 1000000
+  pub differs : f.play.differs ≡ None
+  pub tester : who ≤ length setup.testers
 
 -- one line more at the front of a text, and what follows it
 pub record FollowedIn (setup : RawSetup) (f new : Follower) (past : List Entry) (text rest : List ℕ) : Type 0 where

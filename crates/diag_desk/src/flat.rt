@@ -80,13 +80,31 @@ pub(crate) fn len_of(reply: Option<&[u8]>) -> usize
     }
 }
 
+/// The most bytes that are appended one by one, for which a call that copies them costs more.
+const FEW: usize = 8;
+
 /// Appends bytes where there is room.
 fn append(bytes: &mut Vec<u8>, more: &[u8])
     requires { vec_len bytes.old + length more.now ≤ vec_capacity bytes.old }
     ensures items { bytes.new.items ≡ bytes.old.items ++ more.now }
     ensures room { vec_capacity bytes.old ≤ vec_capacity bytes.new }
 {
+    if more.len() <= FEW {
+        append_few(bytes, more);
+        return;
+    }
     let _ = bytes.extend_from_slice(more);
+}
+
+/// Appends bytes one by one where there is room.
+fn append_few(bytes: &mut Vec<u8>, more: &[u8])
+    requires { vec_len bytes.old + length more.now ≤ vec_capacity bytes.old }
+    ensures items { bytes.new.items ≡ bytes.old.items ++ more.now }
+    ensures room { vec_capacity bytes.old ≤ vec_capacity bytes.new }
+{
+    for byte in more {
+        bytes.push_reserved(*byte);
+    }
 }
 
 /// Adds a head where there is room.

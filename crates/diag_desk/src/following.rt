@@ -1,5 +1,5 @@
 //! Replaying a journal's text as it is read, entry by entry; none is kept.
-ghost use Rattle.std.specs.Prelude.{◌≡◌, ◌+◌, ◌++◌, ◌∷◌, ◌≤◌, ◌↔◌, [], ℕ, List, length, IfOk, IfErr, IfSome, IfNone, OnOk, IsTrue, option_copied, option_map};
+ghost use Rattle.std.specs.Prelude.{◌≡◌, ◌+◌, ◌++◌, ◌∷◌, ◌≤◌, ◌↔◌, [], false, true, ℕ, List, length, IfOk, IfErr, IfSome, IfNone, OnOk, IsTrue, option_copied, option_map};
 ghost use Rattle.std.specs.Bool.{OnTrue, OnFalse};
 ghost use Rattle.diag_setup.specs.declared.raw.RawSetup.{RawSetup};
 ghost use Rattle.diag_ecu.specs.State.{opening};
@@ -7,18 +7,18 @@ ghost use Rattle.diag_ecu.specs.Respond as ecu;
 ghost use Rattle.diag_desk.specs.declared.entry.Entry.{Entry};
 ghost use Rattle.diag_desk.specs.Entry.{IsEntry};
 ghost use Rattle.diag_desk.specs.Fault.{FaultAt, IsTextOf};
-ghost use Rattle.diag_desk.specs.Following.{Answered, Followed, FollowedIn, Follows, IsReplayed, Plays, TextDiffers, read_so_far};
+ghost use Rattle.diag_desk.specs.Following.{Answered, Followed, FollowedIn, Follows, IsReplayed, IsUsual, Plays, TextDiffers, read_so_far};
 ghost use Rattle.diag_desk.specs.Legal.{after_step, reply_to};
-ghost use Rattle.diag_desk.specs.Line.{HasHex, IsHex, IsHexReply, decoded, line_entry};
+ghost use Rattle.diag_desk.specs.Line.{HasHex, IsHex, IsHexReply, decoded, fronted, kind_code, line_entry, request_kind};
 ghost use Rattle.diag_desk.specs.PartRead.{HasNoNext};
 
 use crate::clocks::Clocks;
 use crate::entry::MOST_ENTRIES;
 use crate::flat::{append_hex, decoded_len, message_bytes};
-use crate::line::{Line, LineStep, cut};
+use crate::line::{Kind, Line, LineStep, cut};
 use crate::next::{LineFault, clock_with, next_line};
 use crate::read::{JournalFault, is_stamped};
-use crate::usual::{behind, behind_reply, read_front, request_front};
+use crate::usual::{behind, behind_reply, count_front, line_front, read_front};
 use diag_ecu::Ecu;
 use diag_store::{Setup, TesterId};
 use diag_tp::Message;
@@ -240,9 +240,10 @@ impl Follower {
         }
     }
 
-    /// Takes the line at the front of a text where it is of the usual form, and gives what follows it: a request without
-    /// a stamp, and the reply is the ECU's. None where it isn't, and where memory is refused.
+    /// Takes the line at the front of a text where it is of the usual form, and gives what follows it: an entry without a
+    /// stamp, whose reply is the ECU's. None where it isn't, and where memory is refused.
     fn take_usual<'a>(&mut self, alloc: Global, setup: &Setup, text: &'a [u8]) -> Option<&'a [u8]>
+        requires { (past : List Entry) × Follows setup.now self.old past }
         ensures some { IfSome result (λ rest. (past : List Entry)
             → Follows setup.now self.old past
             → FollowedIn setup.now self.old self.new past text.now rest.now) }
@@ -254,21 +255,68 @@ impl Follower {
         if self.stamped || self.count >= MOST_ENTRIES || self.play.differs.is_some() {
             return None;
         }
-        let Some(front) = request_front(text) else {
+        let Some(front) = line_front(text) else {
             return None;
         };
         if setup.testers() < usize::from(front.who.place()) {
             return None;
         }
-        let Some(rest) = self
-            .play
-            .answers_front(alloc, front.who, front.functional, front.rest)
-        else {
+        match front.kind {
+            Kind::Physical => self.take_request(alloc, setup, front.who, false, front.rest),
+            Kind::Functional => self.take_request(alloc, setup, front.who, true, front.rest),
+            Kind::Ticks => self.take_ticks(setup, front.who, front.rest),
+        }
+    }
+
+    /// Takes the rest of a request's line.
+    fn take_request<'a>(
+        &mut self,
+        alloc: Global,
+        setup: &Setup,
+        who: TesterId,
+        functional: bool,
+        text: &'a [u8],
+    ) -> Option<&'a [u8]>
+        requires usual { IsUsual setup.now self.old who }
+        ensures some { IfSome result (λ rest. (past : List Entry)
+            → Follows setup.now self.old past
+            → FollowedIn setup.now self.old self.new past
+            (fronted (48 + who) (kind_code (request_kind functional)) text.now) rest.now) }
+        ensures none { IfNone result ((past : List Entry)
+            → Follows setup.now self.old past
+            → Follows setup.now self.new past) }
+        ensures stamped { self.new.stamped ≡ self.old.stamped }
+    {
+        // (for its contract: a place is at most 8)
+        let _place = who.place();
+        let Some(rest) = self.play.answers_front(alloc, who, functional, text) else {
             return None;
         };
-        self.clocks.set(front.who, self.clocks.at(front.who));
+        self.clocks.set(who, self.clocks.at(who));
         self.count += 1;
         Some(rest)
+    }
+
+    /// Takes the rest of a line of ticks.
+    fn take_ticks<'a>(&mut self, setup: &Setup, who: TesterId, text: &'a [u8]) -> Option<&'a [u8]>
+        requires usual { IsUsual setup.now self.old who }
+        requires follows { (past : List Entry) × Follows setup.now self.old past }
+        ensures some { IfSome result (λ rest. (past : List Entry)
+            → Follows setup.now self.old past
+            → FollowedIn setup.now self.old self.new past
+            (fronted (48 + who) (kind_code Kind.Ticks) text.now) rest.now) }
+        ensures none { IfNone result (self.new ≡ self.old) }
+        ensures stamped { self.new.stamped ≡ self.old.stamped }
+    {
+        let _place = who.place();
+        let Some(front) = count_front(text) else {
+            return None;
+        };
+        let clock = self.clocks.at(who) + u64::from(front.count.get());
+        self.clocks.set(who, clock);
+        self.play.ecu.ticks(who, front.count);
+        self.count += 1;
+        Some(front.rest)
     }
 
     /// Takes the line that comes next.

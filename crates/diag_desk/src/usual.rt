@@ -1,47 +1,104 @@
 //! Reading entries of the usual form, whose reply is the ECU's: their text is gone through once.
-ghost use Rattle.std.specs.Prelude.{◌≡◌, ◌≤◌, ◌+◌, ◌++◌, ◌∷◌, IfOk, IfSome, option_copied};
+ghost use Rattle.std.specs.Prelude.{◌≡◌, ◌≤◌, ◌+◌, ◌++◌, ◌∷◌, IfOk, IfSome, IsTrue, ◌↔◌, decimal, option_copied};
 ghost use Rattle.hex.specs.Hex.{encode_upper};
 ghost use Rattle.diag_desk.specs.Entry.{IsReply};
-ghost use Rattle.diag_desk.specs.Line.{fronted, kind_code, request_kind};
+ghost use Rattle.diag_desk.specs.Line.{fronted, kind_code};
 ghost use Rattle.diag_desk.specs.Text.{reply_text};
 
 use crate::flat::bytes_of;
 use crate::line::{Kind, front_of, kind_in, place_in};
 use crate::table::pair_value;
+use diag_can::TickCount;
 use diag_store::TesterId;
 use diag_tp::Message;
 use std::alloc::AllocError;
 
-/// What a request's line says before its hex, and what follows that.
+/// What a line says first, and what follows that.
 #[derive(Clone, Copy)]
-pub(crate) struct RequestFront<'a> {
+pub(crate) struct LineFront<'a> {
     pub who: TesterId,
-    pub functional: bool,
+    pub kind: Kind,
     pub rest: &'a [u8],
 }
 
-/// The front of a request's line.
-pub(crate) fn request_front(text: &[u8]) -> Option<RequestFront<'_>>
+/// A number in decimal, and what follows it.
+#[derive(Clone, Copy)]
+struct NumberFront<'a> {
+    number: u32,
+    rest: &'a [u8],
+}
+
+/// A count of ticks, and what follows its line.
+#[derive(Clone, Copy)]
+pub(crate) struct CountFront<'a> {
+    pub count: TickCount,
+    pub rest: &'a [u8],
+}
+
+/// The place and the kind at the front of a text.
+pub(crate) fn line_front(text: &[u8]) -> Option<LineFront<'_>>
     ensures place { IfSome result (λ front. (1 ≤ front.who) × (front.who ≤ 8)) }
     ensures is { IfSome result (λ front.
-        text.now ≡ fronted (48 + front.who) (kind_code (request_kind front.functional)) front.rest.now) }
+        text.now ≡ fronted (48 + front.who) (kind_code front.kind) front.rest.now) }
 {
-    let Some((place, kind, rest)) = front_of(text) else {
+    let Some((place, letter, rest)) = front_of(text) else {
         return None;
     };
     let Some(who) = place_in(place) else {
         return None;
     };
-    let functional = match kind_in(kind) {
-        Some(Kind::Physical) => false,
-        Some(Kind::Functional) => true,
-        _ => return None,
+    let Some(kind) = kind_in(letter) else {
+        return None;
     };
-    Some(RequestFront {
-        who,
-        functional,
-        rest,
-    })
+    Some(LineFront { who, kind, rest })
+}
+
+/// The number in decimal at the front of a text, if it has no leading zero and isn't far above 60000.
+fn number_front(text: &[u8]) -> Option<NumberFront<'_>>
+    ensures { IfSome result (λ front. text.now ≡ decimal front.number ++ front.rest.now) }
+{
+    let [first, tail @ ..] = text else {
+        return None;
+    };
+    if !is_digit(*first) || *first == b'0' {
+        return None;
+    }
+    let mut number = u32::from(*first - b'0');
+    let mut rest = tail;
+    while let [digit, tail @ ..] = rest {
+        if !is_digit(*digit) || 6000 < number {
+            break;
+        }
+        number = number * 10 + u32::from(*digit - b'0');
+        rest = tail;
+    }
+    Some(NumberFront { number, rest })
+}
+
+fn is_digit(byte: u8) -> bool
+    ensures { IsTrue result ↔ ((48 ≤ byte) × (byte ≤ 57)) }
+{
+    b'0' <= byte && byte <= b'9'
+}
+
+/// The count of ticks and the line's end at the front of a text.
+pub(crate) fn count_front(text: &[u8]) -> Option<CountFront<'_>>
+    ensures count { IfSome result (λ front. (1 ≤ front.count) × (front.count ≤ 60000)) }
+    ensures is { IfSome result (λ front. text.now ≡ decimal front.count ++ 10 ∷ front.rest.now) }
+{
+    let Some(front) = number_front(text) else {
+        return None;
+    };
+    let Some(rest) = behind(b'\n', front.rest) else {
+        return None;
+    };
+    if 60000 < front.number {
+        return None;
+    }
+    let Some(count) = TickCount::new(front.number as u16) else {
+        return None;
+    };
+    Some(CountFront { count, rest })
 }
 
 /// Reads the upper-case hex at the front of a text, in place of what the list had, and gives what follows it.
