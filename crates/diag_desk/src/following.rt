@@ -10,15 +10,16 @@ ghost use Rattle.diag_desk.specs.Fault.{FaultAt, IsTextOf};
 ghost use Rattle.diag_desk.specs.Following.{Answered, Followed, FollowedIn, Follows, IsReplayed, IsUsual, Plays, TextDiffers, read_so_far};
 ghost use Rattle.diag_desk.specs.Legal.{after_step, reply_to};
 ghost use Rattle.diag_desk.specs.Line.{HasHex, IsHex, IsHexReply, decoded, fronted, kind_code, line_entry, request_kind};
+ghost use Rattle.diag_desk.specs.declared.line.Kind.TheVariants as kind;
 ghost use Rattle.diag_desk.specs.PartRead.{HasNoNext};
 
 use crate::clocks::Clocks;
 use crate::entry::MOST_ENTRIES;
 use crate::flat::{append_hex, decoded_len, message_bytes};
-use crate::line::{Kind, Line, LineStep, cut};
+use crate::line::{Line, LineStep, cut};
 use crate::next::{LineFault, clock_with, next_line};
 use crate::read::{JournalFault, is_stamped};
-use crate::usual::{behind, behind_reply, count_front, line_front, read_front};
+use crate::usual::{behind, behind_reply, count_front, is_functional, line_front, read_front};
 use diag_ecu::Ecu;
 use diag_store::{Setup, TesterId};
 use diag_tp::Message;
@@ -261,10 +262,11 @@ impl Follower {
         if setup.testers() < usize::from(front.who.place()) {
             return None;
         }
-        match front.kind {
-            Kind::Physical => self.take_request(alloc, setup, front.who, false, front.rest),
-            Kind::Functional => self.take_request(alloc, setup, front.who, true, front.rest),
-            Kind::Ticks => self.take_ticks(setup, front.who, front.rest),
+        match is_functional(front.kind) {
+            Some(functional) => {
+                self.take_request(alloc, setup, front.who, functional, front.rest)
+            }
+            None => self.take_ticks(setup, front.who, front.rest),
         }
     }
 
@@ -304,7 +306,7 @@ impl Follower {
         ensures some { IfSome result (λ rest. (past : List Entry)
             → Follows setup.now self.old past
             → FollowedIn setup.now self.old self.new past
-            (fronted (48 + who) (kind_code Kind.Ticks) text.now) rest.now) }
+            (fronted (48 + who) (kind_code kind.Ticks) text.now) rest.now) }
         ensures none { IfNone result (self.new ≡ self.old) }
         ensures stamped { self.new.stamped ≡ self.old.stamped }
     {

@@ -1,8 +1,8 @@
 //! Reading entries of the usual form, whose reply is the ECU's: their text is gone through once.
-ghost use Rattle.std.specs.Prelude.{◌≡◌, ◌≤◌, ◌+◌, ◌++◌, ◌∷◌, IfOk, IfSome, IsTrue, ◌↔◌, decimal, option_copied};
+ghost use Rattle.std.specs.Prelude.{◌≡◌, ◌≤◌, ◌+◌, ◌++◌, ◌∷◌, IfOk, IfNone, IfSome, IsTrue, ◌↔◌, decimal, option_copied};
 ghost use Rattle.hex.specs.Hex.{encode_upper};
 ghost use Rattle.diag_desk.specs.Entry.{IsReply};
-ghost use Rattle.diag_desk.specs.Line.{fronted, kind_code};
+ghost use Rattle.diag_desk.specs.Line.{fronted, kind_code, request_kind};
 ghost use Rattle.diag_desk.specs.Text.{reply_text};
 
 use crate::flat::bytes_of;
@@ -51,6 +51,18 @@ pub(crate) fn line_front(text: &[u8]) -> Option<LineFront<'_>>
         return None;
     };
     Some(LineFront { who, kind, rest })
+}
+
+/// Whether a request's line is a functional one; None of a line of ticks.
+pub(crate) fn is_functional(kind: Kind) -> Option<bool>
+    ensures some { IfSome result (λ functional. kind ≡ request_kind functional) }
+    ensures none { IfNone result (kind ≡ Kind.Ticks) }
+{
+    match kind {
+        Kind::Physical => Some(false),
+        Kind::Functional => Some(true),
+        Kind::Ticks => None,
+    }
 }
 
 /// The number in decimal at the front of a text, if it has no leading zero and isn't far above 60000.
