@@ -5,8 +5,8 @@ use Rattle.std.proofs.lemmas.List.{take-append-le, drop-append-le, map-append}
 use Rattle.std.proofs.lemmas.Option.{slice_get-map, slice_get-get_or}
 use Rattle.diag_desk.specs.declared.entry.Entry.{Entry}
 use Rattle.diag_desk.specs.declared.flat.Head.{Head}
-use Rattle.diag_desk.specs.declared.flat.Head.TheVariants.{Request, Ticks}
-use Rattle.diag_desk.specs.Flat.{HeadFits, HeadsFit, entry_of, part, reply_end}
+use Rattle.diag_desk.specs.declared.flat.Head.TheVariants.{Answered, Silent, Ticks}
+use Rattle.diag_desk.specs.Flat.{HeadFits, HeadsFit, entry_of, part}
 use Rattle.diag_tp.specs.declared.step.Step.TheVariants as step
 
 -- the head at an index fits
@@ -27,20 +27,14 @@ part_kept bytes more start len within =
     let inside : len ≤ length (drop start bytes) = omega (arith, length-drop start bytes) in
     ap (take len) (drop-append-le start bytes more (omega arith)) ∙ take-append-le len (drop start bytes) more inside
 
-reply_kept : (bytes more : List ℕ) (end : ℕ) (len : Option ℕ) → reply_end end len ≤ length bytes
-    → option_map (λ n. part (bytes ++ more) end n) len ≡ option_map (λ n. part bytes end n) len
-reply_kept bytes more end None within = refl
-reply_kept bytes more end (Some n) within = ap Some (part_kept bytes more end n within)
-
-starts_within : (end n : ℕ) (len : Option ℕ) → reply_end end len ≤ n → end ≤ n
-starts_within end n None within = within
-starts_within end n (Some k) within = omega arith
-
 entry_kept : (bytes more : List ℕ) (head : Head) → HeadFits head (length bytes) → entry_of (bytes ++ more) head ≡ entry_of bytes head
-entry_kept bytes more (Request who functional start request_len reply_len) within =
-    let request = part_kept bytes more start request_len (starts_within (start + request_len) (length bytes) reply_len within.1) in
-    let reply = reply_kept bytes more (start + request_len) reply_len within.1 in
-    λ i. record { who = who; step = step.Request functional (request i); reply = reply i }
+entry_kept bytes more (Answered who functional request_len reply_len start) within =
+    let request = part_kept bytes more start request_len (omega (arith, within.1)) in
+    let reply = part_kept bytes more (start + request_len) reply_len within.1 in
+    λ i. record { who = who; step = step.Request functional (request i); reply = Some (reply i) }
+entry_kept bytes more (Silent who functional request_len start) within =
+    let request = part_kept bytes more start request_len within.1 in
+    λ i. record { who = who; step = step.Request functional (request i); reply = None }
 entry_kept bytes more (Ticks who count) within = refl
 
 entries_kept : (bytes more : List ℕ) (heads : List Head) → HeadsFit heads (length bytes) → map (entry_of (bytes ++ more)) heads ≡ map (entry_of bytes) heads
@@ -55,12 +49,9 @@ pub entries_push : (bytes more : List ℕ) (heads : List Head) (head : Head) (en
 entries_push bytes more heads head entry within e =
     map-append (entry_of (bytes ++ more)) heads (head ∷ []) ∙ (λ i. entries_kept bytes more heads within i ++ e i ∷ [])
 
-ends_within : (end n m : ℕ) (len : Option ℕ) → reply_end end len ≤ n → n ≤ m → reply_end end len ≤ m
-ends_within end n m None within more = omega arith
-ends_within end n m (Some k) within more = omega arith
-
 head_fits_more : (head : Head) (n m : ℕ) → HeadFits head n → n ≤ m → HeadFits head m
-head_fits_more (Request who functional start request_len reply_len) n m within more = (within.0, ends_within (start + request_len) n m reply_len within.1 more)
+head_fits_more (Answered who functional request_len reply_len start) n m within more = (within.0, omega (arith, within.1))
+head_fits_more (Silent who functional request_len start) n m within more = (within.0, omega (arith, within.1))
 head_fits_more (Ticks who count) n m within more = tt
 
 pub fits_push : (heads : List Head) (head : Head) (n m : ℕ) → HeadsFit heads n → n ≤ m → HeadFits head m → HeadsFit (heads ++ head ∷ []) m

@@ -1,5 +1,5 @@
 -- Upper-case hex has one spelling: what decodes from upper-case digits is written back as it was.
-use Rattle.std.proofs.Common.{◌≡◌, ℕ, suc, ◌+◌, ◌*◌, ◌/◌, ◌%◌, ◌<◌, ◌==◌, Bool, true, false, not, ◌&&◌, ◌||◌, List, [], ◌∷◌, length, get_or, slice_index, Option, Some, None, unwrap_or, Result, Ok, Err, refl, sym, ap, ◌∙◌, arith}
+use Rattle.std.proofs.Common.{◌≡◌, ℕ, suc, ◌+◌, ◌*◌, ◌/◌, ◌%◌, ◌<◌, ◌==◌, Bool, true, not, ◌&&◌, ◌||◌, List, [], ◌∷◌, length, nat_lt, slice_index, Option, Some, None, unwrap_or, Result, Ok, Err, refl, sym, ap, ◌∙◌, arith}
 use Rattle.std.specs.List.{list_all}
 use Rattle.std.specs.Result.{result_unwrap_or}
 use Rattle.std.proofs.lemmas.Bool.{agree_below_at, and_parts, eqb-true}
@@ -7,16 +7,15 @@ use Rattle.hex.specs.Hex.{IsBytes, decode_of, decode_pairs, decode_sized, digit_
 use Rattle.hex.specs.declared.error.FromHexError.{FromHexError}
 use Rattle.hex.proofs.HexLemmas.{decode_of-encode_upper, decode_of-ok, decode_sized-ok, decode_sized-twice, length-encode_with, decode_of-even}
 use Rattle.diag_desk.specs.Entry.{IsMessage}
-use Rattle.diag_desk.specs.Text.{is_upper_digit}
-use Rattle.diag_desk.specs.declared.line.TheConstants.{IS_UPPER_DIGIT}
+use Rattle.diag_desk.specs.Text.{is_upper_digit, upper_value}
 
 -- each digit that is written is an upper-case one
 digit_is_upper : (d : ℕ) → d < 16 → is_upper_digit (slice_index upper_digits d) ≡ true
 digit_is_upper d below = agree_below_at (λ d. is_upper_digit (slice_index upper_digits d)) (λ _. true) 16 d refl below
 
--- the table of upper-case digits
-pub upper_at : (c : ℕ) → c < 256 → get_or IS_UPPER_DIGIT c false ≡ is_upper_digit c
-upper_at c byte = agree_below_at (λ c. get_or IS_UPPER_DIGIT c false) is_upper_digit 256 c refl byte
+-- the bytes of a small value are the digits
+pub upper_small : (c : ℕ) → c < 256 → nat_lt (upper_value c) 16 ≡ is_upper_digit c
+upper_small c byte = agree_below_at (λ c. nat_lt (upper_value c) 16) is_upper_digit 256 c refl byte
 
 -- an upper-case digit is the one that its value is written as
 abbrev is_spelled : ℕ → Bool

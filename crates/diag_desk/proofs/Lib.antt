@@ -8,4 +8,5 @@ pub mod FlatLemmas
 pub mod ReadLemmas
 pub mod Runs
 pub mod FollowLemmas
+pub mod UsualLemmas
 pub mod Unlocking

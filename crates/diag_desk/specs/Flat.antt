@@ -1,10 +1,10 @@
 -- The flat representation of a journal: small heads, and the bytes of all messages in one list.
-use Rattle.std.specs.Prelude.{ℕ, ◌+◌, ◌-◌, ◌≤◌, List, [], ◌∷◌, map, length, take, drop, Option, Some, None, option_map, vec_len, vec_capacity}
+use Rattle.std.specs.Prelude.{ℕ, ◌+◌, ◌-◌, ◌≤◌, List, [], ◌∷◌, map, length, take, drop, Some, None, vec_len, vec_capacity}
 use Rattle.diag_desk.specs.Entry.{IsJournal, Kept}
 use Rattle.diag_tp.specs.declared.step.Step.TheVariants as step
 use Rattle.diag_desk.specs.declared.entry.Entry.{Entry}
 use Rattle.diag_desk.specs.declared.flat.Head.{Head}
-use Rattle.diag_desk.specs.declared.flat.Head.TheVariants.{Request, Ticks}
+use Rattle.diag_desk.specs.declared.flat.Head.TheVariants.{Answered, Silent, Ticks}
 use Rattle.diag_desk.specs.declared.journal.Journal.TheInside.{Inside}
 
 -- len bytes from a place on
@@ -13,21 +13,21 @@ part bytes start len = take len (drop start bytes)
 
 -- the entry of a head
 abbrev pub entry_of : List ℕ → Head → Entry
-entry_of bytes (Request who functional start request_len reply_len) = record {
+entry_of bytes (Answered who functional request_len reply_len start) = record {
   who = who;
   step = step.Request functional (part bytes start request_len);
-  reply = option_map (λ len. part bytes (start + request_len) len) reply_len;
+  reply = Some (part bytes (start + request_len) reply_len);
 }
+entry_of bytes (Silent who functional request_len start) =
+    record { who = who; step = step.Request functional (part bytes start request_len); reply = None }
 entry_of bytes (Ticks who count) = record { who = who; step = step.Ticks count; reply = None }
-
-abbrev pub reply_end : ℕ → Option ℕ → ℕ
-reply_end end None = end
-reply_end end (Some len) = end + len
 
 -- the parts that a head names lie within n bytes, and a request has a byte
 abbrev pub HeadFits : Head → ℕ → Type 0
-HeadFits (Request who functional start request_len reply_len) n =
-    (1 ≤ request_len) × (reply_end (start + request_len) reply_len ≤ n)
+HeadFits (Answered who functional request_len reply_len start) n =
+    (1 ≤ request_len) × (start + request_len + reply_len ≤ n)
+HeadFits (Silent who functional request_len start) n =
+    (1 ≤ request_len) × (start + request_len ≤ n)
 HeadFits (Ticks who count) n = Unit {0}
 
 abbrev pub HeadsFit : List Head → ℕ → Type 0

@@ -1,17 +1,19 @@
 -- Replaying a journal's text as it is read.
-use Rattle.std.specs.Prelude.{◌≡◌, ℕ, Bool, List, [], ◌∷◌, ◌++◌, length, Some, None}
+use Rattle.std.specs.Prelude.{◌≡◌, ◌<◌, ◌≤◌, ℕ, Bool, false, List, [], ◌∷◌, ◌++◌, length, Some, None}
 use Rattle.diag_setup.specs.declared.raw.RawSetup.{RawSetup}
+use Rattle.hex.specs.Hex.{encode_upper}
+use Rattle.diag_ecu.specs.Respond.{after_request, reply}
 use Rattle.diag_ecu.specs.State.{State, opening}
 use Rattle.diag_desk.specs.declared.entry.Entry.{Entry}
 use Rattle.diag_desk.specs.declared.following.Follower.{Follower}
 use Rattle.diag_desk.specs.declared.following.Play.{Play}
 use Rattle.diag_desk.specs.Clocks.{Tells}
-use Rattle.diag_desk.specs.Entry.{IsEntry, IsJournal}
+use Rattle.diag_desk.specs.Entry.{IsEntry, IsJournal, IsMessage, IsReply}
 use Rattle.diag_desk.specs.Fault.{IsTextOf}
 use Rattle.diag_desk.specs.Legal.{after}
 use Rattle.diag_desk.specs.PartRead.{PartRead}
 use Rattle.diag_desk.specs.Replay.{DiffersAt, IsRun}
-use Rattle.diag_desk.specs.Text.{line_after}
+use Rattle.diag_desk.specs.Text.{line_after, reply_text}
 
 -- the text is that of these entries, which are a run of the setup and leave this state
 pub record IsReplayed (setup : RawSetup) (text : List ℕ) (count : ℕ) (s : State) : Type 0 where
@@ -53,4 +55,25 @@ pub record Followed (setup : RawSetup) (f new : Follower) (past : List Entry) (t
   pub entry : Entry
   pub is_entry : IsEntry entry
   pub line : line_after f.stamped past entry ≡ text
+  pub follows : Follows setup new (past ++ entry ∷ [])
+
+-- a request and its reply at the front of a text, which are the ECU's, and what follows their line
+pub record Answered (s new : State) (who : ℕ) (functional : Bool) (text rest : List ℕ) : Type 0 where
+  pub message : List ℕ
+  pub is_message : IsMessage message
+  pub is_reply : IsReply (reply s who functional message)
+  pub is : text ≡ encode_upper message ++ 32 ∷ (reply_text (reply s who functional message) ++ 10 ∷ rest)
+  pub state : new ≡ after_request s who functional message
+
+-- the next entry has room and no stamp, none before it differs, and its tester is in the setup
+pub record IsUsual (setup : RawSetup) (f : Follower) (who : ℕ) : Type 0 where
+  pub stamped : f.stamped ≡ false
+  pub count : f.count < 1000000
+  pub differs : f.play.differs ≡ None
+  pub tester : who ≤ length setup.testers
+
+-- one line more at the front of a text, and what follows it
+pub record FollowedIn (setup : RawSetup) (f new : Follower) (past : List Entry) (text rest : List ℕ) : Type 0 where
+  pub entry : Entry
+  pub line : text ≡ line_after f.stamped past entry ++ 10 ∷ rest
   pub follows : Follows setup new (past ++ entry ∷ [])

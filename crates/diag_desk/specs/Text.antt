@@ -1,6 +1,6 @@
 -- The text of a journal: a header, and a line for each entry. There is one spelling.
-use Rattle.std.specs.Prelude.{◌≢◌, ◌≤◌, ◌<◌, ◌^◌, ◌+◌, ◌==◌, ◌&&◌, ◌||◌, ℕ, Bool, true, false, nat_le, List, [], ◌∷◌, ◌++◌, codes, decimal, Option, Some, None, if◌then◌else◌}
-use Rattle.hex.specs.Hex.{encode_upper}
+use Rattle.std.specs.Prelude.{◌≢◌, ◌≤◌, ◌<◌, ◌^◌, ◌+◌, ◌==◌, ◌&&◌, ◌||◌, ℕ, Bool, true, false, nat_le, List, [], ◌∷◌, ◌++◌, codes, decimal, Option, Some, None, unwrap_or, if◌then◌else◌}
+use Rattle.hex.specs.Hex.{encode_upper, hex_digit_value}
 use Rattle.diag_tp.specs.declared.step.Step.{Step}
 use Rattle.diag_tp.specs.declared.step.Step.TheVariants.{Request, Ticks}
 use Rattle.diag_desk.specs.declared.entry.Entry.{Entry}
@@ -64,6 +64,10 @@ journal_text_at entries = text_of true entries
 -- a digit as the journal writes it
 abbrev pub is_upper_digit : ℕ → Bool
 is_upper_digit c = (nat_le 48 c && nat_le c 57) || (nat_le 65 c && nat_le c 70)
+
+-- its value, and of another byte more than two digits make
+abbrev pub upper_value : ℕ → ℕ
+upper_value c = if is_upper_digit c then unwrap_or (hex_digit_value c) 0 else 4096
 
 -- ---- texts that nothing is written as
 

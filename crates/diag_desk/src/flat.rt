@@ -16,12 +16,20 @@ use std::alloc::AllocError;
 /// Where the bytes of an entry stand: the reply's right after the request's.
 #[derive(Clone, Copy, Drop)]
 pub(crate) enum Head {
-    Request {
+    /// A request with its reply.
+    Answered {
         who: TesterId,
         functional: bool,
-        start: usize,
         request_len: u16,
-        reply_len: Option<u16>,
+        reply_len: u16,
+        start: usize,
+    },
+    /// A request without a reply.
+    Silent {
+        who: TesterId,
+        functional: bool,
+        request_len: u16,
+        start: usize,
     },
     Ticks {
         who: TesterId,
@@ -29,7 +37,7 @@ pub(crate) enum Head {
     },
 }
 
-const _: () = prove!(size_of::<Head>() <= 24);
+const _: () = prove!(size_of::<Head>() <= 16);
 
 /// The number of bytes of a step's message.
 pub(crate) fn step_len(step: &Step) -> usize
@@ -48,7 +56,7 @@ fn tell_bytes(bytes: &[u8])
 {}
 
 /// The bytes of a message.
-fn message_bytes(message: &Message) -> &[u8]
+pub(crate) fn message_bytes(message: &Message) -> &[u8]
     ensures same { result.now ≡ message.now }
     ensures message { IsMessage message.now }
 {
@@ -80,13 +88,31 @@ pub(crate) fn len_of(reply: Option<&[u8]>) -> usize
     }
 }
 
+/// The most bytes that are appended one by one, for which a call that copies them costs more.
+const FEW: usize = 8;
+
 /// Appends bytes where there is room.
 fn append(bytes: &mut Vec<u8>, more: &[u8])
     requires { vec_len bytes.old + length more.now ≤ vec_capacity bytes.old }
     ensures items { bytes.new.items ≡ bytes.old.items ++ more.now }
     ensures room { vec_capacity bytes.old ≤ vec_capacity bytes.new }
 {
+    if more.len() <= FEW {
+        append_few(bytes, more);
+        return;
+    }
     let _ = bytes.extend_from_slice(more);
+}
+
+/// Appends bytes one by one where there is room.
+fn append_few(bytes: &mut Vec<u8>, more: &[u8])
+    requires { vec_len bytes.old + length more.now ≤ vec_capacity bytes.old }
+    ensures items { bytes.new.items ≡ bytes.old.items ++ more.now }
+    ensures room { vec_capacity bytes.old ≤ vec_capacity bytes.new }
+{
+    for byte in more {
+        bytes.push_reserved(*byte);
+    }
 }
 
 /// Adds a head where there is room.
@@ -127,19 +153,23 @@ pub(crate) fn head_of(bytes: &mut Vec<u8>, who: TesterId, step: &Step, reply: Op
             let start = bytes.len();
             let request = message_bytes(message);
             append(bytes, request);
-            let reply_len = match reply {
+            match reply {
                 Some(reply) => {
                     append(bytes, reply);
-                    Some(reply.len() as u16)
+                    Head::Answered {
+                        who,
+                        functional: *functional,
+                        request_len: request.len() as u16,
+                        reply_len: reply.len() as u16,
+                        start,
+                    }
                 }
-                None => None,
-            };
-            Head::Request {
-                who,
-                functional: *functional,
-                start,
-                request_len: request.len() as u16,
-                reply_len,
+                None => Head::Silent {
+                    who,
+                    functional: *functional,
+                    request_len: request.len() as u16,
+                    start,
+                },
             }
         }
     }
@@ -168,20 +198,24 @@ pub(crate) fn head_of_line(bytes: &mut Vec<u8>, line: &Line<'_>) -> Result<Head,
             let start = bytes.len();
             bytes.reserve(decoded_len(message) + reply_len(reply))?;
             append_hex(bytes, message);
-            let reply_len = match reply {
+            match reply {
                 Some(text) => {
                     append_hex(bytes, text);
-                    Some(decoded_len(text) as u16)
+                    Ok(Head::Answered {
+                        who: line.who,
+                        functional,
+                        request_len: decoded_len(message) as u16,
+                        reply_len: decoded_len(text) as u16,
+                        start,
+                    })
                 }
-                None => None,
-            };
-            Ok(Head::Request {
-                who: line.who,
-                functional,
-                start,
-                request_len: decoded_len(message) as u16,
-                reply_len,
-            })
+                None => Ok(Head::Silent {
+                    who: line.who,
+                    functional,
+                    request_len: decoded_len(message) as u16,
+                    start,
+                }),
+            }
         }
     }
 }
@@ -224,12 +258,12 @@ pub(crate) fn entry_at<'a>(head: Head, bytes: &'a [u8]) -> EntryRef<'a>
     ensures same { entry_seen result ≡ entry_of bytes.now head }
 {
     match head {
-        Head::Request {
+        Head::Answered {
             who,
             functional,
-            start,
             request_len,
             reply_len,
+            start,
         } => {
             let end = start + usize::from(request_len);
             EntryRef {
@@ -238,12 +272,22 @@ pub(crate) fn entry_at<'a>(head: Head, bytes: &'a [u8]) -> EntryRef<'a>
                     functional,
                     bytes: &bytes[start..end],
                 },
-                reply: match reply_len {
-                    Some(len) => Some(&bytes[end..end + usize::from(len)]),
-                    None => None,
-                },
+                reply: Some(&bytes[end..end + usize::from(reply_len)]),
             }
         }
+        Head::Silent {
+            who,
+            functional,
+            request_len,
+            start,
+        } => EntryRef {
+            who,
+            step: StepRef::Request {
+                functional,
+                bytes: &bytes[start..start + usize::from(request_len)],
+            },
+            reply: None,
+        },
         Head::Ticks { who, count } => EntryRef {
             who,
             step: StepRef::Ticks(count),

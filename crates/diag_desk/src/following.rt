@@ -1,21 +1,25 @@
 //! Replaying a journal's text as it is read, entry by entry; none is kept.
-ghost use Rattle.std.specs.Prelude.{◌≡◌, ◌+◌, ◌++◌, ◌∷◌, ◌≤◌, ◌↔◌, [], ℕ, List, length, IfOk, IfErr, OnOk, IsTrue, option_copied, option_map};
+ghost use Rattle.std.specs.Prelude.{◌≡◌, ◌+◌, ◌++◌, ◌∷◌, ◌≤◌, ◌↔◌, [], false, true, ℕ, List, length, IfOk, IfErr, IfSome, IfNone, OnOk, IsTrue, option_copied, option_map};
 ghost use Rattle.std.specs.Bool.{OnTrue, OnFalse};
+ghost use Rattle.diag_setup.specs.declared.raw.RawSetup.{RawSetup};
+ghost use Rattle.diag_ecu.specs.State.{opening};
 ghost use Rattle.diag_ecu.specs.Respond as ecu;
 ghost use Rattle.diag_desk.specs.declared.entry.Entry.{Entry};
 ghost use Rattle.diag_desk.specs.Entry.{IsEntry};
 ghost use Rattle.diag_desk.specs.Fault.{FaultAt, IsTextOf};
-ghost use Rattle.diag_desk.specs.Following.{Followed, Follows, IsReplayed, Plays, TextDiffers, read_so_far};
+ghost use Rattle.diag_desk.specs.Following.{Answered, Followed, FollowedIn, Follows, IsReplayed, IsUsual, Plays, TextDiffers, read_so_far};
 ghost use Rattle.diag_desk.specs.Legal.{after_step, reply_to};
-ghost use Rattle.diag_desk.specs.Line.{HasHex, IsHex, IsHexReply, decoded, line_entry};
+ghost use Rattle.diag_desk.specs.Line.{HasHex, IsHex, IsHexReply, decoded, fronted, kind_code, line_entry, request_kind};
+ghost use Rattle.diag_desk.specs.declared.line.Kind.TheVariants as kind;
 ghost use Rattle.diag_desk.specs.PartRead.{HasNoNext};
 
 use crate::clocks::Clocks;
 use crate::entry::MOST_ENTRIES;
-use crate::flat::{append_hex, decoded_len};
+use crate::flat::{append_hex, decoded_len, message_bytes};
 use crate::line::{Line, LineStep, cut};
 use crate::next::{LineFault, clock_with, next_line};
 use crate::read::{JournalFault, is_stamped};
+use crate::usual::{behind, behind_reply, count_front, is_functional, line_front, read_front};
 use diag_ecu::Ecu;
 use diag_store::{Setup, TesterId};
 use diag_tp::Message;
@@ -148,6 +152,44 @@ impl Play {
         self.ecu.settle(who, functional, &message);
         Ok(true)
     }
+
+    /// Plays a request that is read from the front of a text, where the reply there is the ECU's; what follows the line.
+    ///
+    /// None where it isn't, where there is no request, and where memory is refused: then the ECU is as before.
+    fn answers_front<'a>(
+        &mut self,
+        alloc: Global,
+        who: TesterId,
+        functional: bool,
+        text: &'a [u8],
+    ) -> Option<&'a [u8]>
+        ensures differs { self.new.differs ≡ self.old.differs }
+        ensures some { IfSome result (λ rest.
+            Answered self.old.ecu self.new.ecu who functional text.now rest.now) }
+        ensures none { IfNone result (self.new.ecu ≡ self.old.ecu) }
+    {
+        let Ok(text) = read_front(&mut self.bytes, text) else {
+            return None;
+        };
+        let Some(text) = behind(b' ', text) else {
+            return None;
+        };
+        let Ok(message) = Message::new(alloc, self.bytes.as_slice()) else {
+            return None;
+        };
+        let _is_message = message_bytes(&message);
+        let Ok(said) = self.ecu.reply(who, functional, &message) else {
+            return None;
+        };
+        let Some(text) = behind_reply(said.as_ref(), text) else {
+            return None;
+        };
+        let Some(rest) = behind(b'\n', text) else {
+            return None;
+        };
+        self.ecu.settle(who, functional, &message);
+        Some(rest)
+    }
 }
 
 /// The bytes of a message's hex text, in place of what the list had.
@@ -182,6 +224,103 @@ fn is_said(
 }
 
 impl Follower {
+    /// Nothing was read so far.
+    fn new(alloc: Global, stamped: bool, ecu: Ecu) -> Follower
+        ensures stamped { result.stamped ≡ stamped }
+        ensures follows { (setup : RawSetup) → ecu ≡ opening setup → Follows setup result [] }
+    {
+        Follower {
+            stamped,
+            clocks: Clocks::new(),
+            count: 0,
+            play: Play {
+                ecu,
+                differs: None,
+                bytes: Vec::new(alloc),
+            },
+        }
+    }
+
+    /// Takes the line at the front of a text where it is of the usual form, and gives what follows it: an entry without a
+    /// stamp, whose reply is the ECU's. None where it isn't, and where memory is refused.
+    fn take_usual<'a>(&mut self, alloc: Global, setup: &Setup, text: &'a [u8]) -> Option<&'a [u8]>
+        requires { (past : List Entry) × Follows setup.now self.old past }
+        ensures some { IfSome result (λ rest. (past : List Entry)
+            → Follows setup.now self.old past
+            → FollowedIn setup.now self.old self.new past text.now rest.now) }
+        ensures none { IfNone result ((past : List Entry)
+            → Follows setup.now self.old past
+            → Follows setup.now self.new past) }
+        ensures stamped { self.new.stamped ≡ self.old.stamped }
+    {
+        if self.stamped || self.count >= MOST_ENTRIES || self.play.differs.is_some() {
+            return None;
+        }
+        let Some(front) = line_front(text) else {
+            return None;
+        };
+        if setup.testers() < usize::from(front.who.place()) {
+            return None;
+        }
+        match is_functional(front.kind) {
+            Some(functional) => {
+                self.take_request(alloc, setup, front.who, functional, front.rest)
+            }
+            None => self.take_ticks(setup, front.who, front.rest),
+        }
+    }
+
+    /// Takes the rest of a request's line.
+    fn take_request<'a>(
+        &mut self,
+        alloc: Global,
+        setup: &Setup,
+        who: TesterId,
+        functional: bool,
+        text: &'a [u8],
+    ) -> Option<&'a [u8]>
+        requires usual { IsUsual setup.now self.old who }
+        ensures some { IfSome result (λ rest. (past : List Entry)
+            → Follows setup.now self.old past
+            → FollowedIn setup.now self.old self.new past
+            (fronted (48 + who) (kind_code (request_kind functional)) text.now) rest.now) }
+        ensures none { IfNone result ((past : List Entry)
+            → Follows setup.now self.old past
+            → Follows setup.now self.new past) }
+        ensures stamped { self.new.stamped ≡ self.old.stamped }
+    {
+        // (for its contract: a place is at most 8)
+        let _place = who.place();
+        let Some(rest) = self.play.answers_front(alloc, who, functional, text) else {
+            return None;
+        };
+        self.clocks.set(who, self.clocks.at(who));
+        self.count += 1;
+        Some(rest)
+    }
+
+    /// Takes the rest of a line of ticks.
+    fn take_ticks<'a>(&mut self, setup: &Setup, who: TesterId, text: &'a [u8]) -> Option<&'a [u8]>
+        requires usual { IsUsual setup.now self.old who }
+        requires follows { (past : List Entry) × Follows setup.now self.old past }
+        ensures some { IfSome result (λ rest. (past : List Entry)
+            → Follows setup.now self.old past
+            → FollowedIn setup.now self.old self.new past
+            (fronted (48 + who) (kind_code kind.Ticks) text.now) rest.now) }
+        ensures none { IfNone result (self.new ≡ self.old) }
+        ensures stamped { self.new.stamped ≡ self.old.stamped }
+    {
+        let _place = who.place();
+        let Some(front) = count_front(text) else {
+            return None;
+        };
+        let clock = self.clocks.at(who) + u64::from(front.count.get());
+        self.clocks.set(who, clock);
+        self.play.ecu.ticks(who, front.count);
+        self.count += 1;
+        Some(front.rest)
+    }
+
     /// Takes the line that comes next.
     fn take(&mut self, alloc: Global, setup: &Setup, line: &[u8]) -> Result<(), LineFault>
         requires { (past : List Entry) × Follows setup.now self.old past }
@@ -229,17 +368,12 @@ fn follow(alloc: Global, setup: &Setup, text: &[u8]) -> Result<Follower, Journal
     let Ok(ecu) = Ecu::new(alloc, setup) else {
         return Err(JournalFault::Memory);
     };
-    let mut follower = Follower {
-        stamped,
-        clocks: Clocks::new(),
-        count: 0,
-        play: Play {
-            ecu,
-            differs: None,
-            bytes: Vec::new(alloc),
-        },
-    };
+    let mut follower = Follower::new(alloc, stamped, ecu);
     while !rest.is_empty() {
+        if let Some(after) = follower.take_usual(alloc, setup, rest) {
+            rest = after;
+            continue;
+        }
         let number = follower.count + 2;
         let Some((line, after)) = cut(rest, b'\n') else {
             return Err(JournalFault::Line(number));

@@ -35,7 +35,7 @@ pub enum JournalPush {
 
 /// The steps of all testers in their order, with the replies: at most 1,000,000 entries.
 ///
-/// The bytes of the messages stand in one list, so an entry takes no more than them and its head of 24 bytes, beside
+/// The bytes of the messages stand in one list, so an entry takes no more than them and its head of 16 bytes, beside
 /// the room that the two lists have ahead.
 #[derive(Drop)]
 pub struct Journal {

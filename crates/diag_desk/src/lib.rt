@@ -12,7 +12,9 @@ mod line;
 mod next;
 mod read;
 mod replaying;
+mod table;
 mod text;
+mod usual;
 
 pub use desk::{Desk, StepFault, reply_of, settle_step};
 pub use diag_tp::Step;

@@ -7,6 +7,7 @@ ghost use Rattle.diag_desk.specs.Cut.{cut};
 ghost use Rattle.diag_desk.specs.Line.{IsHex, IsHexReply, IsRead, IsReadStep, IsNoStep, IsReadReply, request_kind, kind_code, decoded, fronted, IsNoFront};
 ghost use Rattle.diag_desk.specs.declared.line.Kind.{Kind as IsKind};
 
+use crate::table::upper_value;
 use diag_can::TickCount;
 use diag_store::TesterId;
 use diag_tp::Message;
@@ -70,7 +71,7 @@ pub(crate) fn entry_in(line: &[u8]) -> Option<Line<'_>>
 }
 
 /// The place and the kind of a line, one byte each, and what follows the space after them.
-fn front_of(line: &[u8]) -> Option<(u8, u8, &[u8])>
+pub(crate) fn front_of(line: &[u8]) -> Option<(u8, u8, &[u8])>
     ensures { MatchOption result (IsNoFront line.now) (λ parts.
         line.now ≡ fronted parts.0 parts.1 parts.2.now) }
 {
@@ -81,7 +82,7 @@ fn front_of(line: &[u8]) -> Option<(u8, u8, &[u8])>
 }
 
 /// The tester whose place is a digit.
-fn place_in(digit: u8) -> Option<TesterId>
+pub(crate) fn place_in(digit: u8) -> Option<TesterId>
     ensures some { IfSome result (λ who. (48 + who ≡ digit) × (1 ≤ who) × (who ≤ 8)) }
     ensures none { IfNone result ((who : ℕ) → 1 ≤ who → who ≤ 8 → 48 + who ≢ digit) }
 {
@@ -92,7 +93,7 @@ fn place_in(digit: u8) -> Option<TesterId>
 }
 
 /// The kind whose letter this is.
-fn kind_in(letter: u8) -> Option<Kind>
+pub(crate) fn kind_in(letter: u8) -> Option<Kind>
     ensures some { IfSome result (λ kind. kind_code kind ≡ letter) }
     ensures none { IfNone result ((kind : IsKind) → kind_code kind ≢ letter) }
 {
@@ -177,32 +178,8 @@ fn has_upper_digits(text: &[u8]) -> bool
 fn is_upper_digit(c: u8) -> bool
     ensures { result ≡ is_upper_digit c }
 {
-    IS_UPPER_DIGIT[usize::from(c)]
+    upper_value(c) < 16
 }
-
-/// Whether each byte is a hex digit, in upper case.
-static IS_UPPER_DIGIT: [bool; 256] = [
-    false, false, false, false, false, false, false, false, false, false, false, false, false,
-    false, false, false, false, false, false, false, false, false, false, false, false, false,
-    false, false, false, false, false, false, false, false, false, false, false, false, false,
-    false, false, false, false, false, false, false, false, false, true, true, true, true, true,
-    true, true, true, true, true, false, false, false, false, false, false, false, true, true,
-    true, true, true, true, false, false, false, false, false, false, false, false, false, false,
-    false, false, false, false, false, false, false, false, false, false, false, false, false,
-    false, false, false, false, false, false, false, false, false, false, false, false, false,
-    false, false, false, false, false, false, false, false, false, false, false, false, false,
-    false, false, false, false, false, false, false, false, false, false, false, false, false,
-    false, false, false, false, false, false, false, false, false, false, false, false, false,
-    false, false, false, false, false, false, false, false, false, false, false, false, false,
-    false, false, false, false, false, false, false, false, false, false, false, false, false,
-    false, false, false, false, false, false, false, false, false, false, false, false, false,
-    false, false, false, false, false, false, false, false, false, false, false, false, false,
-    false, false, false, false, false, false, false, false, false, false, false, false, false,
-    false, false, false, false, false, false, false, false, false, false, false, false, false,
-    false, false, false, false, false, false, false, false, false, false, false, false, false,
-    false, false, false, false, false, false, false, false, false, false, false, false, false,
-    false, false, false, false, false, false,
-];
 
 /// The count of ticks of a text in decimal.
 fn count_in(text: &[u8]) -> Option<TickCount>

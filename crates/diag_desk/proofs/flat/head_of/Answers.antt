@@ -3,6 +3,3 @@ use Rattle.diag_desk.proofs.flat.head_of.Goals as goal
 
 pub returns-in-Ticks-clause-entry : goal.returns-in-Ticks-clause-entry
 returns-in-Ticks-clause-entry c = (omega arith, omega arith, rw c.in-Ticks.is (omega arith, omega arith, rw c.in-Ticks.is at c.requires.no_reply))
-
-pub returns-after-reply-clause-entry : goal.returns-after-reply-clause-entry
-returns-after-reply-clause-entry c = (omega arith, omega arith, rw c.in-Request.is (c.message_bytes-request.ensures.message, c.requires.reply))

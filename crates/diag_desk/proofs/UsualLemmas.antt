@@ -1,0 +1,111 @@
+-- Entries of the usual form, which are read from the front of a text.
+use Rattle.std.proofs.Common.{◌≡◌, ℕ, ◌+◌, ◌-◌, ◌*◌, ◌/◌, ◌%◌, ◌<◌, ◌≤◌, ◌==◌, eqb, nat_lt, Bool, true, false, ◌&&◌, ◌||◌, List, [], ◌∷◌, ◌++◌, length, take, drop, get_or, slice_get, slice_index, Option, Some, None, refl, sym, ap, ◌∙◌, append_assoc, arith, decimal}
+use Rattle.std.proofs.lemmas.Bool.{agree_below_at, eqb-true}
+use Rattle.std.proofs.lemmas.Bool.Decides.{nat_tests}
+use Rattle.std.proofs.lemmas.Fmt.{decimal_digit, decimal_step}
+use Rattle.std.proofs.lemmas.List.{take_all, take_more}
+use Rattle.std.proofs.lemmas.Option.{slice_get_within, get_or_from_slice_get}
+use Rattle.hex.specs.Hex.{encode_upper, encode_with, upper_digits}
+use Rattle.diag_desk.specs.Text.{entry_line, reply_text, upper_value}
+use Rattle.diag_desk.specs.Line.{fronted, kind_code, request_kind}
+use Rattle.diag_desk.specs.Entries.{entry}
+use Rattle.diag_desk.specs.declared.line.Kind.TheVariants as kind
+use Rattle.diag_desk.specs.declared.table.TheConstants.{VALUES}
+use Rattle.diag_tp.specs.declared.step.Step.TheVariants.{Request, Ticks}
+
+-- ---- the table
+
+pub values_at : (c : ℕ) → c < 256 → get_or VALUES c 0 ≡ upper_value c
+values_at c byte = eqb-true (get_or VALUES c 0) (upper_value c) (agree_below_at (λ c. eqb (get_or VALUES c 0) (upper_value c)) (λ c. true) 256 c refl byte)
+
+-- a value is that of a digit, which is written so, or it is 4096
+abbrev is_sound : ℕ → Bool
+is_sound c = (nat_lt (upper_value c) 16 && (slice_index upper_digits (upper_value c) == c)) || (upper_value c == 4096)
+
+pub record Sound (c : ℕ) : Type 0 where
+  pub few : upper_value c < 256 → upper_value c < 16
+  pub digit : upper_value c < 16 → slice_index upper_digits (upper_value c) ≡ c
+  pub most : upper_value c ≤ 4096
+
+sound_parts : (v d c : ℕ) → ((nat_lt v 16 && (d == c)) || (v == 4096)) ≡ true → (v < 256 → v < 16) × (v < 16 → d ≡ c) × (v ≤ 4096)
+sound_parts v d c h = grind (arith, nat_tests)
+
+pub sound : (c : ℕ) → c < 256 → Sound c
+sound c byte =
+    let parts = sound_parts (upper_value c) (slice_index upper_digits (upper_value c)) c (agree_below_at is_sound (λ c. true) 256 c refl byte) in
+    record { few = parts.0; digit = parts.1; most = parts.2 }
+
+-- two digits that make a byte are how it is written
+pub pair_spelled : (high low v : ℕ) → high < 256 → low < 256 → v ≡ upper_value high * 16 + upper_value low → v < 256 → encode_upper (v ∷ []) ≡ high ∷ low ∷ []
+unfolding encode_with
+pair_spelled high low v hb lb is byte =
+    let h = sound high hb in
+    let l = sound low lb in
+    let few_high : upper_value high < 16 = omega arith in
+    let few_low : upper_value low < 16 = l.few (omega arith) in
+    let first : v / 16 ≡ upper_value high = omega arith in
+    let second : v % 16 ≡ upper_value low = omega arith in
+    rw (first, second, h.digit few_high, l.digit few_low) refl
+
+-- ---- hex at the front
+
+upper-append : (bytes : List ℕ) (b : ℕ) → encode_upper (bytes ++ b ∷ []) ≡ encode_upper bytes ++ encode_upper (b ∷ [])
+unfolding encode_with
+upper-append [] b = refl
+upper-append (x ∷ bytes) b = ap (λ text. slice_index upper_digits (x / 16) ∷ slice_index upper_digits (x % 16) ∷ text) (upper-append bytes b)
+
+pub front-none : (text : List ℕ) → text ≡ encode_upper [] ++ text
+unfolding encode_with
+front-none text = refl
+
+-- one byte more
+pub front-more : (text bytes next rest tail : List ℕ) (b high low : ℕ) → text ≡ encode_upper bytes ++ rest → rest ≡ high ∷ low ∷ tail
+    → encode_upper (b ∷ []) ≡ high ∷ low ∷ [] → next ≡ bytes ++ b ∷ [] → text ≡ encode_upper next ++ tail
+front-more text bytes next rest tail b high low t r pair n =
+    t ∙ ap (λ l. encode_upper bytes ++ l) (r ∙ ap (λ l. l ++ tail) (sym pair)) ∙ sym (append_assoc (encode_upper bytes) (encode_upper (b ∷ [])) tail)
+    ∙ ap (λ l. l ++ tail) (sym (upper-append bytes b)) ∙ ap (λ l. encode_upper l ++ tail) (sym n)
+
+-- the two bytes at the front, and what follows them
+pub front_two : (rest : List ℕ) → 2 ≤ length rest → rest ≡ get_or rest 0 0 ∷ get_or rest 1 0 ∷ take (length rest - 2) (drop 2 rest)
+front_two [] two = absurd (omega arith)
+front_two (x ∷ []) two = absurd (omega arith)
+front_two (x ∷ y ∷ rest) two = ap (λ l. x ∷ y ∷ l) (sym (take_all (length (x ∷ y ∷ rest) - 2) rest (omega arith)))
+
+pub taken_more : (bytes : List ℕ) (i b : ℕ) → slice_get bytes i ≡ Some b → take (i + 1) bytes ≡ take i bytes ++ b ∷ []
+taken_more bytes i b at = take_more bytes i b (slice_get_within bytes i b at) ∙ ap (λ x. take i bytes ++ x ∷ []) (get_or_from_slice_get bytes i b b at)
+
+-- ---- whole lines
+
+line_joined : (functional : Bool) (who : ℕ) (m : List ℕ) (r : Option (List ℕ)) → entry_line (entry who (Request functional m) r) ≡ fronted (48 + who) (kind_code (request_kind functional)) (encode_upper m ++ 32 ∷ reply_text r)
+line_joined true who m r = refl
+line_joined false who m r = refl
+
+pub usual_line : (functional : Bool) (who : ℕ) (m : List ℕ) (r : Option (List ℕ)) (text body rest : List ℕ) → text ≡ fronted (48 + who) (kind_code (request_kind functional)) body
+    → body ≡ encode_upper m ++ 32 ∷ (reply_text r ++ 10 ∷ rest) → text ≡ entry_line (entry who (Request functional m) r) ++ 10 ∷ rest
+usual_line functional who m r text body rest t b =
+    t ∙ ap (fronted (48 + who) (kind_code (request_kind functional))) (b ∙ sym (append_assoc (encode_upper m) (32 ∷ reply_text r) (10 ∷ rest)))
+    ∙ ap (λ l. l ++ 10 ∷ rest) (sym (line_joined functional who m r))
+
+pub ticks_line : (who count : ℕ) (text body rest : List ℕ) → text ≡ fronted (48 + who) (kind_code kind.Ticks) body → body ≡ decimal count ++ 10 ∷ rest
+    → text ≡ entry_line (entry who (Ticks count) None) ++ 10 ∷ rest
+ticks_line who count text body rest t b = t ∙ ap (fronted (48 + who) (kind_code kind.Ticks)) b
+
+-- ---- a number at the front
+
+pub number-first : (text tail : List ℕ) (first number : ℕ) → text ≡ first ∷ tail → 49 ≤ first → first ≤ 57 → number ≡ first - 48 → text ≡ decimal number ++ tail
+number-first text tail first number t low high is =
+    let one : first ≡ 48 + number = omega arith in
+    t ∙ ap (λ c. c ∷ tail) one ∙ ap (λ l. l ++ tail) (sym (decimal_digit number (omega arith)))
+
+pub number-more : (text rest tail : List ℕ) (number digit next : ℕ) → text ≡ decimal number ++ rest → rest ≡ digit ∷ tail → 1 ≤ number → number ≤ 6000 → 48 ≤ digit → digit ≤ 57
+    → next ≡ number * 10 + (digit - 48) → text ≡ decimal next ++ tail
+number-more text rest tail number digit next t r some few low high is =
+    let front : next / 10 ≡ number = omega arith in
+    let end : 48 + next % 10 ≡ digit = omega arith in
+    let step : decimal next ≡ decimal number ++ digit ∷ [] = decimal_step next (omega arith) (omega arith) ∙ (λ i. decimal (front i) ++ (end i ∷ [])) in
+    t ∙ ap (λ l. decimal number ++ l) r ∙ sym (append_assoc (decimal number) (digit ∷ []) tail) ∙ ap (λ l. l ++ tail) (sym step)
+
+-- the byte at the front, and what follows it
+pub front_one : (rest : List ℕ) → 1 ≤ length rest → rest ≡ get_or rest 0 0 ∷ take (length rest - 1) (drop 1 rest)
+front_one [] one = absurd (omega arith)
+front_one (x ∷ rest) one = ap (λ l. x ∷ l) (sym (take_all (length (x ∷ rest) - 1) rest (omega arith)))

@@ -1,0 +1,170 @@
+//! Reading entries of the usual form, whose reply is the ECU's: their text is gone through once.
+ghost use Rattle.std.specs.Prelude.{◌≡◌, ◌≤◌, ◌+◌, ◌++◌, ◌∷◌, IfOk, IfNone, IfSome, IsTrue, ◌↔◌, decimal, option_copied};
+ghost use Rattle.hex.specs.Hex.{encode_upper};
+ghost use Rattle.diag_desk.specs.Entry.{IsReply};
+ghost use Rattle.diag_desk.specs.Line.{fronted, kind_code, request_kind};
+ghost use Rattle.diag_desk.specs.Text.{reply_text};
+
+use crate::flat::bytes_of;
+use crate::line::{Kind, front_of, kind_in, place_in};
+use crate::table::pair_value;
+use diag_can::TickCount;
+use diag_store::TesterId;
+use diag_tp::Message;
+use std::alloc::AllocError;
+
+/// What a line says first, and what follows that.
+#[derive(Clone, Copy)]
+pub(crate) struct LineFront<'a> {
+    pub who: TesterId,
+    pub kind: Kind,
+    pub rest: &'a [u8],
+}
+
+/// A number in decimal, and what follows it.
+#[derive(Clone, Copy)]
+struct NumberFront<'a> {
+    number: u32,
+    rest: &'a [u8],
+}
+
+/// A count of ticks, and what follows its line.
+#[derive(Clone, Copy)]
+pub(crate) struct CountFront<'a> {
+    pub count: TickCount,
+    pub rest: &'a [u8],
+}
+
+/// The place and the kind at the front of a text.
+pub(crate) fn line_front(text: &[u8]) -> Option<LineFront<'_>>
+    ensures place { IfSome result (λ front. (1 ≤ front.who) × (front.who ≤ 8)) }
+    ensures is { IfSome result (λ front.
+        text.now ≡ fronted (48 + front.who) (kind_code front.kind) front.rest.now) }
+{
+    let Some((place, letter, rest)) = front_of(text) else {
+        return None;
+    };
+    let Some(who) = place_in(place) else {
+        return None;
+    };
+    let Some(kind) = kind_in(letter) else {
+        return None;
+    };
+    Some(LineFront { who, kind, rest })
+}
+
+/// Whether a request's line is a functional one; None of a line of ticks.
+pub(crate) fn is_functional(kind: Kind) -> Option<bool>
+    ensures some { IfSome result (λ functional. kind ≡ request_kind functional) }
+    ensures none { IfNone result (kind ≡ Kind.Ticks) }
+{
+    match kind {
+        Kind::Physical => Some(false),
+        Kind::Functional => Some(true),
+        Kind::Ticks => None,
+    }
+}
+
+/// The number in decimal at the front of a text, if it has no leading zero and isn't far above 60000.
+fn number_front(text: &[u8]) -> Option<NumberFront<'_>>
+    ensures { IfSome result (λ front. text.now ≡ decimal front.number ++ front.rest.now) }
+{
+    let [first, tail @ ..] = text else {
+        return None;
+    };
+    if !is_digit(*first) || *first == b'0' {
+        return None;
+    }
+    let mut number = u32::from(*first - b'0');
+    let mut rest = tail;
+    while let [digit, tail @ ..] = rest {
+        if !is_digit(*digit) || 6000 < number {
+            break;
+        }
+        number = number * 10 + u32::from(*digit - b'0');
+        rest = tail;
+    }
+    Some(NumberFront { number, rest })
+}
+
+fn is_digit(byte: u8) -> bool
+    ensures { IsTrue result ↔ ((48 ≤ byte) × (byte ≤ 57)) }
+{
+    b'0' <= byte && byte <= b'9'
+}
+
+/// The count of ticks and the line's end at the front of a text.
+pub(crate) fn count_front(text: &[u8]) -> Option<CountFront<'_>>
+    ensures count { IfSome result (λ front. (1 ≤ front.count) × (front.count ≤ 60000)) }
+    ensures is { IfSome result (λ front. text.now ≡ decimal front.count ++ 10 ∷ front.rest.now) }
+{
+    let Some(front) = number_front(text) else {
+        return None;
+    };
+    let Some(rest) = behind(b'\n', front.rest) else {
+        return None;
+    };
+    if 60000 < front.number {
+        return None;
+    }
+    let Some(count) = TickCount::new(front.number as u16) else {
+        return None;
+    };
+    Some(CountFront { count, rest })
+}
+
+/// Reads the upper-case hex at the front of a text, in place of what the list had, and gives what follows it.
+pub(crate) fn read_front<'a>(bytes: &mut Vec<u8>, text: &'a [u8]) -> Result<&'a [u8], AllocError>
+    ensures { IfOk result (λ rest. text.now ≡ encode_upper bytes.new.items ++ rest.now) }
+{
+    bytes.clear();
+    let mut rest = text;
+    while let [high, low, tail @ ..] = rest {
+        let value = pair_value(*high, *low);
+        if 255 < value {
+            return Ok(rest);
+        }
+        bytes.push(value as u8)?;
+        rest = tail;
+    }
+    Ok(rest)
+}
+
+/// What follows a byte at the front of a text, where it stands there.
+pub(crate) fn behind(byte: u8, text: &[u8]) -> Option<&[u8]>
+    ensures { IfSome result (λ rest. text.now ≡ byte ∷ rest.now) }
+{
+    match text {
+        [first, rest @ ..] if *first == byte => Some(rest),
+        _ => None,
+    }
+}
+
+/// What follows the upper-case hex of these bytes at the front of a text, where it stands there.
+fn behind_hex<'a>(bytes: &[u8], text: &'a [u8]) -> Option<&'a [u8]>
+    ensures { IfSome result (λ rest. text.now ≡ encode_upper bytes.now ++ rest.now) }
+{
+    let mut rest = text;
+    for byte in bytes {
+        let [high, low, tail @ ..] = rest else {
+            return None;
+        };
+        if pair_value(*high, *low) != u32::from(*byte) {
+            return None;
+        }
+        rest = tail;
+    }
+    Some(rest)
+}
+
+/// What follows the text of a reply at the front of a text, where it stands there.
+pub(crate) fn behind_reply<'a>(reply: Option<&Message>, text: &'a [u8]) -> Option<&'a [u8]>
+    ensures reply { IsReply (option_copied reply.entry) }
+    ensures text { IfSome result (λ rest.
+        text.now ≡ reply_text (option_copied reply.entry) ++ rest.now) }
+{
+    match bytes_of(reply) {
+        Some(bytes) => behind_hex(bytes, text),
+        None => behind(b'-', text),
+    }
+}
