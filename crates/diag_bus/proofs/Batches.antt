@@ -8,8 +8,8 @@ use Rattle.diag_can.specs.declared.frame.Ids.{Ids}
 use Rattle.diag_can.specs.declared.frame.Event.TheVariants.{Ticks}
 use Rattle.diag_setup.specs.Setup.{ids_of}
 use Rattle.diag_world.specs.Weaving.{all_by}
-use Rattle.std.proofs.Common.{◌≡◌, ◌≤◌, ◌<◌, min, None, Bool, ℕ, ◌+◌, false, zero, suc, Option, Some, List, [], ◌∷◌, ◌++◌, length, map, refl, ap, subst, sym, ◌∙◌, append_assoc, arith, inl, inr}
-use Rattle.std.proofs.lemmas.List.{map-append, append-nil, length-map, length-set}
+use Rattle.std.proofs.Common.{◌≡◌, ◌≤◌, ◌<◌, min, None, Bool, ℕ, ◌+◌, false, zero, suc, Option, Some, List, [], ◌∷◌, ◌++◌, length, refl, ap, subst, sym, ◌∙◌, append_assoc, arith, inl, inr}
+use Rattle.std.proofs.lemmas.List.{append-nil, length-map, length-set}
 use Rattle.std.specs.Prelude.{◌==◌, replicate, slice_get, slice_set, IfSome}
 use Rattle.std.specs.Option.{option_to_list}
 use Rattle.diag_can.specs.declared.frame.Event.{Event}
@@ -19,6 +19,7 @@ use Rattle.diag_setup.specs.declared.raw.RawSetup.{RawSetup}
 use Rattle.diag_desk.specs.declared.entry.Entry.{Entry}
 use Rattle.diag_world.specs.Server.{ServerView, Serves, Settled, closing_time, sent_to, server_of}
 use Rattle.diag_world.proofs.Worlds.{set_cases, other_place}
+use Rattle.diag_world.proofs.Waiting.{counted_more}
 use Rattle.std.proofs.lemmas.Grind.{flat_map-append}
 use Rattle.std.specs.List.{flat_map}
 use Rattle.diag_can.specs.declared.frame.Frame.{Frame}
@@ -72,22 +73,10 @@ pub gave_none : (a : MidLine) → Gave a a []
 gave_none a = λ setup base before N d. subst (λ w. Drew setup a base before w) (sym (append-nil N)) d
 
 pub same_more : (a b c : MidLine) → SameShape a b → SameShape b c → SameShape a c
-same_more a b c h k = record { links = k.links ∙ h.links; lists = k.lists ∙ h.lists; output = k.output ∙ h.output }
+same_more a b c h k = record { links = k.links ∙ h.links; lists = k.lists ∙ h.lists; output = k.output ∙ h.output; filled = λ known. k.filled (h.filled known) }
 
 pub same_none : (a : MidLine) → SameShape a a
-same_none a = record { links = refl; lists = refl; output = refl }
-
--- counting on
-counted_suc : (a n : ℕ) → counted_from a (suc n) ≡ counted_from a n ++ (a + n) ∷ []
-counted_suc a zero = ap (λ m. m ∷ []) (omega arith)
-counted_suc a (suc n) = ap (λ w. a ∷ w) (counted_suc (suc a) n ∙ ap (λ m. counted_from (suc a) n ++ m ∷ []) (omega arith))
-
-pub counted_more : (a n : ℕ) → counted_from a (n + 1) ≡ counted_from a n ++ (a + n) ∷ []
-counted_more a n = let e : n + 1 ≡ suc n = omega arith in ap (counted_from a) e ∙ counted_suc a n
-
--- one tester more
-pub each_more : (n : ℕ) (e : Event) (who : ℕ) → who ≡ n + 1 → to_each (n + 1) e ≡ to_each n e ++ (who, e) ∷ []
-each_more n e who is = ap (map (λ t. (t, e))) (counted_more 1 n) ∙ (map-append (λ t. (t, e)) (counted_from 1 n) ((1 + n) ∷ []) ∙ ap (λ t. to_each n e ++ (t, e) ∷ []) (omega (arith, is)))
+same_none a = record { links = refl; lists = refl; output = refl; filled = λ known. known }
 
 pub frames_more : (setup : RawSetup) (frame : Option Frame) (n who : ℕ) → who ≡ n + 1
     → flat_map (frame_to setup frame) (counted_from 1 (n + 1)) ≡ flat_map (frame_to setup frame) (counted_from 1 n) ++ frame_to setup frame who

@@ -4,6 +4,7 @@ pub mod Apart
 pub mod Ends
 pub mod Entries
 pub mod Faults
+pub mod Filling
 pub mod Lines
 pub mod Examples
 pub mod Meaning

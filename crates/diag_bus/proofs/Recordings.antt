@@ -18,7 +18,7 @@ use Rattle.diag_bus.specs.declared.comparing.Comparison.{Comparison}
 use Rattle.diag_bus.specs.declared.comparing.Comparisons.{Comparisons}
 use Rattle.diag_bus.specs.declared.verdict.Recorded.{Recorded}
 use Rattle.diag_bus.proofs.Batches.{found_at}
-use Rattle.diag_bus.proofs.Texts.{get_set_other}
+use Rattle.diag_world.proofs.Waiting.{get_set_other}
 
 -- ---- the recording of one tester
 

@@ -6,7 +6,7 @@ use Rattle.diag_can.specs.declared.bus.BusLine.{BusLine}
 use Rattle.diag_tp.specs.declared.sent.Sent.{Sent}
 use Rattle.diag_setup.specs.declared.raw.RawSetup.{RawSetup}
 use Rattle.diag_world.specs.Server.{ServerView, server_of}
-use Rattle.diag_bus.specs.Batch.{BusStands, Gave, GoesOn, IsBy, SaidBelow, SameShape, StartsBelow, TookTime, lists_of, moment_end, replied}
+use Rattle.diag_bus.specs.Batch.{BusStands, Gave, GoesOn, IsBy, SaidBelow, SameShape, StartsBelow, TookTime, added, lists_of, moment_end}
 use Rattle.diag_bus.specs.Bus.{AreSound, BusState, Judges, TookLines}
 use Rattle.diag_bus.specs.Comparing.{DrawnBy, TakesLine}
 use Rattle.diag_bus.specs.Events.{fault_said, said_gives, span_said}
@@ -43,11 +43,11 @@ pub took_line : (setup : RawSetup) (lines : List (List ℕ)) (line : List ℕ) (
     → ((i : ℕ) (frames : List Sent) → slice_get (lists_of begun) i ≡ Some frames → frames ≡ []) → begun.text.items ≡ [] → begun.server ≡ old.server → SameShape old begun
     → Gave begun taken (said_gives setup clock.reference said) → SameShape begun taken
     → TakesLine setup compared compared' said (lists_of taken)
-    → done.text.items ≡ taken.text.items ++ replied taken.output setup clock'.start (lists_of taken) → done.server ≡ taken.server → SameShape taken done
+    → done.server ≡ taken.server → SameShape taken done
     → TookLines (seen setup old clock compared) lines
     → TookLines (seen setup done clock' compared') (lines ++ line ∷ [])
-    × (written old.output setup (lines ++ line ∷ []) ≡ written old.output setup lines ++ done.text.items)
-took_line setup lines line said old begun taken done clock clock' compared compared' is well on lists empty none server first gave second takes text after third h =
+    × (written old.output setup (lines ++ line ∷ []) ≡ written old.output setup lines ++ added taken.output taken.text.items setup clock'.start (lists_of taken))
+took_line setup lines line said old begun taken done clock clock' compared compared' is well on lists empty none server first gave second takes after third h =
     let stands : BusStands setup (server_of begun.server) clock lines = subst (λ (s : ServerView). BusStands setup (server_of s) clock lines) (sym server) h.stands in
     let t = line_taken setup lines line said begun taken clock clock' is stands on (first.lists ∙ lists) empty none gave second.output in
     let calm = ap₂ (λ time reference. fault_said (bus_line line) (time + span_said reference (bus_line line))) (sym h.stands.time) (sym h.stands.reference) ∙ well in
@@ -60,9 +60,8 @@ took_line setup lines line said old begun taken done clock clock' compared compa
       },
       ap (λ o. written o setup (lines ++ line ∷ [])) (sym first.output)
           ∙ (wrote begun.output setup lines line (server_of taken.server) (lists_of taken) clock' taken.text.items t.0 t.1
-          ∙ (ap (λ o. written o setup lines ++ (taken.text.items ++ replied begun.output setup clock'.start (lists_of taken))) first.output
-          ∙ ap (λ w. written old.output setup lines ++ w)
-          (ap (λ o. taken.text.items ++ replied o setup clock'.start (lists_of taken)) (sym second.output) ∙ sym text))),
+          ∙ (ap (λ o. written o setup lines ++ added begun.output taken.text.items setup clock'.start (lists_of taken)) first.output
+          ∙ ap (λ o. written old.output setup lines ++ added o taken.text.items setup clock'.start (lists_of taken)) (sym second.output))),
     )
 
 -- ---- what holds whatever the bus took
@@ -80,6 +79,7 @@ sound_taken setup line said old begun taken clock clock' compared compared' h is
   omega (arith, count, h.2),
   line_paced begun.server taken.server clock clock' said on (subst (λ (s : ServerView). IsBy s clock.time) (sym server) h.3) took,
   start moment_end h.4 (bus_line_low line said is),
+  second.filled (first.filled h.5),
 )
 
 -- what it drew was written
@@ -91,4 +91,5 @@ sound_written setup taken done clock compared h server shape = (
   h.2,
   subst (λ (s : ServerView). IsBy s clock.time) (sym server) h.3,
   h.4,
+  shape.filled h.5,
 )

@@ -1,23 +1,22 @@
 -- What a line writes, from the testers' lists; and the text of one line more.
-use Rattle.std.proofs.Common.{◌≡◌, ◌≢◌, ◌≤◌, ℕ, zero, suc, ◌+◌, take, Vec, Global, Option, Some, None, List, [], ◌∷◌, ◌++◌, length, map, drop, refl, ap, ap₂, subst, sym, ◌∙◌, append_assoc, arith}
+use Rattle.std.proofs.Common.{◌≡◌, ◌≤◌, ℕ, zero, suc, ◌+◌, take, Vec, Global, Option, Some, None, List, [], ◌∷◌, ◌++◌, length, map, drop, refl, ap, ap₂, subst, sym, ◌∙◌, append_assoc, arith}
 use Rattle.std.proofs.lemmas.List.{append-nil, length-map, map-append, length-take-le, take_more}
 use Rattle.std.proofs.lemmas.Option.{slice_get_within, get_or_from_slice_get}
 use Rattle.std.specs.List.{All, flat_map}
 use Rattle.std.proofs.lemmas.List.Elements.{All-append, All-map}
 use Rattle.diag_bus.specs.declared.writing.Drawn.{Drawn}
-use Rattle.std.specs.Prelude.{slice_get, slice_set}
+use Rattle.std.specs.Prelude.{slice_get}
 use Rattle.diag_can.specs.declared.frame.Event.{Event}
 use Rattle.diag_tp.specs.declared.sent.Sent.{Sent}
 use Rattle.diag_tp.specs.Moments.{counted_from}
 use Rattle.diag_setup.specs.declared.raw.RawSetup.{RawSetup}
 use Rattle.diag_setup.specs.Rows.{in_order}
 use Rattle.diag_world.specs.Server.{ServerState}
-use Rattle.diag_desk.specs.Text.{journal_text_at}
-use Rattle.diag_bus.specs.Batch.{AreSentBy, LineTaken, entered, replied, resumed}
+use Rattle.diag_bus.specs.Batch.{AreSentBy, LineTaken, added, entered, resumed}
 use Rattle.diag_bus.specs.declared.bus.Output.{Output}
 use Rattle.diag_bus.specs.declared.bus.Output.TheVariants.{Replies, Journal, End, Verdict}
 use Rattle.diag_bus.specs.Events.{events_of}
-use Rattle.diag_bus.specs.Text.{drawn_by, drawn_for, drawn_text, gathered, line_of, line_text, run_of, sent_of, start_after, text_after, text_of, time_of, written}
+use Rattle.diag_bus.specs.Text.{drawn_by, drawn_for, gathered, line_of, line_text, run_of, sent_of, start_after, text_after, text_of, time_of, written}
 use Rattle.diag_bus.specs.declared.clock.Clock.{Clock}
 use Rattle.diag_bus.specs.declared.clock.Start.{Start}
 
@@ -69,14 +68,12 @@ text_push setup lines line = push_after setup [] lines line
 -- what the whole text has more with a line that was taken
 pub wrote : (output : Output) (setup : RawSetup) (lines : List (List ℕ)) (line : List ℕ) (server : ServerState) (drawn : List (List Sent)) (clock : Clock) (T : List ℕ) → LineTaken setup lines line server drawn clock
     → entered output (run_of setup (events_of setup (lines ++ line ∷ []))) ≡ entered output (run_of setup (events_of setup lines)) ++ T
-    → written output setup (lines ++ line ∷ []) ≡ written output setup lines ++ (T ++ replied output setup clock.start drawn)
+    → written output setup (lines ++ line ∷ []) ≡ written output setup lines ++ added output T setup clock.start drawn
 wrote Replies setup lines line server drawn clock T h more =
-    text_push setup lines line
-    ∙ ap (λ w. text_of setup lines ++ w) (sym (line_writes setup lines line server drawn clock h) ∙ ap (λ t. t ++ drawn_text setup clock.start drawn) more)
-wrote Journal setup lines line server drawn clock T h more =
-    more ∙ ap (λ w. journal_text_at (run_of setup (events_of setup lines)) ++ w) (sym (append-nil T))
-wrote End setup lines line server drawn clock T h more = more ∙ sym (append-nil T)
-wrote Verdict setup lines line server drawn clock T h more = more ∙ sym (append-nil T)
+    text_push setup lines line ∙ ap (λ w. text_of setup lines ++ w) (sym (line_writes setup lines line server drawn clock h))
+wrote Journal setup lines line server drawn clock T h more = more
+wrote End setup lines line server drawn clock T h more = refl
+wrote Verdict setup lines line server drawn clock T h more = refl
 
 -- one list more
 gathered_more : (n : ℕ) (lists : List (List Sent)) (frames : List Sent) → gathered n (lists ++ frames ∷ []) ≡ gathered n lists ++ map (drawn_for (n + length lists)) frames
@@ -96,13 +93,6 @@ gathered_next xs i who x at is =
     ap (λ l. gathered 1 (map (λ f. f.items) l)) one
     ∙ (ap (gathered 1) (map-append (λ (f : Vec Sent Global). f.items) (take i xs) (x ∷ []))
     ∙ (gathered_more 1 lists x.items ∙ ap (λ t. gathered 1 lists ++ map (drawn_for t) x.items) count))
-
-pub get_set_other : {X : Type 0} (xs : List X) (i k : ℕ) (v : X) → k ≢ i → slice_get (slice_set xs i v) k ≡ slice_get xs k
-get_set_other [] i k v apart = refl
-get_set_other (x ∷ xs) zero zero v apart = absurd (apart refl)
-get_set_other (x ∷ xs) zero (suc k) v apart = refl
-get_set_other (x ∷ xs) (suc i) zero v apart = refl
-get_set_other (x ∷ xs) (suc i) (suc k) v apart = get_set_other xs i k v (λ e. apart (ap suc e))
 
 all_cons : {X : Type 0} (P : X → Type 0) (x : X) (xs : List X) → P x → All P xs → All P (x ∷ xs)
 all_cons P x xs p h zero d less = p

@@ -13,7 +13,7 @@ use Rattle.diag_bus.specs.Verdict.{difference, difference_of, earlier, expected,
 use Rattle.diag_bus.specs.declared.verdict.Difference.{Difference}
 use Rattle.diag_bus.specs.declared.verdict.Verdict.{Verdict}
 use Rattle.diag_bus.specs.declared.verdict.Verdict.TheVariants.{Agrees, Differs}
-use Rattle.diag_bus.proofs.Batches.{counted_more}
+use Rattle.diag_world.proofs.Waiting.{counted_more}
 
 clash : {X : Type 0} {x : X} → Some x ≡ None → ⊥
 clash e = cc

@@ -12,6 +12,7 @@ use Rattle.diag_desk.specs.declared.entry.Entry.{Entry}
 use Rattle.diag_desk.specs.Text.{ended, entry_line, journal_text_at, stamped_line, ticks_in}
 use Rattle.diag_world.specs.Server.{ServerState, ServerView, Serves, closing_time, sent_to, server_of}
 use Rattle.diag_bus.specs.Events.{clock_of, events_of, moment_said, reference, span_said}
+use Rattle.diag_bus.specs.Requests.{AreFilled}
 use Rattle.diag_bus.specs.Text.{drawn_text, sent_of, start_after, start_said}
 use Rattle.diag_bus.specs.declared.bus.Output.{Output}
 use Rattle.diag_bus.specs.declared.bus.Output.TheVariants.{Replies, Journal, End, Verdict}
@@ -36,12 +37,12 @@ entry_added Journal now (Some e) = ended (stamped_line true (now + ticks_in e.st
 entry_added End now asked = []
 entry_added Verdict now asked = []
 
--- the reply lines of what was drawn, where they are wanted
-abbrev pub replied : Output → RawSetup → Option Start → List (List Sent) → List ℕ
-replied Replies setup start lists = drawn_text setup start lists
-replied Journal setup start lists = []
-replied End setup start lists = []
-replied Verdict setup start lists = []
+-- what a line adds to the text that wrote these entries and drew these frames
+abbrev pub added : Output → List ℕ → RawSetup → Option Start → List (List Sent) → List ℕ
+added Replies entries setup start lists = drawn_text setup start lists
+added Journal entries setup start lists = entries
+added End entries setup start lists = []
+added Verdict entries setup start lists = []
 
 -- ---- in a line
 
@@ -115,11 +116,12 @@ SentIn old new span = (time last : ℕ)
     → AreSentBy (lists_of old) last
     → AreSentBy (lists_of new) last
 
--- as many testers as before, and the same output
+-- as many testers as before, and the same output; where the lists have frames is known as before
 pub record SameShape (old new : MidLine) : Type 0 where
   pub links : length new.server.links ≡ length old.server.links
   pub lists : length new.drawn.items ≡ length old.drawn.items
   pub output : new.output ≡ old.output
+  pub filled : AreFilled old.filled (lists_of old) → AreFilled new.filled (lists_of new)
 
 -- ---- moments
 

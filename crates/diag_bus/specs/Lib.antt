@@ -2,5 +2,6 @@ pub mod Batch
 pub mod Bus
 pub mod Comparing
 pub mod Events
+pub mod Requests
 pub mod Text
 pub mod Verdict

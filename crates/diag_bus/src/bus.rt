@@ -12,7 +12,9 @@ ghost use Rattle.diag_bus.specs.declared.fault.BusFault.{BusFault as ABusFault};
 use crate::clock::{Clock, clock_after, next_said};
 use crate::comparing::Comparisons;
 use crate::fault::BusFault;
+use crate::filled::Filled;
 use crate::mid_line::MidLine;
+use crate::request_ids::RequestIds;
 use crate::verdict::Verdict;
 use crate::writing::Drawn;
 use diag_desk::write_header_at;
@@ -43,6 +45,7 @@ pub enum Output {
 #[derive(Drop)]
 pub struct Bus {
     setup: Setup,
+    ids: RequestIds,
     line: MidLine,
     clock: Clock,
     batch: Vec<Drawn>,
@@ -52,6 +55,7 @@ pub struct Bus {
 impl Model for Bus {
     ghost use Rattle.diag_world.specs.Server.{server_of};
     ghost use Rattle.diag_bus.specs.Bus.{AreSound, BusState};
+    ghost use Rattle.diag_bus.specs.Requests.{AreRequestsOf};
 
     ghost Value = { BusState };
 
@@ -63,7 +67,8 @@ impl Model for Bus {
       compared = b.compared;
     } };
 
-    ghost invariant = { λ b. AreSound b.setup b.line b.compared b.clock };
+    ghost invariant = { λ b.
+        AreSound b.setup b.line b.compared b.clock × AreRequestsOf b.setup b.ids };
 }
 
 impl Bus {
@@ -76,14 +81,17 @@ impl Bus {
         let server = Server::new(alloc, &setup)?;
         let drawn = empty_lists(alloc, setup.testers())?;
         let compared = nothing_compared(alloc, &setup, output)?;
+        let ids = RequestIds::new(alloc, &setup)?;
         Ok(Bus {
             line: MidLine {
                 server,
                 output,
                 drawn,
+                filled: Filled::Anywhere,
                 text: Vec::new(alloc),
             },
             setup,
+            ids,
             clock: Clock::new(),
             batch: Vec::new(alloc),
             compared,
@@ -129,12 +137,12 @@ impl Bus {
         // (first: no link's clock is ahead of the bus's, also where the line is refused)
         self.clock = clock;
         self.line.begin();
-        self.line.take_said(&self.setup, reference, &said)?;
+        self.line
+            .take_said(&self.setup, &self.ids, reference, &said)?;
         self.compared
             .take_line(&self.setup, &said, self.line.drawn.as_slice())?;
         self.line
-            .write_drawn(&self.setup, clock.start, &mut self.batch)?;
-        text.extend_from_slice(self.line.text.as_slice())?;
+            .write(&self.setup, clock.start, &mut self.batch, text)?;
         Ok(())
     }
 

@@ -6,8 +6,10 @@ mod clock;
 mod comparing;
 mod entering;
 mod fault;
+mod filled;
 mod laws;
 mod mid_line;
+mod request_ids;
 mod verdict;
 mod writing;
 

@@ -1,21 +1,24 @@
 //! A line of a capture, given to the server: its time to every tester, and its frame to those it is for.
 
-ghost use Rattle.std.specs.Prelude.{◌≡◌, ◌≤◌, ◌-◌, ℕ, List, [], ◌∷◌, ◌++◌, Ok, Some, length, map, slice_get, IfSome, IsTrue, OnOk};
+ghost use Rattle.std.specs.Prelude.{◌≡◌, ◌≢◌, ◌≤◌, ◌<◌, ◌-◌, ℕ, List, [], ◌∷◌, ◌++◌, Ok, Some, length, map, slice_get, IsTrue, OnOk, OnErr};
 ghost use Rattle.std.specs.List.{flat_map};
-ghost use Rattle.diag_can.specs.Bus.{frame_for};
 ghost use Rattle.diag_can.specs.declared.frame.Event.{Event as AnEvent};
 ghost use Rattle.diag_can.specs.Log.{waited};
 ghost use Rattle.diag_tp.specs.Link.{is_frame};
 ghost use Rattle.diag_tp.specs.Moments.{counted_from};
 ghost use Rattle.diag_tp.specs.declared.sent.Sent.{Sent as ASent};
-ghost use Rattle.diag_world.specs.Server.{closing_time};
+ghost use Rattle.diag_world.specs.Server.{closing_time, quiet_of, server_of};
 ghost use Rattle.diag_bus.specs.Events.{frame_to, said_gives, span_said, to_each};
+ghost use Rattle.diag_bus.specs.Requests.{AreFilled, AreRequestsOf};
+ghost use Rattle.diag_bus.specs.Text.{drawn_text};
 
 use crate::bus::Output;
 use crate::clock::{Start, silence};
 use crate::entering::{enter, enter_ticks};
-use crate::writing::{Drawn, write_drawn};
-use diag_can::{BusLine, Event, Frame, FrameBytes, Ids, TickCount};
+use crate::filled::Filled;
+use crate::request_ids::RequestIds;
+use crate::writing::{Drawn, write_drawn, write_one};
+use diag_can::{BusLine, Event, Frame, TickCount};
 use diag_setup::{Setup, TesterId};
 use diag_tp::Sent;
 use diag_world::{Server, ServerFault};
@@ -30,44 +33,103 @@ pub struct MidLine {
     pub output: Output,
     /// The frames that each tester is sent with this line.
     pub drawn: Vec<Vec<Sent>>,
-    /// What this line writes.
+    /// Which of these may have some.
+    pub filled: Filled,
+    /// The entries of this line, where they are wanted.
     pub text: Vec<u8>,
 }
 
 impl MidLine {
-    ghost use Rattle.diag_bus.specs.Batch.{AreSentBy, Gave, HasTime, IsEarly, OneSentIn, OneWentOn, SameShape, SentIn, StartsBelow, TookTime, lists_of, moment_end, replied};
+    ghost use Rattle.diag_bus.specs.Batch.{AreSentBy, Gave, HasTime, IsEarly, OneSentIn, OneWentOn, SameShape, SentIn, StartsBelow, TookTime, added, lists_of, moment_end};
 
     /// Begins a line: nothing was drawn and nothing written.
     pub fn begin(&mut self)
+        requires filled { AreFilled self.old.filled (lists_of self.old) }
         ensures empty { (i : ℕ) (frames : List ASent)
             → slice_get (lists_of self.new) i ≡ Some frames → frames ≡ [] }
         ensures text { self.new.text.items ≡ [] }
         ensures server { self.new.server ≡ self.old.server }
         ensures shape { SameShape self.old self.new }
     {
-        clear(&mut self.drawn);
+        clear(&mut self.drawn, self.filled);
+        self.filled = Filled::Nowhere;
         self.text.clear();
     }
 
-    /// Adds the reply lines of what the line drew, where they are wanted; the batch is room to work in.
-    pub fn write_drawn(
+    /// Adds what the line writes: its entries, or the reply lines of what it drew. The batch is room to work in. Refused,
+    /// the text is as it was.
+    pub fn write(
         &mut self,
         setup: &Setup,
         start: Option<Start>,
         batch: &mut Vec<Drawn>,
+        text: &mut Vec<u8>,
     ) -> Result<(), AllocError>
         requires lists { length self.old.drawn.items ≡ length setup.now.testers }
         requires start { StartsBelow start moment_end }
         requires sent { AreSentBy (lists_of self.old) closing_time }
-        ensures ok { OnOk result (self.new.text.items ≡ self.old.text.items
-            ++ replied self.old.output setup.now start (lists_of self.old)) }
+        requires filled { AreFilled self.old.filled (lists_of self.old) }
+        ensures ok { OnOk result (text.new.items ≡ text.old.items
+            ++ added self.old.output self.old.text.items setup.now start (lists_of self.old)) }
+        ensures err { OnErr result (text.new.items ≡ text.old.items) }
         ensures server { self.new.server ≡ self.old.server }
         ensures shape { SameShape self.old self.new }
     {
         match self.output {
-            Output::Replies => write_drawn(setup, start, &mut self.drawn, batch, &mut self.text),
-            Output::Journal | Output::End | Output::Verdict => Ok(()),
+            Output::Replies => self.write_replies(setup, start, batch, text),
+            Output::Journal => text.extend_from_slice(self.text.as_slice()),
+            Output::End | Output::Verdict => Ok(()),
         }
+    }
+
+    /// Adds the reply lines of what the line drew: mostly none, or one.
+    fn write_replies(
+        &mut self,
+        setup: &Setup,
+        start: Option<Start>,
+        batch: &mut Vec<Drawn>,
+        text: &mut Vec<u8>,
+    ) -> Result<(), AllocError>
+        requires lists { length self.old.drawn.items ≡ length setup.now.testers }
+        requires start { StartsBelow start moment_end }
+        requires sent { AreSentBy (lists_of self.old) closing_time }
+        requires filled { AreFilled self.old.filled (lists_of self.old) }
+        ensures ok { OnOk result (text.new.items ≡ text.old.items
+            ++ drawn_text setup.now start (lists_of self.old)) }
+        ensures err { OnErr result (text.new.items ≡ text.old.items) }
+        ensures server { self.new.server ≡ self.old.server }
+        ensures shape { SameShape self.old self.new }
+    {
+        match self.filled {
+            Filled::Nowhere => Ok(()),
+            Filled::At(place) if self.drawn[place].len() == 1 => {
+                write_one(setup, start, place, &self.drawn[place][0], text)
+            }
+            Filled::At(_) | Filled::Anywhere => self.write_sorted(setup, start, batch, text),
+        }
+    }
+
+    /// Adds the reply lines of what the line drew, in the order of the bus.
+    fn write_sorted(
+        &mut self,
+        setup: &Setup,
+        start: Option<Start>,
+        batch: &mut Vec<Drawn>,
+        text: &mut Vec<u8>,
+    ) -> Result<(), AllocError>
+        requires lists { length self.old.drawn.items ≡ length setup.now.testers }
+        requires start { StartsBelow start moment_end }
+        requires sent { AreSentBy (lists_of self.old) closing_time }
+        ensures ok { OnOk result (text.new.items ≡ text.old.items
+            ++ drawn_text setup.now start (lists_of self.old)) }
+        ensures err { OnErr result (text.new.items ≡ text.old.items) }
+        ensures server { self.new.server ≡ self.old.server }
+        ensures shape { SameShape self.old self.new }
+    {
+        self.filled = Filled::Anywhere;
+        self.text.clear();
+        write_drawn(setup, start, &mut self.drawn, batch, &mut self.text)?;
+        text.extend_from_slice(self.text.as_slice())
     }
 
     /// Gives the server a frame of a tester.
@@ -95,6 +157,7 @@ impl MidLine {
             &mut self.text,
         )?;
         self.server.settle(who, event, asked, out);
+        self.filled = self.filled.after(index, out.is_empty());
         Ok(())
     }
 
@@ -112,14 +175,48 @@ impl MidLine {
         let now = self.server.now(who);
         let out = &mut self.drawn[index];
         match self.server.ticks(who, count, out) {
-            Ok(()) => enter_ticks(self.output, now, who, count, &mut self.text),
+            Ok(()) => {
+                self.filled = self.filled.after(index, out.is_empty());
+                enter_ticks(self.output, now, who, count, &mut self.text)
+            }
             Err(ServerFault::Memory) => Err(AllocError),
             Err(ServerFault::Clock) => unreachable!(),
         }
     }
 
+    /// Whether no link does anything in so many ticks, and no entry of them is wanted.
+    fn can_wait(&self, count: TickCount) -> bool
+        ensures quiet { IsTrue result → count < quiet_of (server_of self.now.server).links }
+        ensures silent { IsTrue result → self.now.output ≢ Output.Journal }
+    {
+        match self.output {
+            Output::Journal => false,
+            Output::Replies | Output::End | Output::Verdict => {
+                u64::from(count.get()) < self.server.quiet()
+            }
+        }
+    }
+
     /// Gives the server so many ticks of each tester, in order.
     fn give_each(&mut self, setup: &Setup, count: TickCount) -> Result<(), AllocError>
+        requires in_setup { length self.old.server.links ≡ length setup.now.testers }
+        requires lists { length self.old.drawn.items ≡ length setup.now.testers }
+        requires early { HasTime self.old.server count }
+        ensures ok { OnOk result
+            (Gave self.old self.new (to_each (length setup.now.testers) (AnEvent.Ticks count))) }
+        ensures shape { SameShape self.old self.new }
+        ensures pace { TookTime self.old.server self.new.server count }
+        ensures sent { OnOk result (SentIn self.old self.new count) }
+    {
+        if self.can_wait(count) {
+            self.server.pass_quietly(setup, count);
+            return Ok(());
+        }
+        self.give_one_by_one(setup, count)
+    }
+
+    /// The same, one tester behind the other.
+    fn give_one_by_one(&mut self, setup: &Setup, count: TickCount) -> Result<(), AllocError>
         requires in_setup { length self.old.server.links ≡ length setup.now.testers }
         requires lists { length self.old.drawn.items ≡ length setup.now.testers }
         requires early { HasTime self.old.server count }
@@ -159,9 +256,15 @@ impl MidLine {
     }
 
     /// Gives the server a frame, for each tester that it is for.
-    fn give_frame(&mut self, setup: &Setup, frame: &Frame) -> Result<(), AllocError>
+    fn give_frame(
+        &mut self,
+        setup: &Setup,
+        ids: &RequestIds,
+        frame: &Frame,
+    ) -> Result<(), AllocError>
         requires in_setup { length self.old.server.links ≡ length setup.now.testers }
         requires lists { length self.old.drawn.items ≡ length setup.now.testers }
+        requires ids { AreRequestsOf setup.now ids.now }
         requires early { HasTime self.old.server 0 }
         ensures ok { OnOk result (Gave self.old self.new
             (flat_map (frame_to setup.now (Some frame.now))
@@ -171,12 +274,13 @@ impl MidLine {
         ensures sent { OnOk result (SentIn self.old self.new 0) }
     {
         for index in 0..setup.testers() {
+            let Some(event) = ids.event_at(index, frame) else {
+                continue;
+            };
             let Some(who) = setup.who(index) else {
                 unreachable!()
             };
-            if let Some(event) = frame_for(&setup.ids(who), frame) {
-                self.give(who, &event)?;
-            }
+            self.give(who, &event)?;
         }
         Ok(())
     }
@@ -185,11 +289,13 @@ impl MidLine {
     pub fn take_said(
         &mut self,
         setup: &Setup,
+        ids: &RequestIds,
         reference: Option<u64>,
         said: &BusLine,
     ) -> Result<(), AllocError>
         requires in_setup { length self.old.server.links ≡ length setup.now.testers }
         requires lists { length self.old.drawn.items ≡ length setup.now.testers }
+        requires ids { AreRequestsOf setup.now ids.now }
         requires early { HasTime self.old.server (span_said reference (Ok said.now)) }
         ensures ok { OnOk result (Gave self.old self.new (said_gives setup.now reference said.now)) }
         ensures shape { SameShape self.old self.new }
@@ -204,7 +310,7 @@ impl MidLine {
             BusLine::Stamped { moment, frame } => {
                 self.pass(setup, silence(reference, *moment))?;
                 match frame {
-                    Some(frame) => self.give_frame(setup, frame),
+                    Some(frame) => self.give_frame(setup, ids, frame),
                     None => Ok(()),
                 }
             }
@@ -212,8 +318,22 @@ impl MidLine {
     }
 }
 
+/// Empties the testers' lists, of which these may have frames.
+fn clear(drawn: &mut Vec<Vec<Sent>>, filled: Filled)
+    requires filled { AreFilled filled (map (λ f. f.items) drawn.old.items) }
+    ensures empty { (i : ℕ) (frames : List ASent)
+        → slice_get (map (λ f. f.items) drawn.new.items) i ≡ Some frames → frames ≡ [] }
+    ensures lists { length drawn.new.items ≡ length drawn.old.items }
+{
+    match filled {
+        Filled::Nowhere => {}
+        Filled::At(place) => drawn[place].clear(),
+        Filled::Anywhere => clear_all(drawn),
+    }
+}
+
 /// Empties each tester's list.
-fn clear(drawn: &mut Vec<Vec<Sent>>)
+fn clear_all(drawn: &mut Vec<Vec<Sent>>)
     ensures empty { (i : ℕ) (frames : List ASent)
         → slice_get (map (λ f. f.items) drawn.new.items) i ≡ Some frames → frames ≡ [] }
     ensures lists { length drawn.new.items ≡ length drawn.old.items }
@@ -221,25 +341,4 @@ fn clear(drawn: &mut Vec<Vec<Sent>>)
     for index in 0..drawn.len() {
         drawn[index].clear();
     }
-}
-
-/// What a frame is to the tester of these identifiers.
-fn frame_for(ids: &Ids, frame: &Frame) -> Option<Event>
-    ensures is { result ≡ frame_for ids.now (Some frame.now) }
-    ensures frame { IfSome result (λ event. IsTrue (is_frame event)) }
-{
-    if frame.id == ids.request {
-        Some(Event::Physical(copy_of(&frame.bytes)))
-    } else if frame.id == ids.functional {
-        Some(Event::Functional(copy_of(&frame.bytes)))
-    } else {
-        None
-    }
-}
-
-/// The same bytes.
-fn copy_of(bytes: &FrameBytes) -> FrameBytes
-    ensures { result ≡ bytes.now }
-{
-    FrameBytes::from_slice(bytes.as_slice())
 }

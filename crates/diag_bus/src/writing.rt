@@ -1,6 +1,6 @@
 //! The frames that a line draws, as lines of their own, in the order of the bus.
 
-ghost use Rattle.std.specs.Prelude.{◌≡◌, ◌≤◌, ◌++◌, length, map, OnOk};
+ghost use Rattle.std.specs.Prelude.{◌≡◌, ◌≤◌, ◌<◌, ◌+◌, ◌++◌, length, map, OnOk, OnErr};
 ghost use Rattle.std.specs.List.{All, flat_map};
 ghost use Rattle.std.specs.List.Sorted.{IsPermutation};
 ghost use Rattle.diag_setup.specs.Rows.{in_order};
@@ -101,6 +101,28 @@ fn write_batch(
         write_line(text, setup.name(drawn.who), moment, &drawn.sent.frame)?;
     }
     Ok(())
+}
+
+/// Adds the reply line of a frame that the tester at this place, from 0, is sent. Refused, the text is as it was.
+pub(crate) fn write_one(
+    setup: &Setup,
+    start: Option<Start>,
+    place: usize,
+    sent: &Sent,
+    text: &mut Vec<u8>,
+) -> Result<(), AllocError>
+    requires tester { place < length setup.now.testers }
+    requires start { StartsBelow start moment_end }
+    requires sent { sent.now.at ≤ closing_time }
+    ensures ok { OnOk result (text.new.items ≡ text.old.items
+        ++ line_of setup.now start (drawn_for (place + 1) sent.now)) }
+    ensures err { OnErr result (text.new.items ≡ text.old.items) }
+{
+    let Some(who) = setup.who(place) else {
+        unreachable!()
+    };
+    let moment = bus_moment(start, sent.at);
+    write_line(text, setup.name(who), moment, &sent.frame)
 }
 
 /// Adds the reply lines of the frames in the testers' lists, in the order of the bus. The batch is room to work in, and

@@ -2,12 +2,13 @@
 use Rattle.std.specs.Prelude.{◌≡◌, ◌<◌, ◌≤◌, ◌-◌, ◌^◌, ℕ, ◌+◌, ◌*◌, ◌==◌, false, min, List, [], ◌∷◌, ◌++◌, length, map, Option, Some, None, IfSome, IsSome, IsTrue, slice_get, slice_set}
 use Rattle.std.specs.Option.{option_map, option_to_list}
 use Rattle.diag_can.specs.declared.frame.Event.{Event}
+use Rattle.diag_can.specs.declared.frame.Event.TheVariants.{Ticks}
 use Rattle.diag_tp.specs.declared.setup.LinkSetup.{LinkSetup}
 use Rattle.diag_tp.specs.declared.sent.Sent.{Sent}
 use Rattle.diag_tp.specs.declared.step.Step.TheVariants as step
 use Rattle.diag_tp.specs.declared.taken.Taken.{Taken}
 use Rattle.diag_tp.specs.Gives.{gives}
-use Rattle.diag_tp.specs.Moments.{is_tick}
+use Rattle.diag_tp.specs.Moments.{counted_from, is_tick}
 use Rattle.diag_tp.specs.Placing.{drawn}
 use Rattle.diag_tp.specs.State.{LinkState, LinkView}
 use Rattle.diag_tp.specs.Link.{EachHistory, is_frame, pending, quiet}
@@ -33,6 +34,10 @@ pub record ServerState : Type 0 where
 
 abbrev pub server_of : ServerView → ServerState
 server_of server = record { ecu = server.ecu; links = map (λ link. link.state) server.links }
+
+-- the same from its parts
+abbrev pub state_at : State → List LinkView → ServerState
+state_at ecu links = record { ecu = ecu; links = map (λ link. link.state) links }
 
 -- for how many ticks no link does anything before the last of them: the least of the links
 abbrev pub quiet_of : List LinkState → ℕ
@@ -118,6 +123,10 @@ pub record IsClosed (links : List LinkState) (place : ℕ) : Type 0 where
   pub found : slice_get links place ≡ Some link
   pub late : closing_time < link.now
 
+-- no link has come past its closing time
+abbrev pub AreEarly : List LinkState → Type 0
+AreEarly links = (i : ℕ) (link : LinkState) → slice_get links i ≡ Some link → link.now ≤ closing_time
+
 -- no link has a frame that is due
 abbrev pub AllDrained : List LinkView → Type 0
 AllDrained links = (i : ℕ) (link : LinkView) → slice_get links i ≡ Some link → pending link.state ≡ 0
@@ -135,3 +144,19 @@ pub record Settled (old new : ServerState) (who : ℕ) (e : Event) (asked : Opti
   pub ecu : new.ecu ≡ after old.ecu (option_to_list asked)
   pub moved : MovedOn old.links new.links (who - 1) e asked more
   pub served : EachRun old (λ setup M K. Served setup new M K who e asked more)
+
+-- an event to each of so many testers, in order
+abbrev pub each_of : ℕ → Event → List (ℕ × Event)
+each_of n e = map (λ t. (t, e)) (counted_from 1 n)
+
+-- The first n testers took so many ticks each, in order, in which their links did nothing: their clocks went on, and no
+-- tester is sent a frame more. The other links are as before.
+pub record Waited (old new : ServerState) (n count : ℕ) : Type 0 where
+  pub many : length new.links ≡ length old.links
+  pub time : (i : ℕ) (link : LinkState) → slice_get new.links i ≡ Some link
+      → (before : LinkState) × (slice_get old.links i ≡ Some before)
+      × (link.now ≤ before.now + count)
+  pub rest : (i : ℕ) → n ≤ i → slice_get new.links i ≡ slice_get old.links i
+  pub served : EachRun old (λ setup M K. (journal : List Entry)
+      × Serves setup new (M ++ each_of n (Ticks count)) journal
+      × ((t : ℕ) → sent_to setup (M ++ each_of n (Ticks count)) journal t ≡ sent_to setup M K t))

@@ -27,16 +27,16 @@ ghost use Rattle.std.specs.Prelude.{
 ghost use Rattle.std.specs.Option.{option_to_list};
 ghost use Rattle.diag_can.specs.declared.frame.Event.{Event as AnEvent};
 ghost use Rattle.diag_tp.specs.Gives.{gives};
-ghost use Rattle.diag_tp.specs.Link.{pending};
+ghost use Rattle.diag_tp.specs.Link.{pending, quiet};
 ghost use Rattle.diag_tp.specs.Moments.{last_time};
 ghost use Rattle.diag_setup.specs.Setup.{link_of};
 ghost use Rattle.diag_desk.specs.declared.entry.Entry.{Entry as AnEntry};
 ghost use Rattle.diag_desk.specs.Legal.{after, reply_to};
 ghost use Rattle.diag_world.specs.Weaving.{items_of};
 ghost use Rattle.diag_world.specs.Port.{Grew};
-ghost use Rattle.diag_world.specs.Server.{closing_time, entry_of_ticks, quiet_of, server_of, EachRun, IsAsked, IsClosed, PortAsked, PortSettled, Serves, Settled};
+ghost use Rattle.diag_world.specs.Server.{closing_time, entry_of_ticks, quiet_of, server_of, state_at, AllDrained, AreEarly, EachRun, IsAsked, IsClosed, PortAsked, PortSettled, Serves, Settled, Waited};
 
-use crate::passing::let_pass;
+use crate::passing::{let_pass, pass_quiet};
 use crate::port::{Prepared, gives_step, prepare, settle};
 use diag_can::{Event, TickCount};
 use diag_desk::{Entry, reply_of, settle_step};
@@ -196,6 +196,17 @@ impl Server {
         ticks_at(link, &mut self.ecu, who, count, out)
     }
 
+    /// Takes so many ticks of each tester, in order, in which no link does anything. The entries that they give have no
+    /// reply, and aren't made.
+    pub fn pass_quietly(&mut self, setup: &Setup, count: TickCount)
+        requires in_setup { length self.old.links ≡ length setup.now.testers }
+        requires quiet { count < quiet_of (server_of self.old).links }
+        requires early { AreEarly (server_of self.old).links }
+        ensures { Waited (server_of self.old) (server_of self.new) (length setup.now.testers) count }
+    {
+        pass_each(&mut self.links, &mut self.ecu, setup, count);
+    }
+
     /// Takes an event of a tester, and hands out the frames that it draws. Refused, nothing has changed.
     pub fn event(
         &mut self,
@@ -321,6 +332,38 @@ fn ticks_at(
     let_pass(link, count, out)?;
     ecu.ticks(who, count);
     Ok(())
+}
+
+/// Takes ticks at each link, in which it does nothing.
+fn pass_each(links: &mut Vec<Link>, ecu: &mut Ecu, setup: &Setup, count: TickCount)
+    requires in_setup { length links.old.items ≡ length setup.now.testers }
+    requires drained { AllDrained links.old.items }
+    requires quiet { count < quiet_of (state_at ecu.old links.old.items).links }
+    requires early { AreEarly (state_at ecu.old links.old.items).links }
+    ensures waited { Waited (state_at ecu.old links.old.items) (state_at ecu.new links.new.items)
+        (length setup.now.testers) count }
+    ensures drained { AllDrained links.new.items }
+{
+    for index in 0..setup.testers() {
+        let Some(who) = setup.who(index) else {
+            unreachable!()
+        };
+        pass_at(&mut links[index], ecu, who, count);
+    }
+}
+
+/// Takes ticks at a link, in which it does nothing.
+fn pass_at(link: &mut Link, ecu: &mut Ecu, who: TesterId, ticks: TickCount)
+    requires drained { pending link.old.state ≡ 0 }
+    requires quiet { ticks < quiet link.old.state }
+    requires early { link.old.state.now ≤ closing_time }
+    ensures took { PortSettled link.old link.new who (AnEvent.Ticks ticks)
+        (Some (entry_of_ticks who ticks)) [] }
+    ensures drained { pending link.new.state ≡ 0 }
+    ensures ecu { ecu.new ≡ after ecu.old (entry_of_ticks who ticks ∷ []) }
+{
+    pass_quiet(link, ticks);
+    ecu.ticks(who, ticks);
 }
 
 /// Takes an event at a link, with the entry that it gives.

@@ -7,7 +7,8 @@ use Rattle.diag_tp.proofs.Lists.{length-zero}
 use Rattle.diag_tp.specs.declared.sent.Sent.{Sent}
 use Rattle.diag_world.proofs.Worlds.{who_found}
 use Rattle.diag_bus.specs.Text.{drawn_for, gathered}
-use Rattle.diag_bus.proofs.Texts.{gathered_next, get_set_other}
+use Rattle.diag_world.proofs.Waiting.{get_set_other}
+use Rattle.diag_bus.proofs.Texts.{gathered_next}
 use Rattle.diag_bus.proofs.writing.gather.Goals as goal
 
 pub loop-index-preserved : goal.loop-index-preserved

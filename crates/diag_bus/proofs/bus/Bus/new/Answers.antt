@@ -6,9 +6,13 @@ use Rattle.diag_bus.proofs.bus.Bus.new.Goals as goal
 
 pub invariant_of-result : goal.invariant_of-result
 invariant_of-result c = (
-  sym (length-map c.in_ok-server.server.links (λ l. l.state)) ∙ c.in_ok-server.ensures.testers,
-  omega (arith, c.in_ok-drawn.ensures, c.testers.ensures.same),
-  c.in_ok-compared.ensures.in_setup,
-  λ i link at. omega (arith, (c.in_ok-server.ensures.ports i link at).stands.now),
-  subst (λ (clock : Clock). StartsBelow clock.start moment_end) (sym c.new-3.ensures) tt,
+  (
+    sym (length-map c.in_ok-server.server.links (λ l. l.state)) ∙ c.in_ok-server.ensures.testers,
+    omega (arith, c.in_ok-drawn.ensures, c.testers.ensures.same),
+    c.in_ok-compared.ensures.in_setup,
+    λ i link at. omega (arith, (c.in_ok-server.ensures.ports i link at).stands.now),
+    subst (λ (clock : Clock). StartsBelow clock.start moment_end) (sym c.new-4.ensures) tt,
+    tt,
+  ),
+  c.in_ok-ids.ensures,
 )

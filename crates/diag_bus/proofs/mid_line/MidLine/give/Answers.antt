@@ -1,5 +1,5 @@
 use Rattle.std.proofs.Common.{Err, ◌≡◌, ◌<◌, ◌+◌, ◌-◌, ◌++◌, Some, List, length, map, refl, ap, subst, sym, ◌∙◌, arith}
-use Rattle.std.proofs.lemmas.List.{length-map, length-set, map-set}
+use Rattle.std.proofs.lemmas.List.{length-map, map-set}
 use Rattle.std.proofs.lemmas.Option.{slice_get_read, slice_get-map}
 use Rattle.std.specs.Prelude.{slice_get, slice_set}
 use Rattle.std.specs.Option.{option_map}
@@ -11,6 +11,7 @@ use Rattle.std.specs.Vec.{with_item}
 use Rattle.diag_bus.specs.Batch.{entry_added}
 use Rattle.diag_bus.specs.declared.mid_line.MidLine.{MidLine}
 use Rattle.diag_bus.proofs.Batches.{clock_told, drew_more, early_now, found_at}
+use Rattle.diag_bus.proofs.Filling.{links_moved, links_same, shape_after, shape_same}
 use Rattle.diag_bus.proofs.Paces.{frame_time, sent_one, stays, went_on}
 use Rattle.diag_bus.proofs.mid_line.MidLine.give.Goals as goal
 
@@ -26,7 +27,7 @@ enter-requires c =
 pub returns-clause-ok : goal.returns-clause-ok
 returns-clause-ok c = λ setup base before M h.
     let old = c.args.self.now in
-    let new : MidLine = record { server = c.settle.new.self; output = old.output; drawn = with_item old.drawn (c.from-index.result - 1) c.settle.new.out; text = c.enter.new.text } in
+    let new : MidLine = record { server = c.settle.new.self; output = old.output; drawn = with_item old.drawn (c.from-index.result - 1) c.settle.new.out; filled = c.after-self.result; text = c.enter.new.text } in
     let drawn = old.drawn.items in
     let i = c.from-index.result - 1 in
     let who = c.args.who in
@@ -75,20 +76,39 @@ returns-in-Err-Memory-clause-pace c = stays c.args.self.now.server c.ask.new.sel
 pub returns-in_err-enter-clause-pace : goal.returns-in_err-enter-clause-pace
 returns-in_err-enter-clause-pace c = stays c.args.self.now.server c.ask.new.self (c.args.who - 1) 0 c.in-Ok.ensures.same
 
+-- ---- the lists
+
+pub returns-clause-shape : goal.returns-clause-shape
+returns-clause-shape c =
+    let old = c.args.self.now in
+    let i = c.from-index.result - 1 in
+    let new : MidLine = record { server = c.settle.new.self; output = old.output; drawn = with_item old.drawn i c.settle.new.out; filled = c.after-self.result; text = c.enter.new.text } in
+    let within : i < length old.drawn.items = omega (arith, c.from-index.ensures, c.place.ensures.same, c.place.ensures.fits.0, c.requires.in_setup, c.requires.lists) in
+    let grew = c.settle.ensures.took in
+    let settled = subst (λ (s : ServerState). Settled s (server_of c.settle.new.self) c.args.who c.args.event.now c.in-Ok.asked.entry grew.more) c.in-Ok.ensures.same grew.holds in
+    shape_after old new i c.settle.new.out c.is_empty.result
+    (links_moved old.server c.settle.new.self c.args.who c.args.event.now c.in-Ok.asked.entry grew.more settled) within refl refl c.after-self.ensures c.is_empty.ensures
+
+pub returns-in-Err-Memory-clause-shape : goal.returns-in-Err-Memory-clause-shape
+returns-in-Err-Memory-clause-shape c =
+    let old = c.args.self.now in
+    let i = c.from-index.result - 1 in
+    let new : MidLine = record { server = c.ask.new.self; output = old.output; drawn = with_item old.drawn i c.ask.new.out; filled = old.filled; text = old.text } in
+    shape_same old new i c.ask.new.out c.index_mut-out.result.now
+    (links_same old.server c.ask.new.self c.ask.ensures.same) refl c.index_mut-out.ensures.value c.ask.ensures.out refl refl
+
 pub returns-in_err-enter-clause-shape : goal.returns-in_err-enter-clause-shape
 returns-in_err-enter-clause-shape c =
     let old = c.args.self.now in
-    let state = λ (l : LinkView). l.state in
-    record {
-      links = sym (length-map c.ask.new.self.links state) ∙ (ap (λ (s : ServerState). length s.links) c.in-Ok.ensures.same ∙ length-map old.server.links state);
-      lists = length-set old.drawn.items (c.from-index.result - 1) c.ask.new.out;
-      output = refl;
-    }
+    let i = c.from-index.result - 1 in
+    let new : MidLine = record { server = c.ask.new.self; output = old.output; drawn = with_item old.drawn i c.ask.new.out; filled = old.filled; text = c.enter.new.text } in
+    shape_same old new i c.ask.new.out c.index_mut-out.result.now
+    (links_same old.server c.ask.new.self c.in-Ok.ensures.same) refl c.index_mut-out.ensures.value c.in-Ok.ensures.out refl refl
 
 pub returns-clause-sent : goal.returns-clause-sent
 returns-clause-sent c =
     let old = c.args.self.now in
-    let new : MidLine = record { server = c.settle.new.self; output = old.output; drawn = with_item old.drawn (c.from-index.result - 1) c.settle.new.out; text = c.enter.new.text } in
+    let new : MidLine = record { server = c.settle.new.self; output = old.output; drawn = with_item old.drawn (c.from-index.result - 1) c.settle.new.out; filled = c.after-self.result; text = c.enter.new.text } in
     let drawn = old.drawn.items in
     let i = c.from-index.result - 1 in
     let who = c.args.who in

@@ -12,6 +12,7 @@ use Rattle.diag_world.specs.Server.{closing_time, entry_of_ticks}
 use Rattle.diag_bus.specs.declared.mid_line.MidLine.{MidLine}
 use Rattle.diag_world.proofs.Worlds.{on_ok}
 use Rattle.diag_bus.proofs.Batches.{clock_told, drew_more, early_now, some_of}
+use Rattle.diag_bus.proofs.Filling.{links_moved, links_same, shape_after, shape_same}
 use Rattle.diag_bus.proofs.Paces.{sent_one, stays, ticks_time, went_on}
 use Rattle.diag_bus.proofs.mid_line.MidLine.give_ticks.Goals as goal
 
@@ -25,7 +26,7 @@ enter_ticks-requires c =
 pub returns-in-Ok-clause-ok : goal.returns-in-Ok-clause-ok
 returns-in-Ok-clause-ok c =
     let old = c.args.self.now in
-    let new : MidLine = record { server = c.ticks.new.self; output = old.output; drawn = with_item old.drawn (c.from-index.result - 1) c.ticks.new.out; text = c.enter_ticks.new.text } in
+    let new : MidLine = record { server = c.ticks.new.self; output = old.output; drawn = with_item old.drawn (c.from-index.result - 1) c.ticks.new.out; filled = c.after-self.result; text = c.enter_ticks.new.text } in
     let drawn = old.drawn.items in
     let links = old.server.links in
     let i = c.from-index.result - 1 in
@@ -67,7 +68,7 @@ unreachable-requires c =
 pub returns-in-Ok-clause-sent : goal.returns-in-Ok-clause-sent
 returns-in-Ok-clause-sent c =
     let old = c.args.self.now in
-    let new : MidLine = record { server = c.ticks.new.self; output = old.output; drawn = with_item old.drawn (c.from-index.result - 1) c.ticks.new.out; text = c.enter_ticks.new.text } in
+    let new : MidLine = record { server = c.ticks.new.self; output = old.output; drawn = with_item old.drawn (c.from-index.result - 1) c.ticks.new.out; filled = c.after-self.result; text = c.enter_ticks.new.text } in
     let drawn = old.drawn.items in
     let i = c.from-index.result - 1 in
     let who = c.args.who in
@@ -82,3 +83,23 @@ returns-in-Ok-clause-sent c =
     on_ok _ _ c.enter_ticks.result (λ entered.
     sent_one old new (who - 1) i c.args.count (Ticks c.args.count) asked list.items grew.more grew.holds.moved (ticks_time c.args.count) found lists)
     c.enter_ticks.ensures
+
+-- ---- the lists
+
+pub returns-in-Ok-clause-shape : goal.returns-in-Ok-clause-shape
+returns-in-Ok-clause-shape c =
+    let old = c.args.self.now in
+    let i = c.from-index.result - 1 in
+    let new : MidLine = record { server = c.ticks.new.self; output = old.output; drawn = with_item old.drawn i c.ticks.new.out; filled = c.after-self.result; text = c.enter_ticks.new.text } in
+    let within : i < length old.drawn.items = omega (arith, c.from-index.ensures, c.place.ensures.same, c.place.ensures.fits.0, c.requires.in_setup, c.requires.lists) in
+    let grew = c.in-Ok.ensures.ok in
+    shape_after old new i c.ticks.new.out c.is_empty.result
+    (links_moved old.server c.ticks.new.self c.args.who (Ticks c.args.count) (Some (entry_of_ticks c.args.who c.args.count)) grew.more grew.holds) within refl refl c.after-self.ensures c.is_empty.ensures
+
+pub returns-in-Err-Memory-clause-shape : goal.returns-in-Err-Memory-clause-shape
+returns-in-Err-Memory-clause-shape c =
+    let old = c.args.self.now in
+    let i = c.from-index.result - 1 in
+    let new : MidLine = record { server = c.ticks.new.self; output = old.output; drawn = with_item old.drawn i c.ticks.new.out; filled = old.filled; text = old.text } in
+    shape_same old new i c.ticks.new.out c.index_mut-out.result.now
+    (links_same old.server c.ticks.new.self c.in-Err-Memory.ensures.err.0) refl c.index_mut-out.ensures.value c.in-Err-Memory.ensures.err.1 refl refl

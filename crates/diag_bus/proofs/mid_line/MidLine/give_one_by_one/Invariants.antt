@@ -2,7 +2,7 @@ use Rattle.diag_can.specs.declared.frame.Event.TheVariants.{Ticks}
 use Rattle.diag_bus.specs.Batch.{Gave, SameShape, SentIn}
 use Rattle.diag_bus.specs.Events.{to_each}
 use Rattle.diag_bus.proofs.Paces.{SomeWentOn}
-use Rattle.diag_bus.proofs.mid_line.MidLine.give_each.Given as goal
+use Rattle.diag_bus.proofs.mid_line.MidLine.give_one_by_one.Given as goal
 
 abbrev pub invariant-loop-index : goal.invariant-loop-index
 invariant-loop-index l = record {

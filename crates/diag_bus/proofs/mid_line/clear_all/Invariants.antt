@@ -1,7 +1,7 @@
 use Rattle.std.proofs.Common.{◌≡◌, ◌<◌, ℕ, [], Some, Vec, Global, length}
 use Rattle.std.specs.Prelude.{slice_get}
 use Rattle.diag_tp.specs.declared.sent.Sent.{Sent}
-use Rattle.diag_bus.proofs.mid_line.clear.Given as goal
+use Rattle.diag_bus.proofs.mid_line.clear_all.Given as goal
 
 abbrev pub invariant-loop-index : goal.invariant-loop-index
 invariant-loop-index l = record {

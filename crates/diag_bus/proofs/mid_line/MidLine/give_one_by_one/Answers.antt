@@ -3,9 +3,10 @@ use Rattle.diag_can.specs.declared.frame.Event.TheVariants.{Ticks}
 use Rattle.diag_world.proofs.Worlds.{who_found}
 use Rattle.diag_bus.specs.Batch.{Gave}
 use Rattle.diag_bus.specs.Events.{to_each}
-use Rattle.diag_bus.proofs.Batches.{each_more, gave_more, gave_none, same_more, same_none}
+use Rattle.diag_world.proofs.Waiting.{each_more}
+use Rattle.diag_bus.proofs.Batches.{gave_more, gave_none, same_more, same_none}
 use Rattle.diag_bus.proofs.Paces.{sent_none, sent_some, some_all, some_more, some_none}
-use Rattle.diag_bus.proofs.mid_line.MidLine.give_each.Goals as goal
+use Rattle.diag_bus.proofs.mid_line.MidLine.give_one_by_one.Goals as goal
 
 pub loop-index-init : goal.loop-index-init
 loop-index-init c = record {

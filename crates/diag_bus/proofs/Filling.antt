@@ -1,0 +1,143 @@
+-- Where the testers' lists have frames, and what a line writes that draws one.
+use Rattle.std.proofs.Common.{◌≡◌, ◌≢◌, ◌<◌, ℕ, zero, suc, ◌+◌, ◌-◌, Bool, true, false, Option, Some, Vec, Global, vec_len, List, [], ◌∷◌, ◌++◌, length, map, get_or, refl, ap, ap₂, sym, subst, ◌∙◌, arith, inl, inr}
+use Rattle.std.proofs.Math.Seq.{map-set_same}
+use Rattle.std.proofs.lemmas.Bool.{eqb-true}
+use Rattle.std.proofs.lemmas.List.{append-nil, length-map, length-set, map-set}
+use Rattle.std.specs.Prelude.{◌==◌, if◌then◌else◌, slice_get, slice_set}
+use Rattle.std.specs.List.{flat_map}
+use Rattle.std.specs.Option.{option_map}
+use Rattle.std.proofs.lemmas.Option.{slice_get-map}
+use Rattle.diag_can.specs.declared.frame.Event.{Event}
+use Rattle.diag_tp.proofs.Lists.{length-zero}
+use Rattle.diag_tp.specs.State.{LinkView}
+use Rattle.diag_tp.specs.declared.sent.Sent.{Sent}
+use Rattle.diag_setup.specs.Rows.{in_order}
+use Rattle.diag_setup.specs.declared.raw.RawSetup.{RawSetup}
+use Rattle.diag_desk.specs.declared.entry.Entry.{Entry}
+use Rattle.diag_world.specs.Server.{ServerState, ServerView, Settled, server_of}
+use Rattle.diag_world.proofs.Worlds.{set_cases}
+use Rattle.diag_bus.specs.Batch.{SameShape, lists_of}
+use Rattle.diag_bus.specs.declared.mid_line.MidLine.{MidLine}
+use Rattle.diag_bus.specs.Requests.{AreFilled, filled_at}
+use Rattle.diag_bus.specs.Text.{drawn_for, drawn_text, gathered, line_of, time_of}
+use Rattle.diag_bus.specs.declared.clock.Start.{Start}
+use Rattle.diag_bus.specs.declared.filled.Filled.{Filled}
+use Rattle.diag_bus.specs.declared.filled.Filled.TheVariants.{Nowhere, At, Anywhere}
+
+-- frames were added to one list
+filled_more : (filled : Filled) (lists : List (List Sent)) (i : ℕ) (frames : List Sent) → i < length lists → AreFilled filled lists → AreFilled (filled_at filled i) (slice_set lists i frames)
+filled_more Nowhere lists i frames within h = (
+  omega (arith, within, length-set lists i frames),
+  λ j fs apart at. elim (set_cases lists i j frames fs at) [ inl p ↦ absurd (apart p.0) | inr p ↦ h j fs p.1 ],
+)
+filled_more (At other) lists i frames within h = pick (other == i) refl
+  where
+    pick : (b : Bool) → (other == i) ≡ b → AreFilled (if b then At other else Anywhere) (slice_set lists i frames)
+    pick true e = (
+      omega (arith, h.0, length-set lists i frames),
+      λ j fs apart at. elim (set_cases lists i j frames fs at) [ inl p ↦ absurd (apart (p.0 ∙ sym (eqb-true other i e))) | inr p ↦ h.1 j fs apart p.1 ],
+    )
+    pick false e = tt
+filled_more Anywhere lists i frames within h = tt
+
+-- a list is empty as before
+filled_none : (filled : Filled) (lists : List (List Sent)) (i : ℕ) (frames : List Sent) → frames ≡ [] → AreFilled filled lists → AreFilled filled (slice_set lists i frames)
+filled_none Nowhere lists i frames none h = λ j fs at. elim (set_cases lists i j frames fs at) [ inl p ↦ p.1 ∙ none | inr p ↦ h j fs p.1 ]
+filled_none (At other) lists i frames none h = (
+  omega (arith, h.0, length-set lists i frames),
+  λ j fs apart at. elim (set_cases lists i j frames fs at) [ inl p ↦ p.1 ∙ none | inr p ↦ h.1 j fs apart p.1 ],
+)
+filled_none Anywhere lists i frames none h = tt
+
+pub filled_after : (filled new : Filled) (lists new_lists : List (List Sent)) (i : ℕ) (frames : List Sent) (is_empty : Bool) → i < length lists → new_lists ≡ slice_set lists i frames
+    → new ≡ (if is_empty then filled else filled_at filled i) → (is_empty ≡ true → frames ≡ []) → AreFilled filled lists → AreFilled new new_lists
+filled_after filled new lists new_lists i frames true within set is none h =
+    subst (λ (f : Filled). AreFilled f new_lists) (sym is) (subst (AreFilled filled) (sym set) (filled_none filled lists i frames (none refl) h))
+filled_after filled new lists new_lists i frames false within set is none h =
+    subst (λ (f : Filled). AreFilled f new_lists) (sym is) (subst (AreFilled (filled_at filled i)) (sym set) (filled_more filled lists i frames within h))
+
+-- ---- one tester's list in a line
+
+none_in : (list : Vec Sent Global) → (vec_len list == 0) ≡ true → list.items ≡ []
+none_in list h = length-zero list.items (omega (arith, eqb-true (vec_len list) 0 h, list.ok.0))
+
+pub links_moved : (old new : ServerView) (who : ℕ) (e : Event) (asked : Option Entry) (more : List Sent) → Settled (server_of old) (server_of new) who e asked more → length new.links ≡ length old.links
+links_moved old new who e asked more settled =
+    let state = λ (l : LinkView). l.state in
+    sym (length-map new.links state) ∙ (ap length settled.moved.set ∙ (length-set (map state old.links) (who - 1) settled.moved.after ∙ length-map old.links state))
+
+pub links_same : (old new : ServerView) → server_of new ≡ server_of old → length new.links ≡ length old.links
+links_same old new same =
+    let state = λ (l : LinkView). l.state in
+    sym (length-map new.links state) ∙ (ap (λ (s : ServerState). length s.links) same ∙ length-map old.links state)
+
+-- frames were added to the list at this place
+pub shape_after : (old new : MidLine) (i : ℕ) (list : Vec Sent Global) (is_empty : Bool) → length new.server.links ≡ length old.server.links → i < length old.drawn.items
+    → new.drawn.items ≡ slice_set old.drawn.items i list → new.output ≡ old.output
+    → new.filled ≡ (if is_empty then old.filled else filled_at old.filled i) → is_empty ≡ (vec_len list == 0) → SameShape old new
+shape_after old new i list is_empty links within set output filled tested =
+    let items = λ (f : Vec Sent Global). f.items in
+    let lists : lists_of new ≡ slice_set (lists_of old) i list.items = ap (map items) set ∙ map-set items old.drawn.items i list in
+    record {
+      links = links;
+      lists = ap length set ∙ length-set old.drawn.items i list;
+      output = output;
+      filled = filled_after old.filled new.filled (lists_of old) (lists_of new) i list.items is_empty (omega (arith, within, length-map old.drawn.items items)) lists filled (λ e. none_in list (sym tested ∙ e));
+    }
+
+-- the list at this place is as it was
+pub shape_same : (old new : MidLine) (i : ℕ) (list before : Vec Sent Global) → length new.server.links ≡ length old.server.links → new.drawn.items ≡ slice_set old.drawn.items i list
+    → before ≡ get_or old.drawn.items i before → list.items ≡ before.items → new.output ≡ old.output → new.filled ≡ old.filled → SameShape old new
+shape_same old new i list before links set was same output filled =
+    let items = λ (f : Vec Sent Global). f.items in
+    let lists : lists_of new ≡ lists_of old = ap (map items) set ∙ map-set_same items old.drawn.items i list before (same ∙ ap items was) in
+    record {
+      links = links;
+      lists = ap length set ∙ length-set old.drawn.items i list;
+      output = output;
+      filled = λ known. subst (λ (f : Filled). AreFilled f (lists_of new)) (sym filled) (subst (AreFilled old.filled) (sym lists) known);
+    }
+
+-- ---- what is written
+
+none_gathered : (n : ℕ) (lists : List (List Sent)) → ((i : ℕ) (frames : List Sent) → slice_get lists i ≡ Some frames → frames ≡ []) → gathered n lists ≡ []
+none_gathered n [] none = refl
+none_gathered n (frames ∷ lists) none = ap₂ ◌++◌ (ap (map (drawn_for n)) (none 0 frames refl)) (none_gathered (n + 1) lists (λ i fs at. none (suc i) fs at))
+
+one_gathered : (n i : ℕ) (lists : List (List Sent)) (frames : List Sent) → slice_get lists i ≡ Some frames → ((j : ℕ) (fs : List Sent) → j ≢ i → slice_get lists j ≡ Some fs → fs ≡ [])
+    → gathered n lists ≡ map (drawn_for (n + i)) frames
+one_gathered n i [] frames at others = absurd (clash at)
+  where
+    clash : slice_get [] i ≡ Some frames → ⊥
+    clash e = cc
+one_gathered n zero (first ∷ lists) frames at others =
+    let same : first ≡ frames = cc in
+    let here : n ≡ n + zero = omega arith in
+    ap₂ ◌++◌ (ap₂ (λ t fs. map (drawn_for t) fs) here same) (none_gathered (n + 1) lists (λ i fs there. others (suc i) fs (λ e. absurd (omega (arith, e))) there)) ∙ append-nil (map (drawn_for (n + zero)) frames)
+one_gathered n (suc i) (first ∷ lists) frames at others =
+    let place : n + 1 + i ≡ n + suc i = omega arith in
+    ap₂ ◌++◌ (ap (map (drawn_for n)) (others 0 first (λ e. absurd (omega (arith, e))) refl))
+    (one_gathered (n + 1) i lists frames at (λ j fs apart there. others (suc j) fs (λ e. apart (omega (arith, e))) there) ∙ ap (λ t. map (drawn_for t) frames) place)
+
+-- a line that draws nothing writes nothing
+pub none_written : (setup : RawSetup) (start : Option Start) (lists : List (List Sent)) → AreFilled Nowhere lists → [] ≡ drawn_text setup start lists
+none_written setup start lists none = ap (λ ds. flat_map (line_of setup start) (in_order time_of ds)) (sym (none_gathered 1 lists none))
+
+-- and one that draws one frame writes its line
+one_written : (setup : RawSetup) (start : Option Start) (i : ℕ) (lists : List (List Sent)) (sent : Sent) → slice_get lists i ≡ Some (sent ∷ []) → AreFilled (At i) lists
+    → line_of setup start (drawn_for (i + 1) sent) ≡ drawn_text setup start lists
+one_written setup start i lists sent at filled =
+    let place : 1 + i ≡ i + 1 = omega arith in
+    let one = one_gathered 1 i lists (sent ∷ []) at filled.1 ∙ ap (λ t. drawn_for t sent ∷ []) place in
+    sym (append-nil (line_of setup start (drawn_for (i + 1) sent))) ∙ ap (λ ds. flat_map (line_of setup start) (in_order time_of ds)) (sym one)
+
+single : {X : Type 0} (xs : List X) (x : X) → length xs ≡ 1 → x ≡ get_or xs 0 x → xs ≡ x ∷ []
+single [] x one is = absurd (omega (arith, one))
+single (y ∷ []) x one is = ap (λ z. z ∷ []) (sym is)
+single (y ∷ z ∷ xs) x one is = absurd (omega (arith, one))
+
+pub list_written : (setup : RawSetup) (start : Option Start) (i : ℕ) (drawn : List (Vec Sent Global)) (list : Vec Sent Global) (sent : Sent) → slice_get drawn i ≡ Some list → length list.items ≡ 1
+    → sent ≡ get_or list.items 0 sent → AreFilled (At i) (map (λ f. f.items) drawn) → line_of setup start (drawn_for (i + 1) sent) ≡ drawn_text setup start (map (λ f. f.items) drawn)
+list_written setup start i drawn list sent at one is filled =
+    let items = λ (f : Vec Sent Global). f.items in
+    one_written setup start i (map items drawn) sent (slice_get-map items drawn i ∙ (ap (option_map items) at ∙ ap Some (single list.items sent one is))) filled

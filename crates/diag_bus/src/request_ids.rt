@@ -1,0 +1,63 @@
+//! The identifiers by which it is told for whom a frame of the bus is.
+
+ghost use Rattle.std.specs.Prelude.{◌≡◌, ◌<◌, ◌+◌, Some, length, IfOk, IfSome, IsTrue};
+ghost use Rattle.diag_can.specs.Bus.{frame_for};
+ghost use Rattle.diag_setup.specs.Setup.{ids_of};
+ghost use Rattle.diag_setup.specs.declared.raw.RawSetup.{RawSetup};
+ghost use Rattle.diag_tp.specs.Link.{is_frame};
+ghost use Rattle.diag_bus.specs.Requests.{AreRequestsOf};
+
+use diag_can::{CanId, Event, Frame, FrameBytes};
+use diag_setup::Setup;
+use std::alloc::{AllocError, Global};
+
+/// The identifiers of the testers' requests, taken from the setup once.
+#[derive(Drop)]
+pub struct RequestIds {
+    /// Of each tester's own requests, in order.
+    pub physical: Vec<CanId>,
+    /// Of the requests to every ECU.
+    pub functional: CanId,
+}
+
+impl RequestIds {
+    /// Those of a setup.
+    pub fn new(alloc: Global, setup: &Setup) -> Result<RequestIds, AllocError>
+        ensures { IfOk result (λ ids. AreRequestsOf setup.now ids) }
+    {
+        let mut physical = Vec::new(alloc);
+        for index in 0..setup.testers() {
+            let Some(who) = setup.who(index) else {
+                unreachable!()
+            };
+            physical.push(setup.ids(who).request)?;
+        }
+        Ok(RequestIds {
+            physical,
+            functional: setup.functional(),
+        })
+    }
+
+    /// What a frame is to the tester at this place, from 0.
+    pub fn event_at(&self, place: usize, frame: &Frame) -> Option<Event>
+        requires { place < length self.now.physical.items }
+        ensures is { (setup : RawSetup) → AreRequestsOf setup self.now
+            → result ≡ frame_for (ids_of setup (place + 1)) (Some frame.now) }
+        ensures frame { IfSome result (λ event. IsTrue (is_frame event)) }
+    {
+        if frame.id == self.physical[place] {
+            Some(Event::Physical(copy_of(&frame.bytes)))
+        } else if frame.id == self.functional {
+            Some(Event::Functional(copy_of(&frame.bytes)))
+        } else {
+            None
+        }
+    }
+}
+
+/// The same bytes.
+fn copy_of(bytes: &FrameBytes) -> FrameBytes
+    ensures { result ≡ bytes.now }
+{
+    FrameBytes::from_slice(bytes.as_slice())
+}
