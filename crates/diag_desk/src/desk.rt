@@ -77,22 +77,6 @@ impl Desk {
         })
     }
 
-    /// The desk of a run that was made elsewhere: the ECU as it was opened, what the run has made of it, and the journal.
-    pub fn of(opening: Ecu, ecu: Ecu, journal: Journal) -> Desk
-        requires opened { IsOpening opening }
-        requires legal { Legal opening journal.entries }
-        requires ecu { ecu ≡ after opening journal.entries }
-        ensures { result ≡ record { opening = opening; journal = journal.entries } }
-    {
-        // (for its contract: what a journal holds)
-        let _entries = journal.len();
-        Desk {
-            opening,
-            ecu,
-            journal,
-        }
-    }
-
     /// The entries so far, which are a legal run from the desk's opening, that of a checked setup, in which nothing is
     /// unlocked.
     #[tactic(auto, using(crate::proofs::Runs::opens_locked))]

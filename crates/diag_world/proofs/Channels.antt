@@ -19,10 +19,10 @@ use Rattle.diag_tp.specs.Wire.{wire}
 use Rattle.diag_tp.specs.State.{LinkState}
 use Rattle.diag_tp.specs.declared.sent.Sent.{Sent}
 use Rattle.diag_desk.specs.declared.entry.Entry.{Entry}
-use Rattle.diag_desk.specs.Entries.{entry}
-use Rattle.diag_desk.specs.Entries.{replies}
-use Rattle.diag_world.specs.Port.{entries_of}
-use Rattle.diag_world.specs.Port.{AreWithin, HandedOut, PortStands, PortTook}
+use Rattle.diag_desk.specs.Entries.{asked_by, entry, replies}
+use Rattle.diag_world.specs.Channel.{ChannelStands, ChannelState, EachChannelRun, GoesOn}
+use Rattle.diag_world.specs.Port.{AreWithin, HandedOut, PortStands, PortTook, entries_of}
+use Rattle.diag_world.specs.Weaving.{all_by}
 use Rattle.diag_world.proofs.Placing.{steps_push, placed_quiet, placed_push}
 
 -- no ticks are no moments
@@ -90,6 +90,20 @@ pub port_took : (s : LinkSetup) (who : ℕ) (E : List Event) (K : List Entry) (e
 port_took s who E K e reply link link' more h quiet sent =
     let done = goes_on s who E K e reply link link' more (gives s E e) h refl quiet sent in
     record { stands = done.0; grown = done.1 }
+
+-- the channel goes on with the entry of the step that the event gives, if any
+pub went_on : (who : ℕ) (old new : ChannelState) (e : Event) (o : Option Step) (reply : Option (List ℕ)) → EachChannelRun old (λ s E K. o ≡ gives s E e) → (o ≡ None → reply ≡ None)
+    → EachChannelRun old (λ s E K. length K ≤ 1000000 → (gives s E e ≡ None → reply ≡ None) → ChannelStands s new (E ++ e ∷ []) (K ++ entries_of who (gives s E e) reply))
+    → GoesOn who old new e (entries_of who o reply)
+went_on who old new e o reply is none took = λ s E K h few.
+    let same = is s E K h in (
+      asks o ∙ ap (λ x. all_by who (option_to_list x)) same,
+      subst (λ x. ChannelStands s new (E ++ e ∷ []) (K ++ entries_of who x reply)) (sym same) (took s E K h few (λ n. none (same ∙ n))),
+    )
+  where
+    asks : (o : Option Step) → asked_by (entries_of who o reply) ≡ all_by who (option_to_list o)
+    asks None = refl
+    asks (Some x) = refl
 
 -- time goes on with the entries: an event that gives no step is a frame, and one that gives a step takes at most 60000
 pub time_goes_on : (s : LinkSetup) (who : ℕ) (E : List Event) (K : List Entry) (e : Event) (reply : Option (List ℕ)) (o : Option Step)

@@ -9,7 +9,6 @@ use Rattle.diag_can.specs.declared.frame.Event.TheVariants.{Physical, Functional
 use Rattle.diag_tp.specs.declared.setup.LinkSetup.{LinkSetup}
 use Rattle.diag_tp.specs.declared.sent.Sent.{Sent}
 use Rattle.diag_tp.specs.declared.step.Step.{Step}
-use Rattle.diag_tp.specs.declared.step.Step.TheVariants as step
 use Rattle.diag_tp.specs.Moments.{is_tick}
 use Rattle.diag_tp.specs.Wire.{stamped}
 use Rattle.diag_tp.proofs.Lists.{length-zero}
@@ -21,12 +20,11 @@ use Rattle.diag_setup.specs.Setup.{link_of}
 use Rattle.diag_setup.specs.declared.raw.RawSetup.{RawSetup}
 use Rattle.diag_ecu.specs.State.{State, opening}
 use Rattle.diag_desk.specs.declared.entry.Entry.{Entry}
-use Rattle.diag_desk.specs.Entry.{HasNoReply}
 use Rattle.diag_desk.specs.Entries.{asked_by, own, replies}
 use Rattle.diag_desk.specs.Legal.{Legal, after, reply_to}
 use Rattle.diag_desk.proofs.Runs.{legal_more, after_more}
 use Rattle.diag_world.specs.Port.{PortStands, entries_of, time_after}
-use Rattle.diag_world.specs.Server.{PortSettled, ServerState, ServerView, server_of, Serves, Served, Settled}
+use Rattle.diag_world.specs.Server.{PortSettled, ServerState, ServerView, server_of, sent_to, Serves, Served, Settled}
 use Rattle.diag_world.specs.Weaving.{items_of, all_by}
 use Rattle.diag_world.proofs.Weaves.{steps_of_after-append}
 use Rattle.diag_world.proofs.Worlds.{set_cases, own-append, own_mine, own_none, items_mine, items_other, other_place}
@@ -56,11 +54,6 @@ pub asked_gives : (who : ℕ) (o : Option Step) (asked : Option Entry) → optio
 asked_gives who o None h same = ap (λ x. all_by who (option_to_list x)) h
 asked_gives who o (Some k) h same = ap (λ w. (w, k.step) ∷ []) same ∙ ap (λ x. all_by who (option_to_list x)) h
 
--- ticks have no reply
-pub no_reply_to : (s : State) (who : ℕ) (x : Step) → HasNoReply x (reply_to s who x)
-no_reply_to s who (step.Request functional message) = tt
-no_reply_to s who (step.Ticks n) = refl
-
 pub legal_asked : (s now : State) (K : List Entry) (asked : Option Entry) → Legal s K → now ≡ after s K → IfSome asked (λ k. k.reply ≡ reply_to now k.who k.step) → Legal s (K ++ option_to_list asked)
 legal_asked s now K None h is same = subst (Legal s) (sym (append-nil K)) h
 legal_asked s now K (Some k) h is same = legal_more s K k h (same ∙ ap (λ x. reply_to x k.who k.step) is)
@@ -69,7 +62,34 @@ pub after_asked : (s now : State) (K : List Entry) (asked : Option Entry) → no
 after_asked s now K None is = is ∙ ap (after s) (sym (append-nil K))
 after_asked s now K (Some k) is = ap (λ x. after x (k ∷ [])) is ∙ sym (after_more s K k)
 
--- a server goes on as the link of the tester does
+-- an event more of a tester, with the entries that it gives
+module _ (setup : RawSetup) (M : List (ℕ × Event)) (K more : List Entry) (who : ℕ) (e : Event) (given : asked_by more ≡ all_by who (option_to_list (gives (link_of setup who) (items_of M who) e))) where
+  pub own_more : own (K ++ more) who ≡ own K who ++ more
+  own_more = own-append K more who ∙ ap (λ w. own K who ++ w) (own_mine more who _ given)
+
+  pub own_other : (t : ℕ) → (who == t) ≡ false → own (K ++ more) t ≡ own K t
+  own_other t away = own-append K more t ∙ (ap (λ w. own K t ++ w) (own_none more who t _ away given) ∙ append-nil (own K t))
+
+  -- no other tester is sent anything
+  pub sent_other : (t : ℕ) → (who == t) ≡ false → sent_to setup (M ++ (who, e) ∷ []) (K ++ more) t ≡ sent_to setup M K t
+  sent_other t away = ap₂ (λ E L. drawn (link_of setup t) E (replies L)) (items_other M who t e away) (own_other t away)
+
+  -- a server goes on as the link of the tester does
+  pub serves_more : (old new : ServerState) (i : ℕ) (link : LinkState) → Serves setup old M K → who ≡ i + 1 → new.links ≡ slice_set old.links i link
+      → Legal (opening setup) (K ++ more) → new.ecu ≡ after (opening setup) (K ++ more) → PortStands (link_of setup who) link (items_of M who ++ e ∷ []) (own K who ++ more)
+      → Serves setup new (M ++ (who, e) ∷ []) (K ++ more)
+  serves_more old new i link h is links legal ecu port = record {
+    legal = legal;
+    ecu = ecu;
+    testers = ap length links ∙ (length-set old.links i link ∙ h.testers);
+    run = map-append (λ (k : Entry). (k.who, k.step)) K more ∙ (ap₂ ◌++◌ h.run (given ∙ sym (append-nil _)) ∙ sym (steps_of_after-append (link_of setup) [] M ((who, e) ∷ [])));
+    ports = λ j l at. elim (set_cases old.links i j link l (subst (λ ls. slice_get ls j ≡ Some l) links at)) [
+      | inl p ↦ (let place : j + 1 ≡ who = omega (arith, is, p.0) in rw (place, p.1, items_mine M who e, own_more) port)
+      | inr p ↦ (let away = other_place i j who is p.0 in rw (items_other M who (j + 1) e away, own_other (j + 1) away) (h.ports j l p.1))
+    ];
+  }
+
+-- the same where the ECU gives the reply
 pub server_takes : (setup : RawSetup) (old new : ServerState) (M : List (ℕ × Event)) (K : List Entry) (who : ℕ) (e : Event) (asked : Option Entry) (i : ℕ) (link' : LinkState) (more : List Sent)
     → Serves setup old M K → who ≡ i + 1
     → new.links ≡ slice_set old.links i link' → new.ecu ≡ after old.ecu (option_to_list asked)
@@ -79,40 +99,12 @@ pub server_takes : (setup : RawSetup) (old new : ServerState) (M : List (ℕ × 
     × (drawn (link_of setup who) (items_of M who ++ e ∷ []) (replies (own K who ++ option_to_list asked)) ≡ drawn (link_of setup who) (items_of M who) (replies (own K who)) ++ more)
     → Served setup new M K who e asked more
 server_takes setup old new M K who e asked i link' more h is links ecu step by reply took =
-    let links_of = link_of setup in
-    let K' = K ++ option_to_list asked in
-    let M' = M ++ (who, e) ∷ [] in
-    let given = asked_gives who (gives (links_of who) (items_of M who) e) asked step by in
-    let xs = option_to_list (gives (links_of who) (items_of M who) e) in
-    let mine : own K' who ≡ own K who ++ option_to_list asked =
-    own-append K (option_to_list asked) who ∙ ap (λ w. own K who ++ w) (own_mine (option_to_list asked) who xs given) in
-    let mine' = items_mine M who e in
-    let here : PortStands (links_of who) link' (items_of M' who) (own K' who) =
-    subst (λ E. PortStands (links_of who) link' E (own K' who)) (sym mine') (subst (λ L. PortStands (links_of who) link' (items_of M who ++ e ∷ []) L) (sym mine) took.0) in
-    let other : (t : ℕ) → (who == t) ≡ false → own K' t ≡ own K t = λ t away.
-    own-append K (option_to_list asked) t ∙ (ap (λ w. own K t ++ w) (own_none (option_to_list asked) who t xs away given) ∙ append-nil (own K t)) in
-    let other' : (t : ℕ) → (who == t) ≡ false → items_of M' t ≡ items_of M t = λ t away. items_other M who t e away in
+    let given = asked_gives who (gives (link_of setup who) (items_of M who) e) asked step by in
     record {
-      serves = record {
-        legal = legal_asked (opening setup) old.ecu K asked h.legal h.ecu reply;
-        ecu = ecu ∙ after_asked (opening setup) old.ecu K asked h.ecu;
-        testers = ap length links ∙ (length-set old.links i link' ∙ h.testers);
-        run = map-append (λ (k : Entry). (k.who, k.step)) K (option_to_list asked)
-            ∙ (ap₂ ◌++◌ h.run (given ∙ sym (append-nil _))
-            ∙ sym (steps_of_after-append links_of [] M ((who, e) ∷ [])));
-        ports = λ j l at. elim (set_cases old.links i j link' l (subst (λ ls. slice_get ls j ≡ Some l) links at)) [
-          | inl p ↦ (
-              let place : who ≡ j + 1 = omega (arith, is, p.0) in
-              subst (λ t. PortStands (links_of t) l (items_of M' t) (own K' t)) place
-              (subst (λ l'. PortStands (links_of who) l' (items_of M' who) (own K' who)) (sym p.1) here))
-          | inr p ↦ (
-              let away = other_place i j who is p.0 in
-              subst (λ E. PortStands (links_of (j + 1)) l E (own K' (j + 1))) (sym (other' (j + 1) away))
-              (subst (λ L. PortStands (links_of (j + 1)) l (items_of M (j + 1)) L) (sym (other (j + 1) away)) (h.ports j l p.1)))
-        ];
-      };
-      grown = ap₂ (λ E L. drawn (links_of who) E (replies L)) mine' mine ∙ took.1;
-      others = λ t away. ap₂ (λ E L. drawn (links_of t) E (replies L)) (other' t away) (other t away);
+      serves = serves_more setup M K (option_to_list asked) who e given old new i link' h is links (legal_asked (opening setup) old.ecu K asked h.legal h.ecu reply)
+          (ecu ∙ after_asked (opening setup) old.ecu K asked h.ecu) took.0;
+      grown = ap₂ (λ E L. drawn (link_of setup who) E (replies L)) (items_mine M who e) (own_more setup M K (option_to_list asked) who e given) ∙ took.1;
+      others = sent_other setup M K (option_to_list asked) who e given;
     }
 
 -- a link on which nothing has happened

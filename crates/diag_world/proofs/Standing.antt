@@ -1,97 +1,127 @@
 -- How a world goes on with one event more.
-use Rattle.std.proofs.Common.{◌≡◌, ℕ, ◌+◌, ◌-◌, Option, Some, None, List, [], ◌∷◌, ◌++◌, length, refl, ap, subst, sym, ◌∙◌, arith, inl, inr, length-append}
-use Rattle.std.proofs.lemmas.List.{length-set}
-use Rattle.std.specs.Prelude.{slice_get, slice_set, IfSome, Result, Ok, Err, OnOk, OnErr}
-use Rattle.std.specs.Option.{option_to_list}
+use Rattle.std.proofs.Common.{◌≡◌, ◌≤◌, ◌<◌, ℕ, get_or, set, ◌+◌, ◌*◌, Bool, true, false, cond, Option, Some, List, [], ◌∷◌, ◌++◌, length, map, refl, ap, ap₂, subst, sym, ◌∙◌, arith, inl, inr}
+use Rattle.std.proofs.Math.Seq.{map-set_same}
+use Rattle.std.proofs.lemmas.List.{length-map, length-set, map-set}
+use Rattle.std.proofs.lemmas.List.Filters.{length-filter_both}
+use Rattle.std.proofs.lemmas.Option.{slice_get-map, slice_get_read}
+use Rattle.std.specs.Prelude.{◌==◌, not, slice_get}
+use Rattle.std.specs.Option.{option_map}
 use Rattle.diag_can.specs.declared.frame.Event.{Event}
 use Rattle.diag_tp.specs.declared.sent.Sent.{Sent}
 use Rattle.diag_tp.specs.declared.setup.LinkSetup.{LinkSetup}
-use Rattle.diag_tp.specs.Placing.{drawn}
-use Rattle.diag_tp.specs.Wire.{grant, sendings, wire}
-use Rattle.diag_setup.specs.Setup.{IsSetup, link_of}
+use Rattle.diag_tp.specs.declared.step.Step.{Step}
+use Rattle.diag_tp.specs.declared.step.Step.TheVariants as step
+use Rattle.diag_tp.specs.Link.{StandsFor}
+use Rattle.diag_tp.specs.Placing.{placed}
 use Rattle.diag_tp.specs.State.{LinkState}
 use Rattle.diag_setup.specs.declared.raw.RawSetup.{RawSetup}
-use Rattle.diag_ecu.specs.State.{State}
+use Rattle.diag_setup.specs.Setup.{link_of}
+use Rattle.diag_ecu.specs.State.{opening}
 use Rattle.diag_desk.specs.declared.entry.Entry.{Entry}
-use Rattle.diag_desk.specs.Entry.{HasNoReply, IsJournal}
-use Rattle.diag_desk.specs.Legal.{IsOpening, Legal, after, reply_to}
-use Rattle.diag_world.specs.Server.{ServerState, Serves, sent_to}
-use Rattle.diag_world.specs.World.{WorldState, Stands, RunsTo, Took}
-use Rattle.diag_world.proofs.Serving.{legal_asked, after_asked, no_reply_to}
-use Rattle.diag_world.proofs.Worlds.{set_cases, other_place}
+use Rattle.diag_desk.specs.Entries.{own, replies}
+use Rattle.diag_desk.specs.Entry.{AreEntries, IsJournal, IsStep}
+use Rattle.diag_desk.specs.Legal.{Legal, Run, after}
+use Rattle.diag_desk.specs.Text.{ticks_in, ticks_of}
+use Rattle.diag_world.specs.declared.channel.Channel.{Channel}
+use Rattle.diag_world.specs.Channel.{ChannelStands, ChannelState, channel_of}
+use Rattle.diag_world.specs.Port.{PortStands}
+use Rattle.diag_world.specs.Server.{sent_to}
+use Rattle.diag_world.specs.Weaving.{items_of}
+use Rattle.diag_world.specs.World.{Stands, Took, WorldState, world_of}
+use Rattle.diag_world.proofs.Serving.{own_more, sent_other, serves_more}
+use Rattle.diag_world.proofs.Times.{ticks_of_run}
+use Rattle.diag_world.proofs.Worlds.{items_mine, map_cases, other_place, set_cases}
 
--- what both an Ok and an Err tell
-pub either_way : {X Y : Type 0} (P Q Z : Type 0) (r : Result X Y) → OnOk r P → OnErr r Q → (P → Z) → (Q → Z) → Z
-either_way P Q Z (Ok x) p q f g = f p
-either_way P Q Z (Err y) p q f g = g q
+few_ticks : (x : Step) (reply : Option (List ℕ)) → IsStep x reply → ticks_in x ≤ 60000
+few_ticks (step.Request functional message) reply h = omega arith
+few_ticks (step.Ticks n) reply h = omega (arith, h.1)
 
--- a reply that the ECU gave is none where the step has none
-pub quiet_asked : (s : State) (asked : Option Entry) → IfSome asked (λ k. k.reply ≡ reply_to s k.who k.step) → IfSome asked (λ k. HasNoReply k.step k.reply)
-quiet_asked s None h = tt
-quiet_asked s (Some k) h = subst (HasNoReply k.step) (sym h) (no_reply_to s k.who k.step)
+-- a tester's ticks are at most 60000 for each of its entries
+own_time : (K : List Entry) (t : ℕ) → AreEntries K → ticks_of t K ≤ 60000 * length (own K t)
+own_time [] t all = omega arith
+own_time (k ∷ K) t all = pick (k.who == t) (own_time K t all.1)
+  where
+    pick : (b : Bool) → ticks_of t K ≤ 60000 * length (own K t) → cond b (ticks_in k.step) 0 + ticks_of t K ≤ 60000 * length (cond b (k ∷ own K t) (own K t))
+    pick true h = omega (arith, h, few_ticks k.step k.reply all.0.2)
+    pick false h = omega (arith, h)
 
--- the run goes on with the entry that was asked
-pub runs_more : (opening : State) (J J' : List Entry) (old new : ServerState) (who : ℕ) (e : Event) (xs xs' : List Sent)
-    → RunsTo opening J old → (IsJournal J → IsJournal J') → Took old new who e J J' xs xs' → RunsTo opening J' new
-runs_more opening J J' old new who e xs xs' h kept took =
-    let moved = took.settled.moved in
-    let more = option_to_list took.asked in
-    record {
-      opened = h.opened;
-      legal = subst (λ K. Legal opening K) (sym took.entered) (legal_asked opening old.ecu J took.asked h.legal h.ecu took.settled.answer);
-      ecu = took.settled.ecu ∙ (after_asked opening old.ecu J took.asked h.ecu ∙ ap (after opening) (sym took.entered));
-      kept = kept h.kept;
-      paced = λ i link at. elim (set_cases old.links (who - 1) i moved.after link (subst (λ ls. slice_get ls i ≡ Some link) moved.set at)) [
-        | inl p ↦ (
-            let now = ap (λ (l : LinkState). l.now) p.1 in
-            omega (arith, now, moved.pace, h.paced (who - 1) moved.before moved.found, ap length took.entered, length-append J more))
-        | inr p ↦ omega (arith, h.paced i link p.1, ap length took.entered, length-append J more)
-      ];
-    }
+abbrev link : ChannelState → LinkState
+link channel = channel.link
 
--- a world goes on as its server and the list of the tester do
-pub stands_more : (setup : RawSetup) (w w' : WorldState) (M : List (ℕ × Event)) (who : ℕ) (e : Event) (i : ℕ) (frames frames' : List Sent)
-    → Stands setup w M → who ≡ i + 1 → Took w.server w'.server who e w.desk.journal w'.desk.journal frames frames'
-    → w'.desk.opening ≡ w.desk.opening → slice_get w.sent i ≡ Some frames → w'.sent ≡ slice_set w.sent i frames'
-    → Stands setup w' (M ++ (who, e) ∷ [])
-stands_more setup w w' M who e i frames frames' h is took opening found written =
-    let served = took.settled.served setup M w.desk.journal h.serves in
-    let M' = M ++ (who, e) ∷ [] in
-    record {
-      opening = opening ∙ h.opening;
-      serves = subst (λ J. Serves setup w'.server M' J) (sym took.entered) served.serves;
-      testers = ap length written ∙ (length-set w.sent i frames' ∙ h.testers);
-      frames = λ j f at. elim (set_cases w.sent i j frames' f (subst (λ s. slice_get s j ≡ Some f) written at)) [
-        | inl p ↦ (
-            let place : who ≡ j + 1 = omega (arith, is, p.0) in
-            p.1 ∙ (took.grown ∙ (ap (λ x. x ++ took.more) (h.frames i frames found ∙ ap (sent_to setup M w.desk.journal) (sym is))
-            ∙ (sym served.grown ∙ (ap (λ J. sent_to setup M' J who) (sym took.entered) ∙ ap (sent_to setup M' w'.desk.journal) place)))))
-        | inr p ↦ h.frames j f p.1 ∙ (sym (served.others (j + 1) (other_place i j who is p.0)) ∙ ap (λ J. sent_to setup M' J (j + 1)) (sym took.entered))
-      ];
-    }
+abbrev sent : ChannelState → List Sent
+sent channel = channel.sent
 
--- before any event nothing is sent
-no_frames : (s : LinkSetup) → drawn s [] [] ≡ []
-unfolding wire grant sendings
-no_frames s = refl
-
--- the run of a server to which nothing has happened
-pub runs_begin : (setup : RawSetup) (opening : State) (J : List Entry) (server : ServerState) → IsSetup setup → Serves setup server [] [] → opening ≡ server.ecu → J ≡ [] → RunsTo opening J server
-unfolding IsOpening
-runs_begin setup opening J server checked h same none = subst (λ K. RunsTo opening K server) (sym none) (record {
-  opened = (setup, checked, same ∙ h.ecu);
-  legal = tt;
-  ecu = sym same;
-  kept = (tt, omega arith);
-  paced = λ i link at. omega (arith, (h.ports i link at).stands.now);
-})
+port_of : (s : LinkSetup) (channel : ChannelState) (E : List Event) (K : List Entry) → ChannelStands s channel E K → PortStands s channel.link E K
+port_of s channel E K h = record { stands = subst (λ (Q : List Sent). StandsFor s channel.link E (placed s E (replies K)) Q) h.all_sent h.stands; asks = h.asks }
 
 -- the world in which nothing has happened
-pub stands_begin : (setup : RawSetup) (w : WorldState) → Serves setup w.server [] [] → w.desk.opening ≡ w.server.ecu → w.desk.journal ≡ [] → length w.sent ≡ length setup.testers
-    → ((i : ℕ) (frames : List Sent) → slice_get w.sent i ≡ Some frames → frames ≡ []) → Stands setup w []
-stands_begin setup w h same none testers empty = record {
-  opening = same ∙ h.ecu;
-  serves = subst (λ J. Serves setup w.server [] J) (sym none) h;
-  testers = testers;
-  frames = λ i frames at. empty i frames at ∙ (sym (no_frames (link_of setup (i + 1))) ∙ ap (λ J. sent_to setup [] J (i + 1)) (sym none));
+pub stands_begin : (setup : RawSetup) (channels : List ChannelState) → length channels ≡ length setup.testers
+    → ((i : ℕ) (channel : ChannelState) → slice_get channels i ≡ Some channel → ChannelStands (link_of setup (i + 1)) channel [] [])
+    → Stands setup (world_of (record { opening = opening setup; journal = [] }) channels) []
+stands_begin setup channels many all = record {
+  opening = refl;
+  serves = record {
+    legal = tt;
+    ecu = refl;
+    testers = length-map channels link ∙ many;
+    run = refl;
+    ports = λ i l at. let c = map_cases link channels i l at in rw c.2 (port_of (link_of setup (i + 1)) c.0 [] [] (all i c.0 c.1));
+  };
+  testers = length-map channels sent ∙ many;
+  frames = λ i frames at. let c = map_cases sent channels i frames at in c.2 ∙ (all i c.0 c.1).all_sent;
 }
+
+-- a tester's channel, in a world
+module _ (desk : Run) (items : List Channel) (i : ℕ) {w : WorldState} {who : ℕ} {channel : Channel} (seen : world_of desk (map channel_of items) ≡ w) (within : who ≤ length w.sent) (is : who ≡ i + 1) (read : channel ≡ get_or items i channel) where
+  pub found : slice_get (map channel_of items) i ≡ Some (channel_of channel)
+  found =
+      let low : i < length items = omega (arith, within, ap (λ x. length x.sent) seen, length-map (map channel_of items) sent, length-map items channel_of, is) in
+      slice_get-map channel_of items i ∙ ap (option_map channel_of) (slice_get_read items (length items) i channel refl low read)
+
+  -- what it was sent
+  pub frames_of : (setup : RawSetup) (M : List (ℕ × Event)) → Stands setup w M → (channel_of channel).sent ≡ sent_to setup M w.desk.journal who
+  frames_of setup M h = h.frames i _ (subst (λ x. slice_get x.sent i ≡ Some (channel_of channel).sent) seen (slice_get-map sent (map channel_of items) i ∙ ap (option_map sent) found)) ∙ ap (sent_to setup M w.desk.journal) (sym is)
+
+  -- it stands for the tester's events and entries
+  pub channel_stands : (setup : RawSetup) (M : List (ℕ × Event)) → IsJournal desk.journal → Stands setup w M → ChannelStands (link_of setup who) (channel_of channel) (items_of M who) (own desk.journal who)
+  channel_stands setup M journal h =
+      let h0 = subst (λ x. Stands setup x M) (sym seen) h in
+      let all = frames_of setup M h ∙ ap (λ x. sent_to setup M x.desk.journal who) (sym seen) in
+      let port = h0.serves.ports i (channel_of channel).link (slice_get-map link (map channel_of items) i ∙ ap (option_map link) found) in
+      record {
+        stands = rw (all, is) port.stands;
+        all_sent = all;
+        asks = rw is port.asks;
+        time = omega (arith, own_time desk.journal who journal.0, ticks_of_run (link_of setup) M desk.journal who h0.serves.run);
+      }
+
+  -- an event more of the tester
+  pub world_takes : (setup : RawSetup) (M : List (ℕ × Event)) (e : Event) (desk' : Run) (channel' : Channel) → IsJournal desk.journal → Took desk desk' who e (channel_of channel) (channel_of channel') → Stands setup w M
+      → Stands setup (world_of desk' (map channel_of (set items i channel'))) (M ++ (who, e) ∷ [])
+  world_takes setup M e desk' channel' journal took h =
+      let J = desk.journal in
+      let more = took.entries in
+      let M' = M ++ (who, e) ∷ [] in
+      let h0 = subst (λ x. Stands setup x M) (sym seen) h in
+      let few : length (own J who) ≤ 1000000 = omega (arith, journal.1, length-filter_both (λ (k : Entry). k.who == who) (λ k. not (k.who == who)) (λ k. refl) J) in
+      let next = took.goes_on (link_of setup who) (items_of M who) (own J who) (channel_stands setup M journal h) few in
+      let written = map-set channel_of items i channel' in
+      let new : List ChannelState = map channel_of (set items i channel') in
+      let links = ap (map link) written ∙ map-set link (map channel_of items) i (channel_of channel') in
+      let sents = ap (map sent) written ∙ map-set sent (map channel_of items) i (channel_of channel') in
+      subst (λ (d : Run). Legal d.opening d.journal → Stands setup (world_of d new) M') (sym took.grown)
+      (λ legal. record {
+        opening = h0.opening;
+        serves = serves_more setup M J more who e next.0 (world_of desk (map channel_of items)).server (world_of (record { opening = desk.opening; journal = J ++ more }) new).server i (channel_of channel').link h0.serves is links
+            (subst (λ s. Legal s (J ++ more)) h0.opening legal) (ap (λ s. after s (J ++ more)) h0.opening) (port_of (link_of setup who) (channel_of channel') (items_of M who ++ e ∷ []) (own J who ++ more) next.1);
+        testers = ap length sents ∙ (length-set (map sent (map channel_of items)) i (channel_of channel').sent ∙ h0.testers);
+        frames = λ j frames at. elim (set_cases (map sent (map channel_of items)) i j (channel_of channel').sent frames (rw sents at at)) [
+          | inl p ↦ (let place : j + 1 ≡ who = omega (arith, is, p.0) in rw (place, p.1, items_mine M who e, own_more setup M J more who e next.0) next.1.all_sent)
+          | inr p ↦ h0.frames j frames p.1 ∙ sym (sent_other setup M J more who e next.0 (j + 1) (other_place i j who is p.0))
+        ];
+      })
+      took.legal
+
+  -- an event that was refused
+  pub world_same : (desk' : Run) (channel' : Channel) → desk' ≡ desk → channel_of channel' ≡ channel_of channel → world_of desk' (map channel_of (set items i channel')) ≡ w
+  world_same desk' channel' same kept = ap₂ world_of same (map-set_same channel_of items i channel' channel (kept ∙ ap channel_of read)) ∙ seen

@@ -1,19 +1,21 @@
 -- One tester's channel: its link, and the frames that it was sent.
-use Rattle.std.specs.Prelude.{◌≡◌, ℕ, ◌*◌, ◌≤◌, List, length, Option, IsTrue, IsSome, vec_len, vec_capacity}
+use Rattle.std.specs.Prelude.{◌≡◌, ℕ, ◌*◌, ◌≤◌, List, [], ◌∷◌, ◌++◌, length, Option, Some, IsTrue, IsSome, slice_get, vec_len, vec_capacity}
+use Rattle.std.specs.Option.{option_to_list}
 use Rattle.diag_can.specs.declared.frame.Event.{Event}
 use Rattle.diag_tp.specs.declared.setup.LinkSetup.{LinkSetup}
 use Rattle.diag_tp.specs.declared.sent.Sent.{Sent}
 use Rattle.diag_tp.specs.declared.step.Step.{Step}
 use Rattle.diag_tp.specs.declared.taken.Taken.{Taken}
-use Rattle.diag_tp.specs.Gives.{steps}
+use Rattle.diag_tp.specs.Gives.{gives, steps}
 use Rattle.diag_tp.specs.Moments.{last_time}
 use Rattle.diag_tp.specs.Placing.{placed, drawn}
 use Rattle.diag_tp.specs.State.{LinkState}
 use Rattle.diag_tp.specs.Link.{StandsFor, is_frame, pending, waiting_count}
 use Rattle.diag_desk.specs.declared.entry.Entry.{Entry}
 use Rattle.diag_desk.specs.Entry.{HasNoReply}
-use Rattle.diag_desk.specs.Entries.{asked, replies}
+use Rattle.diag_desk.specs.Entries.{asked, asked_by, replies}
 use Rattle.diag_world.specs.Port.{HasRoomFor}
+use Rattle.diag_world.specs.Weaving.{all_by}
 use Rattle.diag_world.specs.declared.channel.Channel.{Channel}
 
 -- what is seen of a channel: its link, and the frames that were sent. Room that was made is no part of it
@@ -51,3 +53,21 @@ pub record ChannelStands (s : LinkSetup) (channel : ChannelState) (E : List Even
   pub asks : asked K ≡ steps s E
   -- each tick count has its entry
   pub time : last_time E ≤ 60000 * length K
+
+-- P holds of the settings, of the events and of the entries, whichever, that the channel stands for
+abbrev pub EachChannelRun : ChannelState → (LinkSetup → List Event → List Entry → Type 0) → Type 0
+EachChannelRun channel P =
+    (s : LinkSetup) (E : List Event) (K : List Entry) → ChannelStands s channel E K → P s E K
+
+-- The channel took an event more, to which the journal has these entries of its tester: one where the event gives a
+-- step, and else none.
+abbrev pub GoesOn : ℕ → ChannelState → ChannelState → Event → List Entry → Type 0
+GoesOn who old new e entries = EachChannelRun old (λ s E K.
+    length K ≤ 1000000
+    → (asked_by entries ≡ all_by who (option_to_list (gives s E e)))
+    × ChannelStands s new (E ++ e ∷ []) (K ++ entries))
+
+-- no channel has a frame that is due
+abbrev pub NoneDue : List ChannelState → Type 0
+NoneDue channels =
+    (i : ℕ) (channel : ChannelState) → slice_get channels i ≡ Some channel → due channel ≡ 0

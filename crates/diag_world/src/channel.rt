@@ -16,6 +16,7 @@ ghost use Rattle.std.specs.Prelude.{
   IsTrue,
   IsSome,
   None,
+  ◌↔◌,
 };
 ghost use Rattle.diag_can.specs.declared.frame.Event.{Event as AnEvent};
 ghost use Rattle.diag_tp.specs.declared.setup.LinkSetup.{LinkSetup as ALinkSetup};
@@ -23,9 +24,9 @@ ghost use Rattle.diag_tp.specs.Gives.{gives};
 ghost use Rattle.diag_tp.specs.Link.{is_frame};
 ghost use Rattle.diag_desk.specs.declared.entry.Entry.{Entry as AnEntry};
 ghost use Rattle.diag_world.specs.Port.{entries_of};
-ghost use Rattle.diag_world.specs.Channel.{due, channel_of, waiting, HasRoom, ChannelStands, RepliesToFrame};
+ghost use Rattle.diag_world.specs.Channel.{due, channel_of, waiting, EachChannelRun, HasRoom, ChannelStands, RepliesToFrame};
 
-use crate::port::{Prepared, prepare, settle};
+use crate::port::{Prepared, gives_step, prepare, settle};
 use diag_can::Event;
 use diag_tp::{Link, LinkSetup, Message, Sent, Taken, gives_law, time_law};
 use std::alloc::{AllocError, Global};
@@ -54,6 +55,14 @@ impl Channel {
             link,
             sent: Vec::new(alloc),
         }
+    }
+
+    /// Whether an event gives a step.
+    pub(crate) fn gives_step(&self, event: &Event) -> bool
+        ensures { EachChannelRun (channel_of self.now) (λ s E K.
+            IsTrue result ↔ IsSome (gives s E event.now)) }
+    {
+        gives_step(&self.link, event)
     }
 
     /// Reads the event, makes room for it, and answers the step that it gives. Nothing else changes, whatever the answer.
@@ -89,6 +98,13 @@ impl Channel {
         gives_law();
         time_law();
         settle(&mut self.link, event, taken, reply, &mut self.sent);
+    }
+
+    /// The frames that were sent, in order.
+    pub(crate) fn sent(&self) -> &[Sent]
+        ensures { result.now ≡ (channel_of self.now).sent }
+    {
+        self.sent.as_slice()
     }
 
     /// The frames that were sent, in order.

@@ -43,7 +43,8 @@ pub fn serial(alloc: Global, setup: &Setup, logs: &[Vec<Event>]) -> Result<Playe
     }
     interleaving_law();
     turns_law();
-    Ok(world.into_played())
+    let played = world.into_played(alloc)?;
+    Ok(played)
 }
 
 /// The length of the longest log.

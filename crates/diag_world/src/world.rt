@@ -1,7 +1,8 @@
-//! The server with its journal, and the frames that it sent.
+//! A desk with a channel for each tester.
 
 ghost use Rattle.std.specs.Prelude.{
   ◌≡◌,
+  ◌+◌,
   ◌≤◌,
   ◌∷◌,
   [],
@@ -9,56 +10,48 @@ ghost use Rattle.std.specs.Prelude.{
   length,
   map,
   IfOk,
-  IfSome,
   OnOk,
   OnErr,
   IsSome,
 };
-ghost use Rattle.std.specs.Option.{option_to_list};
 ghost use Rattle.diag_tp.specs.Gives.{gives};
 ghost use Rattle.diag_tp.specs.Placing.{drawn};
 ghost use Rattle.diag_setup.specs.Setup.{link_of};
 ghost use Rattle.diag_desk.specs.Entries.{own, replies};
-ghost use Rattle.diag_desk.specs.Entry.{HasNoReply, IsJournal};
+ghost use Rattle.diag_desk.specs.Entry.{IsJournal};
 ghost use Rattle.diag_desk.specs.Legal.{IsOpening, Legal, after};
-ghost use Rattle.diag_world.specs.Server.{server_of, EachRun};
+ghost use Rattle.diag_world.specs.Channel.{due, channel_of, EachChannelRun};
 ghost use Rattle.diag_world.specs.Weaving.{items_of};
-ghost use Rattle.diag_world.specs.World.{ArePaced, EachInterleaving, Stands, Took};
+ghost use Rattle.diag_world.specs.World.{EachInterleaving, Stands, Took};
 
+use crate::channel::Channel;
+use crate::port::Prepared;
 use crate::serial_play::Played;
-use crate::server::{Server, ServerFault};
 use diag_can::Event;
-use diag_desk::{Desk, Entry, Journal, JournalPush, StepFault};
+use diag_desk::{Desk, Journal, StepFault};
 use diag_ecu::Ecu;
 use diag_store::{Setup, TesterId};
 use diag_tp::Sent;
 use std::alloc::{AllocError, Global};
 use std::marker::Model;
 
-/// A server with its journal, the frames that each tester was sent, and a copy of the ECU as it was opened.
+/// A desk with a channel for each tester. Contracts see its ECU and links as a server.
 #[derive(Drop)]
 pub struct World {
-    opening: Ecu,
-    server: Server,
-    journal: Journal,
-    sent: Vec<Vec<Sent>>,
+    desk: Desk,
+    channels: Vec<Channel>,
 }
 
 impl Model for World {
-    ghost use Rattle.std.specs.Prelude.{◌≡◌, length, map};
-    ghost use Rattle.diag_world.specs.Server.{server_of};
-    ghost use Rattle.diag_world.specs.World.{WorldState, RunsTo};
+    ghost use Rattle.std.specs.Prelude.{map};
+    ghost use Rattle.diag_world.specs.Channel.{channel_of, NoneDue};
+    ghost use Rattle.diag_world.specs.World.{WorldState, world_of};
 
     ghost Value = { WorldState };
 
-    ghost view = { λ w. record {
-      desk = record { opening = w.opening; journal = w.journal.entries };
-      server = server_of w.server;
-      sent = map (λ frames. frames.items) w.sent.items;
-    } };
+    ghost view = { λ w. world_of w.desk (map channel_of w.channels.items) };
 
-    ghost invariant = { λ w. RunsTo w.opening w.journal.entries (server_of w.server)
-        × (length w.server.links ≡ length w.sent.items) };
+    ghost invariant = { λ w. NoneDue (map channel_of w.channels.items) };
 }
 
 impl World {
@@ -66,20 +59,15 @@ impl World {
     pub fn new(alloc: Global, setup: &Setup) -> Result<World, AllocError>
         ensures { IfOk result (λ world. Stands setup.now world []) }
     {
-        let server = Server::new(alloc, setup)?;
-        let opening = server.ecu().try_copy()?;
-        // (for its contract: a setup is a checked one)
-        let _raw = setup.raw();
-        let mut sent = Vec::with_capacity(alloc, setup.testers())?;
-        for _index in 0..setup.testers() {
-            sent.push_reserved(Vec::new(alloc));
+        let desk = Desk::new(alloc, setup)?;
+        let mut channels = Vec::with_capacity(alloc, setup.testers())?;
+        for index in 0..setup.testers() {
+            let Some(who) = setup.who(index) else {
+                unreachable!()
+            };
+            channels.push_reserved(Channel::new(alloc, setup.link(who)));
         }
-        Ok(World {
-            opening,
-            server,
-            journal: Journal::new(alloc),
-            sent,
-        })
+        Ok(World { desk, channels })
     }
 
     /// Takes an event of a tester. Refused, nothing has changed.
@@ -101,9 +89,8 @@ impl World {
             IsSome (gives (link_of setup who) (items_of M who) event.now)
             → result ≡ Err StepFault.JournalFull) }
     {
-        let index = usize::from(who.place()) - 1;
-        let sent = &mut self.sent[index];
-        take(&mut self.server, &mut self.journal, sent, who, event)
+        let index = index_of(who);
+        take(&mut self.desk, &mut self.channels[index], who, event)
     }
 
     /// The entries so far, which are a legal run from the opening, that of a checked setup.
@@ -114,14 +101,14 @@ impl World {
         ensures journal { IsJournal self.now.desk.journal }
         ensures limit { length self.now.desk.journal ≤ 1000000 }
     {
-        &self.journal
+        self.desk.journal()
     }
 
     /// The ECU as the entries have made it.
     pub fn ecu(&self) -> &Ecu
         ensures { result.now ≡ after self.now.desk.opening self.now.desk.journal }
     {
-        self.server.ecu()
+        self.desk.ecu()
     }
 
     /// The frames that were sent to a tester, in order.
@@ -130,83 +117,77 @@ impl World {
         ensures { EachInterleaving self.now (λ setup M. result.now ≡ drawn
             (link_of setup who) (items_of M who) (replies (own self.now.desk.journal who))) }
     {
-        let index = usize::from(who.place()) - 1;
-        self.sent[index].as_slice()
+        let index = index_of(who);
+        self.channels[index].sent()
     }
 
     /// What the play leaves.
-    pub(crate) fn into_played(self) -> Played
-        ensures desk { result.desk ≡ self.desk }
-        ensures sent { map (λ s. s.items) result.sent.items ≡ self.sent }
+    pub(crate) fn into_played(self, alloc: Global) -> Result<Played, AllocError>
+        ensures desk { IfOk result (λ played. played.desk ≡ self.desk) }
+        ensures sent { IfOk result (λ played. map (λ s. s.items) played.sent.items ≡ self.sent) }
     {
-        let World {
-            opening,
-            server,
-            journal,
-            sent,
-        } = self;
-        Played {
-            desk: Desk::of(opening, server.into_ecu(), journal),
-            sent,
-        }
+        let World { desk, channels } = self;
+        let sent = sent_of(alloc, channels)?;
+        Ok(Played { desk, sent })
     }
 }
 
-/// Takes an event of a tester, whose frames are in the list. Refused, nothing has changed.
+/// A tester's place, counted from 0.
+fn index_of(who: TesterId) -> usize
+    ensures { who ≡ result + 1 }
+{
+    usize::from(who.place()) - 1
+}
+
+/// The frames of each channel, in order.
+fn sent_of(alloc: Global, channels: Vec<Channel>) -> Result<Vec<Vec<Sent>>, AllocError>
+    ensures { IfOk result (λ sent. map (λ s. s.items) sent.items
+        ≡ map (λ channel. channel.sent) (map channel_of channels.items)) }
+{
+    let mut sent = Vec::new(alloc);
+    for channel in channels {
+        sent.push(channel.into_sent())?;
+    }
+    Ok(sent)
+}
+
+/// Takes an event of a tester at its channel, and has the desk take the step that it gives. Refused, nothing has
+/// changed.
 fn take(
-    server: &mut Server,
-    journal: &mut Journal,
-    sent: &mut Vec<Sent>,
+    desk: &mut Desk,
+    channel: &mut Channel,
     who: TesterId,
     event: &Event,
 ) -> Result<(), StepFault>
-    requires in_setup { who ≤ length server.old.links }
-    requires paced { ArePaced (server_of server.old).links (length journal.old.entries) }
-    requires limit { length journal.old.entries ≤ 1000000 }
-    ensures ok { OnOk result (Took (server_of server.old) (server_of server.new) who event.now
-        journal.old.entries journal.new.entries sent.old.items sent.new.items) }
-    ensures kept { IsJournal journal.old.entries → IsJournal journal.new.entries }
-    ensures err { OnErr result ((server_of server.new ≡ server_of server.old)
-        × (journal.new.entries ≡ journal.old.entries)
-        × (sent.new.items ≡ sent.old.items)) }
+    requires drained { due (channel_of channel.old) ≡ 0 }
+    ensures ok { OnOk result
+        (Took desk.old desk.new who event.now (channel_of channel.old) (channel_of channel.new)) }
+    ensures journal { IsJournal desk.old.journal }
+    ensures drained { due (channel_of channel.new) ≡ 0 }
+    ensures err { OnErr result
+        ((desk.new ≡ desk.old) × (channel_of channel.new ≡ channel_of channel.old)) }
     ensures full { result ≡ Err StepFault.JournalFull
-        → (length journal.old.entries ≡ 1000000)
-        × EachRun (server_of server.old) (λ setup M K.
-        IsSome (gives (link_of setup who) (items_of M who) event.now)) }
-    ensures first { length journal.old.entries ≡ 1000000
-        → EachRun (server_of server.old) (λ setup M K.
-        IsSome (gives (link_of setup who) (items_of M who) event.now)
-        → result ≡ Err StepFault.JournalFull) }
+        → (length desk.old.journal ≡ 1000000)
+        × EachChannelRun (channel_of channel.old) (λ s E K. IsSome (gives s E event.now)) }
+    ensures first { length desk.old.journal ≡ 1000000
+        → EachChannelRun (channel_of channel.old) (λ s E K.
+        IsSome (gives s E event.now) → result ≡ Err StepFault.JournalFull) }
 {
-    if journal.is_full() && server.gives_step(who, event) {
+    if desk.journal().is_full() && channel.gives_step(event) {
         return Err(StepFault::JournalFull);
     }
-    let asked = match server.ask(who, event, sent) {
-        Ok(asked) => asked,
-        Err(ServerFault::Memory) => return Err(StepFault::Memory),
-        Err(ServerFault::Clock) => unreachable!(),
-    };
-    enter(journal, &asked.entry)?;
-    server.settle(who, event, asked, sent);
-    Ok(())
-}
-
-/// Adds the entry that an event asks, if any. Refused, the entries are as before.
-fn enter(journal: &mut Journal, asked: &Option<Entry>) -> Result<(), StepFault>
-    requires ticks_unanswered { IfSome asked.now (λ k. HasNoReply k.step k.reply) }
-    ensures ok { OnOk result
-        (journal.new.entries ≡ journal.old.entries ++ option_to_list asked.now) }
-    ensures kept { IsJournal journal.old.entries → IsJournal journal.new.entries }
-    ensures err { OnErr result (journal.new.entries ≡ journal.old.entries) }
-    ensures full { result ≡ Err StepFault.JournalFull
-        → (length journal.old.entries ≡ 1000000) × IsSome asked.now }
-{
-    let Some(entry) = asked else {
-        return Ok(());
-    };
-    match journal.push(entry.who, &entry.step, entry.reply.as_ref()) {
-        Ok(()) => Ok(()),
-        Err(JournalPush::Full) => Err(StepFault::JournalFull),
-        Err(JournalPush::Memory) => Err(StepFault::Memory),
+    let Prepared { step, taken } = channel.prepare(event)?;
+    match step {
+        Some(step) => {
+            let reply = desk.step(who, &step)?;
+            // (for its contract: a desk's journal is legal)
+            let _journal = desk.journal();
+            channel.settle(event, taken, reply);
+            Ok(())
+        }
+        None => {
+            channel.settle(event, taken, None);
+            Ok(())
+        }
     }
 }

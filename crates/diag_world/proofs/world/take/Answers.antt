@@ -1,21 +1,26 @@
-use Rattle.std.proofs.Common.{◌≡◌, Option, Some, None, Err, refl, ap, sym, ◌∙◌}
-use Rattle.std.proofs.lemmas.Result.{err_from_is_err_and}
-use Rattle.std.specs.Prelude.{IsSome}
-use Rattle.std.specs.Option.{option_map}
-use Rattle.diag_tp.specs.declared.step.Step.{Step}
-use Rattle.diag_desk.specs.declared.entry.Entry.{Entry}
-use Rattle.diag_world.proofs.Standing.{quiet_asked}
+use Rattle.std.proofs.Common.{Some, None, [], ◌∷◌, refl, ap, subst, sym, ◌∙◌}
+use Rattle.std.proofs.lemmas.List.{append-nil}
+use Rattle.diag_desk.specs.Entries.{entry}
+use Rattle.diag_world.specs.Channel.{ChannelStands}
+use Rattle.diag_world.proofs.Channels.{some_is_not_none, went_on}
 use Rattle.diag_world.proofs.world.take.Goals as goal
 
-some_step : (asked : Option Entry) (o : Option Step) → option_map (λ k. k.step) asked ≡ o → IsSome asked → IsSome o
-some_step None o is h = cc
-some_step (Some k) o is h = rw (sym is) refl
+pub returns-in_ok-reply-in-Some-clause-ok : goal.returns-in_ok-reply-in-Some-clause-ok
+returns-in_ok-reply-in-Some-clause-ok c = record {
+  entries = entry c.args.who c.in-Some.step c.in_ok-reply-in-Some.reply ∷ [];
+  grown = c.in_ok-reply-in-Some.ensures.ok;
+  legal = c.journal-journal.ensures.legal;
+  goes_on = went_on c.args.who _ _ c.args.event.now (Some c.in-Some.step) c.in_ok-reply-in-Some.reply
+      (λ s E K h. sym c.in-Some.is ∙ c.in_ok-step.ensures.step s E K h) (λ none. absurd (some_is_not_none none))
+      (λ s E K h. c.settle.ensures.took s c.args.who E K (subst (λ l. ChannelStands s l E K) (sym c.in_ok-step.ensures.same) h));
+}
 
-pub enter-requires : goal.enter-requires
-enter-requires c = record { ticks_unanswered = quiet_asked c.args.server.now.ecu c.in-Ok.asked.entry c.in-Ok.ensures.answer }
-
-pub returns-in_err-enter-clause-full : goal.returns-in_err-enter-clause-full
-returns-in_err-enter-clause-full c = λ is.
-    let fault = err_from_is_err_and c.from_residual.result c.from_residual.ensures.1 in
-    let full = c.in_err-enter.ensures.full (ap (λ f. Err f) (sym fault.2) ∙ (sym fault.1 ∙ is)) in
-    (full.0, λ setup M K h. some_step c.in-Ok.asked.entry _ (c.in-Ok.ensures.step setup M K h) full.1)
+pub returns-in-None-clause-ok : goal.returns-in-None-clause-ok
+returns-in-None-clause-ok c = record {
+  entries = [];
+  grown = sym (ap (λ J. record { opening = c.args.desk.now.opening; journal = J }) (append-nil c.args.desk.now.journal));
+  legal = c.journal.ensures.legal;
+  goes_on = went_on c.args.who _ _ c.args.event.now None None
+      (λ s E K h. sym c.in-None.is ∙ c.in_ok-step.ensures.step s E K h) (λ none. refl)
+      (λ s E K h. c.settle-in-None.ensures.took s c.args.who E K (subst (λ l. ChannelStands s l E K) (sym c.in_ok-step.ensures.same) h));
+}

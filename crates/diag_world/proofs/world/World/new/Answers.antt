@@ -1,43 +1,40 @@
-use Rattle.std.proofs.Common.{◌≡◌, ◌++◌, ◌∷◌, [], Vec, Global, length, rules, ap, ◌∙◌, arith, inl, inr, length-append}
+use Rattle.std.proofs.Common.{◌≡◌, ◌+◌, [], ◌∷◌, ◌++◌, length, map, rules, ap, sym, ◌∙◌, arith, inl, inr, length-append}
 use Rattle.std.proofs.lemmas.Grind.{common_steps}
-use Rattle.std.proofs.lemmas.List.{length-map}
-use Rattle.diag_tp.specs.declared.sent.Sent.{Sent}
-use Rattle.diag_tp.specs.State.{LinkView}
-use Rattle.diag_world.proofs.Standing.{runs_begin, stands_begin}
-use Rattle.diag_world.proofs.Worlds.{push_cases, map_cases}
+use Rattle.std.proofs.lemmas.List.{length-map, map-append}
+use Rattle.diag_world.specs.Channel.{channel_of}
+use Rattle.diag_world.proofs.Standing.{stands_begin}
+use Rattle.diag_world.proofs.Worlds.{push_cases, who_found}
 use Rattle.diag_world.proofs.world.World.new.Goals as goal
 
 pub loop-index-preserved : goal.loop-index-preserved
 loop-index-preserved c =
     let inv = c.loop-index.invariant in
-    let before = c.loop-index.sent.items in
+    let before = c.loop-index.channels.items in
     let one = c.new-in-loop-index.result in
+    let many = length-map before channel_of in
     let grown : c.push_reserved.new.self.items ≡ before ++ one ∷ [] = search (rules, common_steps) in
+    let seen = ap (map channel_of) grown ∙ map-append channel_of before (one ∷ []) in
+    let place = who_found c.args.setup.now c.loop-index.index c.in-Some.who c.in-Some.ensures in
     record {
       count = ap length grown ∙ omega (arith, length-append before (one ∷ []), inv.count);
-      empty = λ i frames at. elim (push_cases before i one frames (rw grown at at)) [
-        | inl p ↦ ap (λ (v : Vec Sent Global). v.items) p.1 ∙ c.new-in-loop-index.ensures.items
-        | inr p ↦ inv.empty i frames p
+      stand = λ i channel at. elim (push_cases (map channel_of before) i (channel_of one) channel (rw seen at at)) [
+        | inl p ↦ (
+            let here : i + 1 ≡ c.in-Some.who = omega (arith, p.0, many, inv.count, place) in
+            rw (p.1, here, sym c.link.ensures) c.new-in-loop-index.ensures.stands)
+        | inr p ↦ inv.stand i channel p
+      ];
+      drained = λ i channel at. elim (push_cases (map channel_of before) i (channel_of one) channel (rw seen at at)) [
+        | inl p ↦ rw p.1 c.new-in-loop-index.ensures.drained
+        | inr p ↦ inv.drained i channel p
       ];
       room = omega (arith, inv.room, c.push_reserved.ensures.capacity);
     }
 
-pub invariant_of-result : goal.invariant_of-result
-invariant_of-result c =
-    let serves = c.in_ok-server.ensures in
-    let same = c.in_ok-opening.ensures ∙ c.ecu.ensures in
-    let state = λ (l : LinkView). l.state in
-    let many = c.loop-index.invariant.count in (
-      runs_begin c.args.setup.now c.in_ok-opening.opening _ _ c.raw-raw.ensures.checked serves same c.new-2.ensures,
-      omega (arith, serves.testers, length-map c.in_ok-server.server.links state, many, c.loop-index-test.false, c.testers-index-end.ensures.same, c.loop-index.auto._index-end),
-    )
+pub push_reserved-requires : goal.push_reserved-requires
+push_reserved-requires c = omega (arith, c.loop-index.invariant.room, c.loop-index.invariant.count, c.testers-index-end.ensures.same)
 
 pub returns : goal.returns
 returns c =
-    let serves = c.in_ok-server.ensures in
-    let same = c.in_ok-opening.ensures ∙ c.ecu.ensures in
-    let items = λ (v : Vec Sent Global). v.items in
-    let lists = c.loop-index.sent.items in
-    stands_begin c.args.setup.now _ serves same c.new-2.ensures
-    (length-map lists items ∙ omega (arith, c.loop-index.invariant.count, c.testers-index-end.ensures.same, c.loop-index-test.false, c.loop-index.auto._index-end))
-    (λ i frames at. let t = map_cases items lists i frames at in t.2 ∙ c.loop-index.invariant.empty i t.0 t.1)
+    let channels = c.loop-index.channels.items in
+    rw c.in_ok-desk.ensures (stands_begin c.args.setup.now (map channel_of channels)
+    (length-map channels channel_of ∙ omega (arith, c.loop-index.invariant.count, c.testers-index-end.ensures.same)) c.loop-index.invariant.stand)
