@@ -88,7 +88,7 @@ pairs-none text = record { counted = refl; few = omega arith; written = refl; ru
 value-some : (c i : ℕ) (v : ℕ) → hex_digit_value c ≡ Some v → value_at c i ≡ Ok v
 value-some c i v is = ap (digit_or_error c i) is
 
-pair_value-some : (c d i v w : ℕ) → hex_digit_value c ≡ Some v → hex_digit_value d ≡ Some w → pair_value c d i ≡ Ok (v * 16 + w)
+pub pair_value-some : (c d i v w : ℕ) → hex_digit_value c ≡ Some v → hex_digit_value d ≡ Some w → pair_value c d i ≡ Ok (v * 16 + w)
 pair_value-some c d i v w h l =
     let a = value-some c i v h in
     let b = value-some d (i + 1) w l in

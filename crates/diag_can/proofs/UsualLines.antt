@@ -188,27 +188,16 @@ module _ (line : List ℕ) (id at : ℕ) (u : IsUsual line id at) where
   moment-event ids = let plain = u.framed.is_frame in let is = u.framed.stamped in let event = u.event ids in rw (plain, is, event) refl
 
   -- of what stands behind the `#`
-  pub usual-hex : (text : List ℕ) → text ≡ take (length line - at) (drop at line) → IsOk (decode_of text)
-  usual-hex text cut = let whole : text ≡ drop at line = cut ∙ take_all (length line - at) (drop at line) (omega (arith, length-drop at line)) in rw whole u.hex
-
-  pub usual-few : (text : List ℕ) → text ≡ take (length line - at) (drop at line) → length text ≤ 16
-  usual-few text cut = let whole : text ≡ drop at line = cut ∙ take_all (length line - at) (drop at line) (omega (arith, length-drop at line)) in rw whole u.few
-
-  data-is : (text bytes : List ℕ) → text ≡ take (length line - at) (drop at line) → decode_of text ≡ Ok bytes → frame_data (drop at line) ≡ Ok bytes
-  data-is text bytes cut is =
-      let whole : text ≡ drop at line = cut ∙ take_all (length line - at) (drop at line) (omega (arith, length-drop at line)) in
-      u.decoded bytes (ap decode_of (sym whole) ∙ is)
-
-  pub is-physical : (ids : Ids) (text bytes : List ℕ) → text ≡ take (length line - at) (drop at line) → decode_of text ≡ Ok bytes → (id == ids.request) ≡ true
+  pub is-physical : (ids : Ids) (bytes : List ℕ) → decode_of (drop at line) ≡ Ok bytes → (id == ids.request) ≡ true
       → (line_event line ids ≡ Ok (Some (Physical bytes))) × (Some (usual_moment line) ≡ frame_moment ids line)
-  is-physical ids text bytes cut is own =
-      let all = data-is text bytes cut is in
+  is-physical ids bytes is own =
+      let all = u.decoded bytes is in
       (says-event ids ∙ rw (all, own) refl, sym (moment-event ids ∙ rw (all, own) refl))
 
-  pub is-functional : (ids : Ids) (text bytes : List ℕ) → text ≡ take (length line - at) (drop at line) → decode_of text ≡ Ok bytes → (id == ids.request) ≡ false → (id == ids.functional) ≡ true
+  pub is-functional : (ids : Ids) (bytes : List ℕ) → decode_of (drop at line) ≡ Ok bytes → (id == ids.request) ≡ false → (id == ids.functional) ≡ true
       → (line_event line ids ≡ Ok (Some (Functional bytes))) × (Some (usual_moment line) ≡ frame_moment ids line)
-  is-functional ids text bytes cut is other own =
-      let all = data-is text bytes cut is in
+  is-functional ids bytes is other own =
+      let all = u.decoded bytes is in
       (says-event ids ∙ rw (all, other, own) refl, sym (moment-event ids ∙ rw (all, other, own) refl))
 
   pub is-foreign : (ids : Ids) → (id == ids.request) ≡ false → (id == ids.functional) ≡ false
@@ -218,10 +207,10 @@ module _ (line : List ℕ) (id at : ℕ) (u : IsUsual line id at) where
       let all = u.decoded value.0 value.1 in
       (says-event ids ∙ rw (all, other, another) refl, sym (moment-event ids ∙ rw (all, other, another) refl))
 
-  pub says-frame : (text bytes : List ℕ) → text ≡ take (length line - at) (drop at line) → decode_of text ≡ Ok bytes
+  pub says-frame : (bytes : List ℕ) → decode_of (drop at line) ≡ Ok bytes
       → line_says line ≡ Ok (Stamped (usual_moment line) (Some (record { id = id; bytes = bytes })))
-  says-frame text bytes cut is =
-      let all = data-is text bytes cut is in
+  says-frame bytes is =
+      let all = u.decoded bytes is in
       go line u.framed.long u.framed.is_frame u.framed.stamped (u.frame ∙ ap (frame_of id) all)
     where
       go : (xs : List ℕ) → 28 ≤ length xs → is_time xs ≡ false → stamped_frame xs ≡ Some (usual_moment line, drop u.place line)

@@ -11,7 +11,7 @@ use crate::line::{frame_data, hex_run, id_of, is_passed_over, short_id};
 use crate::log::without_return;
 use crate::read::{stamped_frame, tick_count};
 use crate::stamp::behind;
-use crate::usual::{pair_bytes, usual_frame, usual_moment};
+use crate::usual::{bytes_at, usual_frame, usual_moment};
 
 /// What a line of a capture says.
 #[derive(Debug, Drop)]
@@ -69,7 +69,7 @@ fn usual_says(line: &[u8]) -> Option<BusLine>
     ensures { IfSome result (λ said. line_says line.now ≡ Ok said) }
 {
     let (id, at) = usual_frame(line)?;
-    let bytes = pair_bytes(&line[at..]);
+    let bytes = bytes_at(line, at);
     Some(BusLine::Stamped {
         moment: usual_moment(line),
         frame: Some(Frame { id, bytes }),

@@ -10,7 +10,7 @@ use crate::fault::LineFault;
 use crate::frame::{Event, Ids, TickCount};
 use crate::line::frame_event;
 use crate::stamp::{behind_name, decimal_value, is_digit, stamp_of};
-use crate::usual::{pair_bytes, usual_frame, usual_moment};
+use crate::usual::{bytes_at, usual_frame, usual_moment};
 
 /// Whether each byte is a decimal digit.
 fn is_all_digits(text: &[u8]) -> bool
@@ -90,9 +90,9 @@ fn usual_event(line: &[u8], ids: &Ids) -> Option<Timed>
 {
     let (id, at) = usual_frame(line)?;
     let event = if id == ids.request {
-        Event::Physical(pair_bytes(&line[at..]))
+        Event::Physical(bytes_at(line, at))
     } else if id == ids.functional {
-        Event::Functional(pair_bytes(&line[at..]))
+        Event::Functional(bytes_at(line, at))
     } else {
         return Some(Timed::without_moment(None));
     };

@@ -1,7 +1,7 @@
 //! A line of the usual form, of which many bytes are read at once: a stamp of ten digits and six, one space, a short name, one
 //! space, an identifier of three digits, and behind its `#` nothing but pairs of hex digits. Other lines are read part by part.
 
-ghost use Rattle.std.specs.Prelude.{◌≡◌, ◌<◌, ◌≤◌, ◌^◌, length, IfSome, IsOk};
+ghost use Rattle.std.specs.Prelude.{◌≡◌, ℕ, ◌<◌, ◌≤◌, ◌-◌, ◌*◌, ◌^◌, drop, length, IfSome, IsOk};
 ghost use Rattle.std.specs.List.{AllPass};
 ghost use Rattle.hex.specs.Hex.{decode_of};
 ghost use Rattle.diag_can.specs.Lanes.{IsRunIn};
@@ -12,7 +12,7 @@ use crate::frame::{CanId, FrameBytes};
 use crate::lanes::{eight_digits, eight_of_word, ends_in_hex, sixteen_digits};
 use crate::line::short_id;
 use crate::stamp::thousandths;
-use crate::table::byte;
+use std::simd::prelude::*;
 
 /// The shortest line that is looked at.
 const SHORTEST: usize = 28;
@@ -80,16 +80,33 @@ pub fn usual_moment(line: &[u8]) -> u64
     digits_value(&line[1..11]) * 1000 + thousandths(&line[12..18])
 }
 
-/// The bytes of at most eight pairs of hex digits.
+/// The bytes that the hex digits from a place on write.
 #[inline(always)]
-pub fn pair_bytes(text: &[u8]) -> FrameBytes
-    requires hex { IsOk (decode_of text.now) }
-    requires few { length text.now ≤ 16 }
-    ensures { decode_of text.now ≡ Ok result }
+pub fn bytes_at(line: &[u8], at: usize) -> FrameBytes
+    requires long { 16 ≤ length line.now }
+    requires inside { at ≤ length line.now }
+    requires few { length (drop at line.now) ≤ 16 }
+    requires hex { IsOk (decode_of (drop at line.now)) }
+    ensures { decode_of (drop at line.now) ≡ Ok result }
 {
-    let mut bytes = FrameBytes::new();
-    for count in 0..text.len() / 2 {
-        bytes.push(byte(text[2 * count], text[2 * count + 1]));
-    }
-    bytes
+    let count = (line.len() - at) / 2;
+    let bytes = last_eight(line);
+    FrameBytes::from_slice(&bytes[8 - count..])
+}
+
+/// The bytes that the last sixteen bytes of a line write, looked at together; as far as these are hex digits from the end.
+#[inline(always)]
+fn last_eight(line: &[u8]) -> [u8; 8]
+    requires { 16 ≤ length line.now }
+    ensures { (n : ℕ) → n ≤ 8 → IsOk (decode_of (drop (length line.now - 2 * n) line.now))
+        → decode_of (drop (length line.now - 2 * n) line.now) ≡ Ok (drop (8 - n) result) }
+{
+    let digits = u8x16::from_slice(&line[line.len() - 16..]);
+    let letters = digits
+        .simd_ge(u8x16::splat(64))
+        .select(u8x16::splat(9), u8x16::splat(0));
+    let values = digits % u8x16::splat(16) + letters;
+    let high = values.swizzle([0, 2, 4, 6, 8, 10, 12, 14]);
+    let low = values.swizzle([1, 3, 5, 7, 9, 11, 13, 15]);
+    (high * u8x8::splat(16) + low).to_array()
 }

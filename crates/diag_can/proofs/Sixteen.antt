@@ -1,0 +1,96 @@
+-- The bytes of hex digits that are looked at together.
+use Rattle.std.proofs.Common.{◌≡◌, ℕ, zero, suc, ◌+◌, ◌-◌, ◌*◌, ◌/◌, ◌%◌, ◌<◌, ◌≤◌, eqb, leb, true, cond, List, [], ◌∷◌, ◌++◌, map, length, take, drop, get_or, replicate, Fits, w8, length-drop, drop-drop, unwrap_or, is_some, Option, Some, None, Ok, refl, sym, ap, subst, ◌∙◌, arith}
+use Rattle.std.specs.Prelude.{IsOk}
+use Rattle.std.specs.List.{AllPass}
+use Rattle.std.proofs.lemmas.Bool.{agree_below_at, eqb-true}
+use Rattle.std.proofs.lemmas.Simd.{length-chunk, pick_l_whole}
+use Rattle.std.proofs.lemmas.List.{take_all, get_or-drop}
+use lib.Lanes.{chunk, zip2, sel_l, top, pick_l}
+use Rattle.hex.specs.Hex.{is_hex_digit, hex_digit_value, decode_of, decode_pairs}
+use Rattle.hex.proofs.HexLemmas.{decode_of-even, decode_of-ok}
+use Rattle.diag_can.proofs.Pairs.{is_ok-value, pair_value-some, value-lt}
+
+-- a digit's value, as one lane finds it
+abbrev lane : ℕ → ℕ
+lane c = (c % 16 + cond (top 7 (cond (leb 64 c) 255 0)) 9 0) % 256
+
+lane-is : (c v : ℕ) → c < 256 → hex_digit_value c ≡ Some v → lane c ≡ v
+lane-is c v byte is =
+    let tested : eqb (unwrap_or (hex_digit_value c) (lane c)) (lane c) ≡ true = agree_below_at (λ c. eqb (unwrap_or (hex_digit_value c) (lane c)) (lane c)) (λ c. true) 256 c refl byte in
+    sym (eqb-true _ _ tested) ∙ ap (λ (o : Option ℕ). unwrap_or o (lane c)) is
+
+-- the bytes of the pairs
+abbrev both : List ℕ → List ℕ
+both [] = []
+both (c ∷ []) = []
+both (c ∷ d ∷ text) = ((lane c * 16 % 256 + lane d) % 256) ∷ both text
+
+value_of : (o : Option ℕ) → is_some o ≡ true → (v : ℕ) × (o ≡ Some v)
+value_of None is = cc is
+value_of (Some v) is = (v, refl)
+
+decode-both : (i : ℕ) (text : List ℕ) → length text % 2 ≡ 0 → AllPass is_hex_digit text → ((k : ℕ) → Fits w8 (get_or text k 0)) → decode_pairs i text ≡ Ok (both text)
+unfolding decode_pairs
+decode-both i [] even all fits = refl
+decode-both i (c ∷ []) even all fits = absurd (omega arith)
+decode-both i (c ∷ d ∷ text) even all fits =
+    let v = value_of (hex_digit_value c) (all 0 0 (omega arith)) in
+    let w = value_of (hex_digit_value d) (all 1 0 (omega arith)) in
+    let pair = pair_value-some c d i v.0 w.0 v.1 w.1 in
+    let rest = decode-both (i + 2) text (omega arith) (λ k x lt. all (suc (suc k)) x (omega arith)) (λ k. fits (suc (suc k))) in
+    let high = lane-is c v.0 (fits 0).fits v.1 in
+    let low = lane-is d w.0 (fits 1).fits w.1 in
+    let h = value-lt c (fits 0).fits v.0 v.1 in
+    let l = value-lt d (fits 1).fits w.0 w.1 in
+    let byte : (lane c * 16 % 256 + lane d) % 256 ≡ v.0 * 16 + w.0 = rw (high, low) (omega arith) in
+    rw (pair, rest, byte) refl
+
+drop-both : (k : ℕ) (text : List ℕ) → drop k (both text) ≡ both (drop (2 * k) text)
+drop-both zero text = refl
+drop-both (suc k) [] = let more : 2 * suc k ≡ suc (suc (2 * k)) = omega arith in rw more refl
+drop-both (suc k) (c ∷ []) = let more : 2 * suc k ≡ suc (suc (2 * k)) = omega arith in rw more refl
+drop-both (suc k) (c ∷ d ∷ text) = let more : 2 * suc k ≡ suc (suc (2 * k)) = omega arith in rw more (drop-both k text)
+
+-- what the lanes make of sixteen digits
+abbrev values : List ℕ → List ℕ
+values w = zip2 (λ a b. (a + b) % 256) (zip2 (λ a b. a % b) w (replicate 16 16)) (sel_l (map (top 7) (zip2 (λ a b. cond (leb a b) 255 0) (replicate 16 64) w)) (replicate 16 9) (replicate 16 0))
+
+abbrev pub looked : List ℕ → List ℕ
+looked w =
+    let high = pick_l 0 (values w ++ values w) (0 ∷ 2 ∷ 4 ∷ 6 ∷ 8 ∷ 10 ∷ 12 ∷ 14 ∷ []) in
+    let low = pick_l 0 (values w ++ values w) (1 ∷ 3 ∷ 5 ∷ 7 ∷ 9 ∷ 11 ∷ 13 ∷ 15 ∷ []) in
+    zip2 (λ a b. (a + b) % 256) (zip2 (λ a b. a * b % 256) high (replicate 8 16)) low
+
+looked-is : (a b c d e f g h i j k l m n o p : ℕ) → let w : List ℕ = a ∷ b ∷ c ∷ d ∷ e ∷ f ∷ g ∷ h ∷ i ∷ j ∷ k ∷ l ∷ m ∷ n ∷ o ∷ p ∷ [] in looked w ≡ both w
+looked-is a b c d e f g h i j k l m n o p = refl
+
+pub digits_read : (line : List ℕ) → 16 ≤ length line → ((k : ℕ) → Fits w8 (get_or line k 0))
+    → (n : ℕ) → n ≤ 8 → IsOk (decode_of (drop (length line - 2 * n) line)) → decode_of (drop (length line - 2 * n) line) ≡ Ok (drop (8 - n) (looked (chunk (length line - 16) 16 line)))
+digits_read line long fits n few ok =
+    let at : ℕ = length line - 2 * n in
+    let text = drop at line in
+    let value = is_ok-value (decode_of text) ok in
+    let all = decode_of-ok text value.0 value.1 in
+    let w = chunk (length line - 16) 16 line in
+    let k : ℕ = 8 - n in
+    let sixteen : length w ≡ 16 = length-chunk (length line - 16) 16 line (omega arith) in
+    let lanes : looked w ≡ both w = subst (λ (w : List ℕ). looked w ≡ both w) (pick_l_whole 0 w 16 sixteen) (looked-is _ _ _ _ _ _ _ _ _ _ _ _ _ _ _ _) in
+    let whole : w ≡ drop (length line - 16) line = take_all 16 (drop (length line - 16) line) (omega (arith, length-drop (length line - 16) line)) in
+    let start : length line - 16 + 2 * k ≡ at = omega arith in
+    let same : drop (2 * k) w ≡ text = ap (drop (2 * k)) whole ∙ drop-drop (2 * k) (length line - 16) line ∙ ap (λ (n : ℕ). drop n line) start in
+    decode_of-even text all.0 ∙ decode-both 0 text all.0 all.1 (λ j. subst (Fits w8) (sym (get_or-drop at line j 0)) (fits (at + j)))
+    ∙ ap Ok (sym (ap (drop k) lanes ∙ drop-both k w ∙ ap both same))
+
+-- the same, from a place on
+pub digits_from : (line eight bytes : List ℕ) (at : ℕ) → length eight ≡ 8 → at ≤ length line → length (drop at line) ≤ 16 → IsOk (decode_of (drop at line))
+    → ((n : ℕ) → n ≤ 8 → IsOk (decode_of (drop (length line - 2 * n) line)) → decode_of (drop (length line - 2 * n) line) ≡ Ok (drop (8 - n) eight))
+    → bytes ≡ take (8 - (8 - (length line - at) / 2)) (drop (8 - (length line - at) / 2) eight) → decode_of (drop at line) ≡ Ok bytes
+digits_from line eight bytes at full inside few ok read is =
+    let value = is_ok-value (decode_of (drop at line)) ok in
+    let even = (decode_of-ok (drop at line) value.0 value.1).0 in
+    let count = length-drop at line in
+    let n : ℕ = (length line - at) / 2 in
+    let same : length line - 2 * n ≡ at = omega (arith, even, count) in
+    let all = take_all (8 - (8 - n)) (drop (8 - n) eight) (omega (arith, length-drop (8 - n) eight, full)) in
+    let decoded = rw same at (read n (omega (arith, count, few))) in
+    decoded ok ∙ ap Ok (sym (is ∙ all))
