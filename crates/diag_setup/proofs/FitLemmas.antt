@@ -1,7 +1,7 @@
 -- A setup keeps to its bounds.
 use Rattle.std.proofs.Common.{◌≡◌, ℕ, ◌≤◌, ◌||◌, ◌&&◌, ◌==◌, ◌%◌, Bool, true, false, not, nat_le, List, [], ◌∷◌, length, refl, arith, Option, Some, None, slice_index_or, IsTrue}
 use Rattle.std.specs.List.{All, list_any, list_all}
-use Rattle.std.proofs.lemmas.Bool.{eqb-true, eqb-false, leb-true}
+use Rattle.std.proofs.lemmas.Bool.{eqb-true, eqb-false, leb-true, and_parts, or_parts, not-false}
 use Rattle.std.proofs.lemmas.List.Elements.{All-cons}
 use Rattle.std.proofs.lemmas.List.Sums.{AllPass-from_list_all}
 use Rattle.diag_setup.specs.declared.raw.RawSetup.{RawSetup}
@@ -12,8 +12,7 @@ use Rattle.diag_setup.specs.declared.raw.RawLevel.{RawLevel}
 use Rattle.diag_setup.specs.Rows.{is_between, has_length, has_key, have_one_length, is_rising}
 use Rattle.diag_setup.specs.Setup.{level_sub, seed_of, key_of, is_name_byte, is_can_id, is_st_min, faults, is_in_range, times_are_in_range, link_is_in_range, server_is_in_range, testers_are_in_range, dids_are_in_range, codes_are_in_range, routines_are_in_range, levels_are_in_range, tester_is_in_range, did_is_in_range, code_is_in_range, routine_is_in_range, on_done_is_in_range, key_row_is_in_range, level_is_in_range, has_no_rows, is_known_level, did_levels_are_known, routine_level_is_known, IsSetup, did_id, dtc_code, routine_id}
 use Rattle.diag_setup.specs.Fits.{TesterFits, DidFits, CodeFits, OnDoneFits, RoutineFits, KeyRowFits, LevelFits, NumbersFit}
-use Rattle.diag_setup.proofs.SortLemmas.{both_false}
-use Rattle.diag_setup.proofs.SetupLemmas.{NoneHold, none_hold, both_true}
+use Rattle.diag_setup.proofs.SetupLemmas.{NoneHold, none_hold}
 
 and3 : (a b c : Bool) → (a && b && c) ≡ true → (a ≡ true) × (b ≡ true) × (c ≡ true)
 and3 false b c h = cc
@@ -41,7 +40,8 @@ and6 true true true false e f h = cc
 and6 true true true true false f h = cc
 and6 true true true true true f h = (refl, refl, refl, refl, refl, h)
 
-and8 : (a b c d e f g i : Bool) → (a && b && c && d && e && f && g && i) ≡ true → (a ≡ true) × (b ≡ true) × (c ≡ true) × (d ≡ true) × (e ≡ true) × (f ≡ true) × (g ≡ true) × (i ≡ true)
+and8 : (a b c d e f g i : Bool) → (a && b && c && d && e && f && g && i) ≡ true
+    → (a ≡ true) × (b ≡ true) × (c ≡ true) × (d ≡ true) × (e ≡ true) × (f ≡ true) × (g ≡ true) × (i ≡ true)
 and8 false b c d e f g i h = cc
 and8 true false c d e f g i h = cc
 and8 true true false d e f g i h = cc
@@ -51,13 +51,9 @@ and8 true true true true true false g i h = cc
 and8 true true true true true true false i h = cc
 and8 true true true true true true true i h = (refl, refl, refl, refl, refl, refl, refl, h)
 
-not_false : (b : Bool) → not b ≡ false → b ≡ true
-not_false true h = refl
-not_false false h = cc
-
 between : (low high n : ℕ) → is_between low high n ≡ true → (low ≤ n) × (n ≤ high)
 between low high n h =
-    let parts = both_true (nat_le low n) (nat_le n high) h in
+    let parts = and_parts (nat_le low n) (nat_le n high) h in
     (leb-true low n parts.0, leb-true n high parts.1)
 
 st_min-fits : (st : ℕ) → is_st_min st ≡ true → st ≤ 0xFF
@@ -68,18 +64,23 @@ st_min-fits st h =
     ] refl h
 
 abbrev Parts : RawSetup → Type 0
-Parts raw = (times_are_in_range raw ≡ true) × (link_is_in_range raw ≡ true) × (server_is_in_range raw ≡ true) × (testers_are_in_range raw.testers ≡ true) × (dids_are_in_range raw.dids ≡ true) × (codes_are_in_range raw.dtcs ≡ true) × (routines_are_in_range raw.routines ≡ true) × (levels_are_in_range raw.levels ≡ true)
+Parts raw = (times_are_in_range raw ≡ true) × (link_is_in_range raw ≡ true) × (server_is_in_range raw ≡ true)
+    × (testers_are_in_range raw.testers ≡ true) × (dids_are_in_range raw.dids ≡ true) × (codes_are_in_range raw.dtcs ≡ true)
+    × (routines_are_in_range raw.routines ≡ true) × (levels_are_in_range raw.levels ≡ true)
 
 parts_of : (raw : RawSetup) → IsSetup raw → Parts raw
 parts_of raw h =
     let none : NoneHold (faults raw) = none_hold (faults raw) h.0 in
-    and8 (times_are_in_range raw) (link_is_in_range raw) (server_is_in_range raw) (testers_are_in_range raw.testers) (dids_are_in_range raw.dids) (codes_are_in_range raw.dtcs) (routines_are_in_range raw.routines) (levels_are_in_range raw.levels) (not_false (is_in_range raw) none.0)
+    and8 (times_are_in_range raw) (link_is_in_range raw) (server_is_in_range raw) (testers_are_in_range raw.testers) (dids_are_in_range raw.dids)
+    (codes_are_in_range raw.dtcs) (routines_are_in_range raw.routines) (levels_are_in_range raw.levels) (not-false (is_in_range raw) none.0)
 
 pub numbers_fit : (raw : RawSetup) → IsSetup raw → NumbersFit raw
 numbers_fit raw h =
     let parts = parts_of raw h in
-    let times = and5 (nat_le raw.p2_ms 0xFFFF) (nat_le raw.p2_star_10ms 0xFFFF) (is_between 1 600000 raw.s3_ms) (is_between 1 60000 raw.n_bs_ms) (is_between 1 60000 raw.n_cr_ms) parts.0 in
-    let link = and5 (nat_le raw.block_size 0xFF) (is_st_min raw.st_min) (is_between 8 0xFFFF raw.max_request) (nat_le raw.pad_byte 0xFF) (is_can_id raw.functional) parts.1 in
+    let times = and5 (nat_le raw.p2_ms 0xFFFF) (nat_le raw.p2_star_10ms 0xFFFF) (is_between 1 600000 raw.s3_ms) (is_between 1 60000 raw.n_bs_ms)
+    (is_between 1 60000 raw.n_cr_ms) parts.0 in
+    let link = and5 (nat_le raw.block_size 0xFF) (is_st_min raw.st_min) (is_between 8 0xFFFF raw.max_request) (nat_le raw.pad_byte 0xFF)
+    (is_can_id raw.functional) parts.1 in
     let server = and3 (nat_le raw.availability 0xFF) (is_between 1 0xFF raw.attempts) (is_between 1 600000 raw.delay_ms) parts.2 in
     record {
       p2_ms = leb-true raw.p2_ms 0xFFFF times.0;
@@ -100,19 +101,20 @@ numbers_fit raw h =
     }
 
 pub testers_few : (raw : RawSetup) → IsSetup raw → length raw.testers ≤ 8
-testers_few raw h = leb-true (length raw.testers) 8 (both_true (nat_le (length raw.testers) 8) (list_all tester_is_in_range raw.testers) (parts_of raw h).3).0
+testers_few raw h = leb-true (length raw.testers) 8 (and_parts (nat_le (length raw.testers) 8) (list_all tester_is_in_range raw.testers) (parts_of raw h).3).0
 
 pub dids_few : (raw : RawSetup) → IsSetup raw → length raw.dids ≤ 64
-dids_few raw h = leb-true (length raw.dids) 64 (both_true (nat_le (length raw.dids) 64) (list_all did_is_in_range raw.dids) (parts_of raw h).4).0
+dids_few raw h = leb-true (length raw.dids) 64 (and_parts (nat_le (length raw.dids) 64) (list_all did_is_in_range raw.dids) (parts_of raw h).4).0
 
 pub codes_few : (raw : RawSetup) → IsSetup raw → length raw.dtcs ≤ 256
-codes_few raw h = leb-true (length raw.dtcs) 256 (both_true (nat_le (length raw.dtcs) 256) (list_all code_is_in_range raw.dtcs) (parts_of raw h).5).0
+codes_few raw h = leb-true (length raw.dtcs) 256 (and_parts (nat_le (length raw.dtcs) 256) (list_all code_is_in_range raw.dtcs) (parts_of raw h).5).0
 
 pub routines_few : (raw : RawSetup) → IsSetup raw → length raw.routines ≤ 16
-routines_few raw h = leb-true (length raw.routines) 16 (both_true (nat_le (length raw.routines) 16) (list_all routine_is_in_range raw.routines) (parts_of raw h).6).0
+routines_few raw h = leb-true (length raw.routines) 16
+    (and_parts (nat_le (length raw.routines) 16) (list_all routine_is_in_range raw.routines) (parts_of raw h).6).0
 
 pub levels_few : (raw : RawSetup) → IsSetup raw → length raw.levels ≤ 4
-levels_few raw h = leb-true (length raw.levels) 4 (both_true (nat_le (length raw.levels) 4) (list_all level_is_in_range raw.levels) (parts_of raw h).7).0
+levels_few raw h = leb-true (length raw.levels) 4 (and_parts (nat_le (length raw.levels) 4) (list_all level_is_in_range raw.levels) (parts_of raw h).7).0
 
 -- a test that each row passes, and what it says of a row
 each : {X : Type 0} (test : X → Bool) (P : X → Type 0) → ((x : X) → test x ≡ true → P x) → (xs : List X) → list_all test xs ≡ true → All P xs
@@ -124,21 +126,24 @@ tester-fits tester h =
     record { request = leb-true tester.request 0x7FF parts.2; response = leb-true tester.response 0x7FF parts.3 }
 
 pub testers_fit : (raw : RawSetup) → IsSetup raw → All TesterFits raw.testers
-testers_fit raw h = each tester_is_in_range TesterFits tester-fits raw.testers (both_true (nat_le (length raw.testers) 8) (list_all tester_is_in_range raw.testers) (parts_of raw h).3).1
+testers_fit raw h = each tester_is_in_range TesterFits tester-fits raw.testers
+    (and_parts (nat_le (length raw.testers) 8) (list_all tester_is_in_range raw.testers) (parts_of raw h).3).1
 
 code-fits : (row : RawCode) → code_is_in_range row ≡ true → CodeFits row
 code-fits row h =
-    let parts = both_true (nat_le row.code 0xFFFFFE) (nat_le row.status 0xFF) h in
+    let parts = and_parts (nat_le row.code 0xFFFFFE) (nat_le row.status 0xFF) h in
     record { code = leb-true row.code 0xFFFFFE parts.0; status = leb-true row.status 0xFF parts.1 }
 
 pub codes_fit : (raw : RawSetup) → IsSetup raw → All CodeFits raw.dtcs
-codes_fit raw h = each code_is_in_range CodeFits code-fits raw.dtcs (both_true (nat_le (length raw.dtcs) 256) (list_all code_is_in_range raw.dtcs) (parts_of raw h).5).1
+codes_fit raw h = each code_is_in_range CodeFits code-fits raw.dtcs
+    (and_parts (nat_le (length raw.dtcs) 256) (list_all code_is_in_range raw.dtcs) (parts_of raw h).5).1
 
 level_in_list-fits : (levels : List RawLevel) → list_all level_is_in_range levels ≡ true → (n : ℕ) → has_key level_sub levels n ≡ true → n ≤ 65
 level_in_list-fits [] all n h = cc
 level_in_list-fits (level ∷ levels) all n h =
-    let parts = both_true (level_is_in_range level) (list_all level_is_in_range levels) all in
-    let first = and6 (is_between 1 65 level.request_seed) (level.request_seed % 2 == 1) (nat_le (length level.rows) 64) (list_all key_row_is_in_range level.rows) (have_one_length seed_of level.rows) (have_one_length key_of level.rows) parts.0 in
+    let parts = and_parts (level_is_in_range level) (list_all level_is_in_range levels) all in
+    let first = and6 (is_between 1 65 level.request_seed) (level.request_seed % 2 == 1) (nat_le (length level.rows) 64)
+    (list_all key_row_is_in_range level.rows) (have_one_length seed_of level.rows) (have_one_length key_of level.rows) parts.0 in
     let sub : level.request_seed ≤ 65 = (between 1 65 level.request_seed first.0).1 in
     let rest = level_in_list-fits levels parts.1 n in
     elim (level.request_seed == n) as (λ b. (level.request_seed == n) ≡ b → (b || has_key level_sub levels n) ≡ true → n ≤ 65) [
@@ -155,7 +160,7 @@ known_level-fits levels all n h =
     ] refl h
 
 levels-in_range : (raw : RawSetup) → IsSetup raw → list_all level_is_in_range raw.levels ≡ true
-levels-in_range raw h = (both_true (nat_le (length raw.levels) 4) (list_all level_is_in_range raw.levels) (parts_of raw h).7).1
+levels-in_range raw h = (and_parts (nat_le (length raw.levels) 4) (list_all level_is_in_range raw.levels) (parts_of raw h).7).1
 
 abbrev KnownLevels : RawSetup → Type 0
 KnownLevels raw = (list_all (did_levels_are_known raw.levels) raw.dids ≡ true) × (list_all (routine_level_is_known raw.levels) raw.routines ≡ true)
@@ -163,16 +168,18 @@ KnownLevels raw = (list_all (did_levels_are_known raw.levels) raw.dids ≡ true)
 known_levels : (raw : RawSetup) → IsSetup raw → KnownLevels raw
 known_levels raw h =
     let none : NoneHold (faults raw) = none_hold (faults raw) h.0 in
-    both_true (list_all (did_levels_are_known raw.levels) raw.dids) (list_all (routine_level_is_known raw.levels) raw.routines) (not_false (list_all (did_levels_are_known raw.levels) raw.dids && list_all (routine_level_is_known raw.levels) raw.routines) none.1.1.1.1.0)
+    and_parts (list_all (did_levels_are_known raw.levels) raw.dids) (list_all (routine_level_is_known raw.levels) raw.routines)
+    (not-false (list_all (did_levels_are_known raw.levels) raw.dids && list_all (routine_level_is_known raw.levels) raw.routines) none.1.1.1.1.0)
 
 pub dids_fit : (raw : RawSetup) → IsSetup raw → All DidFits raw.dids
 dids_fit raw h =
-    let in_range = AllPass-from_list_all did_is_in_range raw.dids (both_true (nat_le (length raw.dids) 64) (list_all did_is_in_range raw.dids) (parts_of raw h).4).1 in
+    let in_range = AllPass-from_list_all did_is_in_range raw.dids
+    (and_parts (nat_le (length raw.dids) 64) (list_all did_is_in_range raw.dids) (parts_of raw h).4).1 in
     let known = AllPass-from_list_all (did_levels_are_known raw.levels) raw.dids (known_levels raw h).0 in
     λ k d below.
     let did = slice_index_or raw.dids k d in
-    let sizes = both_true (nat_le did.id 0xFFFF) (has_length 1 255 did.value) (in_range k d below) in
-    let levels = both_true (is_known_level raw.levels did.read_level) (is_known_level raw.levels did.write_level) (known k d below) in
+    let sizes = and_parts (nat_le did.id 0xFFFF) (has_length 1 255 did.value) (in_range k d below) in
+    let levels = and_parts (is_known_level raw.levels did.read_level) (is_known_level raw.levels did.write_level) (known k d below) in
     record {
       id = leb-true did.id 0xFFFF sizes.0;
       value = (between 1 255 (length did.value) sizes.1).1;
@@ -186,11 +193,13 @@ on_done-fits (Some row) h = leb-true row.status 0xFF h
 
 pub routines_fit : (raw : RawSetup) → IsSetup raw → All RoutineFits raw.routines
 routines_fit raw h =
-    let in_range = AllPass-from_list_all routine_is_in_range raw.routines (both_true (nat_le (length raw.routines) 16) (list_all routine_is_in_range raw.routines) (parts_of raw h).6).1 in
+    let in_range = AllPass-from_list_all routine_is_in_range raw.routines
+    (and_parts (nat_le (length raw.routines) 16) (list_all routine_is_in_range raw.routines) (parts_of raw h).6).1 in
     let known = AllPass-from_list_all (routine_level_is_known raw.levels) raw.routines (known_levels raw h).1 in
     λ k d below.
     let routine = slice_index_or raw.routines k d in
-    let parts = and4 (nat_le routine.id 0xFFFF) (is_between 1 600000 routine.time_ms) (nat_le (length routine.result) 32) (on_done_is_in_range routine.on_done) (in_range k d below) in
+    let parts = and4 (nat_le routine.id 0xFFFF) (is_between 1 600000 routine.time_ms) (nat_le (length routine.result) 32)
+    (on_done_is_in_range routine.on_done) (in_range k d below) in
     record {
       id = leb-true routine.id 0xFFFF parts.0;
       result = leb-true (length routine.result) 32 parts.2;
@@ -206,7 +215,7 @@ key_row-fits row h =
 some_rows : (levels : List RawLevel) → list_any has_no_rows levels ≡ false → All (λ level. 1 ≤ length level.rows) levels
 some_rows [] h = λ k d below. absurd (omega arith)
 some_rows (level ∷ levels) h =
-    let parts = both_false (has_no_rows level) (list_any has_no_rows levels) h in
+    let parts = or_parts (has_no_rows level) (list_any has_no_rows levels) h in
     let first : 1 ≤ length level.rows = let not_zero = eqb-false (length level.rows) 0 parts.0 in grind arith in
     All-cons (λ l. 1 ≤ length l.rows) level levels first (some_rows levels parts.1)
 
@@ -214,10 +223,11 @@ pub levels_fit : (raw : RawSetup) → IsSetup raw → All LevelFits raw.levels
 levels_fit raw h =
     let none : NoneHold (faults raw) = none_hold (faults raw) h.0 in
     let in_range = AllPass-from_list_all level_is_in_range raw.levels (levels-in_range raw h) in
-    let some = some_rows raw.levels (both_false (length raw.testers == 0) (list_any has_no_rows raw.levels) none.1.0).1 in
+    let some = some_rows raw.levels (or_parts (length raw.testers == 0) (list_any has_no_rows raw.levels) none.1.0).1 in
     λ k d below.
     let level = slice_index_or raw.levels k d in
-    let parts = and6 (is_between 1 65 level.request_seed) (level.request_seed % 2 == 1) (nat_le (length level.rows) 64) (list_all key_row_is_in_range level.rows) (have_one_length seed_of level.rows) (have_one_length key_of level.rows) (in_range k d below) in
+    let parts = and6 (is_between 1 65 level.request_seed) (level.request_seed % 2 == 1) (nat_le (length level.rows) 64)
+    (list_all key_row_is_in_range level.rows) (have_one_length seed_of level.rows) (have_one_length key_of level.rows) (in_range k d below) in
     record {
       request_seed = (between 1 65 level.request_seed parts.0).1;
       some = some k d below;
@@ -225,7 +235,8 @@ levels_fit raw h =
       rows = each key_row_is_in_range KeyRowFits key_row-fits level.rows parts.3;
     }
 
-tables : (raw : RawSetup) → IsSetup raw → (is_rising did_id raw.dids ≡ true) × (is_rising dtc_code raw.dtcs ≡ true) × (is_rising routine_id raw.routines ≡ true) × (is_rising level_sub raw.levels ≡ true)
+tables : (raw : RawSetup) → IsSetup raw → (is_rising did_id raw.dids ≡ true) × (is_rising dtc_code raw.dtcs ≡ true)
+    × (is_rising routine_id raw.routines ≡ true) × (is_rising level_sub raw.levels ≡ true)
 tables raw h = and4 (is_rising did_id raw.dids) (is_rising dtc_code raw.dtcs) (is_rising routine_id raw.routines) (is_rising level_sub raw.levels) h.1
 
 pub dids_rise : (raw : RawSetup) → IsSetup raw → IsTrue (is_rising did_id raw.dids)

@@ -36,7 +36,8 @@ request_of_65536 = refl
 zero_seed : fault_of (record two_testers { levels = record { request_seed = 1; rows = record { seed = 0 ∷ 0 ∷ []; key = 1 ∷ [] } ∷ [] } ∷ [] }) ≡ Some Range
 zero_seed = refl
 
-two_key_lengths : fault_of (record two_testers { levels = record { request_seed = 1; rows = record { seed = 1 ∷ []; key = 1 ∷ [] } ∷ record { seed = 2 ∷ []; key = 1 ∷ 2 ∷ [] } ∷ [] } ∷ [] }) ≡ Some Range
+two_key_lengths : fault_of (record two_testers
+    { levels = record { request_seed = 1; rows = record { seed = 1 ∷ []; key = 1 ∷ [] } ∷ record { seed = 2 ∷ []; key = 1 ∷ 2 ∷ [] } ∷ [] } ∷ [] }) ≡ Some Range
 two_key_lengths = refl
 
 st_min_gap : fault_of (record two_testers { st_min = 240 }) ≡ Some Range

@@ -96,13 +96,18 @@ sorted-unknown_code raw =
 sorted-unknown_level : (raw : RawSetup) → names_unknown_level (sorted raw) ≡ names_unknown_level raw
 sorted-unknown_level raw =
     let levels = in_order level_sub raw.levels in
-    let did_same : (did : RawDid) → did_levels_are_known levels did ≡ did_levels_are_known raw.levels did = λ did. rw (known_level-in_order raw.levels did.read_level, known_level-in_order raw.levels did.write_level) refl in
-    let dids = list_all-in_order did_id (did_levels_are_known levels) raw.dids ∙ list_all-same (did_levels_are_known levels) (did_levels_are_known raw.levels) did_same raw.dids in
-    let routines = list_all-in_order routine_id (routine_level_is_known levels) raw.routines ∙ list_all-same (routine_level_is_known levels) (routine_level_is_known raw.levels) (λ routine. known_level-in_order raw.levels routine.level) raw.routines in
+    let did_same : (did : RawDid) → did_levels_are_known levels did ≡ did_levels_are_known raw.levels did =
+    λ did. rw (known_level-in_order raw.levels did.read_level, known_level-in_order raw.levels did.write_level) refl in
+    let dids = list_all-in_order did_id (did_levels_are_known levels) raw.dids
+    ∙ list_all-same (did_levels_are_known levels) (did_levels_are_known raw.levels) did_same raw.dids in
+    let routines = list_all-in_order routine_id (routine_level_is_known levels) raw.routines
+    ∙ list_all-same (routine_level_is_known levels) (routine_level_is_known raw.levels) (λ routine. known_level-in_order raw.levels routine.level)
+    raw.routines in
     rw (dids, routines) refl
 
 abbrev pub NoRepeats : RawSetup → Type 0
-NoRepeats raw = (has_repeat did_id raw.dids ≡ false) × (has_repeat dtc_code raw.dtcs ≡ false) × (has_repeat routine_id raw.routines ≡ false) × (has_repeat level_sub raw.levels ≡ false)
+NoRepeats raw = (has_repeat did_id raw.dids ≡ false) × (has_repeat dtc_code raw.dtcs ≡ false) × (has_repeat routine_id raw.routines ≡ false)
+    × (has_repeat level_sub raw.levels ≡ false)
 
 repeats_of : (a b c d e f : Bool) → (a || b || c || d || e || f) ≡ false → (a ≡ false) × (b ≡ false) × (c ≡ false) × (d ≡ false) × (e ≡ false) × (f ≡ false)
 repeats_of true b c d e f h = cc
@@ -115,20 +120,45 @@ repeats_of false false false false false f h = (refl, refl, refl, refl, refl, h)
 pub no_repeats : (raw : RawSetup) → fault_of raw ≡ None → NoRepeats raw
 no_repeats raw h =
     let none : NoneHold (faults raw) = none_hold (faults raw) h in
-    let each = repeats_of (has_repeated_name raw.testers) (has_repeat itself (can_ids raw.testers raw.functional)) (has_repeat did_id raw.dids) (has_repeat dtc_code raw.dtcs) (has_repeat routine_id raw.routines) (has_repeat level_sub raw.levels) none.1.1.0 in
+    let each = repeats_of (has_repeated_name raw.testers) (has_repeat itself (can_ids raw.testers raw.functional)) (has_repeat did_id raw.dids)
+    (has_repeat dtc_code raw.dtcs) (has_repeat routine_id raw.routines) (has_repeat level_sub raw.levels) none.1.1.0 in
     (each.2, each.3, each.4, each.5)
 
 sorted-duplicates : (raw : RawSetup) → has_duplicates raw ≡ false → NoRepeats raw → has_duplicates (sorted raw) ≡ has_duplicates raw
 sorted-duplicates raw h each =
-    rw (in_order-no_repeat did_id raw.dids each.0, in_order-no_repeat dtc_code raw.dtcs each.1, in_order-no_repeat routine_id raw.routines each.2, in_order-no_repeat level_sub raw.levels each.3, each.0, each.1, each.2, each.3) refl
+    rw (
+      in_order-no_repeat did_id raw.dids each.0,
+      in_order-no_repeat dtc_code raw.dtcs each.1,
+      in_order-no_repeat routine_id raw.routines each.2,
+      in_order-no_repeat level_sub raw.levels each.3,
+      each.0,
+      each.1,
+      each.2,
+      each.3,
+    ) refl
 
 -- a raw setup without a fault is a setup once its tables are sorted
 pub sorted-is_setup : (raw : RawSetup) → fault_of raw ≡ None → IsSetup (sorted raw)
 sorted-is_setup raw h =
     let none : NoneHold (faults raw) = none_hold (faults raw) h in
     let each = no_repeats raw h in
-    let well : NoneHold (faults (sorted raw)) =
-    (ap not (sorted-in_range raw) ∙ none.0, (sorted-lacks raw ∙ none.1.0, (sorted-duplicates raw none.1.1.0 each ∙ none.1.1.0, (sorted-unknown_code raw ∙ none.1.1.1.0, (sorted-unknown_level raw ∙ none.1.1.1.1.0, tt))))) in (
+    let well : NoneHold (faults (sorted raw)) = (
+      ap not (sorted-in_range raw) ∙ none.0,
+      (
+        sorted-lacks raw
+            ∙ none.1.0,
+        (
+          sorted-duplicates raw none.1.1.0 each
+              ∙ none.1.1.0,
+          (sorted-unknown_code raw ∙ none.1.1.1.0, (sorted-unknown_level raw ∙ none.1.1.1.1.0, tt)),
+        ),
+      ),
+    ) in (
       none_holding (faults (sorted raw)) well,
-      rw (in_order-is_rising did_id raw.dids each.0, in_order-is_rising dtc_code raw.dtcs each.1, in_order-is_rising routine_id raw.routines each.2, in_order-is_rising level_sub raw.levels each.3) refl,
+      rw (
+        in_order-is_rising did_id raw.dids each.0,
+        in_order-is_rising dtc_code raw.dtcs each.1,
+        in_order-is_rising routine_id raw.routines each.2,
+        in_order-is_rising level_sub raw.levels each.3,
+      ) refl,
     )

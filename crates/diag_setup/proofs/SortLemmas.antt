@@ -5,7 +5,7 @@ use Rattle.std.specs.List.Sorted.{IsPermutation, IsNonDecreasingBy}
 use Rattle.std.proofs.lemmas.List.Elements.{All-cons, All-nil, All-weaker, All-contains}
 use Rattle.std.proofs.lemmas.List.Sorted.{IsPermutation-refl, IsPermutation-sym, IsPermutation-cons, IsPermutation-trans, IsPermutation-middle, All-permutation, Contains-permutation, sum_by-IsPermutation}
 use Rattle.std.proofs.lemmas.List.Sums.{sum_by-cons}
-use Rattle.std.proofs.lemmas.Bool.{lt-ltb, eqb-true, leb-true, leb-false}
+use Rattle.std.proofs.lemmas.Bool.{lt-ltb, eqb-true, leb-true, leb-false, or_parts}
 use Rattle.diag_setup.specs.Rows.{has_key, has_repeat, insert_in_order, in_order, is_rising}
 
 Contains-cons : {X : Type 0} (x y : X) (ys : List X) → Contains (y ∷ ys) x → (y ≡ x) ⊎ Contains ys x
@@ -17,10 +17,6 @@ Contains-head x xs = (0, omega arith, refl)
 
 Contains-tail : {X : Type 0} (x y : X) (ys : List X) → Contains ys x → Contains (y ∷ ys) x
 Contains-tail x y ys (k, below, e) = (suc k, omega arith, e)
-
-pub both_false : (a b : Bool) → (a || b) ≡ false → (a ≡ false) × (b ≡ false)
-both_false true b h = cc
-both_false false b h = (refl, h)
 
 module _ {X : Type 0} (key : X → ℕ) where
   abbrev one_of : ℕ → X → ℕ
@@ -116,7 +112,8 @@ module _ {X : Type 0} (key : X → ℕ) where
   none-times k (x ∷ xs) h =
       let rest = none-times k xs in
       let first = sum_by-cons (one_of k) x xs in
-      elim (key x == k) as (λ b. (b || has_key key xs k) ≡ false → sum_by (one_of k) (x ∷ xs) ≡ cond b 1 0 + sum_by (one_of k) xs → sum_by (one_of k) (x ∷ xs) ≡ 0) [
+      elim (key x == k) as (λ b. (b || has_key key xs k) ≡ false → sum_by (one_of k) (x ∷ xs) ≡ cond b 1 0 + sum_by (one_of k) xs
+      → sum_by (one_of k) (x ∷ xs) ≡ 0) [
         | true ↦ λ e is. cc
         | false ↦ λ e is. let zero_left = rest e in omega arith
       ] h first
@@ -127,10 +124,11 @@ module _ {X : Type 0} (key : X → ℕ) where
   once (x ∷ xs) h k =
       let none = none-times k xs in
       let rest = once xs in
-      let parts = both_false (has_key key xs (key x)) (has_repeat key xs) h in
+      let parts = or_parts (has_key key xs (key x)) (has_repeat key xs) h in
       let first = sum_by-cons (one_of k) x xs in
       elim (key x == k) as (λ b. (key x == k) ≡ b → sum_by (one_of k) (x ∷ xs) ≡ cond b 1 0 + sum_by (one_of k) xs → sum_by (one_of k) (x ∷ xs) ≤ 1) [
-        | true ↦ λ e is. let same : has_key key xs (key x) ≡ has_key key xs k = ap (has_key key xs) (eqb-true (key x) k e) in let zero_left = none (sym same ∙ parts.0) in omega arith
+        | true ↦ λ e is. let same : has_key key xs (key x) ≡ has_key key xs k = ap (has_key key xs) (eqb-true (key x) k e) in let zero_left =
+            none (sym same ∙ parts.0) in omega arith
         | false ↦ λ e is. let one_left = rest parts.1 k in omega arith
       ] refl first
 
