@@ -5,8 +5,8 @@ use diag_desk::{
     Desk, Journal, MOST_ENTRIES, Step, StepFault, journal_text, journal_text_at, read_journal,
     replay,
 };
-use diag_fixtures::two_testers;
 use diag_store::{Setup, TesterId};
+use diag_stored::two_testers;
 use diag_tp::Message;
 use std::alloc::{AllocError, Global};
 use std::test::Fail;

@@ -2,8 +2,8 @@
 
 use diag_can::TickCount;
 use diag_ecu::{Ecu, Session};
-use diag_fixtures::{bytes, raw_two_testers};
 use diag_store::{RawDid, RawSetup, TesterId};
+use diag_stored::{bytes, raw_two_testers};
 use diag_tp::Message;
 use std::alloc::{AllocError, Global};
 use std::test::Fail;

@@ -2,6 +2,10 @@
 //! serial play of them writes. A unlocks the level and writes the identifier, which B reads before and after.
 #![tactic(auto)]
 
+mod setup;
+
+pub use setup::{bytes, key_row, raw_two_testers, tester, two_testers};
+
 /// The setup file: two testers, an identifier that a level guards, a trouble code and a routine that gives it.
 pub const CONFIG: &str = "\
 delay_ms = 2000

@@ -5,9 +5,8 @@ ghost use Rattle.std.specs.Prelude.{◌≡◌, ◌≤◌, length};
 use crate::trouble::{Trouble, holds};
 use diag_can::{Event, read_line, write_line};
 use diag_desk::journal_text;
-use diag_fixtures::two_testers;
 use diag_setup::{Setup, TesterId};
-use diag_stored::PLAYED;
+use diag_stored::{PLAYED, two_testers};
 use diag_world::{StepFault, World};
 use std::alloc::Global;
 

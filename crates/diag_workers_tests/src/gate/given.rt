@@ -2,8 +2,8 @@
 
 use crate::trouble::Trouble;
 use diag_desk::{Desk, Step, journal_text};
-use diag_fixtures::two_testers;
 use diag_store::TesterId;
+use diag_stored::two_testers;
 use diag_tp::Message;
 use std::alloc::Global;
 

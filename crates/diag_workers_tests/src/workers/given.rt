@@ -5,8 +5,8 @@ ghost use Rattle.std.specs.Prelude.{◌≡◌, ◌≤◌, length, vec_len, IfOk}
 use crate::trouble::Trouble;
 use diag_can::{Event, Timing, read_log};
 use diag_desk::{Journal, replay};
-use diag_fixtures::two_testers;
 use diag_setup::Setup;
+use diag_stored::two_testers;
 use diag_tp::Sent;
 use std::alloc::Global;
 

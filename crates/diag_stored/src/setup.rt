@@ -1,5 +1,5 @@
-//! A setup for tests: two testers, a writable identifier, a code, a routine and a security level.
-#![tactic(auto)]
+//! The setup of the stored run as a value, for the suites: two testers, a writable identifier, a code, a routine and a
+//! security level.
 
 ghost use Rattle.std.specs.Prelude.{◌≡◌, IfOk};
 ghost use Rattle.diag_setup.specs.Setup.{sorted};
@@ -133,8 +133,7 @@ pub fn bytes(alloc: Global, bytes: &[u8]) -> Result<Items<u8>, AllocError>
     Ok(Items::from_vec(Vec::from_slice(alloc, bytes)?))
 }
 
-/// These rows in their order.
-pub fn rows<T: Drop, const N: usize>(alloc: Global, rows: [T; N]) -> Result<Items<T>, AllocError>
+fn rows<T: Drop, const N: usize>(alloc: Global, rows: [T; N]) -> Result<Items<T>, AllocError>
     ensures { IfOk result (λ made. made ≡ rows) }
 {
     Ok(Items::from_vec(Vec::from_array(alloc, rows)?))
