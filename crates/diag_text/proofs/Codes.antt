@@ -8,7 +8,8 @@ use Rattle.diag_store.specs.Dtcs.{row_pair}
 use Rattle.diag_text.specs.Text.{code_line, code_lines}
 
 -- the row whose code and status are known
-found_row : (o : Option Dtc) (code status : ℕ) → Some (code, status) ≡ option_map row_pair o → (row : Dtc) × (o ≡ Some row) × (row.code ≡ code) × (row.status ≡ status)
+found_row : (o : Option Dtc) (code status : ℕ) → Some (code, status) ≡ option_map row_pair o
+    → (row : Dtc) × (o ≡ Some row) × (row.code ≡ code) × (row.status ≡ status)
 found_row None code status h = cc
 found_row (Some row) code status h =
     let pair : row_pair row ≡ (code, status) = cc in

@@ -12,4 +12,5 @@ pub returns-in-Err-clause-front : goal.returns-in-Err-clause-front
 returns-in-Err-clause-front g c = AppendsFront-kept _ _ _ c.args.text.now c.loop-written.written c.loop-written.invariant.sent c.in-Err.ensures.bytes
 
 pub returns-then-count-eq0-clause-front : goal.returns-then-count-eq0-clause-front
-returns-then-count-eq0-clause-front g c = AppendsFront-more _ _ _ c.args.text.now c.loop-written.written c.loop-written.invariant.sent c.in-Ok.count c.in-Ok.ensures.bytes
+returns-then-count-eq0-clause-front g c =
+    AppendsFront-more _ _ _ c.args.text.now c.loop-written.written c.loop-written.invariant.sent c.in-Ok.count c.in-Ok.ensures.bytes

@@ -11,4 +11,5 @@ loop-part-preserved g c =
 pub returns-in_err-write_part-clause-front : goal.returns-in_err-write_part-clause-front
 returns-in_err-write_part-clause-front g c =
     let next = seen_at (λ part. part.items) c.args.parts.now c.loop-part.part-index c.part-item.result c.loop-part-test.true c.part-item.is in
-    on_fault c.from_residual.result (part_front _ _ _ c.loop-part.part-index c.loop-part.invariant _ c.part-item.result.items next (rw c.as_slice.ensures.value at c.in_err-write_part.ensures.front))
+    on_fault c.from_residual.result (part_front _ _ _ c.loop-part.part-index c.loop-part.invariant _ c.part-item.result.items next
+    (rw c.as_slice.ensures.value at c.in_err-write_part.ensures.front))

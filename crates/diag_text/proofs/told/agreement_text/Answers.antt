@@ -22,7 +22,8 @@ loop-index-preserved c = λ lines h.
     let bus = c.args.bus.now in
     let who = who_found c.setup-setup.result.now i c.in-Some.who c.in-Some.ensures in
     let name : c.name.result.now ≡ name_of bus.setup (i + 1) = c.name.ensures ∙ ap₂ name_of c.setup-setup.ensures who in
-    let count : c.recorded.result ≡ length (recorded bus.setup lines (i + 1)) = c.recorded.ensures lines h c.requires ∙ ap (λ t. length (recorded bus.setup lines t)) who in
+    let count : c.recorded.result ≡ length (recorded bus.setup lines (i + 1)) =
+    c.recorded.ensures lines h c.requires ∙ ap (λ t. length (recorded bus.setup lines t)) who in
     let all = flat_map (agreed_line bus.setup lines) (counted_from 1 i) in
     c.in_ok-add_agreement.ensures
     ∙ (ap (λ (w : List ℕ). w ++ (c.name.result.now ++ codes " " ++ decimal c.recorded.result ++ codes " frames agree\n")) (c.loop-index.invariant lines h)
