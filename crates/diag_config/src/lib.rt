@@ -11,8 +11,7 @@ mod rows;
 mod table;
 mod value;
 
-use diag_setup::RawSetup;
-pub use diag_setup::{Setup, SetupFault};
+use diag_setup::{RawSetup, Setup};
 pub use fault::ConfigFault;
 use fault::KeyFault;
 use std::alloc::Global;

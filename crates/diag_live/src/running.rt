@@ -8,8 +8,9 @@ ghost use Rattle.diag_run.specs.Run.{TellsOf};
 use crate::bench::{Bench, Heard};
 use crate::serving::Serving;
 use diag_bus::{Bus, Output};
-use diag_config::Setup;
-use diag_run::{Outcome, RunFault, fault_text, read_config, status};
+use diag_run::{Outcome, read_config};
+use diag_setup::Setup;
+use diag_text::{RunFault, fault_text, status};
 use std::alloc::Global;
 use std::io::{Read, Write};
 

@@ -10,7 +10,8 @@ ghost use Rattle.diag_live.specs.Serving.{numbered};
 use crate::hearing::{HearFault, Hearing};
 use crate::restamp::add_time;
 use diag_bus::{Bus, BusFault, Output};
-use diag_run::{Capture, CaptureFault, RunFault, run_fault, write_text};
+use diag_run::{Capture, CaptureFault, run_fault};
+use diag_text::{RunFault, write_text};
 use std::alloc::{AllocError, Global};
 use std::io::Write;
 

@@ -4,7 +4,8 @@ ghost use Rattle.std.specs.Prelude.{◌≡◌, ◌≤◌, ℕ, ◌<◌, ◌^◌,
 ghost use Rattle.std.specs.Io.KnownBytes.{IsAtEnd};
 ghost use Rattle.diag_run.specs.Files.{AreKnown, ConfigEnds, FailsAt, FilesEnd, Gives, ReadEach, SaysSetup, config_of, files_from};
 
-use diag_config::{ConfigFault, Setup, read_setup};
+use diag_config::{ConfigFault, read_setup};
+use diag_setup::Setup;
 use diag_text::{ReadFault, RunFault, read_whole};
 use std::alloc::Global;
 use std::io::Read;

@@ -10,9 +10,5 @@ mod whole;
 
 pub use bus_run::{run_bus, run_bus_and_tell, run_fault};
 pub use capture::{Capture, CaptureFault};
-pub use diag_text::{
-    ReadFault, RunFault, WriteFault, agreement_text, end_text, fault_text, play_text, read_whole,
-    replay_text, status, verdict_text, write_text, write_whole,
-};
 pub use files::read_config;
 pub use whole::{Alone, Job, Outcome, run, run_alone, run_and_tell, run_text};

@@ -19,13 +19,11 @@ use command::{Refusal, Request, Task, read_words};
 use crossbeam_channel::{Receiver, bounded};
 use diag_bus::Output;
 use diag_can::Timing;
-use diag_config::Setup;
 use diag_live::{Bench, Heard, live};
-use diag_run::{
-    Job, Outcome, RunFault, fault_text, read_config, run_bus_and_tell, run_text, status,
-    write_whole,
-};
+use diag_run::{Job, Outcome, read_config, run_bus_and_tell, run_text};
+use diag_setup::Setup;
 use diag_stored::{CONFIG, LOG_A, LOG_B};
+use diag_text::{RunFault, fault_text, status, write_whole};
 use source::Source;
 use standard::{PIECES, Record, StandardBench, read_all};
 use std::alloc::{AllocError, Global};

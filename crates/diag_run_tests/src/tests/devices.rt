@@ -4,8 +4,9 @@ use super::given::{
     Dribble, End, PLAY, Run, SERIAL, Source, Trouble, WELL, config, ends, ends_unwritten, holds,
     holds_at,
 };
-use diag_run::{Job, ReadFault, read_whole};
+use diag_run::Job;
 use diag_stored::{END, LOG_A, LOG_B, PLAYED};
+use diag_text::{ReadFault, read_whole};
 use std::alloc::{AllocError, Global};
 use std::sync::Wait;
 use std::thread::Threads;

@@ -4,8 +4,8 @@ use super::given::Trouble;
 use diag_bus::BusFault;
 use diag_can::LogFault;
 use diag_config::ConfigFault;
-use diag_run::{RunFault, fault_text, status};
 use diag_setup::TesterId;
+use diag_text::{RunFault, fault_text, status};
 use std::alloc::{AllocError, Global};
 
 /// Whether a fault has this line on standard error and this status.
