@@ -15,7 +15,8 @@ use Rattle.diag_live.specs.declared.hearing.HearFault.TheVariants.{Line, Memory}
 use Rattle.diag_live.specs.declared.hearing.Hearing.{Hearing}
 use Rattle.diag_live.proofs.Records.{capture_of-append, good_join, record_text-append}
 
-pub heard_text : (a b : List (List ℕ)) → record_text (capture_of (map Heard (a ++ b))) ≡ record_text (capture_of (map Heard a)) ++ record_text (capture_of (map Heard b))
+pub heard_text : (a b : List (List ℕ)) → record_text (capture_of (map Heard (a ++ b)))
+    ≡ record_text (capture_of (map Heard a)) ++ record_text (capture_of (map Heard b))
 heard_text a b =
     ap (λ (t : List Taken). record_text (capture_of t)) (map-append Heard a b)
     ∙ (ap record_text (capture_of-append (map Heard a) (map Heard b)) ∙ record_text-append (capture_of (map Heard a)) (capture_of (map Heard b)))
@@ -24,15 +25,6 @@ heard_good : (a b : List (List ℕ)) → AreGood (map Heard a) → AreGood (map 
 heard_good a b x y = subst AreGood (sym (map-append Heard a b)) (good_join (map Heard a) (map Heard b) x y)
 
 -- ---- lines go on
-
-pub Hears-refl : (hearing : Hearing) → Hears hearing hearing [] []
-Hears-refl hearing seen f = record {
-  lines = [];
-  ended = ap ended_lines (append-nil seen) ∙ sym (append-nil (ended_lines seen));
-  good = tt;
-  text = refl;
-  follows = subst (Follows hearing) (sym (append-nil seen)) f;
-}
 
 pub Hears-trans : (a b c : Hearing) (x y m n : List ℕ) → Hears a b x m → Hears b c y n → Hears a c (x ++ y) (m ++ n)
 Hears-trans a b c x y m n first second seen f =
@@ -52,7 +44,8 @@ Hears-trans a b c x y m n first second seen f =
     }
 
 -- bytes of a line that is begun were kept
-pub begun_hears : (old new : Hearing) (bytes : List ℕ) → HasNoFeed bytes → new.kept.items ≡ old.kept.items ++ bytes → new.lines ≡ old.lines → Hears old new bytes []
+pub begun_hears : (old new : Hearing) (bytes : List ℕ) → HasNoFeed bytes → new.kept.items ≡ old.kept.items ++ bytes → new.lines ≡ old.lines
+    → Hears old new bytes []
 begun_hears old new bytes none kept count seen f =
     let ended = ended_lines-begun seen bytes none in
     record {
@@ -92,7 +85,8 @@ module _ (old : Hearing) (bytes line : List ℕ) (none : HasNoFeed bytes) (is : 
       }
 
   -- a line at fault was ended
-  pub line_refused : (n : ℕ) (fault : LineFault) (seen : List ℕ) → n ≡ old.lines + 1 → bus_line line ≡ Err fault → Follows old seen → EndsBefore n fault seen (bytes ++ 10 ∷ []) []
+  pub line_refused : (n : ℕ) (fault : LineFault) (seen : List ℕ) → n ≡ old.lines + 1 → bus_line line ≡ Err fault → Follows old seen
+      → EndsBefore n fault seen (bytes ++ 10 ∷ []) []
   line_refused n fault seen number says f =
       let same = whole_line seen f in
       let text : (rest : List ℕ) → begun_line seen ++ ((bytes ++ 10 ∷ []) ++ rest) ≡ (begun_line seen ++ bytes) ++ 10 ∷ rest =
@@ -108,7 +102,8 @@ module _ (old : Hearing) (bytes line : List ℕ) (none : HasNoFeed bytes) (is : 
               ap bus_lines (append_assoc seen (bytes ++ 10 ∷ []) rest)
               ∙ (bus_lines-more seen ((bytes ++ 10 ∷ []) ++ rest)
               ∙ (ap (λ (l : List (List ℕ)). ended_lines seen ++ l)
-              (ap bus_lines (text rest) ∙ (bus_lines-first (begun_line seen ++ bytes) rest (grown_plain seen bytes none) ∙ ap (λ (l : List ℕ). l ∷ bus_lines rest) (sym same)))
+              (ap bus_lines (text rest) ∙ (bus_lines-first (begun_line seen ++ bytes) rest (grown_plain seen bytes none)
+              ∙ ap (λ (l : List ℕ). l ∷ bus_lines rest) (sym same)))
               ∙ ap (λ (l : List (List ℕ)). l ++ line ∷ bus_lines rest) (sym (append-nil (ended_lines seen)))));
           number = number ∙ (ap (λ k. k + 1) f.count ∙ ap (λ (l : List (List ℕ)). length l + 1) (sym (append-nil (ended_lines seen))));
           says = says;
@@ -120,7 +115,8 @@ long_is_bad : (line : List ℕ) → 4096 < length line → bus_line line ≡ Err
 long_is_bad line long = let test : nat_lt 4096 (length line) ≡ true = grind (arith, nat_tests) in rw test refl
 
 -- the line that was begun is too long, whatever follows
-long_refused : (old : Hearing) (bytes tail : List ℕ) (n : ℕ) (seen : List ℕ) → HasNoFeed bytes → 4096 < length old.kept.items + length bytes → n ≡ old.lines + 1 → Follows old seen
+long_refused : (old : Hearing) (bytes tail : List ℕ) (n : ℕ) (seen : List ℕ) → HasNoFeed bytes → 4096 < length old.kept.items + length bytes
+    → n ≡ old.lines + 1 → Follows old seen
     → EndsBefore n BadLine seen (bytes ++ tail) []
 long_refused old bytes tail n seen none long number f =
     let line = begun_line seen ++ bytes in
@@ -150,12 +146,15 @@ long_refused old bytes tail n seen none long number f =
 grew_none : (text : List ℕ) (P : List ℕ → Type 0) → P [] → Grew text text P
 grew_none text P p = record { more = []; grown = sym (append-nil text); holds = p }
 
-pub keep_refuses : (old : Hearing) (bytes tail text : List ℕ) (fault : HearFault) → HasNoFeed bytes → IsTooLong old bytes fault → Refuses old (bytes ++ tail) text text fault
+pub keep_refuses : (old : Hearing) (bytes tail text : List ℕ) (fault : HearFault) → HasNoFeed bytes → IsTooLong old bytes fault
+    → Refuses old (bytes ++ tail) text text fault
 keep_refuses old bytes tail text Memory none long = tt
 keep_refuses old bytes tail text (Line n fault) none long =
-    grew_none text _ (λ seen f. subst (λ (x : LineFault). EndsBefore n x seen (bytes ++ tail) []) (sym long.1) (long_refused old bytes tail n seen none long.2 long.0 f))
+    grew_none text _ (λ seen f. subst (λ (x : LineFault). EndsBefore n x seen (bytes ++ tail) []) (sym long.1)
+    (long_refused old bytes tail n seen none long.2 long.0 f))
 
-pub line_refuses : (old : Hearing) (bytes line text : List ℕ) (n : ℕ) (fault : LineFault) → HasNoFeed bytes → line ≡ old.kept.items ++ bytes → n ≡ old.lines + 1 → bus_line line ≡ Err fault
+pub line_refuses : (old : Hearing) (bytes line text : List ℕ) (n : ℕ) (fault : LineFault) → HasNoFeed bytes → line ≡ old.kept.items ++ bytes
+    → n ≡ old.lines + 1 → bus_line line ≡ Err fault
     → Refuses old (bytes ++ 10 ∷ []) text text (Line n fault)
 line_refuses old bytes line text n fault none is number says = grew_none text _ (λ seen f. line_refused old bytes line none is n fault seen number says f)
 
@@ -172,13 +171,15 @@ before_more n fault seen bytes tail more e = record {
       (e.next (tail ++ rest));
 }
 
-pub refuses_more : (old : Hearing) (bytes tail text text' : List ℕ) (fault : HearFault) → Refuses old bytes text text' fault → Refuses old (bytes ++ tail) text text' fault
+pub refuses_more : (old : Hearing) (bytes tail text text' : List ℕ) (fault : HearFault) → Refuses old bytes text text' fault
+    → Refuses old (bytes ++ tail) text text' fault
 refuses_more old bytes tail text text' Memory r = tt
 refuses_more old bytes tail text text' (Line n fault) r =
     record { more = r.more; grown = r.grown; holds = λ seen f. before_more n fault seen bytes tail r.more (r.holds seen f) }
 
 -- behind a text there is more, and then the fault
-pub later_refuses : (old mid : Hearing) (x y text text' text'' : List ℕ) (fault : HearFault) → Grew text text' (Hears old mid x) → Refuses mid y text' text'' fault
+pub later_refuses : (old mid : Hearing) (x y text text' text'' : List ℕ) (fault : HearFault) → Grew text text' (Hears old mid x)
+    → Refuses mid y text' text'' fault
     → Refuses old (x ++ y) text text'' fault
 later_refuses old mid x y text text' text'' Memory on r = tt
 later_refuses old mid x y text text' text'' (Line n fault) on r = record {
@@ -201,7 +202,8 @@ later_refuses old mid x y text text' text'' (Line n fault) on r = record {
       };
 }
 
-pub Grew-hears : (a b c : Hearing) (x y text text' text'' : List ℕ) → Grew text text' (Hears a b x) → Grew text' text'' (Hears b c y) → Grew text text'' (Hears a c (x ++ y))
+pub Grew-hears : (a b c : Hearing) (x y text text' text'' : List ℕ) → Grew text text' (Hears a b x) → Grew text' text'' (Hears b c y)
+    → Grew text text'' (Hears a c (x ++ y))
 Grew-hears a b c x y text text' text'' one two = record {
   more = one.more ++ two.more;
   grown = two.grown ∙ (ap (λ (t : List ℕ). t ++ two.more) one.grown ∙ append_assoc text one.more two.more);
@@ -213,9 +215,6 @@ pub record HeardSoFar (old new : Hearing) (text text' piece rest : List ℕ) : T
   pub gone : List ℕ
   pub is : piece ≡ gone ++ rest
   pub on : Grew text text' (Hears old new gone)
-
-pub none_heard : (hearing : Hearing) (text piece : List ℕ) → HeardSoFar hearing hearing text text piece piece
-none_heard hearing text piece = record { gone = []; is = refl; on = grew_none text _ (Hears-refl hearing) }
 
 module _ (old mid : Hearing) (text text' piece rest : List ℕ) (so_far : HeardSoFar old mid text text' piece rest) where
   pub line_more : (new : Hearing) (text'' line after : List ℕ) → rest ≡ line ++ 10 ∷ after → Grew text' text'' (Hears mid new (line ++ 10 ∷ []))
@@ -229,9 +228,11 @@ module _ (old mid : Hearing) (text text' piece rest : List ℕ) (so_far : HeardS
     on = Grew-hears old mid new so_far.gone (line ++ 10 ∷ []) text text' text'' so_far.on grew;
   }
 
-  pub so_far_refuses : (bytes tail text'' : List ℕ) (fault : HearFault) → rest ≡ bytes ++ tail → Refuses mid bytes text' text'' fault → Refuses old piece text text'' fault
+  pub so_far_refuses : (bytes tail text'' : List ℕ) (fault : HearFault) → rest ≡ bytes ++ tail → Refuses mid bytes text' text'' fault
+      → Refuses old piece text text'' fault
   so_far_refuses bytes tail text'' fault is r =
-      let whole : (so_far.gone ++ bytes) ++ tail ≡ piece = append_assoc so_far.gone bytes tail ∙ (ap (λ (r : List ℕ). so_far.gone ++ r) (sym is) ∙ sym so_far.is) in
+      let whole : (so_far.gone ++ bytes) ++ tail ≡ piece =
+      append_assoc so_far.gone bytes tail ∙ (ap (λ (r : List ℕ). so_far.gone ++ r) (sym is) ∙ sym so_far.is) in
       subst (λ (p : List ℕ). Refuses old p text text'' fault) whole
       (refuses_more old (so_far.gone ++ bytes) tail text text'' fault (later_refuses old mid so_far.gone bytes text text' text'' fault so_far.on r))
 

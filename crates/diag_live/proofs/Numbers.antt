@@ -59,16 +59,14 @@ passed_ticks span =
 
 -- ---- the first fault of a capture whose lines say something
 
-err_ok : {A E : Type 0} {x : A} {e : E} → ◌≡◌ {A = Result A E} (Err e) (Ok x) → ⊥
-err_ok h = cc
-
 -- it lies among the lines, and is that of a clock
 pub record IsAmong (n m count : ℕ) (fault : BusFault) : Type 0 where
   pub low : n ≤ m
   pub high : m < n + count
   pub late : fault ≡ bus.Late
 
-fault_among : (past lines : List (List ℕ)) (n m : ℕ) (fault : BusFault) → AllSay lines → first_fault_after past n lines ≡ Some (m, fault) → IsAmong n m (length lines) fault
+fault_among : (past lines : List (List ℕ)) (n m : ℕ) (fault : BusFault) → AllSay lines → first_fault_after past n lines ≡ Some (m, fault)
+    → IsAmong n m (length lines) fault
 fault_among past [] n m fault says h = absurd (none h)
   where
     none : {A : Type 0} {x : A} → None ≡ Some x → ⊥
@@ -80,11 +78,12 @@ fault_among past (line ∷ lines) n m fault says h =
     same x = cc
 
     clock : (r : Result BusLine LineFault) (k : ℕ) (f : BusFault) → ((said : BusLine) × (r ≡ Ok said)) → fault_said r k ≡ Some f → f ≡ bus.Late
-    clock (Err e) k f said is = absurd (err_ok said.1)
+    clock (Err e) k f said is = cc said.1
     clock (Ok x) k f said is = grind (arith, nat_tests, is)
 
     pick : (o : Option BusFault) → line_fault past line ≡ o → fault_or o n (first_fault_after (past ++ line ∷ []) (n + 1) lines) ≡ Some (m, fault)
-        → (first_fault_after (past ++ line ∷ []) (n + 1) lines ≡ Some (m, fault) → IsAmong (n + 1) m (length lines) fault) → IsAmong n m (length (line ∷ lines)) fault
+        → (first_fault_after (past ++ line ∷ []) (n + 1) lines ≡ Some (m, fault) → IsAmong (n + 1) m (length lines) fault)
+        → IsAmong n m (length (line ∷ lines)) fault
     pick None is found next = let r = next found in record { low = omega (arith, r.low); high = omega (arith, r.high); late = r.late }
     pick (Some f) is found next =
         let number : n ≡ m = ap (λ (q : ℕ × BusFault). q.0) (same found) in
@@ -96,21 +95,24 @@ fault_among past (line ∷ lines) n m fault says h =
         }
 
 -- behind lines that are well it lies among those that follow
-pub fault_behind : (lines more : List (List ℕ)) (m : ℕ) (fault : BusFault) → AllSay more → first_fault lines ≡ None → first_fault (lines ++ more) ≡ Some (m, fault)
+pub fault_behind : (lines more : List (List ℕ)) (m : ℕ) (fault : BusFault) → AllSay more → first_fault lines ≡ None
+    → first_fault (lines ++ more) ≡ Some (m, fault)
     → IsAmong (length lines + 1) m (length more) fault
 fault_behind lines more m fault says well h = fault_among lines more (length lines + 1) m fault says (sym (first_fault_behind lines more well) ∙ h)
 
 -- ---- the number of a line
 
 -- so many lines were heard before the line of that number in the capture
-pub heard_before : (taken time : List Taken) (lines : List (List ℕ)) (m : ℕ) → AreTicks time → length taken + 1 ≤ m → m < length taken + 1 + (length time + length lines)
+pub heard_before : (taken time : List Taken) (lines : List (List ℕ)) (m : ℕ) → AreTicks time → length taken + 1 ≤ m
+    → m < length taken + 1 + (length time + length lines)
     → length (lines_of (take (m - 1) (taken ++ (time ++ map Heard lines)))) + 1 ≡ length (lines_of taken) + max (m - (length taken + length time)) 1
 heard_before taken time lines m ticks low high =
     let j = m - 1 - length taken in
     let place : m - 1 ≡ length taken + j = omega (arith, low) in
     let parts : take (m - 1) (taken ++ (time ++ map Heard lines)) ≡ taken ++ take j (time ++ map Heard lines) =
     ap (λ k. take k (taken ++ (time ++ map Heard lines))) place ∙ take-append-add taken (time ++ map Heard lines) j in
-    let count : length (lines_of (take (m - 1) (taken ++ (time ++ map Heard lines)))) ≡ length (lines_of taken) + length (lines_of (take j (time ++ map Heard lines))) =
+    let count : length (lines_of (take (m - 1) (taken ++ (time ++ map Heard lines))))
+    ≡ length (lines_of taken) + length (lines_of (take j (time ++ map Heard lines))) =
     ap (λ t. length (lines_of t)) parts
     ∙ (ap length (lines_of-append taken (take j (time ++ map Heard lines))) ∙ length-append (lines_of taken) (lines_of (take j (time ++ map Heard lines)))) in
     pick j place count (cases j (length time))
@@ -134,7 +136,8 @@ heard_before taken time lines m ticks low high =
         let i = j - length time in
         let at : j ≡ length time + i = omega (arith, behind) in
         let front : take j (time ++ map Heard lines) ≡ time ++ map Heard (take i lines) =
-        ap (λ k. take k (time ++ map Heard lines)) at ∙ (take-append-add time (map Heard lines) i ∙ ap (λ (t : List Taken). time ++ t) (take-map Heard i lines)) in
+        ap (λ k. take k (time ++ map Heard lines)) at
+        ∙ (take-append-add time (map Heard lines) i ∙ ap (λ (t : List Taken). time ++ t) (take-map Heard i lines)) in
         let here : lines_of (take j (time ++ map Heard lines)) ≡ take i lines =
         ap lines_of front
         ∙ (lines_of-append time (map Heard (take i lines))

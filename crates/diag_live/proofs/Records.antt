@@ -84,7 +84,8 @@ no_feed_in (c ∷ text) h = pick (is_feed c) refl h (no_feed_in text)
     at first rest zero d less = first
     at first rest (suc k) d less = rest k d (omega (arith, less))
 
-    pick : (b : Bool) → is_feed c ≡ b → (not b && list_all (λ c. not (is_feed c)) text) ≡ true → (list_all (λ c. not (is_feed c)) text ≡ true → HasNoFeed text) → HasNoFeed (c ∷ text)
+    pick : (b : Bool) → is_feed c ≡ b → (not b && list_all (λ c. not (is_feed c)) text) ≡ true
+        → (list_all (λ c. not (is_feed c)) text ≡ true → HasNoFeed text) → HasNoFeed (c ∷ text)
     pick true is rest next = absurd (clash rest)
       where
         clash : false ≡ true → ⊥

@@ -5,6 +5,7 @@ use Rattle.std.specs.List.{after_first, ends_with, list_all, position_or_len, pr
 use Rattle.std.proofs.lemmas.List.{append_cancel_left, take-append-drop}
 use Rattle.std.proofs.Math.Seq.{drop-append-add, take-append-add, drop-append_seam}
 use Rattle.std.proofs.lemmas.Bool.Decides.{nat_tests}
+use Rattle.std.proofs.lemmas.Option.{same_Some}
 use Rattle.std.proofs.lemmas.List.Folds.{length-prefix_len}
 use lib.Pointwise.{pointwise}
 use Rattle.diag_can.specs.Stamp.{behind, behind_name, digits_of, is_digit, stamp_of, ◌>>=◌}
@@ -26,30 +27,21 @@ use Rattle.diag_live.specs.Live.{but_for_moment, is_close, null_stamp, restamped
 
 -- ---- parts of a text
 
-some_same : {A : Type 0} {x y : A} → Some x ≡ Some y → x ≡ y
-some_same h = cc
-
 ok_same : {A E : Type 0} {x y : A} → ◌≡◌ {A = Result A E} (Ok x) (Ok y) → x ≡ y
 ok_same h = cc
 
-none_some : {A : Type 0} {x : A} → None ≡ Some x → ⊥
-none_some h = cc
-
-err_ok : {A E : Type 0} {x : A} {e : E} → ◌≡◌ {A = Result A E} (Err e) (Ok x) → ⊥
-err_ok h = cc
-
 -- what the first of two parts gave
 bind_some : {A B : Type 0} (o : Option A) (f : A → Option B) (y : B) → (o >>= f) ≡ Some y → (x : A) × (o ≡ Some x) × (f x ≡ Some y)
-bind_some None f y h = absurd (none_some h)
+bind_some None f y h = cc h
 bind_some (Some x) f y h = (x, refl, h)
 
 behind_some : (byte : ℕ) (text rest : List ℕ) → behind byte text ≡ Some rest → text ≡ byte ∷ rest
-behind_some byte [] rest h = absurd (none_some h)
+behind_some byte [] rest h = cc h
 behind_some byte (c ∷ text) rest h = pick (c == byte) refl h
   where
     pick : (b : Bool) → (c == byte) ≡ b → cond b (Some text) None ≡ Some rest → c ∷ text ≡ byte ∷ rest
-    pick true same is = grind (arith, nat_tests, some_same is)
-    pick false same is = absurd (none_some is)
+    pick true same is = grind (arith, nat_tests, same_Some _ _ is)
+    pick false same is = cc is
 
 -- no byte closes a stamp
 abbrev IsOpen : List ℕ → Type 0
@@ -95,12 +87,12 @@ run_of least most text r h = pick (nat_le least count && nat_le count most) refl
 
     pick : (b : Bool) → (nat_le least count && nat_le count most) ≡ b → cond b (Some (take count text, drop count text)) None ≡ Some r → Run least text r.0 r.1
     pick true within is =
-        subst (λ (q : List ℕ × List ℕ). Run least text q.0 q.1) (some_same is) (record {
+        subst (λ (q : List ℕ × List ℕ). Run least text q.0 q.1) (same_Some _ _ is) (record {
           is = sym (take-append-drop count text);
           some = grind (arith, nat_tests, within, length-prefix_len is_digit text);
           opened = open_digits text;
         })
-    pick false within is = absurd (none_some is)
+    pick false within is = cc is
 
 -- a stamp, in its brackets, and what stands behind it
 record Stamp (text rest : List ℕ) : Type 0 where
@@ -120,7 +112,7 @@ stamp_parts text m h =
     let fraction = run_of 6 9 c.0 d.0 d.1 in
     let dot = behind_some 46 b.0.1 c.0 c.1 in
     let close = behind_some 41 d.0.1 e.0 e.1 in
-    let rest : e.0 ≡ m.1 = ap (λ (q : ℕ × List ℕ). q.1) (some_same e.2) in
+    let rest : e.0 ≡ m.1 = ap (λ (q : ℕ × List ℕ). q.1) (same_Some _ _ e.2) in
     let inner = b.0.0 ++ 46 ∷ d.0.0 in
     let tail : c.0 ≡ d.0.0 ++ 41 ∷ m.1 = fraction.is ∙ ap (λ (t : List ℕ). d.0.0 ++ t) (close ∙ ap (λ (t : List ℕ). 41 ∷ t) rest) in
     record {
@@ -151,7 +143,8 @@ ends_in c a (x ∷ rest) other =
 
 -- the return is looked for behind any other byte
 return_law : (c : ℕ) (a rest : List ℕ) → (c == 13) ≡ false → without_return (a ++ c ∷ rest) ≡ a ++ c ∷ without_return rest
-return_law c a rest other = ap (λ b. cond b (take (length (a ++ c ∷ rest) - 1) (a ++ c ∷ rest)) (a ++ c ∷ rest)) (ends_in c a rest other) ∙ pick rest (ends_with ◌==◌ rest (13 ∷ [])) refl
+return_law c a rest other = ap (λ b. cond b (take (length (a ++ c ∷ rest) - 1) (a ++ c ∷ rest)) (a ++ c ∷ rest)) (ends_in c a rest other)
+    ∙ pick rest (ends_with ◌==◌ rest (13 ∷ [])) refl
   where
     same : (n : ℕ) → n ≡ suc n - 1
     same n = omega arith
@@ -186,7 +179,8 @@ return_parts line = pick (ends_with ◌==◌ line (13 ∷ [])) refl
     pick : (b : Bool) → ends_with ◌==◌ line (13 ∷ []) ≡ b
         → (cond b (take (length line - 1) line) line ≡ line) ⊎ (line ≡ cond b (take (length line - 1) line) line ++ 13 ∷ [])
     pick false is = inl refl
-    pick true is = inr (sym (take-append-drop (length line - 1) line) ∙ ap (λ (t : List ℕ). take (length line - 1) line ++ t) (last (drop (length line - 1) line) is))
+    pick true is = inr (sym (take-append-drop (length line - 1) line)
+        ∙ ap (λ (t : List ℕ). take (length line - 1) line ++ t) (last (drop (length line - 1) line) is))
 
 -- ---- what a line says
 
@@ -194,22 +188,19 @@ return_parts line = pick (ends_with ◌==◌ line (13 ∷ [])) refl
 abbrev null_front : List ℕ
 null_front = codes "(0.000000"
 
-null_stamped : (rest : List ℕ) → stamp_of (null_front ++ 41 ∷ rest) ≡ Some (0, rest)
-null_stamped rest = refl
-
 at_null : (o : Option (List ℕ)) (m : ℕ) (said : BusLine) → stamped_line (o >>= λ text. Some (m, text)) ≡ Ok said
     → stamped_line (o >>= λ text. Some (0, text)) ≡ Ok (but_for_moment said)
-at_null None m said h = absurd (err_ok h)
+at_null None m said h = cc h
 at_null (Some text) m said h = pick (text_frame text) h
   where
     pick : (r : Result (Option Frame) LineFault) → stamped m r ≡ Ok said → stamped 0 r ≡ Ok (but_for_moment said)
-    pick (Err fault) is = absurd (err_ok is)
+    pick (Err fault) is = cc is
     pick (Ok frame) is = ap (λ (b : BusLine). Ok (but_for_moment b)) (ok_same is)
 
 -- what a stamped text says with the null stamp
 null_says : (o : Option (ℕ × List ℕ)) (said : BusLine) → stamped_line (o >>= λ s. behind_name s.1 >>= λ text. Some (s.0, text)) ≡ Ok said
     → (m : ℕ × List ℕ) × (o ≡ Some m) × (line_says (null_front ++ 41 ∷ m.1) ≡ Ok (but_for_moment said))
-null_says None said h = absurd (err_ok h)
+null_says None said h = cc h
 null_says (Some m) said h = (m, refl, at_null (behind_name m.1) m.0 said h)
 
 -- a line without a stamp says no moment
@@ -218,7 +209,7 @@ unstamped [] said other h = ap but_for_moment (sym (ok_same h)) ∙ ok_same h
 unstamped (c ∷ line) said other h = pick (is_time (c ∷ line)) h
   where
     tick : (o : Option ℕ) → tick_said o ≡ Ok said → but_for_moment said ≡ said
-    tick None is = absurd (err_ok is)
+    tick None is = cc is
     tick (Some count) is = ap but_for_moment (sym (ok_same is)) ∙ ok_same is
 
     none : stamped_frame (c ∷ line) ≡ None
@@ -226,7 +217,7 @@ unstamped (c ∷ line) said other h = pick (is_time (c ∷ line)) h
 
     pick : (b : Bool) → cond b (tick_said (tick_count (drop 4 (c ∷ line)))) (stamped_line (stamped_frame (c ∷ line))) ≡ Ok said → but_for_moment said ≡ said
     pick true is = tick (tick_count (drop 4 (c ∷ line))) is
-    pick false is = absurd (err_ok (sym (ap stamped_line none) ∙ is))
+    pick false is = cc (sym (ap stamped_line none) ∙ is)
 
 -- a line of at most 4096 bytes
 of_size : (line : List ℕ) (said : BusLine) → bus_line line ≡ Ok said → (length line ≤ 4096) × (line_says (without_return line) ≡ Ok said)
@@ -234,7 +225,7 @@ of_size line said h = pick (nat_lt 4096 (length line)) refl h
   where
     pick : (b : Bool) → nat_lt 4096 (length line) ≡ b → cond b (Err BadLine) (line_says (without_return line)) ≡ Ok said
         → (length line ≤ 4096) × (line_says (without_return line) ≡ Ok said)
-    pick true long is = absurd (err_ok is)
+    pick true long is = cc is
     pick false long is = (grind (arith, nat_tests, long), is)
 
 bus_line_of : (line : List ℕ) → length line ≤ 4096 → bus_line line ≡ line_says (without_return line)
@@ -257,7 +248,8 @@ module _ (l : List ℕ) (said : BusLine) (h : bus_line (40 ∷ l) ≡ Ok said) w
       clash x = grind (arith, ap (λ (t : List ℕ). get_or t 0 0) x)
   from_bare (c ∷ w) parts is =
       let first : c ≡ 40 = head parts in
-      null_says (stamp_of (c ∷ w)) said (subst (λ (k : ℕ). line_says (k ∷ w) ≡ Ok said → stamped_line (stamped_frame (k ∷ w)) ≡ Ok said) (sym first) (λ x. x) is)
+      null_says (stamp_of (c ∷ w)) said (subst (λ (k : ℕ). line_says (k ∷ w) ≡ Ok said → stamped_line (stamped_frame (k ∷ w)) ≡ Ok said) (sym first)
+      (λ x. x) is)
     where
       head : (c ∷ w ≡ 40 ∷ l) ⊎ (40 ∷ l ≡ (c ∷ w) ++ 13 ∷ []) → c ≡ 40
       head (inl same) = ap (λ (t : List ℕ). get_or t 0 0) same

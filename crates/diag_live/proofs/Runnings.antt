@@ -40,7 +40,8 @@ end_begun seen (c ∷ kept) is = let none : HasNoFeed [] = λ k d less. absurd (
 
 -- ---- what was written and taken
 
-written_now : (setup : RawSetup) (new : Serving) (seen wrote noted : List ℕ) (s : Stands new seen wrote noted) → new.capture.bus.setup ≡ setup → wrote ≡ written Replies setup (capture_of s.taken)
+written_now : (setup : RawSetup) (new : Serving) (seen wrote noted : List ℕ) (s : Stands new seen wrote noted) → new.capture.bus.setup ≡ setup
+    → wrote ≡ written Replies setup (capture_of s.taken)
 written_now setup new seen wrote noted s same =
     sym (append-nil wrote)
     ∙ (ap (λ (t : List ℕ). wrote ++ t) (sym s.sent)
@@ -48,7 +49,8 @@ written_now setup new seen wrote noted s same =
     ∙ (ap (λ (o : Output). written o new.capture.bus.setup (ended_lines noted)) s.output
     ∙ (ap (λ (u : RawSetup). written Replies u (ended_lines noted)) same ∙ ap (written Replies setup) s.lines))))
 
-so_far_took : (setup : RawSetup) (serving : Serving) (seen wrote noted : List ℕ) → Stands serving seen wrote noted → serving.capture.bus.setup ≡ setup → TookSoFar setup seen wrote noted
+so_far_took : (setup : RawSetup) (serving : Serving) (seen wrote noted : List ℕ) → Stands serving seen wrote noted → serving.capture.bus.setup ≡ setup
+    → TookSoFar setup seen wrote noted
 so_far_took setup serving seen wrote noted s same = record {
   taken = s.taken;
   heard = s.heard;
@@ -76,7 +78,8 @@ module _ (setup : RawSetup) where
   stops_at (fault.RecordsDisagree who) left seen wrote noted h l = absurd h
   stops_at (fault.Differs n) left seen wrote noted h l = absurd h
 
-  if_left : (came : RunFault) (left : Option (List ℕ)) (seen wrote noted : List ℕ) → ((rest : List ℕ) → StopsOn setup came (bus_lines (seen ++ rest)) wrote noted)
+  if_left : (came : RunFault) (left : Option (List ℕ)) (seen wrote noted : List ℕ)
+      → ((rest : List ℕ) → StopsOn setup came (bus_lines (seen ++ rest)) wrote noted)
       → IfSome left (λ rest. StopsOn setup came (bus_lines (seen ++ rest)) wrote noted)
   if_left came None seen wrote noted h = tt
   if_left came (Some rest) seen wrote noted h = h rest
@@ -112,9 +115,20 @@ module _ (setup : RawSetup) where
     stops = stops_at fault.Memory i' [] [] [] (nothing_cut (bus_lines [])) (if_left fault.Memory i' [] [] [] (λ rest. nothing_cut (bus_lines rest)));
   })
 
-  pub begun : (serving : Serving) (i i' o r : Option (List ℕ)) → Keeps i i' → Stands serving [] [] [] → serving.capture.bus.setup ≡ setup → SoFar setup serving i i' o o r r
+  pub begun : (serving : Serving) (i i' o r : Option (List ℕ)) → Keeps i i' → Stands serving [] [] [] → serving.capture.bus.setup ≡ setup
+      → SoFar setup serving i i' o o r r
   begun serving i i' o r kept s same =
-      record { set = same; seen = []; read = Consumes-kept i i i' [] (Consumes-nil i) kept; wrote = []; sent = Appends-nil o; recorded = []; kept = Appends-nil r; stands = s }
+      record {
+        set = same;
+        seen = [];
+        read = Consumes-kept i i i' [] (Consumes-nil i) kept;
+        wrote = [];
+        sent = Appends-nil o;
+        recorded = [];
+        kept =
+            Appends-nil r;
+        stands = s;
+      }
 
 -- ---- a run goes on
 
@@ -185,7 +199,8 @@ module _ (setup : RawSetup) (old new : Serving) (i i' i'' o o' o'' r r' r'' : Op
       let noted = t.2.2.0 in
       let halts = t.2.2.2 so_far.seen so_far.wrote so_far.recorded so_far.stands in
       let all : (rest : List ℕ) → StopsOn setup came (bus_lines ((so_far.seen ++ t.0) ++ rest)) (so_far.wrote ++ sent) (so_far.recorded ++ noted) =
-      λ rest. subst (λ (u : RawSetup). StopsOn u came (bus_lines ((so_far.seen ++ t.0) ++ rest)) (so_far.wrote ++ sent) (so_far.recorded ++ noted)) so_far.set (halts rest) in
+      λ rest. subst (λ (u : RawSetup). StopsOn u came (bus_lines ((so_far.seen ++ t.0) ++ rest)) (so_far.wrote ++ sent) (so_far.recorded ++ noted))
+      so_far.set (halts rest) in
       record {
         seen = so_far.seen ++ t.0;
         read = Consumes-trans i i' i'' so_far.seen t.0 so_far.read t.1;
@@ -194,7 +209,8 @@ module _ (setup : RawSetup) (old new : Serving) (i i' i'' o o' o'' r r' r'' : Op
         recorded = so_far.recorded ++ noted;
         kept = Appends-trans r r' r'' so_far.recorded noted so_far.kept t.2.2.1;
         stops = stops_at setup came i'' (so_far.seen ++ t.0) (so_far.wrote ++ sent) (so_far.recorded ++ noted)
-            (subst (λ (b : List ℕ). StopsOn setup came (bus_lines b) (so_far.wrote ++ sent) (so_far.recorded ++ noted)) (append-nil (so_far.seen ++ t.0)) (all []))
+            (subst (λ (b : List ℕ). StopsOn setup came (bus_lines b) (so_far.wrote ++ sent) (so_far.recorded ++ noted))
+            (append-nil (so_far.seen ++ t.0)) (all []))
             (if_left setup came i'' (so_far.seen ++ t.0) (so_far.wrote ++ sent) (so_far.recorded ++ noted) all);
       }
   halted came (inr t) =
@@ -205,7 +221,8 @@ module _ (setup : RawSetup) (old new : Serving) (i i' i'' o o' o'' r r' r'' : Op
       let here : StopsOn setup came (bus_lines so_far.seen) (so_far.wrote ++ sent) (so_far.recorded ++ noted) =
       subst (λ (l : List (List ℕ)). StopsOn setup came l (so_far.wrote ++ sent) (so_far.recorded ++ noted))
       (ap bus_lines (append-nil (so_far.seen ++ feed)) ∙ end_lines so_far.seen old.hearing.kept.items so_far.stands.follows.kept)
-      (subst (λ (u : RawSetup). StopsOn u came (bus_lines ((so_far.seen ++ feed) ++ [])) (so_far.wrote ++ sent) (so_far.recorded ++ noted)) so_far.set (halts [])) in
+      (subst (λ (u : RawSetup). StopsOn u came (bus_lines ((so_far.seen ++ feed) ++ [])) (so_far.wrote ++ sent) (so_far.recorded ++ noted)) so_far.set
+      (halts [])) in
       record {
         seen = so_far.seen;
         read = Consumes-kept i i' i'' so_far.seen so_far.read t.0;
@@ -218,27 +235,6 @@ module _ (setup : RawSetup) (old new : Serving) (i i' i'' o o' o'' r r' r'' : Op
       }
 
 -- ---- a turn
-
-module _ (old new : Serving) (i i' o o' r r' : Option (List ℕ)) where
-  -- a piece was served
-  pub turn_on : (piece : List ℕ) → Consumes i i' piece → Sends o o' (λ sent. Sends r r' (λ noted. GoesOn old new piece sent noted)) → Turned old new i i' o o' r r' true
-  turn_on piece read served = (piece, read, served)
-
-  pub turn_halts : (came : RunFault) (piece : List ℕ) → Consumes i i' piece → Sends o o' (λ sent. Sends r r' (λ noted. Halts old came piece sent noted))
-      → HaltsWith old i i' o o' r r' came ⊎ CannotHear i i' o o' r r' came
-  turn_halts came piece read halts = inl (inl (piece, read, halts))
-
-  -- nothing was heard
-  pub silent_on : Keeps i i' → Sends o o' (λ sent. Sends r r' (λ noted. GoesOn old new [] sent noted)) → Turned old new i i' o o' r r' true
-  silent_on kept served = ([], Consumes-kept i i i' [] (Consumes-nil i) kept, served)
-
-  pub silent_halts : (came : RunFault) → Keeps i i' → Sends o o' (λ sent. Sends r r' (λ noted. Halts old came [] sent noted))
-      → HaltsWith old i i' o o' r r' came ⊎ CannotHear i i' o o' r r' came
-  silent_halts came kept halts = inl (inl ([], Consumes-kept i i i' [] (Consumes-nil i) kept, halts))
-
-  pub end_halts : (came : RunFault) → Keeps i i' → IsAtEnd i' → Sends o o' (λ sent. Sends r r' (λ noted. Halts old came (last_feed old.hearing.kept.items) sent noted))
-      → HaltsWith old i i' o o' r r' came ⊎ CannotHear i i' o o' r r' came
-  end_halts came kept end halts = inl (inr (kept, end, halts))
 
 -- memory was refused where the input is heard
 pub turn_refused : (old : Serving) (i i' o r : Option (List ℕ)) → Keeps i i' → HaltsWith old i i' o o r r fault.Memory ⊎ CannotHear i i' o o r r fault.Memory

@@ -52,14 +52,16 @@ pub record Brings (text : List ℕ) (ticks : ℕ) (seen piece : List ℕ) : Type
 text_join : (a b : List Taken) → record_text (capture_of (a ++ b)) ≡ record_text (capture_of a) ++ record_text (capture_of b)
 text_join a b = ap record_text (capture_of-append a b) ∙ record_text-append (capture_of a) (capture_of b)
 
-pub fresh_lines : (span : ℕ) (ticks : ℕ) (before text more : List ℕ) (lines : List (List ℕ)) → before ≡ record_text (capture_of (passed span)) → ticks ≡ length (passed span) → text ≡ before ++ more
+pub fresh_lines : (span : ℕ) (ticks : ℕ) (before text more : List ℕ) (lines : List (List ℕ)) → before ≡ record_text (capture_of (passed span))
+    → ticks ≡ length (passed span) → text ≡ before ++ more
     → AreGood (map Heard lines) → more ≡ record_text (capture_of (map Heard lines)) → Fresh ticks text lines
 fresh_lines span ticks before text more lines was count is good said = record {
   time = passed span;
   count = count;
   silent = (passed_ticks span).0;
   good = good_join (passed span) (map Heard lines) (passed_ticks span).1 good;
-  is = is ∙ (ap (λ (t : List ℕ). t ++ more) was ∙ (ap (λ (t : List ℕ). record_text (capture_of (passed span)) ++ t) said ∙ sym (text_join (passed span) (map Heard lines))));
+  is = is ∙ (ap (λ (t : List ℕ). t ++ more) was
+      ∙ (ap (λ (t : List ℕ). record_text (capture_of (passed span)) ++ t) said ∙ sym (text_join (passed span) (map Heard lines))));
 }
 
 pub nothing_fresh : Fresh 0 [] []
@@ -72,13 +74,15 @@ brings_nothing seen piece = record {
   front = λ rest. (
     bus_lines (begun_line seen ++ (piece ++ rest)),
     ap bus_lines (append_assoc seen piece rest)
-        ∙ (bus_lines-more seen (piece ++ rest) ∙ ap (λ (l : List (List ℕ)). l ++ bus_lines (begun_line seen ++ (piece ++ rest))) (sym (append-nil (ended_lines seen)))),
+        ∙ (bus_lines-more seen (piece ++ rest) ∙ ap (λ (l : List (List ℕ)). l ++ bus_lines (begun_line seen ++ (piece ++ rest)))
+        (sym (append-nil (ended_lines seen)))),
   );
 }
 
 -- ---- behind what was taken
 
-module _ (old : Serving) (seen wrote noted : List ℕ) (s : Stands old seen wrote noted) (text : List ℕ) (ticks : ℕ) (lines : List (List ℕ)) (f : Fresh ticks text lines) where
+module _ (old : Serving) (seen wrote noted : List ℕ) (s : Stands old seen wrote noted) (text : List ℕ) (ticks : ℕ) (lines : List (List ℕ))
+    (f : Fresh ticks text lines) where
   abbrev pub fresh : List Taken
   fresh = f.time ++ map Heard lines
 
@@ -93,7 +97,8 @@ module _ (old : Serving) (seen wrote noted : List ℕ) (s : Stands old seen wrot
       lines_of-append s.taken fresh
       ∙ (ap (λ (l : List (List ℕ)). l ++ lines_of fresh) s.heard
       ∙ ap (λ (l : List (List ℕ)). ended_lines seen ++ l)
-      (lines_of-append f.time (map Heard lines) ∙ (ap (λ (l : List (List ℕ)). l ++ lines_of (map Heard lines)) (nothing_heard f.time f.silent) ∙ all_heard lines)))
+      (lines_of-append f.time (map Heard lines)
+      ∙ (ap (λ (l : List (List ℕ)). l ++ lines_of (map Heard lines)) (nothing_heard f.time f.silent) ∙ all_heard lines)))
 
   pub all_noted : noted ++ text ≡ record_text (capture_of all)
   all_noted = ap (λ (t : List ℕ). t ++ text) s.recorded ∙ (ap (λ (t : List ℕ). record_text (capture_of s.taken) ++ t) f.is ∙ sym (text_join s.taken fresh))
@@ -190,7 +195,8 @@ module _ (old : Serving) (seen wrote noted : List ℕ) (s : Stands old seen wrot
         heard = (heard.0, heard.1 ∙ ap (λ (l : List (List ℕ)). l ++ heard.0) (sym all_lines ∙ ap lines_of (sym split)));
         number = number ∙ sym before;
         good = subst AreGood (sym split) all_good;
-        first = ap (λ (t : List Taken). first_fault (capture_of t)) split ∙ (line.first ∙ (ap (λ (x : BusFault). Some (m, x)) among.late ∙ ap (λ k. Some (k, bus.Late)) (sym length_before)));
+        first = ap (λ (t : List Taken). first_fault (capture_of t)) split
+            ∙ (line.first ∙ (ap (λ (x : BusFault). Some (m, x)) among.late ∙ ap (λ k. Some (k, bus.Late)) (sym length_before)));
         text = line.text ∙ ap (written Replies old.capture.bus.setup) (take-map capture_line (m - 1) all);
         recorded = all_noted ∙ ap (λ (t : List Taken). record_text (capture_of t)) (sym split);
       })
@@ -206,20 +212,30 @@ module _ (old : Serving) (seen wrote noted : List ℕ) (s : Stands old seen wrot
       at_drop (suc k) (t ∷ taken) less = at_drop k taken (omega (arith, less))
 
 -- where the fault of the capture lies
-pub range_of : (old : Serving) (seen wrote noted : List ℕ) (s : Stands old seen wrote noted) (text : List ℕ) (ticks : ℕ) (lines : List (List ℕ)) (f : Fresh ticks text lines)
-    (sent : List ℕ) (m : ℕ) (x : BusFault) → captured.IsFaultyLine Replies old.capture.bus.setup m x (capture_of (all old seen wrote noted s text ticks lines f)) (wrote ++ sent)
+pub range_of : (old : Serving) (seen wrote noted : List ℕ) (s : Stands old seen wrote noted) (text : List ℕ) (ticks : ℕ) (lines : List (List ℕ))
+    (f : Fresh ticks text lines)
+    (sent : List ℕ) (m : ℕ) (x : BusFault) → captured.IsFaultyLine Replies old.capture.bus.setup m x
+    (capture_of (all old seen wrote noted s text ticks lines f)) (wrote ++ sent)
     → m < length s.taken + 1 + length (f.time ++ map Heard lines)
 range_of old seen wrote noted s text ticks lines f sent m x line =
-    let joined : capture_of s.taken ++ capture_of (f.time ++ map Heard lines) ≡ capture_of (s.taken ++ (f.time ++ map Heard lines)) = sym (capture_of-append s.taken (f.time ++ map Heard lines)) in
+    let joined : capture_of s.taken ++ capture_of (f.time ++ map Heard lines) ≡ capture_of (s.taken ++ (f.time ++ map Heard lines)) =
+    sym (capture_of-append s.taken (f.time ++ map Heard lines)) in
     let well : first_fault (capture_of s.taken) ≡ None = ap first_fault (sym s.lines) ∙ s.capture.took.well in
-    let among = fault_behind (capture_of s.taken) (capture_of (f.time ++ map Heard lines)) m x (capture_says (f.time ++ map Heard lines) f.good) well (ap first_fault joined ∙ line.first) in
+    let among = fault_behind (capture_of s.taken) (capture_of (f.time ++ map Heard lines)) m x (capture_says (f.time ++ map Heard lines) f.good) well
+    (ap first_fault joined ∙ line.first) in
     omega (arith, among.high, length-map s.taken capture_line, length-map (f.time ++ map Heard lines) capture_line)
 
 -- a text has at least as many bytes as lines
 lines_fit : (lines : List (List ℕ)) → length lines ≤ length (record_text lines)
 lines_fit [] = omega arith
 lines_fit (line ∷ lines) =
-    omega (arith, lines_fit lines, ap length (flat_map-cons with_feed line lines), length-append (with_feed line) (record_text lines), length-append line (10 ∷ []))
+    omega (
+      arith,
+      lines_fit lines,
+      ap length (flat_map-cons with_feed line lines),
+      length-append (with_feed line) (record_text lines),
+      length-append line (10 ∷ []),
+    )
 
 ap_le : (lines : List (List ℕ)) (text : List ℕ) → text ≡ record_text lines → length lines ≤ length text
 ap_le lines text is = omega (arith, lines_fit lines, ap length is)
@@ -244,7 +260,8 @@ module _ (old : Serving) (piece text : List ℕ) (ticks : ℕ) (brings : (seen :
       ]
 
   module _ (heard first : ℕ) (same : heard ≡ old.hearing.lines) (place : first ≡ min (old.capture.lines + ticks) (2 ^ 64 - 1)) where
-    taking : (came : CaptureFault) (sent : List ℕ) → old.capture.lines + length text + 1 < 2 ^ 64 → HaltsIn old.capture came text sent → Halts old (numbered heard first came) piece sent text
+    taking : (came : CaptureFault) (sent : List ℕ) → old.capture.lines + length text + 1 < 2 ^ 64 → HaltsIn old.capture came text sent
+        → Halts old (numbered heard first came) piece sent text
     taking came sent small halts = λ seen wrote noted s rest.
         let b = brings seen s.follows in
         let f = b.fresh in
@@ -252,14 +269,18 @@ module _ (old : Serving) (piece text : List ℕ) (ticks : ℕ) (brings : (seen :
         let setup = old.capture.bus.setup in
         let stops : captured.StopsOn Replies setup (fault_of came) (capture_of (all old seen wrote noted s text ticks b.lines f)) (wrote ++ sent) =
         subst (λ (l : List (List ℕ)). captured.StopsOn Replies setup (fault_of came) l (wrote ++ sent)) (all_read old seen wrote noted s text ticks b.lines f)
-        (subst (λ (o : Output). captured.StopsIn o setup (fault_of came) ((noted ++ text) ++ []) (wrote ++ sent)) s.output ((halts noted wrote s.capture).stops [])) in
+        (subst (λ (o : Output). captured.StopsIn o setup (fault_of came) ((noted ++ text) ++ []) (wrote ++ sent)) s.output
+        ((halts noted wrote s.capture).stops [])) in
         on seen wrote noted s rest b came stops
       where
         on : (seen wrote noted : List ℕ) (s : Stands old seen wrote noted) (rest : List ℕ) (b : Brings text ticks seen piece) (came : CaptureFault)
-            → captured.StopsOn Replies old.capture.bus.setup (fault_of came) (capture_of (all old seen wrote noted s text ticks b.lines b.fresh)) (wrote ++ sent)
+            → captured.StopsOn Replies old.capture.bus.setup (fault_of came) (capture_of (all old seen wrote noted s text ticks b.lines b.fresh))
+            (wrote ++ sent)
             → StopsOn old.capture.bus.setup (numbered heard first came) (bus_lines ((seen ++ piece) ++ rest)) (wrote ++ sent) (noted ++ text)
-        on seen wrote noted s rest b capture.Memory stops = cut_within old seen wrote noted s text ticks b.lines b.fresh sent (bus_lines ((seen ++ piece) ++ rest)) (b.front rest) stops
-        on seen wrote noted s rest b capture.Write stops = cut_within old seen wrote noted s text ticks b.lines b.fresh sent (bus_lines ((seen ++ piece) ++ rest)) (b.front rest) stops
+        on seen wrote noted s rest b capture.Memory stops =
+            cut_within old seen wrote noted s text ticks b.lines b.fresh sent (bus_lines ((seen ++ piece) ++ rest)) (b.front rest) stops
+        on seen wrote noted s rest b capture.Write stops =
+            cut_within old seen wrote noted s text ticks b.lines b.fresh sent (bus_lines ((seen ++ piece) ++ rest)) (b.front rest) stops
         on seen wrote noted s rest b capture.Read stops = absurd stops
         on seen wrote noted s rest b (capture.Otherwise told) stops = absurd (clash stops.wanted)
           where
@@ -280,21 +301,25 @@ module _ (old : Serving) (piece text : List ℕ) (ticks : ℕ) (brings : (seen :
             let range = range_of old seen wrote noted s text ticks lines f sent m x stops in
             let number : input_number heard first m ≡ length (lines_of s.taken) + max (m - (length s.taken + length f.time)) 1 =
             omega (arith, same, start, was, few, small, many, size, wide, heards, counted, range) in
-            late_within old seen wrote noted s text ticks lines f sent (bus_lines ((seen ++ piece) ++ rest)) m x (b.front rest) stops (input_number heard first m) number
+            late_within old seen wrote noted s text ticks lines f sent (bus_lines ((seen ++ piece) ++ rest)) m x (b.front rest) stops
+            (input_number heard first m) number
 
     pub undelivered_halts : (sent noted : List ℕ) (came : RunFault) → Undelivered old.capture heard first text sent noted came → Halts old came piece sent noted
     undelivered_halts sent noted came u = subst (λ (f : RunFault). Halts old f piece sent noted) (sym u.told) (elim u.how [
       | inl h ↦ subst (Halts old (numbered heard first u.came) piece sent) (sym h.whole) (taking u.came sent h.countable h.halts)
-      | inr h ↦ subst (λ (t : List ℕ). Halts old (numbered heard first u.came) piece t noted) (sym h.none) (unrecorded_halts (numbered heard first u.came) noted (kind u.came h.of) h.front)
+      | inr h ↦ subst (λ (t : List ℕ). Halts old (numbered heard first u.came) piece t noted) (sym h.none)
+          (unrecorded_halts (numbered heard first u.came) noted (kind u.came h.of) h.front)
     ])
       where
-        kind : (c : CaptureFault) → (c ≡ capture.Write) ⊎ (c ≡ capture.Memory) → (numbered heard first c ≡ fault.Write) ⊎ (numbered heard first c ≡ fault.Memory)
+        kind : (c : CaptureFault) → (c ≡ capture.Write) ⊎ (c ≡ capture.Memory)
+            → (numbered heard first c ≡ fault.Write) ⊎ (numbered heard first c ≡ fault.Memory)
         kind c (inl is) = inl (ap (numbered heard first) is)
         kind c (inr is) = inr (ap (numbered heard first) is)
 
 -- ---- a delivery that succeeds
 
-module _ (old new : Serving) (text sent noted : List ℕ) (ticks : ℕ) (seen wrote before : List ℕ) (s : Stands old seen wrote before) (lines : List (List ℕ)) (f : Fresh ticks text lines)
+module _ (old new : Serving) (text sent noted : List ℕ) (ticks : ℕ) (seen wrote before : List ℕ) (s : Stands old seen wrote before)
+    (lines : List (List ℕ)) (f : Fresh ticks text lines)
     (d : Delivered old.capture new.capture text sent noted) where
   on_from : run.Stands new.capture (before ++ text) (wrote ++ sent)
   on_from = d.on.stands before wrote s.capture
@@ -321,7 +346,8 @@ module _ (old new : Serving) (text sent noted : List ℕ) (ticks : ℕ) (seen wr
   delivered_noted = noted_here ∙ all_noted old seen wrote before s text ticks lines f
 
   -- and the lines that are heard go on
-  pub delivered_stands : (piece : List ℕ) → ended_lines (seen ++ piece) ≡ ended_lines seen ++ lines → Follows new.hearing (seen ++ piece) → Stands new (seen ++ piece) (wrote ++ sent) (before ++ noted)
+  pub delivered_stands : (piece : List ℕ) → ended_lines (seen ++ piece) ≡ ended_lines seen ++ lines → Follows new.hearing (seen ++ piece)
+      → Stands new (seen ++ piece) (wrote ++ sent) (before ++ noted)
   delivered_stands piece ended follows = record {
     taken = all old seen wrote before s text ticks lines f;
     heard = all_lines old seen wrote before s text ticks lines f ∙ sym ended;
@@ -336,7 +362,8 @@ module _ (old new : Serving) (text sent noted : List ℕ) (ticks : ℕ) (seen wr
   }
 
   -- or a line at fault comes behind them
-  pub delivered_bad : (n : ℕ) (bad : LineFault) (given others : List (List ℕ)) (line : List ℕ) → given ≡ (ended_lines seen ++ lines) ++ line ∷ others → n ≡ length (ended_lines seen ++ lines) + 1
+  pub delivered_bad : (n : ℕ) (bad : LineFault) (given others : List (List ℕ)) (line : List ℕ) → given ≡ (ended_lines seen ++ lines) ++ line ∷ others
+      → n ≡ length (ended_lines seen ++ lines) + 1
       → bus_line line ≡ Err bad → IsBadLine old.capture.bus.setup n bad given (wrote ++ sent) (before ++ noted)
   delivered_bad n bad given others line are number says =
       let heard = all_lines old seen wrote before s text ticks lines f in
@@ -355,7 +382,8 @@ module _ (old new : Serving) (text sent noted : List ℕ) (ticks : ℕ) (seen wr
 
 -- ---- a call
 
-module _ (h : Hearing) (span ticks : ℕ) (text text' piece : List ℕ) (was : text ≡ record_text (capture_of (passed span))) (count : ticks ≡ length (passed span)) where
+module _ (h : Hearing) (span ticks : ℕ) (text text' piece : List ℕ) (was : text ≡ record_text (capture_of (passed span)))
+    (count : ticks ≡ length (passed span)) where
   pub brings_ended : (new : Hearing) → Grew text text' (Hears h new piece) → (seen : List ℕ) → Follows h seen → Brings text' ticks seen piece
   brings_ended new grew seen f =
       let e = grew.holds seen f in
@@ -368,7 +396,8 @@ module _ (h : Hearing) (span ticks : ℕ) (text text' piece : List ℕ) (was : t
         );
       }
 
-  pub brings_before : (n : ℕ) (bad : LineFault) → Grew text text' (λ more. (seen : List ℕ) → Follows h seen → EndsBefore n bad seen piece more) → (seen : List ℕ) → Follows h seen
+  pub brings_before : (n : ℕ) (bad : LineFault) → Grew text text' (λ more. (seen : List ℕ) → Follows h seen → EndsBefore n bad seen piece more)
+      → (seen : List ℕ) → Follows h seen
       → Brings text' ticks seen piece
   brings_before n bad grew seen f =
       let e = grew.holds seen f in
@@ -382,7 +411,8 @@ module _ (h : Hearing) (span ticks : ℕ) (text text' piece : List ℕ) (was : t
     follows_h : (seen : List ℕ) → Follows old.hearing seen → Follows h seen
     follows_h seen f = subst (λ (x : Hearing). Follows x seen) (sym hearing) f
 
-    pub serve_goes_on : (new : Serving) (next : Hearing) → Grew text text' (Hears h next piece) → new.hearing ≡ next → (sent noted : List ℕ) → Delivered k new.capture text' sent noted
+    pub serve_goes_on : (new : Serving) (next : Hearing) → Grew text text' (Hears h next piece) → new.hearing ≡ next → (sent noted : List ℕ)
+        → Delivered k new.capture text' sent noted
         → GoesOn old new piece sent noted
     serve_goes_on new next grew same sent noted d =
         let here : Delivered old.capture new.capture text' sent noted = subst (λ (x : Capture). Delivered x new.capture text' sent noted) capture_same d in
@@ -395,7 +425,8 @@ module _ (h : Hearing) (span ticks : ℕ) (text text' piece : List ℕ) (was : t
               (subst (λ (x : Hearing). Follows x (seen ++ piece)) (sym same) e.follows);
         }
 
-    pub serve_halts : (new : Hearing) → Grew text text' (Hears h new piece) → (heard first : ℕ) → heard ≡ old.hearing.lines → first ≡ min (k.lines + ticks) (2 ^ 64 - 1)
+    pub serve_halts : (new : Hearing) → Grew text text' (Hears h new piece) → (heard first : ℕ) → heard ≡ old.hearing.lines
+        → first ≡ min (k.lines + ticks) (2 ^ 64 - 1)
         → (sent noted : List ℕ) (came : RunFault) → Undelivered k heard first text' sent noted came → Halts old came piece sent noted
     serve_halts new grew heard first same place sent noted came u =
         undelivered_halts old piece text' ticks (λ seen f. brings_ended new grew seen (follows_h seen f)) heard first same
@@ -410,7 +441,8 @@ module _ (h : Hearing) (span ticks : ℕ) (text text' piece : List ℕ) (was : t
         (place ∙ ap (λ (x : Capture). min (x.lines + ticks) (2 ^ 64 - 1)) capture_same) sent noted came
         (subst (λ (x : Capture). Undelivered x heard first text' sent noted came) capture_same u)
 
-    pub bad_line_halts : (new : Serving) (n : ℕ) (bad : LineFault) → Grew text text' (λ more. (seen : List ℕ) → Follows h seen → EndsBefore n bad seen piece more)
+    pub bad_line_halts : (new : Serving) (n : ℕ) (bad : LineFault)
+        → Grew text text' (λ more. (seen : List ℕ) → Follows h seen → EndsBefore n bad seen piece more)
         → (sent noted : List ℕ) → Delivered k new.capture text' sent noted → Halts old (fault.Capture n (bus.Line bad)) piece sent noted
     bad_line_halts new n bad grew sent noted d = λ seen wrote before s rest.
         let here : Delivered old.capture new.capture text' sent noted = subst (λ (x : Capture). Delivered x new.capture text' sent noted) capture_same d in

@@ -26,12 +26,9 @@ pub record ReadSoFar (old new : Capture) (r r' w w' : Option (List ℕ)) : Type 
   pub on : GoesOn old new bytes sent
   pub none : new.text.items ≡ []
 
-pub none_so_far : (capture : Capture) (r w : Option (List ℕ)) → capture.text.items ≡ [] → ReadSoFar capture capture r r w w
-none_so_far capture r w none =
-    record { bytes = []; read = Consumes-nil r; sent = []; sends = Appends-nil w; on = GoesOn-refl capture; none = none }
-
 module _ (old mid : Capture) (r r' r'' w w' w'' : Option (List ℕ)) (so_far : ReadSoFar old mid r r' w w') where
-  pub one_piece_more : (new : Capture) (piece : List ℕ) → Consumes r' r'' piece → Sends w' w'' (GoesOn mid new piece) → new.text.items ≡ [] → ReadSoFar old new r r'' w w''
+  pub one_piece_more : (new : Capture) (piece : List ℕ) → Consumes r' r'' piece → Sends w' w'' (GoesOn mid new piece) → new.text.items ≡ []
+      → ReadSoFar old new r r'' w w''
   one_piece_more new piece read sends none = record {
     bytes = so_far.bytes ++ piece;
     read = Consumes-trans r r' r'' so_far.bytes piece so_far.read read;
@@ -65,7 +62,8 @@ module _ (old mid : Capture) (r r' r'' w w' : Option (List ℕ)) (so_far : ReadS
 -- ---- from the first read on
 
 -- the first read failed
-pub first_read_fails : (output : Output) (setup : RawSetup) (r r' w : Option (List ℕ)) (fault : CaptureFault) → fault ≡ Read → Keeps r r' → StopsFrom output setup r r' w w fault
+pub first_read_fails : (output : Output) (setup : RawSetup) (r r' w : Option (List ℕ)) (fault : CaptureFault) → fault ≡ Read → Keeps r r'
+    → StopsFrom output setup r r' w w fault
 first_read_fails output setup r r' w fault is kept = subst (StopsFrom output setup r r' w w) (sym is) (record {
   seen = [];
   read = Consumes-kept r r r' [] (Consumes-nil r) kept;
@@ -75,7 +73,8 @@ first_read_fails output setup r r' w fault is kept = subst (StopsFrom output set
 })
 
 -- memory was refused before a line was taken
-pub first_refused : (output : Output) (setup : RawSetup) (r r' w : Option (List ℕ)) (bytes : List ℕ) (fault : CaptureFault) → fault ≡ Memory → Consumes r r' bytes
+pub first_refused : (output : Output) (setup : RawSetup) (r r' w : Option (List ℕ)) (bytes : List ℕ) (fault : CaptureFault) → fault ≡ Memory
+    → Consumes r r' bytes
     → StopsFrom output setup r r' w w fault
 first_refused output setup r r' w bytes fault is read = subst (StopsFrom output setup r r' w w) (sym is) (record {
   seen = bytes;
@@ -85,7 +84,8 @@ first_refused output setup r r' w bytes fault is read = subst (StopsFrom output 
   stops = refused_at output setup bytes r';
 })
 
-module _ (begun : Capture) (bus : BusState) (same : begun.bus ≡ bus) (stands : Stands begun [] []) (r r' w w' : Option (List ℕ)) (bytes : List ℕ) (read : Consumes r r' bytes) where
+module _ (begun : Capture) (bus : BusState) (same : begun.bus ≡ bus) (stands : Stands begun [] []) (r r' w w' : Option (List ℕ)) (bytes : List ℕ)
+    (read : Consumes r r' bytes) where
   pub stops_from : (fault : CaptureFault) → Sends w w' (StopsWithin begun fault bytes) → StopsFrom bus.output bus.setup r r' w w' fault
   stops_from fault sends = subst (λ (b : BusState). StopsFrom b.output b.setup r r' w w' fault) same (record {
     seen = bytes;
@@ -128,7 +128,8 @@ module _ (begun : Capture) (bus : BusState) (same : begun.bus ≡ bus) (stands :
 
 -- ---- behind the config
 
-module _ (output output' : Output) (setup setup' : RawSetup) (same_output : output' ≡ output) (same_setup : setup' ≡ setup) (config config' r r' w w' : Option (List ℕ)) (says : SaysSetup config config' setup) where
+module _ (output output' : Output) (setup setup' : RawSetup) (same_output : output' ≡ output) (same_setup : setup' ≡ setup)
+    (config config' r r' w w' : Option (List ℕ)) (says : SaysSetup config config' setup) where
   pub followed : FollowedFrom output' setup' r r' w w' → Followed output config config' r r' w w'
   followed from =
       let here : FollowedFrom output setup r r' w w' =
@@ -154,12 +155,14 @@ module _ (output output' : Output) (setup setup' : RawSetup) (same_output : outp
       record { setup = setup; says = says; seen = here.seen; read = here.read; wrote = here.wrote; sent = here.sent; stops = here.stops }
 
 -- memory was refused behind the config
-pub refused_behind : (output : Output) (setup : RawSetup) (config config' r w : Option (List ℕ)) → SaysSetup config config' setup → StopsReading output config config' r r w w (fault_of Memory)
+pub refused_behind : (output : Output) (setup : RawSetup) (config config' r w : Option (List ℕ)) → SaysSetup config config' setup
+    → StopsReading output config config' r r w w (fault_of Memory)
 refused_behind output setup config config' r w says =
     stops_reading output output setup setup refl refl config config' r r w w says Memory (first_refused output setup r r w [] Memory refl (Consumes-nil r))
 
 -- what follows the first piece
-module _ (begun mid : Capture) (r r' r'' w w' w'' : Option (List ℕ)) (piece : List ℕ) (read : Consumes r r' piece) (on : Sends w w' (GoesOn begun mid piece)) where
+module _ (begun mid : Capture) (r r' r'' w w' w'' : Option (List ℕ)) (piece : List ℕ) (read : Consumes r r' piece)
+    (on : Sends w w' (GoesOn begun mid piece)) where
   pub then_on : (new : Capture) → Takes r' r'' (λ bytes. Sends w' w'' (GoesOn mid new bytes)) → Takes r r'' (λ bytes. Sends w w'' (GoesOn begun new bytes))
   then_on new next =
       let sends = next.2 in (
@@ -168,7 +171,8 @@ module _ (begun mid : Capture) (r r' r'' w w' w'' : Option (List ℕ)) (piece : 
         (on.0 ++ sends.0, Appends-trans w w' w'' on.0 sends.0 on.1 sends.1, GoesOn-trans begun mid new piece next.0 on.0 sends.0 on.2 sends.2),
       )
 
-  pub then_stops : (fault : CaptureFault) → Takes r' r'' (λ bytes. Sends w' w'' (StopsWithin mid fault bytes)) → Takes r r'' (λ bytes. Sends w w'' (StopsWithin begun fault bytes))
+  pub then_stops : (fault : CaptureFault) → Takes r' r'' (λ bytes. Sends w' w'' (StopsWithin mid fault bytes))
+      → Takes r r'' (λ bytes. Sends w w'' (StopsWithin begun fault bytes))
   then_stops fault next =
       let sends = next.2 in (
         piece ++ next.0,

@@ -55,7 +55,8 @@ module _ (job : Job) (bytes : List ℕ) (known : List (List ℕ)) (setup : RawSe
       let test : (wanted job setup == length known) ≡ true = grind (arith, nat_tests, same) in
       rw (config, test) refl
 
-  pub read_whole : wanted job setup ≡ length known → (texts : List (List ℕ)) → files_from (limit job) 1 known ≡ Ok texts → read_of job bytes known ≡ Ok (inputs setup texts)
+  pub read_whole : wanted job setup ≡ length known → (texts : List (List ℕ)) → files_from (limit job) 1 known ≡ Ok texts
+      → read_of job bytes known ≡ Ok (inputs setup texts)
   read_whole same texts h = well_counted same ∙ ap (λ said. said >>= λ texts. Ok (inputs setup texts)) h
 
   pub read_fails : wanted job setup ≡ length known → (fault : RunFault) → Fails fault (files_from (limit job) 1 known) → Fails fault (read_of job bytes known)
@@ -65,12 +66,8 @@ module _ (job : Job) (bytes : List ℕ) (known : List (List ℕ)) (setup : RawSe
 
 -- all was read, and says this
 module _ {R : Type 0} (remaining : R → Option (List ℕ)) (job : Job) (config config' : R) (files files' : List R) where
-  pub has_read : (setup : RawSetup) (texts : List (List ℕ)) → SaysSetup (remaining config) (remaining config') setup → ReadEach remaining files files' texts → wanted job setup ≡ length texts
-      → files_from (limit job) 1 texts ≡ Ok texts → HasRead remaining job config config' files files' (λ said. said ≡ Ok (inputs setup texts))
-  has_read setup texts config each same within =
-      record { bytes = config.bytes; read = config.read; texts = texts; each = each; says = read_whole job config.bytes texts setup config.says same texts within }
-
-  pub HasRead-map : (P Q : Result Inputs Refusal → Type 0) → ((said : Result Inputs Refusal) → P said → Q said) → HasRead remaining job config config' files files' P
+  pub HasRead-map : (P Q : Result Inputs Refusal → Type 0) → ((said : Result Inputs Refusal) → P said → Q said)
+      → HasRead remaining job config config' files files' P
       → HasRead remaining job config config' files files' Q
   HasRead-map P Q more h = record { bytes = h.bytes; read = h.read; texts = h.texts; each = h.each; says = more (read_of job h.bytes h.texts) h.says }
 
@@ -83,7 +80,8 @@ no_write Replay (Ok i) (inr h) = h
 no_write job (Err e) (inr h) = h
 
 -- the fault of what was read is what is answered, with nothing written
-answers_fault : (job : Job) (said : Result Inputs Refusal) (old new : Option (List ℕ)) (fault : RunFault) → GivesRun job said (Err fault) → AnswersFault job said old new fault
+answers_fault : (job : Job) (said : Result Inputs Refusal) (old new : Option (List ℕ)) (fault : RunFault) → GivesRun job said (Err fault)
+    → AnswersFault job said old new fault
 answers_fault job said old new (Files w g) h = h
 answers_fault job said old new (Config f) h = h
 answers_fault job said old new ConfigLong h = h
@@ -100,8 +98,10 @@ answers_fault job said old new (Otherwise told) h = h
 answers_fault job said old new Write h = absurd (no_write job said h)
 
 -- a run stops where the making of its text does
-pub run_stops : {R : Type 0} (remaining : R → Option (List ℕ)) (job : Job) (config config' : R) (files files' : List R) (old new : Option (List ℕ)) (fault : RunFault)
-    → ReadingStops remaining job config config' files files' fault ⊎ (((n : ℕ) → fault ≢ Read n) × HasRead remaining job config config' files files' (λ said. GivesRun job said (Err fault)))
+pub run_stops : {R : Type 0} (remaining : R → Option (List ℕ)) (job : Job) (config config' : R) (files files' : List R) (old new : Option (List ℕ))
+    (fault : RunFault)
+    → ReadingStops remaining job config config' files files' fault
+    ⊎ (((n : ℕ) → fault ≢ Read n) × HasRead remaining job config config' files files' (λ said. GivesRun job said (Err fault)))
     → RunStops remaining job config config' files files' old new fault
 run_stops remaining job config config' files files' old new fault (inl reading) = inl reading
 run_stops remaining job config config' files files' old new fault (inr read) =

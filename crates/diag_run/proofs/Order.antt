@@ -6,22 +6,11 @@ use Rattle.diag_config.specs.Key.{◌>>=◌}
 use Rattle.diag_run.specs.Files.{Refusal, config_long, bad_config, wrong_count, file_long, bad_log, is_before, within, files_from}
 use Rattle.diag_run.proofs.Reading.{with_front}
 
-not_below_0 : (m : ℕ) → nat_lt m 0 ≡ false
-not_below_0 m = grind (arith, nat_tests)
-
 not_below_itself : (m : ℕ) → nat_lt m m ≡ false
 not_below_itself m = grind (arith, nat_tests)
 
 below_less : (m n : ℕ) → nat_lt m (n + 1) ≡ false → nat_lt m n ≡ false
 below_less m n h = grind (arith, nat_tests)
-
--- nothing is met before the config is read
-pub is_before-0 : (f : Refusal) → is_before 0 f ≡ false
-is_before-0 config_long = refl
-is_before-0 (bad_config fault) = refl
-is_before-0 (wrong_count wanted given) = refl
-is_before-0 (file_long m) = not_below_0 m
-is_before-0 (bad_log who fault) = refl
 
 is_before-less : (n : ℕ) (f : Refusal) → is_before (n + 1) f ≡ false → is_before n f ≡ false
 is_before-less n config_long h = below_less 0 n h
@@ -34,11 +23,8 @@ is_before-less n (bad_log who fault) h = refl
 abbrev pub AllLater : {A : Type 0} → ℕ → Result A Refusal → Type 0
 AllLater n said = IfErr said (λ f. is_before n f ≡ false)
 
-pub AllLater-0 : {A : Type 0} (said : Result A Refusal) → AllLater 0 said
-AllLater-0 (Ok x) = tt
-AllLater-0 (Err f) = is_before-0 f
-
-pub AllLater-bind : {A B : Type 0} (n : ℕ) (said : Result A Refusal) (next : A → Result B Refusal) → AllLater n said → ((x : A) → AllLater n (next x)) → AllLater n (said >>= next)
+pub AllLater-bind : {A B : Type 0} (n : ℕ) (said : Result A Refusal) (next : A → Result B Refusal) → AllLater n said → ((x : A) → AllLater n (next x))
+    → AllLater n (said >>= next)
 AllLater-bind n (Ok x) next h more = more x
 AllLater-bind n (Err f) next h more = h
 

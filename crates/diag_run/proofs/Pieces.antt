@@ -84,7 +84,8 @@ module _ (old new : Capture) (setup : new.bus.setup ≡ old.bus.setup) (output :
         };
   }
 
-module _ (old mid new : Capture) (bytes : List ℕ) (on : GoesOn old mid bytes []) (same : new.bus ≡ mid.bus) (kept : new.kept.items ≡ mid.kept.items) (count : new.lines ≡ mid.lines) where
+module _ (old mid new : Capture) (bytes : List ℕ) (on : GoesOn old mid bytes []) (same : new.bus ≡ mid.bus) (kept : new.kept.items ≡ mid.kept.items)
+    (count : new.lines ≡ mid.lines) where
   -- and what was to be written was written
   pub sent_on : new.text.items ≡ [] → GoesOn old new bytes mid.text.items
   sent_on none = record {
@@ -150,7 +151,8 @@ module _ (output : Output) (setup : RawSetup) where
     ];
   }
 
-  cut_at : (taken others lines : List (List ℕ)) (wrote : List ℕ) → lines ≡ taken ++ others → first_fault taken ≡ None → IsFront wrote (written output setup taken)
+  cut_at : (taken others lines : List (List ℕ)) (wrote : List ℕ) → lines ≡ taken ++ others → first_fault taken ≡ None
+      → IsFront wrote (written output setup taken)
       → IsCutShort output setup lines wrote
   cut_at taken others lines wrote are well front = record { taken = taken; others = others; are = are; well = well; front = inl front }
 
@@ -166,7 +168,8 @@ module _ (output : Output) (setup : RawSetup) where
       }
 
   -- a fault is one of the lines alone
-  StopsIn-same : (fault : CaptureFault) (a b : List ℕ) (wrote : List ℕ) → bus_lines a ≡ bus_lines b → StopsIn output setup (fault_of fault) a wrote → StopsIn output setup (fault_of fault) b wrote
+  StopsIn-same : (fault : CaptureFault) (a b : List ℕ) (wrote : List ℕ) → bus_lines a ≡ bus_lines b → StopsIn output setup (fault_of fault) a wrote
+      → StopsIn output setup (fault_of fault) b wrote
   StopsIn-same fault a b wrote same h = subst (λ (l : List (List ℕ)). StopsOn output setup (fault_of fault) l wrote) same h
 
 -- the bytes that follow go on with the line that was begun
@@ -182,7 +185,8 @@ module _ (capture : Capture) where
   cut_here : (seen wrote bytes rest : List ℕ) → Stands capture seen wrote
       → IsCutShort capture.bus.output capture.bus.setup (bus_lines ((seen ++ bytes) ++ rest)) (wrote ++ capture.text.items)
   cut_here seen wrote bytes rest s =
-      cut_at capture.bus.output capture.bus.setup (ended_lines seen) (bus_lines (begun_line seen ++ (bytes ++ rest))) (bus_lines ((seen ++ bytes) ++ rest)) (wrote ++ capture.text.items)
+      cut_at capture.bus.output capture.bus.setup (ended_lines seen) (bus_lines (begun_line seen ++ (bytes ++ rest)))
+      (bus_lines ((seen ++ bytes) ++ rest)) (wrote ++ capture.text.items)
       (goes_on_with seen bytes rest) s.took.well (due_front capture seen wrote s)
 
   -- memory was refused
@@ -205,7 +209,8 @@ module _ (capture : Capture) where
       ∙ ap (λ (l : List (List ℕ)). ended_lines seen ++ l)
       (ap bus_lines (text rest) ∙ (bus_lines-first (begun_line seen ++ bytes) rest (grown seen none) ∙ ap (λ (l : List ℕ). l ∷ bus_lines rest) (sym same))) in
       record {
-        stops = λ rest. faulty capture.bus.output capture.bus.setup (ended_lines seen) (bus_lines rest) (bus_lines ((seen ++ (bytes ++ 10 ∷ [])) ++ rest)) line fault capture.lines
+        stops = λ rest. faulty capture.bus.output capture.bus.setup (ended_lines seen) (bus_lines rest)
+            (bus_lines ((seen ++ (bytes ++ 10 ∷ [])) ++ rest)) line fault capture.lines
             (wrote ++ capture.text.items) (are rest) s.count s.took.well (refused (ended_lines seen) s.took) s.due;
         cut = λ rest. cut_here seen wrote (bytes ++ 10 ∷ []) rest s;
       }
@@ -237,7 +242,8 @@ module _ (capture : Capture) where
             let are : bus_lines ((seen ++ (bytes ++ tail)) ++ rest) ≡ ended_lines seen ++ (line ++ first.more) ∷ first.others =
             goes_on_with seen (bytes ++ tail) rest ∙ ap (λ (l : List (List ℕ)). ended_lines seen ++ l) (ap bus_lines (text rest) ∙ first.are) in
             let whole : 4096 < length (line ++ first.more) = omega (arith, size, length-append line first.more) in
-            faulty capture.bus.output capture.bus.setup (ended_lines seen) first.others (bus_lines ((seen ++ (bytes ++ tail)) ++ rest)) (line ++ first.more) (bus.Line BadLine) capture.lines
+            faulty capture.bus.output capture.bus.setup (ended_lines seen) first.others (bus_lines ((seen ++ (bytes ++ tail)) ++ rest))
+            (line ++ first.more) (bus.Line BadLine) capture.lines
             (wrote ++ capture.text.items) are s.count s.took.well (long_is_bad (ended_lines seen) (line ++ first.more) whole) s.due;
         cut = λ rest. cut_here capture seen wrote (bytes ++ tail) rest s;
       }
@@ -246,15 +252,18 @@ module _ (capture : Capture) where
 abbrev pub Answered : CaptureFault → List ℕ → CaptureFault → List ℕ → Type 0
 Answered fault text result sent = ((result ≡ fault) × (sent ≡ text)) ⊎ ((result ≡ Write) × IsFront sent text)
 
-pub answered_halts : (capture : Capture) (fault result : CaptureFault) (bytes text sent : List ℕ) → HaltsIn capture fault bytes text → Answered fault text result sent
+pub answered_halts : (capture : Capture) (fault result : CaptureFault) (bytes text sent : List ℕ) → HaltsIn capture fault bytes text
+    → Answered fault text result sent
     → HaltsIn capture result bytes sent
 answered_halts capture fault result bytes text sent h (inl same) =
     subst (λ (f : CaptureFault). HaltsIn capture f bytes sent) (sym same.0) (subst (λ (t : List ℕ). HaltsIn capture fault bytes t) (sym same.1) h)
 answered_halts capture fault result bytes text sent h (inr failed) = λ seen wrote s.
     let halts = h seen wrote s in
     let cut : (rest : List ℕ) → IsCutShort capture.bus.output capture.bus.setup (bus_lines ((seen ++ bytes) ++ rest)) (wrote ++ sent) =
-    λ rest. cut_front capture.bus.output capture.bus.setup (bus_lines ((seen ++ bytes) ++ rest)) (wrote ++ sent) (wrote ++ text) (IsFront-more wrote sent text failed.1) (halts.cut rest) in
-    subst (λ (f : CaptureFault). Halts capture.bus.output capture.bus.setup f (seen ++ bytes) (wrote ++ sent)) (sym failed.0) (record { stops = cut; cut = cut })
+    λ rest. cut_front capture.bus.output capture.bus.setup (bus_lines ((seen ++ bytes) ++ rest)) (wrote ++ sent) (wrote ++ text)
+    (IsFront-more wrote sent text failed.1) (halts.cut rest) in
+    subst (λ (f : CaptureFault). Halts capture.bus.output capture.bus.setup f (seen ++ bytes) (wrote ++ sent)) (sym failed.0)
+    (record { stops = cut; cut = cut })
 
 -- the writing failed
 pub write_halts : (old mid : Capture) (bytes sent : List ℕ) → GoesOn old mid bytes [] → IsFront sent mid.text.items → HaltsIn old Write bytes sent
@@ -270,7 +279,8 @@ write_halts old mid bytes sent on front = λ seen wrote s.
     record { stops = cut; cut = cut }
 
 -- the fault came later
-pub later_halts : (old mid : Capture) (x y s t : List ℕ) (fault : CaptureFault) → GoesOn old mid x s → HaltsIn mid fault y t → HaltsIn old fault (x ++ y) (s ++ t)
+pub later_halts : (old mid : Capture) (x y s t : List ℕ) (fault : CaptureFault) → GoesOn old mid x s → HaltsIn mid fault y t
+    → HaltsIn old fault (x ++ y) (s ++ t)
 later_halts old mid x y s t fault on h = λ seen wrote st.
     let halts = h (seen ++ x) (wrote ++ s) (on.stands seen wrote st) in
     let here : Halts old.bus.output old.bus.setup fault ((seen ++ x) ++ y) ((wrote ++ s) ++ t) =
@@ -323,7 +333,8 @@ module _ (capture : Capture) (none : capture.kept.items ≡ []) where
 
   pub halts_ended : (fault : CaptureFault) (sent : List ℕ) → HaltsEnded capture fault sent → HaltsAtEnd capture fault sent
   halts_ended fault sent halts = λ seen wrote s.
-      subst (λ (l : List (List ℕ)). StopsOn capture.bus.output capture.bus.setup (fault_of fault) l (wrote ++ sent)) (all_ended seen wrote s) (halts seen wrote s)
+      subst (λ (l : List (List ℕ)). StopsOn capture.bus.output capture.bus.setup (fault_of fault) l (wrote ++ sent)) (all_ended seen wrote s)
+      (halts seen wrote s)
 
 -- the line that was begun was taken as one with a line feed
 module _ (old : Capture) (begun : 0 < length old.kept.items) where
@@ -360,14 +371,15 @@ module _ (old : Capture) (begun : 0 < length old.kept.items) where
         (subst (λ (u : RawSetup). StopsIn mid.bus.output u (fault_of fault) (seen ++ 10 ∷ []) ((wrote ++ s) ++ t)) on.setup here)))
 
 -- what the end adds was added, and a front of all of it written
-module _ (capture : Capture) (more : List ℕ) (adds : (lines : List (List ℕ)) → TookLines capture.bus lines → IsBorneOut capture.bus.output capture.bus.setup lines × (more ≡ closing capture.bus.output capture.bus.setup lines)) where
-  whole_text : (seen wrote : List ℕ) → Stands capture seen wrote → wrote ++ (capture.text.items ++ more) ≡ capture_text capture.bus.output capture.bus.setup (ended_lines seen)
+module _ (capture : Capture) (more : List ℕ)
+    (adds : (lines : List (List ℕ)) → TookLines capture.bus lines
+    → IsBorneOut capture.bus.output capture.bus.setup lines × (more ≡ closing capture.bus.output capture.bus.setup lines)) where
+  whole_text : (seen wrote : List ℕ) → Stands capture seen wrote
+      → wrote ++ (capture.text.items ++ more) ≡ capture_text capture.bus.output capture.bus.setup (ended_lines seen)
   whole_text seen wrote s =
       sym (append_assoc wrote capture.text.items more)
-      ∙ (ap (λ (w : List ℕ). w ++ more) s.due ∙ ap (λ (c : List ℕ). written capture.bus.output capture.bus.setup (ended_lines seen) ++ c) (adds (ended_lines seen) s.took).1)
-
-  pub close_whole : (text : List ℕ) → text ≡ capture.text.items ++ more → ClosesEnded capture text
-  close_whole text is = λ seen wrote s. ((adds (ended_lines seen) s.took).0, ap (λ (t : List ℕ). wrote ++ t) is ∙ whole_text seen wrote s)
+      ∙ (ap (λ (w : List ℕ). w ++ more) s.due ∙ ap (λ (c : List ℕ). written capture.bus.output capture.bus.setup (ended_lines seen) ++ c)
+      (adds (ended_lines seen) s.took).1)
 
   pub close_front : (text sent : List ℕ) → text ≡ capture.text.items ++ more → IsFront sent text → HaltsEnded capture Write sent
   close_front text sent is front = λ seen wrote s.
@@ -407,7 +419,8 @@ module _ (capture : Capture) where
   end_stops Read h = absurd h
   end_stops Write h = absurd h
 
-  pub end_halts : (fault result : CaptureFault) (text sent : List ℕ) → text ≡ capture.text.items → IsEndFault capture.bus fault → Answered fault text result sent → HaltsEnded capture result sent
+  pub end_halts : (fault result : CaptureFault) (text sent : List ℕ) → text ≡ capture.text.items → IsEndFault capture.bus fault
+      → Answered fault text result sent → HaltsEnded capture result sent
   end_halts fault result text sent is h (inl same) =
       subst (λ (f : CaptureFault). HaltsEnded capture f sent) (sym same.0)
       (subst (λ (t : List ℕ). HaltsEnded capture fault t) (sym (same.1 ∙ is)) (end_stops fault h))
@@ -417,7 +430,8 @@ module _ (capture : Capture) where
 
 -- ---- a capture that is read further
 
-pub halts_after : (output : Output) (setup : RawSetup) (fault : CaptureFault) (seen wrote : List ℕ) → Halts output setup fault seen wrote → StopsAfter output setup fault seen wrote
+pub halts_after : (output : Output) (setup : RawSetup) (fault : CaptureFault) (seen wrote : List ℕ) → Halts output setup fault seen wrote
+    → StopsAfter output setup fault seen wrote
 halts_after output setup (Line n fault) seen wrote h = h.stops
 halts_after output setup Memory seen wrote h = h.stops
 halts_after output setup Write seen wrote h = h.stops
@@ -425,18 +439,21 @@ halts_after output setup (Otherwise told) seen wrote h = h.stops
 halts_after output setup Read seen wrote h = absurd (h.stops [])
 
 pub halts_within : (capture : Capture) (fault : CaptureFault) (bytes sent : List ℕ) → HaltsIn capture fault bytes sent → StopsWithin capture fault bytes sent
-halts_within capture fault bytes sent h = λ seen wrote s. halts_after capture.bus.output capture.bus.setup fault (seen ++ bytes) (wrote ++ sent) (h seen wrote s)
+halts_within capture fault bytes sent h =
+    λ seen wrote s. halts_after capture.bus.output capture.bus.setup fault (seen ++ bytes) (wrote ++ sent) (h seen wrote s)
 
 -- a read failed when all that was due was written
 pub read_fails : (old new : Capture) (bytes sent : List ℕ) → GoesOn old new bytes sent → new.text.items ≡ [] → StopsWithin old Read bytes sent
 read_fails old new bytes sent on none = λ seen wrote s.
     let m = on.stands seen wrote s in (
       m.took.well,
-      sym (append-nil (wrote ++ sent)) ∙ (ap (λ (t : List ℕ). (wrote ++ sent) ++ t) (sym none) ∙ (m.due ∙ sym (same_run (ended_lines (seen ++ bytes)) on.output on.setup))),
+      sym (append-nil (wrote ++ sent)) ∙ (ap (λ (t : List ℕ). (wrote ++ sent) ++ t) (sym none)
+          ∙ (m.due ∙ sym (same_run (ended_lines (seen ++ bytes)) on.output on.setup))),
     )
 
 -- the fault came later
-pub later_within : (old mid : Capture) (x y s t : List ℕ) (fault : CaptureFault) → GoesOn old mid x s → StopsWithin mid fault y t → StopsWithin old fault (x ++ y) (s ++ t)
+pub later_within : (old mid : Capture) (x y s t : List ℕ) (fault : CaptureFault) → GoesOn old mid x s → StopsWithin mid fault y t
+    → StopsWithin old fault (x ++ y) (s ++ t)
 later_within old mid x y s t fault on h = λ seen wrote st.
     let here = h (seen ++ x) (wrote ++ s) (on.stands seen wrote st) in
     subst (λ (w : List ℕ). StopsAfter old.bus.output old.bus.setup fault (seen ++ (x ++ y)) w) (append_assoc wrote s t)
@@ -456,7 +473,8 @@ module _ (output : Output) (setup : RawSetup) (seen wrote : List ℕ) where
       → StopsIn output setup (fault_of fault) seen wrote × IfSome left (λ rest. StopsIn output setup (fault_of fault) (seen ++ rest) wrote)
   here_and_on fault left h = (subst (λ (b : List ℕ). StopsIn output setup (fault_of fault) b wrote) (append-nil seen) (h []), if_left fault left h)
 
-  pub stops_at : (fault : CaptureFault) (left : Option (List ℕ)) → StopsAfter output setup fault seen wrote → StopsAt output setup left (fault_of fault) seen wrote
+  pub stops_at : (fault : CaptureFault) (left : Option (List ℕ)) → StopsAfter output setup fault seen wrote
+      → StopsAt output setup left (fault_of fault) seen wrote
   stops_at (Line n fault) left h = here_and_on (Line n fault) left h
   stops_at Memory left h = here_and_on Memory left h
   stops_at Write left h = here_and_on Write left h
@@ -471,7 +489,8 @@ module _ (output : Output) (setup : RawSetup) (seen wrote : List ℕ) where
     subst (λ (b : List ℕ). StopsIn output setup (fault_of fault) b wrote) (sym (append-nil seen) ∙ ap (λ (r : List ℕ). seen ++ r) (sym end)) h,
   )
 
-  pub stops_at_end : (fault : CaptureFault) (left : Option (List ℕ)) → IsAtEnd left → StopsIn output setup (fault_of fault) seen wrote → StopsAt output setup left (fault_of fault) seen wrote
+  pub stops_at_end : (fault : CaptureFault) (left : Option (List ℕ)) → IsAtEnd left → StopsIn output setup (fault_of fault) seen wrote
+      → StopsAt output setup left (fault_of fault) seen wrote
   stops_at_end (Line n fault) left end h = at_left (Line n fault) left end h
   stops_at_end Memory left end h = at_left Memory left end h
   stops_at_end Write left end h = at_left Write left end h
@@ -480,7 +499,8 @@ module _ (output : Output) (setup : RawSetup) (seen wrote : List ℕ) where
 
 -- memory was refused before a line was taken
 pub refused_at : (output : Output) (setup : RawSetup) (seen : List ℕ) (left : Option (List ℕ)) → StopsAt output setup left (fault_of Memory) seen []
-refused_at output setup seen left = stops_at output setup seen [] Memory left (λ rest. cut_at output setup [] (bus_lines (seen ++ rest)) (bus_lines (seen ++ rest)) [] refl refl (written output setup [], refl))
+refused_at output setup seen left = stops_at output setup seen [] Memory left
+    (λ rest. cut_at output setup [] (bus_lines (seen ++ rest)) (bus_lines (seen ++ rest)) [] refl refl (written output setup [], refl))
 
 -- ---- the lines of a piece
 
@@ -514,7 +534,8 @@ Halts-more output setup fault seen bytes tail wrote h =
 
 module _ (old mid : Capture) (a b c : Option (List ℕ)) (piece rest : List ℕ) (so_far : SoFar old mid a b piece rest) where
   -- a line more was taken
-  pub one_line_more : (new : Capture) (line after : List ℕ) → rest ≡ line ++ 10 ∷ after → Sends b c (GoesOn mid new (line ++ 10 ∷ [])) → new.lines ≡ mid.lines + 1
+  pub one_line_more : (new : Capture) (line after : List ℕ) → rest ≡ line ++ 10 ∷ after → Sends b c (GoesOn mid new (line ++ 10 ∷ []))
+      → new.lines ≡ mid.lines + 1
       → SoFar old new a c piece after
   one_line_more new line after is sends count =
       let size : length (so_far.gone ++ (line ++ 10 ∷ [])) ≡ length so_far.gone + (length line + 1) =
@@ -532,12 +553,14 @@ module _ (old mid : Capture) (a b c : Option (List ℕ)) (piece rest : List ℕ)
       }
 
   -- the fault came with what follows
-  pub so_far_halts : (fault : CaptureFault) (bytes tail : List ℕ) → rest ≡ bytes ++ tail → Sends b c (HaltsIn mid fault bytes) → Sends a c (HaltsIn old fault piece)
+  pub so_far_halts : (fault : CaptureFault) (bytes tail : List ℕ) → rest ≡ bytes ++ tail → Sends b c (HaltsIn mid fault bytes)
+      → Sends a c (HaltsIn old fault piece)
   so_far_halts fault bytes tail is sends = (
     so_far.sent ++ sends.0,
     Appends-trans a b c so_far.sent sends.0 so_far.sends sends.1,
     λ seen wrote s.
-        let whole : (so_far.gone ++ bytes) ++ tail ≡ piece = append_assoc so_far.gone bytes tail ∙ (ap (λ (r : List ℕ). so_far.gone ++ r) (sym is) ∙ sym so_far.is) in
+        let whole : (so_far.gone ++ bytes) ++ tail ≡ piece =
+        append_assoc so_far.gone bytes tail ∙ (ap (λ (r : List ℕ). so_far.gone ++ r) (sym is) ∙ sym so_far.is) in
         let h = later_halts old mid so_far.gone bytes so_far.sent sends.0 fault so_far.on sends.2 seen wrote s in
         subst (λ (p : List ℕ). Halts old.bus.output old.bus.setup fault (seen ++ p) (wrote ++ (so_far.sent ++ sends.0))) whole
         (Halts-more old.bus.output old.bus.setup fault seen (so_far.gone ++ bytes) tail (wrote ++ (so_far.sent ++ sends.0)) h),
@@ -564,15 +587,18 @@ pub no_feed : (text : List ℕ) → IsFirstByte is_feed text None → HasNoFeed 
 no_feed text none = λ k d lt. ap is_feed (get_or_default_zero text k d lt) ∙ false_from_ne_true _ (none k (omega arith) lt)
 
 -- what the bus makes of a line that it refuses
-pub give_halts : (capture : Capture) (bytes line text : List ℕ) (fault : CaptureFault) → HasNoFeed bytes → line ≡ capture.kept.items ++ bytes → text ≡ capture.text.items
-    → (fault ≡ Memory) ⊎ ((f : BusFault) × (fault ≡ Line (capture.lines + 1) f) × ((lines : List (List ℕ)) → TookLines capture.bus lines → line_fault lines line ≡ Some f))
+pub give_halts : (capture : Capture) (bytes line text : List ℕ) (fault : CaptureFault) → HasNoFeed bytes → line ≡ capture.kept.items ++ bytes
+    → text ≡ capture.text.items
+    → (fault ≡ Memory) ⊎ ((f : BusFault) × (fault ≡ Line (capture.lines + 1) f)
+    × ((lines : List (List ℕ)) → TookLines capture.bus lines → line_fault lines line ≡ Some f))
     → HaltsIn capture fault (bytes ++ 10 ∷ []) text
 give_halts capture bytes line text fault none is same (inl memory) =
     subst (λ (t : List ℕ). HaltsIn capture fault (bytes ++ 10 ∷ []) t) (sym same)
     (subst (λ (f : CaptureFault). HaltsIn capture f (bytes ++ 10 ∷ []) capture.text.items) (sym memory) (memory_halts capture (bytes ++ 10 ∷ [])))
 give_halts capture bytes line text fault none is same (inr refused) =
     subst (λ (t : List ℕ). HaltsIn capture fault (bytes ++ 10 ∷ []) t) (sym same)
-    (subst (λ (f : CaptureFault). HaltsIn capture f (bytes ++ 10 ∷ []) capture.text.items) (sym refused.1) (line_halts capture bytes line refused.0 none is refused.2))
+    (subst (λ (f : CaptureFault). HaltsIn capture f (bytes ++ 10 ∷ []) capture.text.items) (sym refused.1)
+    (line_halts capture bytes line refused.0 none is refused.2))
 
 -- what becomes of bytes that are not kept
 pub keep_halts : (capture : Capture) (bytes tail : List ℕ) (fault : CaptureFault) → HasNoFeed bytes

@@ -31,7 +31,8 @@ module _ (timing : Timing) (setup : RawSetup) where
   count n (text ∷ texts) =
       count_more n (events text (ids_of setup n) timing) (logs_from (n + 1) setup timing texts) (length texts) (count (n + 1) texts)
 
-  pub log_ill : (texts : List (List ℕ)) (who : ℕ) (fault : LogFault) → logs_of setup timing texts ≡ Err (who, fault) → or_bad_log (logs_of setup timing texts) ≡ Err (bad_log who fault)
+  pub log_ill : (texts : List (List ℕ)) (who : ℕ) (fault : LogFault) → logs_of setup timing texts ≡ Err (who, fault)
+      → or_bad_log (logs_of setup timing texts) ≡ Err (bad_log who fault)
   log_ill texts who fault h = ap or_bad_log h
 
   module _ (texts : List (List ℕ)) (logs : List (List Event)) (well : logs_of setup timing texts ≡ Ok logs) where
@@ -40,13 +41,15 @@ module _ (timing : Timing) (setup : RawSetup) where
         → length texts ≡ length setup.testers → length sent ≡ length setup.testers
     as_many_frames frames sent M desk play same = sym (length-map sent frames) ∙ (play.testers ∙ ((rw well at (count 1 texts)) ∙ same))
 
-    gives_woven : (only_journal : Bool) (desk : Run) (sent : List (List Sent)) (text : List ℕ) → IsPlay setup (weave (link_of setup) desk.journal logs) logs desk sent
+    gives_woven : (only_journal : Bool) (desk : Run) (sent : List (List Sent)) (text : List ℕ)
+        → IsPlay setup (weave (link_of setup) desk.journal logs) logs desk sent
         → text ≡ played_text only_journal timing setup desk sent → GivesWoven only_journal timing setup (or_bad_log (logs_of setup timing texts)) (Ok text)
     gives_woven only_journal desk sent text play is = rw well (record { desk = desk; sent = sent; play = play; is = is })
 
     -- what is answered for its parts is its text, or that memory was refused
     pub answers_woven : (only_journal : Bool) (desk : Run) (sent : List (List Sent)) (r : Result (Vec (Vec ℕ)) RunFault)
-        → IsPlay setup (weave (link_of setup) desk.journal logs) logs desk sent → IfOk r (λ parts. joined parts ≡ played_text only_journal timing setup desk sent)
+        → IsPlay setup (weave (link_of setup) desk.journal logs) logs desk sent
+        → IfOk r (λ parts. joined parts ≡ played_text only_journal timing setup desk sent)
         → IfErr r (λ fault. fault ≡ Memory) → GivesWoven only_journal timing setup (or_bad_log (logs_of setup timing texts)) (answered r)
     answers_woven only_journal desk sent (Ok parts) play is refused = gives_woven only_journal desk sent (joined parts) play is
     answers_woven only_journal desk sent (Err fault) play is refused = rw refused tt

@@ -26,7 +26,8 @@ module _ {R : Type 0} (remaining : R → Option (List ℕ)) where
   pub AreKnown-length : (readers : List R) (known : List (List ℕ)) → AreKnown remaining readers known → length readers ≡ length known
   AreKnown-length readers known h = simp length-map at (ap length h)
 
-  pub known_at : (readers now : List R) (known : List (List ℕ)) (i : ℕ) (d : R) → AreKnown remaining readers known → drop i now ≡ drop i readers → i < length now
+  pub known_at : (readers now : List R) (known : List (List ℕ)) (i : ℕ) (d : R) → AreKnown remaining readers known → drop i now ≡ drop i readers
+      → i < length now
       → (bytes : List ℕ) × (remaining (get_or now i d) ≡ Some bytes) × (drop i known ≡ bytes ∷ drop (i + 1) known)
   known_at readers now known i d h same lt =
       let here : drop i readers ≡ get_or now i d ∷ drop (i + 1) now = sym same ∙ drop_more now i d lt in
@@ -36,12 +37,14 @@ module _ {R : Type 0} (remaining : R → Option (List ℕ)) where
 
 -- ---- one more file
 
-pub regroup : {A : Type 0} → (front : List A) (x : A) (said : Result (List A) Refusal) → with_front front (said >>= λ others. Ok (x ∷ others)) ≡ with_front (front ++ x ∷ []) said
+pub regroup : {A : Type 0} → (front : List A) (x : A) (said : Result (List A) Refusal)
+    → with_front front (said >>= λ others. Ok (x ∷ others)) ≡ with_front (front ++ x ∷ []) said
 regroup {A} front x (Ok others) = ap (λ (xs : List A). Ok xs) (simp append_assoc)
 regroup front x (Err f) = refl
 
 module _ (limit : ℕ) (front : List (List ℕ)) (n : ℕ) (bytes : List ℕ) (more : List (List ℕ)) (total : Result (List (List ℕ)) Refusal) where
-  pub goes_on : length bytes ≤ limit → with_front front (files_from limit n (bytes ∷ more)) ≡ total → with_front (front ++ bytes ∷ []) (files_from limit (n + 1) more) ≡ total
+  pub goes_on : length bytes ≤ limit → with_front front (files_from limit n (bytes ∷ more)) ≡ total
+      → with_front (front ++ bytes ∷ []) (files_from limit (n + 1) more) ≡ total
   unfolding files_from
   goes_on fits so_far =
       let one : with_front front (files_from limit n (bytes ∷ more)) ≡ with_front (front ++ bytes ∷ []) (files_from limit (n + 1) more) =
@@ -61,14 +64,16 @@ pub one_more : {A : Type 0} (bytes_of : A → List ℕ) (texts texts' : List A) 
 one_more bytes_of texts texts' text bytes grown same =
     ap (map bytes_of) grown ∙ (map_push bytes_of texts text ∙ ap (λ (b : List ℕ). map bytes_of texts ++ b ∷ []) same)
 
-pub is_done : (limit : ℕ) (front : List (List ℕ)) (n : ℕ) (total : Result (List (List ℕ)) Refusal) → with_front front (files_from limit n []) ≡ total → total ≡ Ok front
+pub is_done : (limit : ℕ) (front : List (List ℕ)) (n : ℕ) (total : Result (List (List ℕ)) Refusal) → with_front front (files_from limit n []) ≡ total
+    → total ≡ Ok front
 unfolding files_from
 is_done limit front n total so_far = sym so_far ∙ ap (λ (xs : List (List ℕ)). Ok xs) (append-nil front)
 
 -- ---- what was read of each reader
 
 module _ {R : Type 0} (remaining : R → Option (List ℕ)) where
-  ReadEach-push : (olds news : List R) (texts : List (List ℕ)) (old new : R) (text : List ℕ) → ReadEach remaining olds news texts → ReadWhole (remaining old) (remaining new) text
+  ReadEach-push : (olds news : List R) (texts : List (List ℕ)) (old new : R) (text : List ℕ) → ReadEach remaining olds news texts
+      → ReadWhole (remaining old) (remaining new) text
       → ReadEach remaining (olds ++ old ∷ []) (news ++ new ∷ []) (texts ++ text ∷ [])
   ReadEach-push [] [] [] old new text each one = (one, tt)
   ReadEach-push (o ∷ olds) (n ∷ news) (t ∷ texts) old new text each one = (each.0, ReadEach-push olds news texts old new text each.1 one)
@@ -78,7 +83,8 @@ module _ {R : Type 0} (remaining : R → Option (List ℕ)) where
   ReadEach-push (o ∷ olds) (n ∷ news) [] old new text each one = absurd each
 
   -- reader i was read whole behind those before it
-  pub one_read_more : (olds files : List R) (i : ℕ) (new : R) (texts : List (List ℕ)) (text : List ℕ) → length files ≡ length olds → drop i files ≡ drop i olds → (d : R) → i < length files
+  pub one_read_more : (olds files : List R) (i : ℕ) (new : R) (texts : List (List ℕ)) (text : List ℕ) → length files ≡ length olds
+      → drop i files ≡ drop i olds → (d : R) → i < length files
       → ReadEach remaining (take i olds) (take i files) texts → ReadWhole (remaining (get_or files i d)) (remaining new) text
       → ReadEach remaining (take (i + 1) olds) (take (i + 1) (set files i new)) (texts ++ text ∷ [])
   one_read_more olds files i new texts text same rest d lt each one =
@@ -86,7 +92,8 @@ module _ {R : Type 0} (remaining : R → Option (List ℕ)) where
       let here : get_or files i d ≡ get_or olds i d =
       let heads : get_or files i d ∷ drop (i + 1) files ≡ get_or olds i d ∷ drop (i + 1) olds = sym (drop_more files i d lt) ∙ rest ∙ drop_more olds i d lt' in
       cc in
-      rw (take_more olds i d lt', take_more_set files i new lt) (ReadEach-push (take i olds) (take i files) texts (get_or olds i d) new text each (rw (sym here) one))
+      rw (take_more olds i d lt', take_more_set files i new lt)
+      (ReadEach-push (take i olds) (take i files) texts (get_or olds i d) new text each (rw (sym here) one))
 
 -- texts that are all within the limit are read as they are
 pub all_within : (limit n : ℕ) (texts : List (List ℕ)) → All (λ text. length text ≤ limit) texts → files_from limit n texts ≡ Ok texts
@@ -98,7 +105,8 @@ all_within limit n (t ∷ ts) fits =
     rw (le-leb (length t) limit head, rest) refl
 
 -- the reading ended at reader i, behind those before it
-pub ends_at : {R : Type 0} (remaining : R → Option (List ℕ)) (limit : ℕ) (olds files : List R) (i : ℕ) (new : R) (texts : List (List ℕ)) → length files ≡ length olds → drop i files ≡ drop i olds → (d : R)
+pub ends_at : {R : Type 0} (remaining : R → Option (List ℕ)) (limit : ℕ) (olds files : List R) (i : ℕ) (new : R) (texts : List (List ℕ))
+    → length files ≡ length olds → drop i files ≡ drop i olds → (d : R)
     → i < length files → ReadEach remaining (take i olds) (take i files) texts → All (λ text. length text ≤ limit) texts
     → (P : List ℕ → Type 0) → Takes (remaining (get_or files i d)) (remaining new) P → EndsAt remaining limit (i + 1) olds (set files i new) P
 ends_at {R} remaining limit olds files i new texts same rest d lt each fits P seen =
@@ -120,6 +128,7 @@ ends_at {R} remaining limit olds files i new texts same rest d lt each fits P se
     }
 
 -- the reader at which it ended is one of them
-pub ends_within : {R : Type 0} (remaining : R → Option (List ℕ)) (limit n : ℕ) (olds news : List R) (P : List ℕ → Type 0) → EndsAt remaining limit n olds news P → n ≤ length olds
+pub ends_within : {R : Type 0} (remaining : R → Option (List ℕ)) (limit n : ℕ) (olds news : List R) (P : List ℕ → Type 0)
+    → EndsAt remaining limit n olds news P → n ≤ length olds
 ends_within remaining limit n olds news P at =
     omega (arith, at.number, ap length at.was, length-append at.front (at.file ∷ at.behind))

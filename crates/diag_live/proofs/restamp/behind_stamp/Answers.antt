@@ -20,5 +20,6 @@ returns-in-None c =
     let line = c.args.line.now in
     let none = c.in-None.ensures in
     let place : position_or_len is_close line ≡ length line =
-    position_or_len_is is_close line (length line) 0 (omega arith) (λ k lt. false_from_ne_true _ (none k (omega arith) lt)) (λ less. absurd (omega (arith, less))) in
+    position_or_len_is is_close line (length line) 0 (omega arith) (λ k lt. false_from_ne_true _ (none k (omega arith) lt))
+    (λ less. absurd (omega (arith, less))) in
     sym (drop_all (position_or_len is_close line + 1) line (omega (arith, place)))

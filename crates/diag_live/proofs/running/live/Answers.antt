@@ -22,7 +22,8 @@ loop-init g c =
 
 pub returns-in-Ok-false-clause-done : goal.returns-in-Ok-false-clause-done
 returns-in-Ok-false-clause-done g c = turned_off c.args.setup c.loop.serving c.turn.new.serving _ _ _ _ _ _ _ _ _ c.loop.invariant
-    (subst (Turned c.loop.serving c.turn.new.serving (g.B.Bench.remaining c.loop.bench) (g.B.Bench.remaining c.turn.new.bench) (g.W.Write.contents c.loop.out) (g.W.Write.contents c.turn.new.out)
+    (subst (Turned c.loop.serving c.turn.new.serving (g.B.Bench.remaining c.loop.bench) (g.B.Bench.remaining c.turn.new.bench)
+    (g.W.Write.contents c.loop.out) (g.W.Write.contents c.turn.new.out)
     (g.R.Write.contents c.loop.recorder) (g.R.Write.contents c.turn.new.recorder)) c.in-Ok-false.field-0-test c.in-Ok-false.ensures.ok)
 
 pub returns-in-Err-clause-fault : goal.returns-in-Err-clause-fault
@@ -33,5 +34,6 @@ returns-in-Err-clause-fault g c = elim c.in-Err.ensures.err [
 
 pub loop-preserved : goal.loop-preserved
 loop-preserved g c = turned_on c.args.setup c.loop.serving c.turn.new.serving _ _ _ _ _ _ _ _ _ c.loop.invariant
-    (subst (Turned c.loop.serving c.turn.new.serving (g.B.Bench.remaining c.loop.bench) (g.B.Bench.remaining c.turn.new.bench) (g.W.Write.contents c.loop.out) (g.W.Write.contents c.turn.new.out)
+    (subst (Turned c.loop.serving c.turn.new.serving (g.B.Bench.remaining c.loop.bench) (g.B.Bench.remaining c.turn.new.bench)
+    (g.W.Write.contents c.loop.out) (g.W.Write.contents c.turn.new.out)
     (g.R.Write.contents c.loop.recorder) (g.R.Write.contents c.turn.new.recorder)) c.in-Ok-true.field-0-test c.in-Ok-true.ensures.ok)

@@ -4,10 +4,12 @@ use Rattle.std.proofs.lemmas.Result.{IfErr-weaker, on_ok_weaker}
 use Rattle.diag_live.proofs.running.run_live.Goals as goal
 
 pub returns-in-Ok-clause-done : goal.returns-in-Ok-clause-done
-returns-in-Ok-clause-done g c = on_ok_weaker c.live.result (λ lived. record { setup = c.in-Ok.setup; says = c.in-Ok.ensures.says; lived = lived }) c.live.ensures.done
+returns-in-Ok-clause-done g c = on_ok_weaker c.live.result (λ lived. record { setup = c.in-Ok.setup; says = c.in-Ok.ensures.says; lived = lived })
+    c.live.ensures.done
 
 pub returns-in-Ok-clause-fault : goal.returns-in-Ok-clause-fault
-returns-in-Ok-clause-fault g c = IfErr-weaker c.live.result _ _ (λ came stopped. inr (record { setup = c.in-Ok.setup; says = c.in-Ok.ensures.says; stopped = stopped })) c.live.ensures.fault
+returns-in-Ok-clause-fault g c = IfErr-weaker c.live.result _ _
+    (λ came stopped. inr (record { setup = c.in-Ok.setup; says = c.in-Ok.ensures.says; stopped = stopped })) c.live.ensures.fault
 
 pub returns-in-Err-clause-fault : goal.returns-in-Err-clause-fault
 returns-in-Err-clause-fault g c = inl (record {

@@ -6,7 +6,8 @@ use Rattle.diag_run.proofs.answer.woven_text.Goals as goal
 pub parts_beside-requires-after_bounds : goal.parts_beside-requires-after_bounds
 parts_beside-requires-after_bounds g c κs within =
     let played = c.in_ok-played.ensures.played in
-    as_many_frames c.args.timing c.args.setup.now _ played.0 played.1 (λ sent. sent.items) c.in_ok-played.played.sent.items _ c.in_ok-played.played.desk played.2
+    as_many_frames c.args.timing c.args.setup.now _ played.0 played.1 (λ sent. sent.items) c.in_ok-played.played.sent.items _
+    c.in_ok-played.played.desk played.2
     (length-map c.args.texts.now (λ text. text.items) ∙ c.requires)
 
 pub returns-clause-gives : goal.returns-clause-gives

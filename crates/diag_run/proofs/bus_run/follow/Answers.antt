@@ -9,11 +9,13 @@ returns-in-Err-clause-err g c = so_far_fails _ _ _ _ _ _ _ c.loop.invariant c.in
 
 pub returns-in-Err-take_piece-clause-err : goal.returns-in-Err-take_piece-clause-err
 returns-in-Err-take_piece-clause-err g c =
-    so_far_stops _ _ _ _ _ _ _ _ c.loop.invariant c.in-Err-take_piece.fault (take c.in-Ok.count c.read_piece.new.buffer) c.in-Ok.ensures.read c.in-Err-take_piece.ensures.err
+    so_far_stops _ _ _ _ _ _ _ _ c.loop.invariant c.in-Err-take_piece.fault (take c.in-Ok.count c.read_piece.new.buffer) c.in-Ok.ensures.read
+    c.in-Err-take_piece.ensures.err
 
 pub loop-preserved : goal.loop-preserved
 loop-preserved g c =
-    one_piece_more _ _ _ _ _ _ _ _ c.loop.invariant c.take_piece.new.self (take c.in-Ok.count c.read_piece.new.buffer) c.in-Ok.ensures.read c.in_default.ensures.ok c.in_default.ensures.written
+    one_piece_more _ _ _ _ _ _ _ _ c.loop.invariant c.take_piece.new.self (take c.in-Ok.count c.read_piece.new.buffer) c.in-Ok.ensures.read
+    c.in_default.ensures.ok c.in_default.ensures.written
 
 pub returns-clause-err : goal.returns-clause-err
 returns-clause-err g c = so_far_fails _ _ _ _ _ _ _ c.loop.invariant Read refl (Keeps-refl (g.R.Read.remaining c.loop.capture))

@@ -14,9 +14,11 @@ returns-in_err-bus-clause-fault g c =
 
 pub returns-in-Ok-run_capture-clause-done : goal.returns-in-Ok-run_capture-clause-done
 returns-in-Ok-run_capture-clause-done g c =
-    followed c.args.output _ c.in-Ok.setup _ c.in_ok-bus.ensures.output c.in_ok-bus.ensures.setup _ _ _ _ _ _ c.in-Ok.ensures.says c.in-Ok-run_capture.ensures.done
+    followed c.args.output _ c.in-Ok.setup _ c.in_ok-bus.ensures.output c.in_ok-bus.ensures.setup _ _ _ _ _ _ c.in-Ok.ensures.says
+    c.in-Ok-run_capture.ensures.done
 
 pub returns-in-Err-run_capture-clause-fault : goal.returns-in-Err-run_capture-clause-fault
 returns-in-Err-run_capture-clause-fault g c =
     rw c.run_fault.ensures
-    (inr (stops_reading c.args.output _ c.in-Ok.setup _ c.in_ok-bus.ensures.output c.in_ok-bus.ensures.setup _ _ _ _ _ _ c.in-Ok.ensures.says c.in-Err-run_capture.fault c.in-Err-run_capture.ensures.fault))
+    (inr (stops_reading c.args.output _ c.in-Ok.setup _ c.in_ok-bus.ensures.output c.in_ok-bus.ensures.setup _ _ _ _ _ _ c.in-Ok.ensures.says
+    c.in-Err-run_capture.fault c.in-Err-run_capture.ensures.fault))

@@ -27,7 +27,8 @@ returns-in-Err-read_files-clause-read g c bytes known config_is files_are =
     let count = AreKnown-length g.R.Read.remaining c.args.files.now known files_are in
     let told = c.wanted-wanted.ensures in
     let same : wanted c.args.job c.in-Ok.setup ≡ length known = omega (arith, told, count, c.if-wanted-given.false) in
-    read_fails c.args.job bytes known c.in-Ok.setup config same c.in-Err-read_files.fault (rw c.limit.ensures.is at (c.in-Err-read_files.ensures.read known files_are))
+    read_fails c.args.job bytes known c.in-Ok.setup config same c.in-Err-read_files.fault
+    (rw c.limit.ensures.is at (c.in-Err-read_files.ensures.read known files_are))
 
 pub returns-in-Err-read_files-clause-device : goal.returns-in-Err-read_files-clause-device
 returns-in-Err-read_files-clause-device g c n is =

@@ -9,7 +9,8 @@ returns g c =
     let left = c.whole_alone-made.new in
     let old = g.W.Write.contents c.args.out.now in
     rw (sym c.as_mut_slice.ensures.value) (
-    let r = writes_run g.R.Read.remaining (job_of c.args.job) _ left.config _ left.files old _ c.whole_alone-made.result c.written.result e.answer e.device e.reads e.stops c.written.ensures in
+    let r = writes_run g.R.Read.remaining (job_of c.args.job) _ left.config _ left.files old _ c.whole_alone-made.result c.written.result e.answer
+    e.device e.reads e.stops c.written.ensures in
     record {
       done = r.done;
       fault = r.fault;

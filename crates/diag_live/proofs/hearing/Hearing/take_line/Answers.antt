@@ -13,7 +13,8 @@ returns-in-Err-read_bus_line-clause-err c =
     let says : bus_line line ≡ Err c.in-Err-read_bus_line.fault =
     ap bus_line (sym c.as_slice.ensures.value) ∙ (sym c.read_bus_line.ensures ∙ c.in-Err-read_bus_line.is) in
     let number : c.in-Some.number ≡ c.args.self.now.lines + 1 = omega (arith, c.in-Some.ensures, c.keep.ensures.lines) in
-    line_refuses c.args.self.now c.args.bytes.now line c.args.text.now.items c.in-Some.number c.in-Err-read_bus_line.fault c.requires.line c.in_default.ensures.ok number says
+    line_refuses c.args.self.now c.args.bytes.now line c.args.text.now.items c.in-Some.number c.in-Err-read_bus_line.fault c.requires.line
+    c.in_default.ensures.ok number says
 
 pub returns-clause-ok : goal.returns-clause-ok
 returns-clause-ok c =

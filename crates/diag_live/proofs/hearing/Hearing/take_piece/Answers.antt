@@ -27,7 +27,8 @@ pub returns-clause-ok : goal.returns-clause-ok
 returns-clause-ok c =
     let rest = c.loop-end.rest.now in
     let plain = no_feed rest c.in_default.ensures in
-    on_ok_weaker c.keep.result (λ kept. so_far_hears _ _ _ _ c.args.piece.now rest c.loop-end.invariant c.keep.new.self plain kept c.keep.ensures.lines) c.keep.ensures.ok
+    on_ok_weaker c.keep.result (λ kept. so_far_hears _ _ _ _ c.args.piece.now rest c.loop-end.invariant c.keep.new.self plain kept
+    c.keep.ensures.lines) c.keep.ensures.ok
 
 pub returns-clause-err : goal.returns-clause-err
 returns-clause-err c =

@@ -12,7 +12,11 @@ pub returns-then-is_begun-clause-ok : goal.returns-then-is_begun-clause-ok
 returns-then-is_begun-clause-ok g c = rw (feed_of_some c.args.self.now.hearing.kept.items (c.is_begun.ensures.0 c.if-is_begun.true)) c.serve.ensures.ok
 
 pub returns-else-is_begun-clause-err : goal.returns-else-is_begun-clause-err
-returns-else-is_begun-clause-err g c = rw (feed_of_none c.args.self.now.hearing.kept.items (λ some. absurd (never_both (c.is_begun.ensures.1 some) c.if-is_begun.false))) c.serve-else-is_begun.ensures.err
+returns-else-is_begun-clause-err g c = rw
+    (feed_of_none c.args.self.now.hearing.kept.items (λ some. absurd (never_both (c.is_begun.ensures.1 some) c.if-is_begun.false)))
+    c.serve-else-is_begun.ensures.err
 
 pub returns-else-is_begun-clause-ok : goal.returns-else-is_begun-clause-ok
-returns-else-is_begun-clause-ok g c = rw (feed_of_none c.args.self.now.hearing.kept.items (λ some. absurd (never_both (c.is_begun.ensures.1 some) c.if-is_begun.false))) c.serve-else-is_begun.ensures.ok
+returns-else-is_begun-clause-ok g c = rw
+    (feed_of_none c.args.self.now.hearing.kept.items (λ some. absurd (never_both (c.is_begun.ensures.1 some) c.if-is_begun.false)))
+    c.serve-else-is_begun.ensures.ok

@@ -8,11 +8,18 @@ use Rattle.diag_live.proofs.serving.Serving.serve.Goals as goal
 pub returns-in_err-ticks-clause-err : goal.returns-in_err-ticks-clause-err
 returns-in_err-ticks-clause-err g c =
     let p = err_from_is_err_and c.from_residual.result c.from_residual.ensures.1 in
-    rw (p.1, p.2) ([], Appends-nil (g.W.Write.contents c.args.out.now), ([], Appends-nil (g.R.Write.contents c.args.recorder.now), refused_halts c.args.self.now c.args.piece.now))
+    rw (p.1, p.2) (
+      [],
+      Appends-nil (g.W.Write.contents c.args.out.now),
+      ([], Appends-nil (g.R.Write.contents c.args.recorder.now), refused_halts c.args.self.now c.args.piece.now),
+    )
 
 pub returns-in-Err-Memory-clause-err : goal.returns-in-Err-Memory-clause-err
-returns-in-Err-Memory-clause-err g c =
-    ([], Appends-nil (g.W.Write.contents c.args.out.now), ([], Appends-nil (g.R.Write.contents c.args.recorder.now), refused_halts c.args.self.now c.args.piece.now))
+returns-in-Err-Memory-clause-err g c = (
+  [],
+  Appends-nil (g.W.Write.contents c.args.out.now),
+  ([], Appends-nil (g.R.Write.contents c.args.recorder.now), refused_halts c.args.self.now c.args.piece.now),
+)
 
 pub returns-in-Ok-clause-ok : goal.returns-in-Ok-clause-ok
 returns-in-Ok-clause-ok g c =
@@ -24,7 +31,8 @@ returns-in-Ok-clause-ok g c =
         d.2.0,
         d.2.1,
         serve_goes_on c.pass.new.self.hearing t.0 c.in_ok-ticks.ticks c.pass.new.self.text.items c.take_piece.new.text.items c.args.piece.now t.1 t.2
-            c.args.self.now c.pass.new.self.capture c.pass.ensures.hearing c.pass.ensures.capture c.deliver.new.self c.take_piece.new.self c.in-Ok.ensures.ok c.deliver.ensures.hearing d.0 d.2.0 d.2.2,
+            c.args.self.now c.pass.new.self.capture c.pass.ensures.hearing c.pass.ensures.capture c.deliver.new.self c.take_piece.new.self
+            c.in-Ok.ensures.ok c.deliver.ensures.hearing d.0 d.2.0 d.2.2,
       ),
     ))
     c.deliver.ensures.ok
@@ -32,7 +40,8 @@ returns-in-Ok-clause-ok g c =
 pub returns-in-Ok-clause-err : goal.returns-in-Ok-clause-err
 returns-in-Ok-clause-err g c =
     let t = c.in_ok-ticks.ensures.text in
-    let place : c.saturating_add-first.result ≡ min (c.pass.new.self.capture.lines + c.in_ok-ticks.ticks) (2 ^ 64 - 1) = omega (arith, c.saturating_add-first.ensures, c.lines.ensures) in
+    let place : c.saturating_add-first.result ≡ min (c.pass.new.self.capture.lines + c.in_ok-ticks.ticks) (2 ^ 64 - 1) =
+    omega (arith, c.saturating_add-first.ensures, c.lines.ensures) in
     IfErr-weaker c.deliver.result _ _ (λ came u. (
       u.0,
       u.1,
@@ -49,7 +58,8 @@ returns-in-Ok-clause-err g c =
 pub returns-in-Err-clause-err : goal.returns-in-Err-clause-err
 returns-in-Err-clause-err g c =
     let t = c.in_ok-ticks.ensures.text in
-    let place : c.saturating_add-first.result ≡ min (c.pass.new.self.capture.lines + c.in_ok-ticks.ticks) (2 ^ 64 - 1) = omega (arith, c.saturating_add-first.ensures, c.lines.ensures) in
+    let place : c.saturating_add-first.result ≡ min (c.pass.new.self.capture.lines + c.in_ok-ticks.ticks) (2 ^ 64 - 1) =
+    omega (arith, c.saturating_add-first.ensures, c.lines.ensures) in
     let u = c.in-Err.ensures.err in (
       u.0,
       u.1,
@@ -58,7 +68,8 @@ returns-in-Err-clause-err g c =
         u.2.1,
         bad_serve_halts c.pass.new.self.hearing t.0 c.in_ok-ticks.ticks c.pass.new.self.text.items c.take_piece.new.text.items c.args.piece.now t.1 t.2
             c.args.self.now c.pass.new.self.capture c.pass.ensures.hearing c.pass.ensures.capture c.in-Err-Line.number c.in-Err-Line.fault
-            (subst (Refuses c.pass.new.self.hearing c.args.piece.now c.pass.new.self.text.items c.take_piece.new.text.items) c.in-Err-Line.field-0-is c.in-Err-Line.ensures.err)
+            (subst (Refuses c.pass.new.self.hearing c.args.piece.now c.pass.new.self.text.items c.take_piece.new.text.items) c.in-Err-Line.field-0-is
+            c.in-Err-Line.ensures.err)
             c.lines-heard.result c.saturating_add-first.result c.lines-heard.ensures place u.0 u.2.0 c.in-Err.earlier u.2.2,
       ),
     )
@@ -73,8 +84,10 @@ returns-in_default-clause-err g c =
         d.2.0,
         d.2.1,
         bad_line_halts c.pass.new.self.hearing t.0 c.in_ok-ticks.ticks c.pass.new.self.text.items c.take_piece.new.text.items c.args.piece.now t.1 t.2
-            c.args.self.now c.pass.new.self.capture c.pass.ensures.hearing c.pass.ensures.capture c.deliver-in-Err-Line.new.self c.in-Err-Line.number c.in-Err-Line.fault
-            (subst (Refuses c.pass.new.self.hearing c.args.piece.now c.pass.new.self.text.items c.take_piece.new.text.items) c.in-Err-Line.field-0-is c.in-Err-Line.ensures.err)
+            c.args.self.now c.pass.new.self.capture c.pass.ensures.hearing c.pass.ensures.capture c.deliver-in-Err-Line.new.self c.in-Err-Line.number
+            c.in-Err-Line.fault
+            (subst (Refuses c.pass.new.self.hearing c.args.piece.now c.pass.new.self.text.items c.take_piece.new.text.items) c.in-Err-Line.field-0-is
+            c.in-Err-Line.ensures.err)
             d.0 d.2.0 d.2.2,
       ),
     )

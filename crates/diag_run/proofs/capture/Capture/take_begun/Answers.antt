@@ -11,7 +11,8 @@ returns-in-Err-clause-err g c =
     let capture = c.args.self.now in
     let bytes = c.args.bytes.now in
     let kept : HaltsIn capture c.in-Err.fault bytes capture.text.items =
-    subst (λ (b : List ℕ). HaltsIn capture c.in-Err.fault b capture.text.items) (append-nil bytes) (keep_halts capture bytes [] c.in-Err.fault c.requires.line c.in-Err.ensures.err) in (
+    subst (λ (b : List ℕ). HaltsIn capture c.in-Err.fault b capture.text.items) (append-nil bytes)
+    (keep_halts capture bytes [] c.in-Err.fault c.requires.line c.in-Err.ensures.err) in (
       c.stop.ensures.0,
       c.stop.ensures.1,
       answered_halts capture c.in-Err.fault c.stop.result bytes capture.text.items c.stop.ensures.0 kept c.stop.ensures.2,

@@ -9,7 +9,8 @@ pub returns-in-Err-clause-err : goal.returns-in-Err-clause-err
 returns-in-Err-clause-err g c = (
   c.stop.ensures.0,
   c.stop.ensures.1,
-  answered_halts c.args.self.now c.in-Err.fault c.stop.result (c.args.bytes.now ++ 10 ∷ []) c.end_line.new.self.text.items c.stop.ensures.0 c.in-Err.ensures.err c.stop.ensures.2,
+  answered_halts c.args.self.now c.in-Err.fault c.stop.result (c.args.bytes.now ++ 10 ∷ []) c.end_line.new.self.text.items c.stop.ensures.0
+      c.in-Err.ensures.err c.stop.ensures.2,
 )
 
 pub returns-then-len-gt-TEXT_LIMIT-clause-ok : goal.returns-then-len-gt-TEXT_LIMIT-clause-ok

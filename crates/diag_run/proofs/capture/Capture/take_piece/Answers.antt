@@ -23,12 +23,14 @@ pub take_begun-requires-clause-line : goal.take_begun-requires-clause-line
 take_begun-requires-clause-line g c = no_feed c.loop-end.rest.now c.in_default.ensures
 
 pub returns-clause-ok : goal.returns-clause-ok
-returns-clause-ok g c = on_ok_weaker c.take_begun.result (so_far_done _ _ _ _ _ c.args.piece.now c.loop-end.rest.now c.loop-end.invariant c.take_begun.new.self) c.take_begun.ensures.ok
+returns-clause-ok g c = on_ok_weaker c.take_begun.result
+    (so_far_done _ _ _ _ _ c.args.piece.now c.loop-end.rest.now c.loop-end.invariant c.take_begun.new.self) c.take_begun.ensures.ok
 
 pub returns-clause-err : goal.returns-clause-err
 returns-clause-err g c =
     IfErr-weaker c.take_begun.result _ _
-    (λ fault halts. so_far_halts _ _ _ _ _ c.args.piece.now c.loop-end.rest.now c.loop-end.invariant fault c.loop-end.rest.now [] (sym (append-nil c.loop-end.rest.now)) halts)
+    (λ fault halts. so_far_halts _ _ _ _ _ c.args.piece.now c.loop-end.rest.now c.loop-end.invariant fault c.loop-end.rest.now []
+    (sym (append-nil c.loop-end.rest.now)) halts)
     c.take_begun.ensures.err
 
 pub returns-in-Err-clause-err : goal.returns-in-Err-clause-err

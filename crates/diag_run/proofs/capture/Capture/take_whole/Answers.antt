@@ -13,4 +13,5 @@ returns-clause-ok c =
     let line = c.args.line.now in
     let whole : line ≡ c.args.self.now.kept.items ++ line = ap (λ (k : List ℕ). k ++ line) (sym c.requires.none) in
     let gave = c.in_default.ensures.ok in
-    line_goes_on c.args.self.now _ c.give.ensures.setup c.give.ensures.output line line gave.more c.requires.line whole gave.holds c.requires.none refl gave.grown
+    line_goes_on c.args.self.now _ c.give.ensures.setup c.give.ensures.output line line gave.more c.requires.line whole gave.holds c.requires.none
+    refl gave.grown
