@@ -1,5 +1,6 @@
 -- Beginnings of a journal, the entries of one tester, and lists read by `get_elem?`.
-use Rattle.std.proofs.Common.{◌≡◌, ◌⊎◌, inl, inr, ℕ, zero, suc, ◌+◌, ◌≤◌, ◌<◌, eqb, leb, Bool, true, false, cond, List, [], ◌∷◌, ◌++◌, length, get_or, set, refl, sym, ap, ◌∙◌, arith, append_assoc, append-nil, eq-eqb, Some, None}
+use Rattle.std.proofs.Common.{◌≡◌, ◌⊎◌, inl, inr, ℕ, zero, suc, ◌+◌, ◌≤◌, ◌<◌, eqb, leb, true, false, cond, List, [], ◌∷◌, ◌++◌, length, get_or, set, refl, sym, ap, ◌∙◌, arith, append_assoc, append-nil, eq-eqb, Some, None}
+use Rattle.std.proofs.lemmas.List.Elements.{filter-append}
 use mathlib.Core.Option.{some, some-ne-none}
 use lib.ListN.{get_elem?}
 use Rattle.diag_desk.specs.Entries.{BeginsWith}
@@ -46,13 +47,8 @@ longer_begins journal xs ys a b = elim (leb (length xs) (length ys)) as (λ t. B
 pub shorter_begins : (journal xs ys : List Entry) → BeginsWith journal xs → BeginsWith journal ys → BeginsWith journal (shorter xs ys)
 shorter_begins journal xs ys a b = elim (leb (length xs) (length ys)) as (λ t. BeginsWith journal (cond t xs ys)) [ true ↦ a | false ↦ b ]
 
-put_first : (b : Bool) (e : Entry) (xs ys : List Entry) → cond b (e ∷ (xs ++ ys)) (xs ++ ys) ≡ cond b (e ∷ xs) xs ++ ys
-put_first true e xs ys = refl
-put_first false e xs ys = refl
-
 pub own-append : (t : ℕ) (xs ys : List Entry) → owned t (xs ++ ys) ≡ owned t xs ++ owned t ys
-own-append t [] ys = refl
-own-append t (x ∷ xs) ys = ap (λ l. cond (eqb x.who t) (x ∷ l) l) (own-append t xs ys) ∙ put_first (eqb x.who t) x (owned t xs) (owned t ys)
+own-append t xs ys = filter-append (λ (e : Entry). eqb e.who t) xs ys
 
 pub own_same : (t : ℕ) (e : Entry) → e.who ≡ t → owned t (e ∷ []) ≡ e ∷ []
 own_same t e is = ap (λ b. cond b (e ∷ []) []) (eq-eqb e.who t is)

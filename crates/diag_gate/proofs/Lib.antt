@@ -3,4 +3,3 @@ pub mod Begins
 pub mod Keeps
 pub mod Hosts
 pub mod Steps
-pub mod Quiet

@@ -56,6 +56,7 @@ impl DeskBox {
         ensures full { (result ≡ Err StepFault.JournalFull) ↔ (length self.old.journal ≡ 1000000) }
         ensures ticks_unanswered { IfOk result (λ reply. HasNoReply step.now reply) }
     {
-        self.desk.step(who, step)
+        let reply = self.desk.step(who, step)?;
+        Ok(reply)
     }
 }

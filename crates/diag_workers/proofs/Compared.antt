@@ -1,33 +1,26 @@
 -- One tester's entries, compared place by place.
-use Rattle.std.proofs.Common.{◌≡◌, ℕ, zero, suc, ◌+◌, true, false, cond, Some, None, List, [], ◌∷◌, ◌++◌, take, drop, ap, sym, ◌∙◌, append_assoc}
-use Rattle.std.proofs.lemmas.List.{append-nil, append_cancel_left, take-append-drop, take_more}
-use Rattle.std.proofs.Math.Seq.{drop-nil}
-use Rattle.std.proofs.lemmas.List.Elements.{filter-append}
-use Rattle.std.proofs.lemmas.Option.{slice_get_within, get_or_from_slice_get}
+use Rattle.std.proofs.Common.{◌≡◌, inl, inr, ℕ, zero, suc, ◌+◌, true, false, cond, Some, None, List, [], ◌∷◌, ◌++◌, take, drop, ap, sym, ◌∙◌, append_assoc}
+use Rattle.std.proofs.lemmas.List.{append-nil, append_cancel_left, drop_all, take-append-drop}
+use Rattle.std.proofs.lemmas.Option.{slice_get_cases}
 use Rattle.std.specs.Prelude.{◌==◌, slice_get}
 use Rattle.diag_desk.specs.declared.entry.Entry.{Entry}
 use Rattle.diag_desk.specs.Entries.{own}
-
--- one more item
-pub take_next : {X : Type 0} (xs : List X) (i : ℕ) (x : X) → slice_get xs i ≡ Some x → take (i + 1) xs ≡ take i xs ++ x ∷ []
-take_next xs i x h = take_more xs i x (slice_get_within xs i x h) ∙ ap (λ y. take i xs ++ y ∷ []) (get_or_from_slice_get xs i x x h)
+use Rattle.diag_desk.proofs.Runs.{take_one}
+use Rattle.diag_world.proofs.Worlds.{own-append}
 
 -- the rest from an item on
-pub drop_next : {X : Type 0} (xs : List X) (i : ℕ) (x : X) → slice_get xs i ≡ Some x → drop i xs ≡ x ∷ drop (i + 1) xs
+pub drop_next : (xs : List Entry) (i : ℕ) (x : Entry) → slice_get xs i ≡ Some x → drop i xs ≡ x ∷ drop (i + 1) xs
 drop_next xs i x h =
     append_cancel_left (take i xs) (drop i xs) (x ∷ drop (i + 1) xs)
-    (take-append-drop i xs ∙ (sym (take-append-drop (i + 1) xs) ∙ (ap (λ w. w ++ drop (i + 1) xs) (take_next xs i x h) ∙ append_assoc (take i xs) (x ∷ []) (drop (i + 1) xs))))
-
-own-append : (xs ys : List Entry) (t : ℕ) → own (xs ++ ys) t ≡ own xs t ++ own ys t
-own-append xs ys t = filter-append (λ (e : Entry). e.who == t) xs ys
+    (take-append-drop i xs ∙ (sym (take-append-drop (i + 1) xs) ∙ (ap (λ w. w ++ drop (i + 1) xs) (take_one xs i x h) ∙ append_assoc (take i xs) (x ∷ []) (drop (i + 1) xs))))
 
 pub own_skips : (journal : List Entry) (t i : ℕ) (x : Entry) → slice_get journal i ≡ Some x → (x.who == t) ≡ false → own (take (i + 1) journal) t ≡ own (take i journal) t
 own_skips journal t i x at apart =
-    ap (λ w. own w t) (take_next journal i x at) ∙ (own-append (take i journal) (x ∷ []) t ∙ (ap (λ b. own (take i journal) t ++ cond b (x ∷ []) []) apart ∙ append-nil (own (take i journal) t)))
+    ap (λ w. own w t) (take_one journal i x at) ∙ (own-append (take i journal) (x ∷ []) t ∙ (ap (λ b. own (take i journal) t ++ cond b (x ∷ []) []) apart ∙ append-nil (own (take i journal) t)))
 
 pub own_takes : (journal : List Entry) (t i : ℕ) (x : Entry) → slice_get journal i ≡ Some x → (x.who == t) ≡ true → own (take (i + 1) journal) t ≡ own (take i journal) t ++ x ∷ []
 own_takes journal t i x at mine =
-    ap (λ w. own w t) (take_next journal i x at) ∙ (own-append (take i journal) (x ∷ []) t ∙ ap (λ b. own (take i journal) t ++ cond b (x ∷ []) []) mine)
+    ap (λ w. own w t) (take_one journal i x at) ∙ (own-append (take i journal) (x ∷ []) t ∙ ap (λ b. own (take i journal) t ++ cond b (x ∷ []) []) mine)
 
 -- the tester's entries from its entry at i on
 own_from : (journal : List Entry) (t i : ℕ) (x : Entry) → slice_get journal i ≡ Some x → (x.who == t) ≡ true → own journal t ≡ own (take i journal) t ++ x ∷ own (drop (i + 1) journal) t
@@ -43,12 +36,7 @@ kept_from journal kept t i next x at mine same whole =
     (take-append-drop next kept ∙ (whole ∙ (own_from journal t i x at mine ∙ ap (λ w. w ++ x ∷ own (drop (i + 1) journal) t) (sym same))))
 
 drop_none : {X : Type 0} (xs : List X) (n : ℕ) → slice_get xs n ≡ None → drop n xs ≡ []
-drop_none [] n h = drop-nil n
-drop_none (x ∷ xs) zero h = absurd (clash h)
-  where
-    clash : Some x ≡ None → ⊥
-    clash h = cc
-drop_none (x ∷ xs) (suc n) h = drop_none xs n h
+drop_none xs n h = elim (slice_get_cases xs n).1 [ inl p ↦ (let there = p.2 in absurd cc) | inr p ↦ drop_all n xs p.0 ]
 
 pub none_left : (journal kept : List Entry) (t i next : ℕ) (x : Entry) → slice_get journal i ≡ Some x → (x.who == t) ≡ true → take next kept ≡ own (take i journal) t
     → slice_get kept next ≡ None → kept ≡ own journal t → ⊥

@@ -27,6 +27,7 @@ use Rattle.diag_gate.specs.Seats.{SeatView, HostView, of_host, new_host, AllHome
 use Rattle.diag_workers.specs.declared.working.WorkerRecord.{WorkerRecord}
 use Rattle.diag_workers.specs.Crew.{AllWorked, Worked}
 use Rattle.diag_workers.specs.Seating.{Out, Back}
+use Rattle.diag_gate.proofs.Begins.{owns_there}
 use Rattle.diag_workers.proofs.Recording.{asks_of}
 
 -- ---- seats of one gate, of testers in order
@@ -179,16 +180,6 @@ own_outside [] t all out = refl
 own_outside (e ∷ es) t all out =
     let not : e.who ≢ t = λ is. elim out [ inl low ↦ omega (arith, low, is, all.0.0) | inr high ↦ omega (arith, high, is, all.0.1) ] in
     past_reads e.who t (List Entry) (e ∷ own es t) (own es t) not ∙ own_outside es t all.1 out
-
--- ---- the host's lists
-
-owns_there : (k n t : ℕ) (journal : List Entry) → t < n → get_or (owns_from k n journal) t None ≡ Some (own journal (k + t))
-owns_there k zero t journal h = absurd (omega arith)
-owns_there k (suc n) zero journal h = let same : k ≡ k + 0 = omega arith in ap (λ (u : ℕ). Some (own journal u)) same
-owns_there k (suc n) (suc t) journal h =
-    let same : suc k + t ≡ k + suc t = omega arith in
-    let low : t < n = omega arith in
-    owns_there (suc k) n t journal low ∙ ap (λ (u : ℕ). Some (own journal u)) same
 
 -- at the beginning the host has every tester, and nobody has an entry
 pub record Opened (setup : RawSetup) (h : HostView) : Type 0 where

@@ -1,20 +1,11 @@
 -- One seat more given out.
 use Rattle.std.proofs.Common.{◌≡◌, ◌≢◌, ◌⊎◌, inl, inr, ℕ, zero, suc, ◌+◌, ◌<◌, List, [], ◌∷◌, ◌++◌, length, get_or, set, refl, sym, ap, ◌∙◌, arith, None, true, false, get_or-set_other, length-append, length-set}
+use Rattle.std.proofs.Math.ListN.{get_or-append}
+use Rattle.std.proofs.Math.Seq.{get_or-append_seam}
 use mathlib.Core.Logic.{dite}
 use native.Mathlib.Decide.{ℕ_discrete}
 use Rattle.diag_gate.specs.Seats.{SeatView, HostView, of_host, fresh, Gave}
 use Rattle.diag_workers.specs.Seating.{Out}
-
-front_reads : {A : Type 0} → (xs ys : List A) (k : ℕ) (d : A) → k < length xs → get_or (xs ++ ys) k d ≡ get_or xs k d
-front_reads [] ys k d h = absurd (omega arith)
-front_reads (x ∷ xs) ys zero d h = refl
-front_reads (x ∷ xs) ys (suc k) d h = front_reads xs ys k d (omega arith)
-
-last_reads : {A : Type 0} → (xs : List A) (y : A) (k : ℕ) (d : A) → length xs ≡ k → get_or (xs ++ y ∷ []) k d ≡ y
-last_reads [] y zero d e = refl
-last_reads [] y (suc k) d e = absurd (omega arith)
-last_reads (x ∷ xs) y zero d e = absurd (omega arith)
-last_reads (x ∷ xs) y (suc k) d e = last_reads xs y k d (omega arith)
 
 later : (t k : ℕ) → (t ≡ 0) ⊎ (k + 1 < t) → (t ≡ 0) ⊎ (k < t)
 later t k (inl e) = inl e
@@ -35,8 +26,8 @@ out_more h n m k seats s o g =
       wide = ap length owns ∙ length-set n.owns (k + 1) None ∙ o.wide;
       many = length-append seats (s ∷ []) ∙ ap (λ (x : ℕ). x + 1) many;
       each = λ j d low. dite (ℕ_discrete j k)
-          (λ e. (g.mine, ap (λ (x : ℕ). of_host h (x + 1)) e ∙ sym at.0 ∙ g.had, last_reads seats s j d (many ∙ sym e) ∙ s_is ∙ ap (λ (x : ℕ). fresh h (x + 1) g.mine) (sym e)))
-          (λ not. let f = o.each j d (omega arith) in (f.0, f.1, front_reads seats (s ∷ []) j d (omega arith) ∙ f.2));
+          (λ e. (g.mine, ap (λ (x : ℕ). of_host h (x + 1)) e ∙ sym at.0 ∙ g.had, (ap (λ (x : ℕ). get_or (seats ++ s ∷ []) x d) (e ∙ sym many) ∙ get_or-append_seam seats s [] d) ∙ s_is ∙ ap (λ (x : ℕ). fresh h (x + 1) g.mine) (sym e)))
+          (λ not. let f = o.each j d (omega arith) in (f.0, f.1, get_or-append seats (s ∷ []) d j (omega arith) ∙ f.2));
       rest = λ t e. let r = o.rest t (later t k e) in (
         ap (λ l. get_or l t None) owns ∙ get_or-set_other n.owns (k + 1) t None None (other t k e) ∙ r.0,
         ap (λ l. get_or l t false) given ∙ get_or-set_other n.given (k + 1) t true false (other t k e) ∙ r.1,

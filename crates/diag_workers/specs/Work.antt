@@ -9,7 +9,7 @@ use Rattle.diag_tp.specs.Placing.{drawn}
 use Rattle.diag_desk.specs.declared.entry.Entry.{Entry}
 use Rattle.diag_desk.specs.Entry.{Kept}
 use Rattle.diag_desk.specs.Entries.{asked, asked_by, replies}
-use Rattle.diag_world.specs.Channel.{ChannelState, ChannelStands}
+use Rattle.diag_world.specs.Channel.{ChannelState, ChannelStands, GoesOn}
 use Rattle.diag_world.specs.Weaving.{all_by}
 
 -- a tester's door that was asked for some of the events' steps, in order, each once, from the first on
@@ -41,6 +41,15 @@ pub record WorkerStands (s : LinkSetup) (who : ℕ) (channel : ChannelState) (E 
   pub mine : AreBy who entries
   pub short : length entries ≤ length E
   pub kept : P entries
+
+-- A worker took an event: its door has given the entries that the event asks for, P' is kept where P was before, and
+-- with these entries the channel went on.
+pub record WorkerTook (who : ℕ) (old new : ChannelState) (e : Event) (before after : List Entry)
+    (P P' : List Entry → Type 0) : Type 0 where
+  pub entries : List Entry
+  pub given : after ≡ before ++ entries
+  pub goes_on : GoesOn who old new e entries
+  pub kept : (K : List Entry) → P K → P' (K ++ entries)
 
 -- A worker played a log: its door has given entries more than before, which are what the log asks for its tester, the
 -- frames are those of their replies, and P holds of them.

@@ -1,15 +1,12 @@
 //! One tester's worker.
-ghost use Rattle.std.specs.Prelude.{◌≡◌, ◌≤◌, ◌<◌, List, [], ◌∷◌, ◌++◌, length, IfOk, OnOk, OnErr};
-ghost use Rattle.diag_can.specs.declared.frame.Event.{Event as AnEvent};
-ghost use Rattle.diag_tp.specs.declared.setup.LinkSetup.{LinkSetup as ALinkSetup};
+ghost use Rattle.std.specs.Prelude.{◌≡◌, ◌≤◌, [], ◌++◌, length, IfOk, OnOk, OnErr};
 ghost use Rattle.diag_tp.specs.Gives.{steps};
 ghost use Rattle.diag_tp.specs.Placing.{drawn};
 ghost use Rattle.diag_setup.specs.Setup.{link_of};
-ghost use Rattle.diag_desk.specs.declared.entry.Entry.{Entry as AnEntry};
 ghost use Rattle.diag_desk.specs.Entries.{asked_by, replies};
 ghost use Rattle.diag_world.specs.Channel.{due, channel_of, ChannelStands};
 ghost use Rattle.diag_world.specs.Weaving.{all_by};
-ghost use Rattle.diag_workers.specs.Work.{AskedSome, CanKeep, PlayedLog, WorkerStands};
+ghost use Rattle.diag_workers.specs.Work.{AskedSome, CanKeep, PlayedLog, WorkerTook};
 
 use crate::keeping::Keep;
 use diag_can::Event;
@@ -111,12 +108,10 @@ impl<K: Keep> Worker<K> {
     fn take<D: Door>(&mut self, event: &Event, door: &mut D) -> Result<(), StepFault>
         requires drained { due (channel_of self.old.channel) ≡ 0 }
         requires limit { CanKeep K.keeps self.old.entries }
-        ensures stands { OnOk result ((s : ALinkSetup) (E : List AnEvent) (before : List AnEntry)
-            → length E ≤ 1000000
-            → WorkerStands s (D.tester door.old) (channel_of self.old.channel) E before
-            (D.given door.old) (K.keeps self.old.entries)
-            → WorkerStands s (D.tester door.old) (channel_of self.new.channel) (E ++ event.now ∷ [])
-            before (D.given door.new) (K.keeps self.new.entries)) }
+        ensures took { OnOk result (WorkerTook (D.tester door.old)
+            (channel_of self.old.channel) (channel_of self.new.channel) event.now
+            (D.given door.old) (D.given door.new)
+            (K.keeps self.old.entries) (K.keeps self.new.entries)) }
         ensures drained { OnOk result (due (channel_of self.new.channel) ≡ 0) }
         ensures refused { OnErr result (D.given door.new ≡ D.given door.old) }
         ensures tester { D.tester door.new ≡ D.tester door.old }

@@ -72,7 +72,8 @@ stands_begin setup channels many all = record {
 }
 
 -- a tester's channel, in a world
-module _ (desk : Run) (items : List Channel) (i : ℕ) {w : WorldState} {who : ℕ} {channel : Channel} (seen : world_of desk (map channel_of items) ≡ w) (within : who ≤ length w.sent) (is : who ≡ i + 1) (read : channel ≡ get_or items i channel) where
+module _ (desk : Run) (items : List Channel) (i : ℕ) {w : WorldState} {who : ℕ} {channel : Channel} (seen : world_of desk (map channel_of items) ≡ w)
+    (within : who ≤ length w.sent) (is : who ≡ i + 1) (read : channel ≡ get_or items i channel) where
   pub found : slice_get (map channel_of items) i ≡ Some (channel_of channel)
   found =
       let low : i < length items = omega (arith, within, ap (λ x. length x.sent) seen, length-map (map channel_of items) sent, length-map items channel_of, is) in
@@ -80,10 +81,13 @@ module _ (desk : Run) (items : List Channel) (i : ℕ) {w : WorldState} {who : �
 
   -- what it was sent
   pub frames_of : (setup : RawSetup) (M : List (ℕ × Event)) → Stands setup w M → (channel_of channel).sent ≡ sent_to setup M w.desk.journal who
-  frames_of setup M h = h.frames i _ (subst (λ x. slice_get x.sent i ≡ Some (channel_of channel).sent) seen (slice_get-map sent (map channel_of items) i ∙ ap (option_map sent) found)) ∙ ap (sent_to setup M w.desk.journal) (sym is)
+  frames_of setup M h =
+      let at = slice_get-map sent (map channel_of items) i ∙ ap (option_map sent) found in
+      h.frames i _ (subst (λ x. slice_get x.sent i ≡ Some (channel_of channel).sent) seen at) ∙ ap (sent_to setup M w.desk.journal) (sym is)
 
   -- it stands for the tester's events and entries
-  pub channel_stands : (setup : RawSetup) (M : List (ℕ × Event)) → IsJournal desk.journal → Stands setup w M → ChannelStands (link_of setup who) (channel_of channel) (items_of M who) (own desk.journal who)
+  pub channel_stands : (setup : RawSetup) (M : List (ℕ × Event)) → IsJournal desk.journal → Stands setup w M
+      → ChannelStands (link_of setup who) (channel_of channel) (items_of M who) (own desk.journal who)
   channel_stands setup M journal h =
       let h0 = subst (λ x. Stands setup x M) (sym seen) h in
       let all = frames_of setup M h ∙ ap (λ x. sent_to setup M x.desk.journal who) (sym seen) in
@@ -96,32 +100,40 @@ module _ (desk : Run) (items : List Channel) (i : ℕ) {w : WorldState} {who : �
       }
 
   -- an event more of the tester
-  pub world_takes : (setup : RawSetup) (M : List (ℕ × Event)) (e : Event) (desk' : Run) (channel' : Channel) → IsJournal desk.journal → Took desk desk' who e (channel_of channel) (channel_of channel') → Stands setup w M
+  pub world_takes : (setup : RawSetup) (M : List (ℕ × Event)) (e : Event) (desk' : Run) (channel' : Channel) → IsJournal desk.journal
+      → Took desk desk' who e (channel_of channel) (channel_of channel') → Stands setup w M
       → Stands setup (world_of desk' (map channel_of (set items i channel'))) (M ++ (who, e) ∷ [])
   world_takes setup M e desk' channel' journal took h =
       let J = desk.journal in
       let more = took.entries in
       let M' = M ++ (who, e) ∷ [] in
       let h0 = subst (λ x. Stands setup x M) (sym seen) h in
+      let s = link_of setup who in
+      let c' = channel_of channel' in
+      let desk1 : Run = record { opening = desk.opening; journal = J ++ more } in
       let few : length (own J who) ≤ 1000000 = omega (arith, journal.1, length-filter_both (λ (k : Entry). k.who == who) (λ k. not (k.who == who)) (λ k. refl) J) in
-      let next = took.goes_on (link_of setup who) (items_of M who) (own J who) (channel_stands setup M journal h) few in
+      let next = took.goes_on s (items_of M who) (own J who) (channel_stands setup M journal h) few in
       let written = map-set channel_of items i channel' in
       let new : List ChannelState = map channel_of (set items i channel') in
-      let links = ap (map link) written ∙ map-set link (map channel_of items) i (channel_of channel') in
-      let sents = ap (map sent) written ∙ map-set sent (map channel_of items) i (channel_of channel') in
+      let links = ap (map link) written ∙ map-set link (map channel_of items) i c' in
+      let sents = ap (map sent) written ∙ map-set sent (map channel_of items) i c' in
       subst (λ (d : Run). Legal d.opening d.journal → Stands setup (world_of d new) M') (sym took.grown)
       (λ legal. record {
         opening = h0.opening;
-        serves = serves_more setup M J more who e next.0 (world_of desk (map channel_of items)).server (world_of (record { opening = desk.opening; journal = J ++ more }) new).server i (channel_of channel').link h0.serves is links
-            (subst (λ s. Legal s (J ++ more)) h0.opening legal) (ap (λ s. after s (J ++ more)) h0.opening) (port_of (link_of setup who) (channel_of channel') (items_of M who ++ e ∷ []) (own J who ++ more) next.1);
-        testers = ap length sents ∙ (length-set (map sent (map channel_of items)) i (channel_of channel').sent ∙ h0.testers);
-        frames = λ j frames at. elim (set_cases (map sent (map channel_of items)) i j (channel_of channel').sent frames (rw sents at at)) [
-          | inl p ↦ (let place : j + 1 ≡ who = omega (arith, is, p.0) in rw (place, p.1, items_mine M who e, own_more setup M J more who e next.0) next.1.all_sent)
+        serves = serves_more setup M J more who e next.0 (world_of desk (map channel_of items)).server (world_of desk1 new).server i c'.link h0.serves is links
+            (subst (λ o. Legal o (J ++ more)) h0.opening legal) (ap (λ o. after o (J ++ more)) h0.opening)
+            (port_of s c' (items_of M who ++ e ∷ []) (own J who ++ more) next.1);
+        testers = ap length sents ∙ (length-set (map sent (map channel_of items)) i c'.sent ∙ h0.testers);
+        frames = λ j frames at. elim (set_cases (map sent (map channel_of items)) i j c'.sent frames (rw sents at at)) [
+          | inl p ↦ (
+              let place : j + 1 ≡ who = omega (arith, is, p.0) in
+              rw (place, p.1, items_mine M who e, own_more setup M J more who e next.0) next.1.all_sent)
           | inr p ↦ h0.frames j frames p.1 ∙ sym (sent_other setup M J more who e next.0 (j + 1) (other_place i j who is p.0))
         ];
       })
       took.legal
 
   -- an event that was refused
-  pub world_same : (desk' : Run) (channel' : Channel) → desk' ≡ desk → channel_of channel' ≡ channel_of channel → world_of desk' (map channel_of (set items i channel')) ≡ w
+  pub world_same : (desk' : Run) (channel' : Channel) → desk' ≡ desk → channel_of channel' ≡ channel_of channel
+      → world_of desk' (map channel_of (set items i channel')) ≡ w
   world_same desk' channel' same kept = ap₂ world_of same (map-set_same channel_of items i channel' channel (kept ∙ ap channel_of read)) ∙ seen

@@ -1,6 +1,7 @@
 -- How a world goes on with one event more.
 use Rattle.std.proofs.Common.{◌≡◌, ◌≢◌, ℕ, zero, suc, ◌+◌, Bool, true, false, cond, Some, None, List, [], ◌∷◌, ◌++◌, length, map, refl, ap, ◌∙◌, arith, inl, inr}
 use Rattle.std.proofs.lemmas.List.{append-nil}
+use Rattle.std.proofs.lemmas.List.Elements.{filter-append}
 use Rattle.std.proofs.lemmas.Bool.{eq-eqb}
 use Rattle.std.proofs.lemmas.Bool.Decides.{nat_tests}
 use Rattle.std.specs.Prelude.{◌==◌, ◌⊎◌, nat_lt, slice_get, slice_set, Result, Ok, Err, OnOk, OnErr}
@@ -29,12 +30,7 @@ set_cases (y ∷ xs) (suc i) (suc j) v x h = elim (set_cases xs i j v x h) [
 ]
 
 pub own-append : (xs ys : List Entry) (t : ℕ) → own (xs ++ ys) t ≡ own xs t ++ own ys t
-own-append [] ys t = refl
-own-append (x ∷ xs) ys t = pick (x.who == t) (own-append xs ys t)
-  where
-    pick : (b : Bool) → own (xs ++ ys) t ≡ own xs t ++ own ys t → cond b (x ∷ own (xs ++ ys) t) (own (xs ++ ys) t) ≡ cond b (x ∷ own xs t) (own xs t) ++ own ys t
-    pick true h = ap (λ w. x ∷ w) h
-    pick false h = h
+own-append xs ys t = filter-append (λ (e : Entry). e.who == t) xs ys
 
 first_by : (k : Entry) (more : List Entry) (t : ℕ) (x : Step) (xs : List Step) → asked_by (k ∷ more) ≡ all_by t (x ∷ xs) → k.who ≡ t
 first_by k more t x xs h =

@@ -5,9 +5,6 @@ ghost use Rattle.std.specs.Prelude.{
   ◌≤◌,
   ◌<◌,
   ◌-◌,
-  ◌↔◌,
-  IsTrue,
-  IsSome,
   [],
   ◌∷◌,
   ◌++◌,
@@ -37,7 +34,7 @@ ghost use Rattle.diag_world.specs.Port.{Grew};
 ghost use Rattle.diag_world.specs.Server.{closing_time, entry_of_ticks, quiet_of, server_of, state_at, AllDrained, AreEarly, EachRun, IsAsked, IsClosed, PortAsked, PortSettled, Serves, Settled, Waited};
 
 use crate::passing::{let_pass, pass_quiet};
-use crate::port::{Prepared, gives_step, prepare, settle};
+use crate::port::{Prepared, prepare, settle};
 use diag_can::{Event, TickCount};
 use diag_desk::{Entry, reply_of, settle_step};
 use diag_ecu::Ecu;
@@ -115,16 +112,6 @@ impl Server {
             links.push_reserved(Link::new(alloc, setup.link(who)));
         }
         Ok(Server { ecu, links })
-    }
-
-    /// Whether an event of a tester gives a step.
-    pub fn gives_step(&self, who: TesterId, event: &Event) -> bool
-        requires in_setup { who ≤ length self.now.links }
-        ensures { EachRun (server_of self.now) (λ setup M K.
-            IsTrue result ↔ IsSome (gives (link_of setup who) (items_of M who) event.now)) }
-    {
-        let index = usize::from(who.place()) - 1;
-        gives_step(&self.links[index], event)
     }
 
     /// Makes room for an event of a tester, and answers the entry that it gives. Nothing else changes.

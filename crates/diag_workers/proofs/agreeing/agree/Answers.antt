@@ -1,7 +1,8 @@
 use Rattle.std.proofs.Common.{◌≡◌, ◌++◌, [], ◌∷◌, false, arith, sym, ap₂, ◌∙◌, refl}
 use Rattle.std.specs.Prelude.{IsTrue}
 use Rattle.diag_desk.specs.Entry.{entry_seen}
-use Rattle.diag_workers.proofs.Compared.{none_left, other_left, own_skips, own_takes, take_next}
+use Rattle.diag_desk.proofs.Runs.{take_one}
+use Rattle.diag_workers.proofs.Compared.{none_left, other_left, own_skips, own_takes}
 use Rattle.diag_workers.proofs.agreeing.agree.Goals as goal
 use Rattle.diag_workers.proofs.agreeing.agree.Goals.{then-eq+in-Some-get+else-not-is_same_entry, else-eq}
 use Rattle.std.proofs.lemmas.Option.{slice_get_within}
@@ -55,7 +56,7 @@ loop-i-preserved c =
           rw w.next-is (
           record {
             same =
-                take_next kept c.loop-i.next (entry_seen w.in-Some-get.known) (sym w.in-Some-get.ensures.same)
+                take_one kept c.loop-i.next (entry_seen w.in-Some-get.known) (sym w.in-Some-get.ensures.same)
                 ∙ (ap₂ (λ xs x. xs ++ x ∷ []) c.loop-i.invariant.same (sym same)
                 ∙ sym (own_takes journal c.args.who c.loop-i.i (entry_seen c.in-Some.entry) (sym c.in-Some.ensures.same) (sym w.if-eq.ensures)));
             within = omega (arith, slice_get_within kept c.loop-i.next (entry_seen w.in-Some-get.known) (sym w.in-Some-get.ensures.same));

@@ -1,4 +1,4 @@
-use Rattle.std.proofs.Common.{◌≡◌, ◌≤◌, ◌+◌, ◌++◌, ◌∷◌, [], ℕ, List, length, take, drop, ap, sym, subst, ◌∙◌, arith}
+use Rattle.std.proofs.Common.{◌≡◌, ◌≤◌, ◌+◌, ◌++◌, ◌∷◌, [], List, length, take, drop, ap, sym, subst, ◌∙◌, arith}
 use Rattle.std.proofs.lemmas.Grind.{common_steps}
 use Rattle.std.proofs.lemmas.List.{length-take-le, take_more}
 use Rattle.diag_can.specs.declared.frame.Event.{Event}
@@ -7,7 +7,7 @@ use Rattle.diag_workers.specs.Work.{WorkerStands}
 use Rattle.std.proofs.lemmas.Result.{err_from_is_err_and}
 use Rattle.diag_setup.specs.Setup.{link_of}
 use Rattle.diag_tp.specs.Gives.{steps_after}
-use Rattle.diag_workers.proofs.Recording.{asks_first_by, worker_done}
+use Rattle.diag_workers.proofs.Recording.{asks_first_by, worker_done, worker_more}
 use Rattle.diag_workers.proofs.working.work_keeping.Goals as goal
 
 pub returns-in_err-take-clause-refused : goal.returns-in_err-take-clause-refused
@@ -32,8 +32,7 @@ loop-event-preserved g c =
     let before = g.D.Door.given c.args.door.now in
     let tester : g.D.Door.tester c.loop-event.door ≡ c.args.who = c.loop-event.invariant.tester ∙ c.requires.own_door in
     let few : length (take i events) ≤ 1000000 = omega (arith, length-take-le i events (omega arith)) in
-    let old = subst (λ (w : ℕ). WorkerStands s w (channel_of c.loop-event.worker.channel) (take i events) before (g.D.Door.given c.loop-event.door) (g.K.Keep.keeps c.loop-event.worker.entries)) (sym tester) c.loop-event.invariant.stands in
-    let taken = subst (λ (w : ℕ). WorkerStands s w (channel_of c.take.new.self.channel) (take i events ++ event ∷ []) before (g.D.Door.given c.take.new.door) (g.K.Keep.keeps c.take.new.self.entries)) tester (c.in_ok-take.ensures.stands s (take i events) before few old) in
+    let taken = worker_more s c.args.who _ _ _ (take i events) event before _ _ _ _ few c.loop-event.invariant.stands tester c.in_ok-take.ensures.took in
     let next : take (i + 1) events ≡ take i events ++ event ∷ [] = take_more events i event c.loop-event-test.true ∙ ap (λ (e : Event). take i events ++ e ∷ []) (sym c.event-item.is) in
     record {
       tester = c.in_ok-take.ensures.tester ∙ c.loop-event.invariant.tester;

@@ -6,7 +6,10 @@ use Rattle.diag_world.proofs.Worlds.{on_err, on_ok, set_cases}
 use Rattle.diag_world.proofs.world.World.event.Goals as goal
 
 pub take-requires : goal.take-requires
-take-requires c = record { drained = c.self.invariant _ _ (found c.self.inside.desk c.self.inside.channels.items c.index_of-index.result c.self.view_is c.requires.in_setup c.index_of-index.ensures c.index_mut.ensures.value) }
+take-requires c = record {
+  drained = c.self.invariant _ _ (found c.self.inside.desk c.self.inside.channels.items c.index_of-index.result c.self.view_is c.requires.in_setup c.index_of-index.ensures
+      c.index_mut.ensures.value);
+}
 
 pub invariant_of-self : goal.invariant_of-self
 invariant_of-self c =
@@ -19,24 +22,28 @@ invariant_of-self c =
 
 pub returns-clause-ok : goal.returns-clause-ok
 returns-clause-ok c = on_ok _ _ c.take.result (λ took setup M h.
-    world_takes c.self.inside.desk c.self.inside.channels.items c.index_of-index.result c.self.view_is c.requires.in_setup c.index_of-index.ensures c.index_mut.ensures.value setup M c.args.event.now
+    world_takes c.self.inside.desk c.self.inside.channels.items c.index_of-index.result c.self.view_is c.requires.in_setup c.index_of-index.ensures
+    c.index_mut.ensures.value setup M c.args.event.now
     c.take.new.desk c.take.new.channel c.take.ensures.journal took h) c.take.ensures.ok
 
 pub returns-clause-err : goal.returns-clause-err
 returns-clause-err c = on_err _ _ c.take.result (λ same.
-    world_same c.self.inside.desk c.self.inside.channels.items c.index_of-index.result c.self.view_is c.requires.in_setup c.index_of-index.ensures c.index_mut.ensures.value
+    world_same c.self.inside.desk c.self.inside.channels.items c.index_of-index.result c.self.view_is c.requires.in_setup c.index_of-index.ensures
+    c.index_mut.ensures.value
     c.take.new.desk c.take.new.channel same.0 same.1) c.take.ensures.err
 
 pub returns-clause-full : goal.returns-clause-full
 returns-clause-full c is =
     let full = c.take.ensures.full is in (
       ap (λ w. length w.desk.journal) (sym c.self.view_is) ∙ full.0,
-      λ setup M h. full.1 _ _ _ (channel_stands c.self.inside.desk c.self.inside.channels.items c.index_of-index.result c.self.view_is c.requires.in_setup c.index_of-index.ensures c.index_mut.ensures.value setup M
+      λ setup M h. full.1 _ _ _ (channel_stands c.self.inside.desk c.self.inside.channels.items c.index_of-index.result c.self.view_is c.requires.in_setup c.index_of-index.ensures
+          c.index_mut.ensures.value setup M
           c.take.ensures.journal h),
     )
 
 pub returns-clause-first : goal.returns-clause-first
 returns-clause-first c full setup M h =
     c.take.ensures.first (ap (λ w. length w.desk.journal) c.self.view_is ∙ full) _ _ _
-    (channel_stands c.self.inside.desk c.self.inside.channels.items c.index_of-index.result c.self.view_is c.requires.in_setup c.index_of-index.ensures c.index_mut.ensures.value setup M
+    (channel_stands c.self.inside.desk c.self.inside.channels.items c.index_of-index.result c.self.view_is c.requires.in_setup c.index_of-index.ensures
+    c.index_mut.ensures.value setup M
     c.take.ensures.journal h)
