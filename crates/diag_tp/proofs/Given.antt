@@ -5,7 +5,7 @@ use Rattle.diag_can.specs.declared.frame.Event.{Event}
 use Rattle.diag_can.specs.declared.frame.Event.TheVariants.{Physical, Functional, Ticks}
 use Rattle.diag_tp.specs.declared.setup.LinkSetup.{LinkSetup}
 use Rattle.diag_tp.specs.declared.pci.Pci.{Pci}
-use Rattle.diag_tp.specs.declared.pci.Pci.TheVariants.{Single, First, Overflow, Consecutive, FlowControl, Ignored}
+use Rattle.diag_tp.specs.declared.pci.Pci.TheVariants.{Single, Consecutive}
 use Rattle.diag_tp.specs.declared.step.Step.TheVariants as step
 use Rattle.diag_tp.specs.Kind.{kind}
 use Rattle.diag_tp.specs.Moments.{history}
@@ -24,11 +24,7 @@ frame_gives s E (Functional bytes) h some = of_functional (kind bytes s.max_requ
   where
     of_functional : (k : Pci) → IsSome (functional_step k) → IsTrue (is_request (functional_step k))
     of_functional (Single payload) some = refl
-    of_functional (First len head) some = cc
-    of_functional Overflow some = cc
-    of_functional (Consecutive number part) some = cc
-    of_functional (FlowControl status block gap) some = cc
-    of_functional Ignored some = cc
+    of_functional k some = cc
 frame_gives s E (Physical bytes) h some = of_physical (Physical bytes ∷ history E) (kind bytes s.max_request) some
   where
     of_whole : (b : Bool) (message : List ℕ) → IsSome (cond b (Some (step.Request false message)) None) → IsTrue (is_request (cond b (Some (step.Request false message)) None))
@@ -42,7 +38,4 @@ frame_gives s E (Physical bytes) h some = of_physical (Physical bytes ∷ histor
     of_physical : (M : List Event) (k : Pci) → IsSome (physical_step s M k) → IsTrue (is_request (physical_step s M k))
     of_physical M (Single payload) some = refl
     of_physical M (Consecutive number part) some = of_completed (open_at s M) some
-    of_physical M (First len head) some = cc
-    of_physical M Overflow some = cc
-    of_physical M (FlowControl status block gap) some = cc
-    of_physical M Ignored some = cc
+    of_physical M k some = cc

@@ -8,15 +8,16 @@ use Rattle.diag_can.specs.declared.frame.Event.{Event}
 use Rattle.diag_can.specs.declared.frame.Event.TheVariants.{Physical, Functional, Ticks}
 use Rattle.diag_tp.specs.declared.setup.LinkSetup.{LinkSetup}
 use Rattle.diag_tp.specs.declared.pci.Pci.{Pci}
-use Rattle.diag_tp.specs.declared.pci.Pci.TheVariants.{Single, First, Overflow, Consecutive, FlowControl, Ignored}
+use Rattle.diag_tp.specs.declared.pci.Pci.TheVariants.{FlowControl}
 use Rattle.diag_tp.specs.declared.sending.Phase.{Phase}
 use Rattle.diag_tp.specs.declared.sending.Phase.TheVariants.{AwaitsFlow, InBlock}
 use Rattle.diag_tp.specs.Kind.{kind}
 use Rattle.diag_tp.specs.Cut.{cut}
 use Rattle.diag_tp.specs.Sending.{Decision, Go, Wait, GiveUp, block_size, flow_decision}
 use Rattle.diag_tp.proofs.Settled.{some-frame}
+use Rattle.diag_tp.proofs.Waits.{started-waits}
 use Rattle.diag_tp.specs.declared.sending.Sending.{Sending as Current}
-use Rattle.diag_tp.specs.Sender.{SenderState, frame_count, frames_of, current_left, started, before_these, in_phase, with, advanced, within_block, settled_in, tick_fields, flow_fields, sender_flow, sender_ticks, sender_frame, sender_event, no_flow, replied, replied_in}
+use Rattle.diag_tp.specs.Sender.{SenderState, frame_count, frames_of, current_left, waits, started, before_these, in_phase, with, advanced, within_block, settled_in, tick_fields, flow_fields, sender_flow, sender_ticks, sender_frame, sender_event, no_flow, replied, replied_in}
 
 -- the frames that a sender may still hand out
 abbrev pub total : LinkSetup → SenderState → ℕ
@@ -55,33 +56,31 @@ advanced-total s k phase c W =
       | false ↦ λ f. omega arith
     ] refl
 
+waits-fewer : (W : List (List ℕ)) → length (waits W) ≤ length W
+waits-fewer [] = omega arith
+waits-fewer (P ∷ W) =
+    let rest = waits-fewer W in
+    elim (nat_le (frames_of P) 1) as (λ b. length (if b then waits W else W) ≤ suc (length W)) [ true ↦ omega arith | false ↦ omega arith ]
+
+started-fewer : (s : LinkSetup) (W : List (List ℕ)) → length (started s W).waiting ≤ length W
+started-fewer s W = let same = ap length (started-waits s W) in let few = waits-fewer W in omega arith
+
 pub started-within : (s : LinkSetup) (W : List (List ℕ)) → IsWithin s (started s W) (sum_by (frame_count s) W) (length W)
-started-within s [] = record { frames = omega arith; replies = omega arith }
-started-within s (P ∷ W) =
-    let rest = started-within s W in
-    let frames = rest.frames in
-    let replies = rest.replies in
-    let sum = sum_by-cons (frame_count s) P W in
-    let one = length-take 1 (cut P s.pad) in
-    let more = length-append (take 1 (cut P s.pad)) (started s W).due in
-    elim (nat_le (frame_count s P) 1) as (λ b. nat_le (frame_count s P) 1 ≡ b → IsWithin s (if b then before_these (take 1 (cut P s.pad)) (started s W) else record { due = take 1 (cut P s.pad); current = Some (record { message = P; next = 1; due = 0; phase = AwaitsFlow s.n_bs }); waiting = W }) (sum_by (frame_count s) (P ∷ W)) (suc (length W))) [
-      | true ↦ λ t. record { frames = omega arith; replies = omega arith }
-      | false ↦ λ f. let long : 1 < frame_count s P = grind (arith, nat_tests) in record { frames = omega arith; replies = omega arith }
-    ] refl
+started-within s W = let all = started-total s W in record { frames = omega arith; replies = started-fewer s W }
 
 pub advanced-within : (s : LinkSetup) (k : ℕ) (phase : Phase) (c : Current) (W : List (List ℕ)) → IsWithin s (advanced s k phase c W) (left s (Some c) W) (length W)
 advanced-within s k phase c W =
-    let rest = started-within s W in
-    let frames = rest.frames in
-    let replies = rest.replies in
-    let all = cut c.message s.pad in
-    let taken = length-take k (drop c.next all) in
-    let kept = length-drop c.next all in
-    let more = length-append (take k (drop c.next all)) (started s W).due in
-    elim (c.next + k == frame_count s c.message) as (λ b. (c.next + k == frame_count s c.message) ≡ b → IsWithin s (if b then before_these (take k (drop c.next all)) (started s W) else record { due = take k (drop c.next all); current = Some (record { message = c.message; next = c.next + k; due = 0; phase = phase }); waiting = W }) (left s (Some c) W) (length W)) [
-      | true ↦ λ t. record { frames = omega arith; replies = omega arith }
-      | false ↦ λ f. record { frames = omega arith; replies = omega arith }
-    ] refl
+    let all = advanced-total s k phase c W in
+    let few = started-fewer s W in
+    let frames = take k (drop c.next (cut c.message s.pad)) in
+    record {
+      frames = omega arith;
+      replies =
+          elim (c.next + k == frame_count s c.message) as (λ b. length (if b then before_these frames (started s W) else record { due = frames; current = Some (record { message = c.message; next = c.next + k; due = 0; phase = phase }); waiting = W }).waiting ≤ length W) [
+            | true ↦ omega arith
+            | false ↦ omega arith
+          ];
+    }
 
 started-left : (s : LinkSetup) (c : Current) (W : List (List ℕ)) → IsWithin s (started s W) (left s (Some c) W) (length W)
 started-left s c W =
@@ -125,11 +124,7 @@ no-flow-within s cur W = record { frames = omega arith; replies = omega arith }
 
 pub frame-within : (s : LinkSetup) (k : Pci) (cur : Option Current) (W : List (List ℕ)) → IsWithin s (sender_frame s k cur W) (left s cur W) (length W)
 frame-within s (FlowControl status block st) cur W = sender-flow-within s (flow_decision status block st) cur W
-frame-within s (Single payload) cur W = no-flow-within s cur W
-frame-within s (First len head) cur W = no-flow-within s cur W
-frame-within s Overflow cur W = no-flow-within s cur W
-frame-within s (Consecutive number part) cur W = no-flow-within s cur W
-frame-within s Ignored cur W = no-flow-within s cur W
+frame-within s k cur W = no-flow-within s cur W
 
 -- an event leaves no more frames and no more replies than there were
 pub event-within : (s : LinkSetup) (x : Event) (cur : Option Current) (W : List (List ℕ)) → IsWithin s (sender_event s x cur W) (left s cur W) (length W)

@@ -4,7 +4,7 @@ use Rattle.std.specs.Prelude.{Option, IsTrue, sum_by}
 use Rattle.diag_can.specs.declared.frame.Event.{Event}
 use Rattle.diag_can.specs.declared.frame.Event.TheVariants.{Physical, Functional, Ticks}
 use Rattle.diag_tp.specs.declared.pci.Pci.{Pci}
-use Rattle.diag_tp.specs.declared.pci.Pci.TheVariants.{Single, First, Overflow, Consecutive, FlowControl, Ignored}
+use Rattle.diag_tp.specs.declared.pci.Pci.TheVariants.{Single}
 use Rattle.diag_tp.specs.declared.setup.LinkSetup.{LinkSetup}
 use Rattle.diag_tp.specs.declared.taken.Taken.{Taken}
 use Rattle.diag_tp.specs.declared.taken.Taken.TheVariants.{Whole, Read}
@@ -23,28 +23,16 @@ use Rattle.diag_tp.proofs.Views.{Numbers, within-numbers, grant-few}
 
 open-left : (o : Option Partial) (k : Pci) → reception_after o (left_of_kind k) ≡ open_after o k
 open-left o (Single payload) = refl
-open-left o (First len head) = refl
-open-left o Overflow = refl
-open-left o (Consecutive number part) = refl
-open-left o (FlowControl status block gap) = refl
-open-left o Ignored = refl
+open-left o k = refl
 
 granted-left : (s : LinkSetup) (o : Option Partial) (k : Pci) → granted_after s o (left_of_kind k) ≡ granted_by s o k
 granted-left s o (Single payload) = refl
-granted-left s o (First len head) = refl
-granted-left s o Overflow = refl
-granted-left s o (Consecutive number part) = refl
-granted-left s o (FlowControl status block gap) = refl
-granted-left s o Ignored = refl
+granted-left s o k = refl
 
 sender-left : (s : LinkSetup) (k : Pci) (current : Option Sending) (W : List (List ℕ)) →
     sender_after s (left_of_kind k) current W ≡ sender_frame s k current W
 sender-left s (Single payload) current W = refl
-sender-left s (First len head) current W = refl
-sender-left s Overflow current W = refl
-sender-left s (Consecutive number part) current W = refl
-sender-left s (FlowControl status block gap) current W = refl
-sender-left s Ignored current W = refl
+sender-left s k current W = refl
 
 reception-event : (s : LinkSetup) (o : Option Partial) (e : Event) → IsTrue (is_frame e) → reception_after o (taken_of s e) ≡ partial_after s o e
 reception-event s o (Physical bytes) h = open-left o (kind bytes s.max_request)
