@@ -24,7 +24,8 @@ abbrev pub differs_by : Recorded → Option (List ℕ) → Difference
 differs_by frame wanted = record { line = frame.line; sent = frame.bytes; expected = wanted }
 
 -- what both have in front makes no difference
-pub difference-both : (both frames : List Recorded) (others : List (List ℕ)) → difference (both ++ frames) (map bytes_of both ++ others) ≡ difference frames others
+pub difference-both : (both frames : List Recorded) (others : List (List ℕ))
+    → difference (both ++ frames) (map bytes_of both ++ others) ≡ difference frames others
 difference-both [] frames others = refl
 difference-both (f ∷ both) frames others =
     ap (λ (b : Bool). if b then difference (both ++ frames) (map bytes_of both ++ others) else Some (differs_by f (Some f.bytes))) (bytes_self f.bytes)
@@ -35,7 +36,8 @@ difference-other : (frame : Recorded) (bytes : List ℕ) (frames : List Recorded
 difference-other frame bytes frames others other =
     ap (λ (b : Bool). if b then difference frames others else Some (differs_by frame (Some bytes))) other
 
-module _ (frame : Recorded) (bytes : List ℕ) (ahead : List Recorded) (behind : List (List ℕ)) (recorded : List Recorded) (expected : List (List ℕ)) (part : Part (frame ∷ ahead) (bytes ∷ behind) recorded expected) where
+module _ (frame : Recorded) (bytes : List ℕ) (ahead : List Recorded) (behind : List (List ℕ)) (recorded : List Recorded) (expected : List (List ℕ))
+    (part : Part (frame ∷ ahead) (bytes ∷ behind) recorded expected) where
   -- the two frames at one place are equal
   pub part_on : frame.bytes ≡ bytes → Part ahead behind recorded expected
   part_on same = record {
@@ -92,7 +94,8 @@ module _ (kept : Comparison) (recorded : List Recorded) (expected : List (List �
           both = part.both;
           front = part.front ∙ ap (λ (a : List Recorded). part.both ++ a) some;
           back =
-              ap (λ (e : List (List ℕ)). e ++ bytes ∷ []) (part.back ∙ (ap (λ (b : List (List ℕ)). map bytes_of part.both ++ b) empty ∙ append-nil (map bytes_of part.both)))
+              ap (λ (e : List (List ℕ)). e ++ bytes ∷ [])
+              (part.back ∙ (ap (λ (b : List (List ℕ)). map bytes_of part.both ++ b) empty ∙ append-nil (map bytes_of part.both)))
               ∙ ap (λ (b : List (List ℕ)). map bytes_of part.both ++ bytes ∷ b) (sym empty);
         },
         inr empty,

@@ -35,7 +35,8 @@ use Rattle.diag_world.proofs.Times.{ticks_served}
 use Rattle.diag_bus.specs.Events.{frame_to, to_each}
 
 -- one event more: the tester's list has grown by the frames, and the others are as they were; the entry was written
-pub drew_more : (setup : RawSetup) (old new : MidLine) (base : ℕ → List Sent) (before : List ℕ) (M : List (ℕ × Event)) (who i now : ℕ) (e : Event) (asked : Option Entry) (frames more : List Sent)
+pub drew_more : (setup : RawSetup) (old new : MidLine) (base : ℕ → List Sent) (before : List ℕ) (M : List (ℕ × Event)) (who i now : ℕ) (e : Event)
+    (asked : Option Entry) (frames more : List Sent)
     → Settled (server_of old.server) (server_of new.server) who e asked more → who ≡ i + 1 → slice_get (lists_of old) i ≡ Some frames
     → lists_of new ≡ slice_set (lists_of old) i (frames ++ more) → new.output ≡ old.output
     → new.text.items ≡ old.text.items ++ entry_added old.output now asked
@@ -48,7 +49,8 @@ drew_more setup old new base before M who i now e asked frames more settled is f
     record {
       journal = K';
       serves = served.serves;
-      lists = sym (length-map new.drawn.items (λ f. f.items)) ∙ (ap length lists ∙ (length-set (lists_of old) i (frames ++ more) ∙ (length-map old.drawn.items (λ f. f.items) ∙ h.lists)));
+      lists = sym (length-map new.drawn.items (λ f. f.items))
+          ∙ (ap length lists ∙ (length-set (lists_of old) i (frames ++ more) ∙ (length-map old.drawn.items (λ f. f.items) ∙ h.lists)));
       frames = λ j fs at. elim (set_cases (lists_of old) i j (frames ++ more) fs (subst (λ ls. slice_get ls j ≡ Some fs) lists at)) [
         | inl p ↦ (
             let place : who ≡ j + 1 = omega (arith, is, p.0) in
@@ -113,7 +115,8 @@ pub rest_more : (n : ℕ) (es : List Event) (e : Event) → flat_map (to_each n)
 rest_more n es e = flat_map-append (to_each n) es (e ∷ []) ∙ ap (λ w. flat_map (to_each n) es ++ w) (append-nil (to_each n e))
 
 -- what a frame is to a tester, where it is known
-pub frame_given : (setup : RawSetup) (frame : Frame) (who : ℕ) (ids : Ids) (r o : Option Event) → ids ≡ ids_of setup who → r ≡ frame_for ids (Some frame) → r ≡ o
+pub frame_given : (setup : RawSetup) (frame : Frame) (who : ℕ) (ids : Ids) (r o : Option Event) → ids ≡ ids_of setup who
+    → r ≡ frame_for ids (Some frame) → r ≡ o
     → frame_to setup (Some frame) who ≡ all_by who (option_to_list o)
 frame_given setup frame who ids r o same given is = ap (λ x. all_by who (option_to_list x)) (ap (λ i. frame_for i (Some frame)) (sym same) ∙ (sym given ∙ is))
 
@@ -139,13 +142,16 @@ early_now links i now within is early =
     let low = early at.0 at.1 in
     omega (arith, same, low)
 
-whose : (asked : Option Entry) (who now : ℕ) (K : List Entry) → IfSome asked (λ k. k.who ≡ who) → now ≡ ticks_of who K → IfSome asked (λ k. now ≡ ticks_of k.who K)
+whose : (asked : Option Entry) (who now : ℕ) (K : List Entry) → IfSome asked (λ k. k.who ≡ who) → now ≡ ticks_of who K
+    → IfSome asked (λ k. now ≡ ticks_of k.who K)
 whose None who now K by is = tt
 whose (Some k) who now K by is = is ∙ ap (λ t. ticks_of t K) (sym by)
 
 -- the link's clock tells the ticks that its tester has in the journal
-pub clock_told : (setup : RawSetup) (server : ServerView) (M : List (ℕ × Event)) (K : List Entry) (who i now : ℕ) (asked : Option Entry) → Serves setup (server_of server) M K → who ≡ i + 1 → i < length server.links
-    → IfSome (slice_get server.links i) (λ link. now ≡ link.state.now) → now ≤ closing_time → IfSome asked (λ k. k.who ≡ who) → IfSome asked (λ k. now ≡ ticks_of k.who K)
+pub clock_told : (setup : RawSetup) (server : ServerView) (M : List (ℕ × Event)) (K : List Entry) (who i now : ℕ) (asked : Option Entry)
+    → Serves setup (server_of server) M K → who ≡ i + 1 → i < length server.links
+    → IfSome (slice_get server.links i) (λ link. now ≡ link.state.now) → now ≤ closing_time → IfSome asked (λ k. k.who ≡ who)
+    → IfSome asked (λ k. now ≡ ticks_of k.who K)
 clock_told setup server M K who i now asked h is within told early by =
     let at = found_at server.links i within in
     let same = some_of (λ (link : LinkView). now ≡ link.state.now) (slice_get server.links i) at.0 at.1 told in

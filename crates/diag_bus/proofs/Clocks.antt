@@ -28,7 +28,8 @@ use Rattle.diag_bus.specs.Events.{ClocksLaw, clock_after, events_after, frame_sa
 last_time-append : (E D : List Event) → last_time (E ++ D) ≡ last_time E + last_time D
 last_time-append E D =
     let ticks : Event → ℕ = λ e. cond (is_tick e) 1 0 in
-    let both : count_by is_tick (moments E ++ moments D) ≡ count_by is_tick (moments E) + count_by is_tick (moments D) = sum_by-append ticks (moments E) (moments D) in
+    let both : count_by is_tick (moments E ++ moments D) ≡ count_by is_tick (moments E) + count_by is_tick (moments D) =
+    sum_by-append ticks (moments E) (moments D) in
     last_time-is (E ++ D) ∙ (ap (count_by is_tick) (moments-append E D) ∙ (both ∙ sym (ap₂ ◌+◌ (last_time-is E) (last_time-is D))))
 
 last_time-one : (n : ℕ) → last_time (Ticks n ∷ []) ≡ n
@@ -109,16 +110,24 @@ time_of_said r line.Empty = refl
 time_of_said r (line.Ticks n) = last_time-one n
 time_of_said r (line.Stamped moment frame) = last_time-waited (silence Stamps r (Some moment))
 
-line_time : (setup : RawSetup) (r : Option ℕ) (said : Result BusLine LineFault) (t : ℕ) → 1 ≤ t → t ≤ length setup.testers → last_time (items_of (gives_if_well setup r said) t) ≡ span_said r said
+line_time : (setup : RawSetup) (r : Option ℕ) (said : Result BusLine LineFault) (t : ℕ) → 1 ≤ t → t ≤ length setup.testers
+    → last_time (items_of (gives_if_well setup r said) t) ≡ span_said r said
 line_time setup r (Err fault) t from to = refl
 line_time setup r (Ok said) t from to =
     let time = flat_map (to_each (length setup.testers)) (time_said r said) in
     let frames = flat_map (frame_to setup (frame_said said)) (counted_from 1 (length setup.testers)) in
     let all = ap last_time (all_each (length setup.testers) t (time_said r said) from to) in
     ap last_time (items_of-append time frames t)
-    ∙ omega (arith, last_time-append (items_of time t) (items_of frames t), all, frames_time setup (frame_said said) (counted_from 1 (length setup.testers)) t, time_of_said r said)
+    ∙ omega (
+      arith,
+      last_time-append (items_of time t) (items_of frames t),
+      all,
+      frames_time setup (frame_said said) (counted_from 1 (length setup.testers)) t,
+      time_of_said r said,
+    )
 
-clocks_after : (setup : RawSetup) (past lines : List (List ℕ)) (t : ℕ) → 1 ≤ t → t ≤ length setup.testers → last_time (items_of (events_after setup past lines) t) ≡ clock_after past lines
+clocks_after : (setup : RawSetup) (past lines : List (List ℕ)) (t : ℕ) → 1 ≤ t → t ≤ length setup.testers
+    → last_time (items_of (events_after setup past lines) t) ≡ clock_after past lines
 clocks_after setup past [] t from to = refl
 clocks_after setup past (line ∷ lines) t from to =
     let here = line_events setup past line in

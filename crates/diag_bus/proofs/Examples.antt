@@ -46,7 +46,8 @@ fault = refl
 
 -- ---- the bus's time: 7 ticks before the first stamp are no part of it
 
-start : start_after 0 (codes "tick 7" ∷ codes "(100.000000) can0 123#00" ∷ codes "(105.000000) can0 123#00" ∷ []) ≡ Some (record { moment = 100000; before = 7 })
+start : start_after 0 (codes "tick 7" ∷ codes "(100.000000) can0 123#00" ∷ codes "(105.000000) can0 123#00" ∷ [])
+    ≡ Some (record { moment = 100000; before = 7 })
 unfolding hex_on_literals
 start = refl
 

@@ -5,9 +5,11 @@ use Rattle.diag_can.specs.Bus.{bus_line}
 use Rattle.diag_bus.specs.Events.{clock_after, clock_of, fault_or, first_fault, first_fault_after, line_fault, reference, span_said}
 use Rattle.diag_bus.specs.declared.fault.BusFault.{BusFault}
 
-clock_push : (past lines : List (List ℕ)) (line : List ℕ) → clock_after past (lines ++ line ∷ []) ≡ clock_after past lines + span_said (reference (past ++ lines)) (bus_line line)
+clock_push : (past lines : List (List ℕ)) (line : List ℕ)
+    → clock_after past (lines ++ line ∷ []) ≡ clock_after past lines + span_said (reference (past ++ lines)) (bus_line line)
 clock_push past [] line =
-    let here : span_said (reference past) (bus_line line) ≡ span_said (reference (past ++ [])) (bus_line line) = ap (λ p. span_said (reference p) (bus_line line)) (sym (append-nil past)) in
+    let here : span_said (reference past) (bus_line line) ≡ span_said (reference (past ++ [])) (bus_line line) =
+    ap (λ p. span_said (reference p) (bus_line line)) (sym (append-nil past)) in
     omega (arith, here)
 clock_push past (first ∷ lines) line =
     let rest = clock_push (past ++ first ∷ []) lines line in
@@ -32,7 +34,8 @@ faults_behind past (line ∷ lines) rest n h =
     pick : (o : Option BusFault) → fault_or o n (first_fault_after (past ++ line ∷ []) (n + 1) lines) ≡ None
         → (first_fault_after (past ++ line ∷ []) (n + 1) lines ≡ None
         → first_fault_after (past ++ line ∷ []) (n + 1) (lines ++ rest) ≡ first_fault_after ((past ++ line ∷ []) ++ lines) (n + 1 + length lines) rest)
-        → fault_or o n (first_fault_after (past ++ line ∷ []) (n + 1) (lines ++ rest)) ≡ first_fault_after (past ++ line ∷ lines) (n + length (line ∷ lines)) rest
+        → fault_or o n (first_fault_after (past ++ line ∷ []) (n + 1) (lines ++ rest))
+        ≡ first_fault_after (past ++ line ∷ lines) (n + length (line ∷ lines)) rest
     pick None well next =
         let count : n + 1 + length lines ≡ n + length (line ∷ lines) = omega arith in
         next well ∙ ap₂ (λ p m. first_fault_after p m rest) (append_assoc past (line ∷ []) lines) count
@@ -44,7 +47,8 @@ first_fault_behind lines rest h =
     faults_behind [] lines rest 1 h ∙ ap (λ m. first_fault_after lines m rest) count
 
 -- the first fault of one line more
-pub first_fault_more : (lines : List (List ℕ)) (line : List ℕ) → first_fault lines ≡ None → first_fault (lines ++ line ∷ []) ≡ fault_or (line_fault lines line) (length lines + 1) None
+pub first_fault_more : (lines : List (List ℕ)) (line : List ℕ) → first_fault lines ≡ None
+    → first_fault (lines ++ line ∷ []) ≡ fault_or (line_fault lines line) (length lines + 1) None
 first_fault_more lines line h = first_fault_behind lines (line ∷ []) h
 
 -- lines that are well, and one more that is

@@ -25,7 +25,8 @@ use Rattle.diag_bus.specs.declared.filled.Filled.{Filled}
 use Rattle.diag_bus.specs.declared.filled.Filled.TheVariants.{Nowhere, At, Anywhere}
 
 -- frames were added to one list
-filled_more : (filled : Filled) (lists : List (List Sent)) (i : ℕ) (frames : List Sent) → i < length lists → AreFilled filled lists → AreFilled (filled_at filled i) (slice_set lists i frames)
+filled_more : (filled : Filled) (lists : List (List Sent)) (i : ℕ) (frames : List Sent) → i < length lists → AreFilled filled lists
+    → AreFilled (filled_at filled i) (slice_set lists i frames)
 filled_more Nowhere lists i frames within h = (
   omega (arith, within, length-set lists i frames),
   λ j fs apart at. elim (set_cases lists i j frames fs at) [ inl p ↦ absurd (apart p.0) | inr p ↦ h j fs p.1 ],
@@ -41,7 +42,8 @@ filled_more (At other) lists i frames within h = pick (other == i) refl
 filled_more Anywhere lists i frames within h = tt
 
 -- a list is empty as before
-filled_none : (filled : Filled) (lists : List (List Sent)) (i : ℕ) (frames : List Sent) → frames ≡ [] → AreFilled filled lists → AreFilled filled (slice_set lists i frames)
+filled_none : (filled : Filled) (lists : List (List Sent)) (i : ℕ) (frames : List Sent) → frames ≡ [] → AreFilled filled lists
+    → AreFilled filled (slice_set lists i frames)
 filled_none Nowhere lists i frames none h = λ j fs at. elim (set_cases lists i j frames fs at) [ inl p ↦ p.1 ∙ none | inr p ↦ h j fs p.1 ]
 filled_none (At other) lists i frames none h = (
   omega (arith, h.0, length-set lists i frames),
@@ -49,7 +51,8 @@ filled_none (At other) lists i frames none h = (
 )
 filled_none Anywhere lists i frames none h = tt
 
-pub filled_after : (filled new : Filled) (lists new_lists : List (List Sent)) (i : ℕ) (frames : List Sent) (is_empty : Bool) → i < length lists → new_lists ≡ slice_set lists i frames
+pub filled_after : (filled new : Filled) (lists new_lists : List (List Sent)) (i : ℕ) (frames : List Sent) (is_empty : Bool) → i < length lists
+    → new_lists ≡ slice_set lists i frames
     → new ≡ (if is_empty then filled else filled_at filled i) → (is_empty ≡ true → frames ≡ []) → AreFilled filled lists → AreFilled new new_lists
 filled_after filled new lists new_lists i frames true within set is none h =
     subst (λ (f : Filled). AreFilled f new_lists) (sym is) (subst (AreFilled filled) (sym set) (filled_none filled lists i frames (none refl) h))
@@ -61,10 +64,12 @@ filled_after filled new lists new_lists i frames false within set is none h =
 none_in : (list : Vec Sent Global) → (vec_len list == 0) ≡ true → list.items ≡ []
 none_in list h = length-zero list.items (omega (arith, eqb-true (vec_len list) 0 h, list.ok.0))
 
-pub links_moved : (old new : ServerView) (who : ℕ) (e : Event) (asked : Option Entry) (more : List Sent) → Settled (server_of old) (server_of new) who e asked more → length new.links ≡ length old.links
+pub links_moved : (old new : ServerView) (who : ℕ) (e : Event) (asked : Option Entry) (more : List Sent)
+    → Settled (server_of old) (server_of new) who e asked more → length new.links ≡ length old.links
 links_moved old new who e asked more settled =
     let state = λ (l : LinkView). l.state in
-    sym (length-map new.links state) ∙ (ap length settled.moved.set ∙ (length-set (map state old.links) (who - 1) settled.moved.after ∙ length-map old.links state))
+    sym (length-map new.links state) ∙ (ap length settled.moved.set
+    ∙ (length-set (map state old.links) (who - 1) settled.moved.after ∙ length-map old.links state))
 
 pub links_same : (old new : ServerView) → server_of new ≡ server_of old → length new.links ≡ length old.links
 links_same old new same =
@@ -72,7 +77,8 @@ links_same old new same =
     sym (length-map new.links state) ∙ (ap (λ (s : ServerState). length s.links) same ∙ length-map old.links state)
 
 -- frames were added to the list at this place
-pub shape_after : (old new : MidLine) (i : ℕ) (list : Vec Sent Global) (is_empty : Bool) → length new.server.links ≡ length old.server.links → i < length old.drawn.items
+pub shape_after : (old new : MidLine) (i : ℕ) (list : Vec Sent Global) (is_empty : Bool) → length new.server.links ≡ length old.server.links
+    → i < length old.drawn.items
     → new.drawn.items ≡ slice_set old.drawn.items i list → new.output ≡ old.output
     → new.filled ≡ (if is_empty then old.filled else filled_at old.filled i) → is_empty ≡ (vec_len list == 0) → SameShape old new
 shape_after old new i list is_empty links within set output filled tested =
@@ -82,11 +88,13 @@ shape_after old new i list is_empty links within set output filled tested =
       links = links;
       lists = ap length set ∙ length-set old.drawn.items i list;
       output = output;
-      filled = filled_after old.filled new.filled (lists_of old) (lists_of new) i list.items is_empty (omega (arith, within, length-map old.drawn.items items)) lists filled (λ e. none_in list (sym tested ∙ e));
+      filled = filled_after old.filled new.filled (lists_of old) (lists_of new) i list.items is_empty
+          (omega (arith, within, length-map old.drawn.items items)) lists filled (λ e. none_in list (sym tested ∙ e));
     }
 
 -- the list at this place is as it was
-pub shape_same : (old new : MidLine) (i : ℕ) (list before : Vec Sent Global) → length new.server.links ≡ length old.server.links → new.drawn.items ≡ slice_set old.drawn.items i list
+pub shape_same : (old new : MidLine) (i : ℕ) (list before : Vec Sent Global) → length new.server.links ≡ length old.server.links
+    → new.drawn.items ≡ slice_set old.drawn.items i list
     → before ≡ get_or old.drawn.items i before → list.items ≡ before.items → new.output ≡ old.output → new.filled ≡ old.filled → SameShape old new
 shape_same old new i list before links set was same output filled =
     let items = λ (f : Vec Sent Global). f.items in
@@ -104,7 +112,8 @@ none_gathered : (n : ℕ) (lists : List (List Sent)) → ((i : ℕ) (frames : Li
 none_gathered n [] none = refl
 none_gathered n (frames ∷ lists) none = ap₂ ◌++◌ (ap (map (drawn_for n)) (none 0 frames refl)) (none_gathered (n + 1) lists (λ i fs at. none (suc i) fs at))
 
-one_gathered : (n i : ℕ) (lists : List (List Sent)) (frames : List Sent) → slice_get lists i ≡ Some frames → ((j : ℕ) (fs : List Sent) → j ≢ i → slice_get lists j ≡ Some fs → fs ≡ [])
+one_gathered : (n i : ℕ) (lists : List (List Sent)) (frames : List Sent) → slice_get lists i ≡ Some frames
+    → ((j : ℕ) (fs : List Sent) → j ≢ i → slice_get lists j ≡ Some fs → fs ≡ [])
     → gathered n lists ≡ map (drawn_for (n + i)) frames
 one_gathered n i [] frames at others = absurd (clash at)
   where
@@ -113,18 +122,21 @@ one_gathered n i [] frames at others = absurd (clash at)
 one_gathered n zero (first ∷ lists) frames at others =
     let same : first ≡ frames = cc in
     let here : n ≡ n + zero = omega arith in
-    ap₂ ◌++◌ (ap₂ (λ t fs. map (drawn_for t) fs) here same) (none_gathered (n + 1) lists (λ i fs there. others (suc i) fs (λ e. absurd (omega (arith, e))) there)) ∙ append-nil (map (drawn_for (n + zero)) frames)
+    ap₂ ◌++◌ (ap₂ (λ t fs. map (drawn_for t) fs) here same)
+    (none_gathered (n + 1) lists (λ i fs there. others (suc i) fs (λ e. absurd (omega (arith, e))) there)) ∙ append-nil (map (drawn_for (n + zero)) frames)
 one_gathered n (suc i) (first ∷ lists) frames at others =
     let place : n + 1 + i ≡ n + suc i = omega arith in
     ap₂ ◌++◌ (ap (map (drawn_for n)) (others 0 first (λ e. absurd (omega (arith, e))) refl))
-    (one_gathered (n + 1) i lists frames at (λ j fs apart there. others (suc j) fs (λ e. apart (omega (arith, e))) there) ∙ ap (λ t. map (drawn_for t) frames) place)
+    (one_gathered (n + 1) i lists frames at (λ j fs apart there. others (suc j) fs (λ e. apart (omega (arith, e))) there)
+    ∙ ap (λ t. map (drawn_for t) frames) place)
 
 -- a line that draws nothing writes nothing
 pub none_written : (setup : RawSetup) (start : Option Start) (lists : List (List Sent)) → AreFilled Nowhere lists → [] ≡ drawn_text setup start lists
 none_written setup start lists none = ap (λ ds. flat_map (line_of setup start) (in_order time_of ds)) (sym (none_gathered 1 lists none))
 
 -- and one that draws one frame writes its line
-one_written : (setup : RawSetup) (start : Option Start) (i : ℕ) (lists : List (List Sent)) (sent : Sent) → slice_get lists i ≡ Some (sent ∷ []) → AreFilled (At i) lists
+one_written : (setup : RawSetup) (start : Option Start) (i : ℕ) (lists : List (List Sent)) (sent : Sent) → slice_get lists i ≡ Some (sent ∷ [])
+    → AreFilled (At i) lists
     → line_of setup start (drawn_for (i + 1) sent) ≡ drawn_text setup start lists
 one_written setup start i lists sent at filled =
     let place : 1 + i ≡ i + 1 = omega arith in
@@ -136,8 +148,10 @@ single [] x one is = absurd (omega (arith, one))
 single (y ∷ []) x one is = ap (λ z. z ∷ []) (sym is)
 single (y ∷ z ∷ xs) x one is = absurd (omega (arith, one))
 
-pub list_written : (setup : RawSetup) (start : Option Start) (i : ℕ) (drawn : List (Vec Sent Global)) (list : Vec Sent Global) (sent : Sent) → slice_get drawn i ≡ Some list → length list.items ≡ 1
-    → sent ≡ get_or list.items 0 sent → AreFilled (At i) (map (λ f. f.items) drawn) → line_of setup start (drawn_for (i + 1) sent) ≡ drawn_text setup start (map (λ f. f.items) drawn)
+pub list_written : (setup : RawSetup) (start : Option Start) (i : ℕ) (drawn : List (Vec Sent Global)) (list : Vec Sent Global) (sent : Sent)
+    → slice_get drawn i ≡ Some list → length list.items ≡ 1
+    → sent ≡ get_or list.items 0 sent → AreFilled (At i) (map (λ f. f.items) drawn)
+    → line_of setup start (drawn_for (i + 1) sent) ≡ drawn_text setup start (map (λ f. f.items) drawn)
 list_written setup start i drawn list sent at one is filled =
     let items = λ (f : Vec Sent Global). f.items in
     one_written setup start i (map items drawn) sent (slice_get-map items drawn i ∙ (ap (option_map items) at ∙ ap Some (single list.items sent one is))) filled

@@ -39,19 +39,23 @@ frames_none setup (t ∷ ts) = frames_none setup ts
 pub said_empty : (setup : RawSetup) (r : Option ℕ) (said : BusLine) → said ≡ Empty → [] ≡ said_gives setup r said
 said_empty setup r said is = sym (ap (said_gives setup r) is ∙ frames_none setup (counted_from 1 (length setup.testers)))
 
-pub said_ticks : (setup : RawSetup) (r : Option ℕ) (said : BusLine) (n : ℕ) → said ≡ Ticks n → to_each (length setup.testers) (event.Ticks n) ≡ said_gives setup r said
+pub said_ticks : (setup : RawSetup) (r : Option ℕ) (said : BusLine) (n : ℕ) → said ≡ Ticks n
+    → to_each (length setup.testers) (event.Ticks n) ≡ said_gives setup r said
 said_ticks setup r said n is =
     let each = to_each (length setup.testers) (event.Ticks n) in
-    sym (ap (said_gives setup r) is ∙ (ap (λ w. (each ++ []) ++ w) (frames_none setup (counted_from 1 (length setup.testers))) ∙ (append-nil (each ++ []) ∙ append-nil each)))
+    sym (ap (said_gives setup r) is ∙ (ap (λ w. (each ++ []) ++ w) (frames_none setup (counted_from 1 (length setup.testers)))
+    ∙ (append-nil (each ++ []) ∙ append-nil each)))
 
 pub said_quiet : (setup : RawSetup) (r : Option ℕ) (said : BusLine) (m : ℕ) (frame : Option Frame) → said ≡ Stamped m frame → frame ≡ None
     → flat_map (to_each (length setup.testers)) (waited (silence Stamps r (Some m))) ≡ said_gives setup r said
 said_quiet setup r said m frame is none =
     let time = flat_map (to_each (length setup.testers)) (waited (silence Stamps r (Some m))) in
-    sym (ap (said_gives setup r) (is ∙ ap (λ f. Stamped m f) none) ∙ (ap (λ w. time ++ w) (frames_none setup (counted_from 1 (length setup.testers))) ∙ append-nil time))
+    sym (ap (said_gives setup r) (is ∙ ap (λ f. Stamped m f) none)
+    ∙ (ap (λ w. time ++ w) (frames_none setup (counted_from 1 (length setup.testers))) ∙ append-nil time))
 
 pub said_frame : (setup : RawSetup) (r : Option ℕ) (said : BusLine) (m : ℕ) (o : Option Frame) (frame : Frame) → said ≡ Stamped m o → o ≡ Some frame
-    → flat_map (to_each (length setup.testers)) (waited (silence Stamps r (Some m))) ++ flat_map (frame_to setup (Some frame)) (counted_from 1 (length setup.testers)) ≡ said_gives setup r said
+    → flat_map (to_each (length setup.testers)) (waited (silence Stamps r (Some m)))
+    ++ flat_map (frame_to setup (Some frame)) (counted_from 1 (length setup.testers)) ≡ said_gives setup r said
 said_frame setup r said m o frame is some = sym (ap (said_gives setup r) (is ∙ ap (λ f. Stamped m f) some))
 
 -- ---- the run
@@ -59,14 +63,16 @@ said_frame setup r said m o frame is some = sym (ap (said_gives setup r) (is ∙
 -- a legal journal is the one that its steps have
 pub one_journal : (s : State) (K : List Entry) → Legal s K → K ≡ answered s (asked_by K)
 one_journal s [] h = refl
-one_journal s (k ∷ K) h = ap₂ (λ (e : Entry) (rest : List Entry). e ∷ rest) (ap (λ r. (let e : Entry = record { who = k.who; step = k.step; reply = r } in e)) h.0) (one_journal (after_step s k.who k.step) K h.1)
+one_journal s (k ∷ K) h = ap₂ (λ (e : Entry) (rest : List Entry). e ∷ rest)
+    (ap (λ r. (let e : Entry = record { who = k.who; step = k.step; reply = r } in e)) h.0) (one_journal (after_step s k.who k.step) K h.1)
 
 pub run_is : (setup : RawSetup) (server : ServerState) (M : List (ℕ × Event)) (K : List Entry) → Serves setup server M K → K ≡ run_of setup M
 run_is setup server M K h = one_journal (opening setup) K h.legal ∙ ap (answered (opening setup)) h.run
 
 -- ---- the lines
 
-events_push_after : (setup : RawSetup) (past lines : List (List ℕ)) (line : List ℕ) → events_after setup past (lines ++ line ∷ []) ≡ events_after setup past lines ++ line_events setup (past ++ lines) line
+events_push_after : (setup : RawSetup) (past lines : List (List ℕ)) (line : List ℕ)
+    → events_after setup past (lines ++ line ∷ []) ≡ events_after setup past lines ++ line_events setup (past ++ lines) line
 events_push_after setup past [] line = append-nil (line_events setup past line) ∙ ap (λ p. line_events setup p line) (sym (append-nil past))
 events_push_after setup past (first ∷ lines) line =
     let here = line_events setup past first in
@@ -74,7 +80,8 @@ events_push_after setup past (first ∷ lines) line =
     ∙ ap (λ p. events_after setup (past ++ first ∷ []) lines ++ line_events setup p line) (append_assoc past (first ∷ []) lines))
     ∙ sym (append_assoc here (events_after setup (past ++ first ∷ []) lines) (line_events setup (past ++ first ∷ lines) line))
 
-pub events_push : (setup : RawSetup) (lines : List (List ℕ)) (line : List ℕ) → events_of setup (lines ++ line ∷ []) ≡ events_of setup lines ++ line_events setup lines line
+pub events_push : (setup : RawSetup) (lines : List (List ℕ)) (line : List ℕ)
+    → events_of setup (lines ++ line ∷ []) ≡ events_of setup lines ++ line_events setup lines line
 events_push setup lines line = events_push_after setup [] lines line
 
 reduce-more : (moments : List ℕ) (moment : ℕ) → reduce max (moments ++ moment ∷ []) ≡ later (reduce max moments) (Some moment)
@@ -94,7 +101,8 @@ reference_more past line =
     let f = λ (l : List ℕ). moment_said (bus_line l) in
     ap (reduce max) (filter_map-append f past (line ∷ [])) ∙ reduce-option (filter_map f past) (f line)
 
-resumed_step : (start : Option Start) (before : ℕ) (said : BusLine) (line : List ℕ) (next : List (List ℕ)) → bus_line line ≡ Ok said → resumed start before (line ∷ next) ≡ resumed_by start before said next
+resumed_step : (start : Option Start) (before : ℕ) (said : BusLine) (line : List ℕ) (next : List (List ℕ)) → bus_line line ≡ Ok said
+    → resumed start before (line ∷ next) ≡ resumed_by start before said next
 resumed_step (Some start) before said line next is = refl
 resumed_step None before said line next is = ap (λ r. start_said before r (λ sum. start_after sum next)) is
 
@@ -102,7 +110,8 @@ resumed_step None before said line next is = ap (λ r. start_said before r (λ s
 
 -- a line begins: the tester's lists are empty, and nothing of it was entered
 pub drew_none : (setup : RawSetup) (line : MidLine) (M : List (ℕ × Event)) (K : List Entry) → Serves setup (server_of line.server) M K
-    → length line.drawn.items ≡ length setup.testers → ((i : ℕ) (frames : List Sent) → slice_get (lists_of line) i ≡ Some frames → frames ≡ []) → line.text.items ≡ []
+    → length line.drawn.items ≡ length setup.testers → ((i : ℕ) (frames : List Sent) → slice_get (lists_of line) i ≡ Some frames → frames ≡ [])
+    → line.text.items ≡ []
     → Drew setup line (sent_to setup M K) (entered line.output K) M
 drew_none setup line M K h lists empty none = record {
   journal = K;
@@ -115,7 +124,8 @@ drew_none setup line M K h lists empty none = record {
 -- a line was taken: server and clock stand for the lines with it, and what it drew and entered is what they have more
 pub line_taken : (setup : RawSetup) (lines : List (List ℕ)) (line : List ℕ) (said : BusLine) (old new : MidLine) (clock clock' : Clock)
     → bus_line line ≡ Ok said → BusStands setup (server_of old.server) clock lines → GoesOn clock said clock'
-    → length old.drawn.items ≡ length setup.testers → ((i : ℕ) (frames : List Sent) → slice_get (lists_of old) i ≡ Some frames → frames ≡ []) → old.text.items ≡ []
+    → length old.drawn.items ≡ length setup.testers → ((i : ℕ) (frames : List Sent) → slice_get (lists_of old) i ≡ Some frames → frames ≡ [])
+    → old.text.items ≡ []
     → Gave old new (said_gives setup clock.reference said)
     → new.output ≡ old.output
     → LineTaken setup lines line (server_of new.server) (lists_of new) clock'
@@ -127,7 +137,8 @@ line_taken setup lines line said old new clock clock' is h on lists empty none g
     let before = entered old.output h.journal in
     let d0 = gave setup base before M (drew_none setup old M h.journal h.serves lists empty none) in
     let more : M ++ said_gives setup clock.reference said ≡ M' =
-    ap (λ r. M ++ said_gives setup r said) h.reference ∙ (ap (λ r. M ++ gives_if_well setup (reference lines) r) (sym is) ∙ sym (events_push setup lines line)) in
+    ap (λ r. M ++ said_gives setup r said) h.reference
+    ∙ (ap (λ r. M ++ gives_if_well setup (reference lines) r) (sym is) ∙ sym (events_push setup lines line)) in
     let d : Drew setup new base before M' = subst (λ N. Drew setup new base before N) more d0 in
     let run = run_is setup (server_of old.server) M h.journal h.serves in
     let run' = run_is setup (server_of new.server) M' d.journal d.serves in
@@ -139,7 +150,8 @@ line_taken setup lines line said old new clock clock' is h on lists empty none g
           serves = d.serves;
           reference = on.reference ∙ (ap₂ later h.reference (ap moment_said (sym is)) ∙ sym (reference_more lines line));
           time = on.time ∙ (ap₂ ◌+◌ h.time spent ∙ sym (clock_more lines line));
-          start = λ next. ap (start_after 0) (append_assoc lines (line ∷ []) next) ∙ (h.start (line ∷ next) ∙ (resumed_step clock.start clock.time said line next is ∙ on.start next));
+          start = λ next. ap (start_after 0) (append_assoc lines (line ∷ []) next)
+              ∙ (h.start (line ∷ next) ∙ (resumed_step clock.start clock.time said line next is ∙ on.start next));
         };
         lists = length-map new.drawn.items (λ f. f.items) ∙ d.lists;
         frames = λ i frames at.

@@ -27,7 +27,8 @@ abbrev SameBefore : ℕ → List Recorded → List (List ℕ) → Type 0
 SameBefore n frames wanted = (p : ℕ) (f : Recorded) → p < n → slice_get frames p ≡ Some f → slice_get wanted p ≡ Some f.bytes
 
 -- where nothing differs
-same_all : (frames : List Recorded) (wanted : List (List ℕ)) → difference frames wanted ≡ None → (p : ℕ) (f : Recorded) → slice_get frames p ≡ Some f → slice_get wanted p ≡ Some f.bytes
+same_all : (frames : List Recorded) (wanted : List (List ℕ)) → difference frames wanted ≡ None → (p : ℕ) (f : Recorded) → slice_get frames p ≡ Some f
+    → slice_get wanted p ≡ Some f.bytes
 same_all [] wanted none p f at = absurd (clash at)
 same_all (g ∷ frames) [] none p f at = absurd (clash (sym none))
 same_all (g ∷ frames) (bytes ∷ wanted) none p f at = pick (bytes_eq g.bytes bytes) refl none (λ rest q here. same_all frames wanted rest q f here) p at
@@ -40,7 +41,8 @@ same_all (g ∷ frames) (bytes ∷ wanted) none p f at = pick (bytes_eq g.bytes 
     pick false same rest next p here = absurd (clash (sym rest))
 
 -- and nothing is missing
-agree_all : (frames : List Recorded) (wanted : List (List ℕ)) → difference frames wanted ≡ None → slice_get wanted (length frames) ≡ None → map bytes_of frames ≡ wanted
+agree_all : (frames : List Recorded) (wanted : List (List ℕ)) → difference frames wanted ≡ None → slice_get wanted (length frames) ≡ None
+    → map bytes_of frames ≡ wanted
 agree_all [] [] none missing = refl
 agree_all [] (bytes ∷ wanted) none missing = absurd (clash (sym missing))
 agree_all (g ∷ frames) [] none missing = absurd (clash (sym none))
@@ -63,7 +65,8 @@ differing : (frames : List Recorded) (wanted : List (List ℕ)) (d : Difference)
 differing [] wanted d is = absurd (clash is)
 differing (g ∷ frames) [] d is =
     let same : differs_by g None ≡ d = some_same is in
-    subst (Differing (g ∷ frames) []) same (record { place = 0; has = refl; wants = refl; other = λ e. clash e; before = λ p f less. absurd (omega (arith, less)) })
+    subst (Differing (g ∷ frames) []) same (record
+    { place = 0; has = refl; wants = refl; other = λ e. clash e; before = λ p f less. absurd (omega (arith, less)) })
 differing (g ∷ frames) (bytes ∷ wanted) d is = pick (bytes_eq g.bytes bytes) refl is (λ rest. differing frames wanted d rest)
   where
     wrong : true ≡ false → ⊥
@@ -83,12 +86,14 @@ differing (g ∷ frames) (bytes ∷ wanted) d is = pick (bytes_eq g.bytes bytes)
         record { place = suc later.place; has = later.has; wants = later.wants; other = later.other; before = front same later.before }
     pick false other rest next =
         let same : differs_by g (Some bytes) ≡ d = some_same rest in
-        subst (Differing (g ∷ frames) (bytes ∷ wanted)) same (record { place = 0; has = refl; wants = refl; other = unlike other; before = λ p f less. absurd (omega (arith, less)) })
+        subst (Differing (g ∷ frames) (bytes ∷ wanted)) same
+        (record { place = 0; has = refl; wants = refl; other = unlike other; before = λ p f less. absurd (omega (arith, less)) })
 
 -- lists that agree
 same_none : (frames : List Recorded) → difference frames (map bytes_of frames) ≡ None
 same_none [] = refl
-same_none (g ∷ frames) = ap (λ (b : Bool). if b then difference frames (map bytes_of frames) else Some (differs_by g (Some g.bytes))) (bytes_self g.bytes) ∙ same_none frames
+same_none (g ∷ frames) = ap (λ (b : Bool). if b then difference frames (map bytes_of frames) else Some (differs_by g (Some g.bytes)))
+    (bytes_self g.bytes) ∙ same_none frames
 
 none_missing : (frames : List Recorded) → slice_get (map bytes_of frames) (length frames) ≡ None
 none_missing [] = refl
@@ -116,14 +121,16 @@ module _ (setup : RawSetup) (t : ℕ) where
       → (o : Option (List ℕ)) (p q : ℕ) → p ≤ q → slice_get (option_to_list (option_map (at_line n) o) ++ rest) p ≡ Some f
       → slice_get (option_to_list (option_map (at_line n) o) ++ rest) q ≡ Some g → f.line ≤ g.line
   step n rest f g above later None p q le at there = later p q le at there
-  step n rest f g above later (Some bytes) zero zero le at there = let same : f ≡ g = some_same (sym at ∙ there) in omega (arith, ap (λ (r : Recorded). r.line) same)
+  step n rest f g above later (Some bytes) zero zero le at there = let same : f ≡ g = some_same (sym at ∙ there) in
+      omega (arith, ap (λ (r : Recorded). r.line) same)
   step n rest f g above later (Some bytes) zero (suc q) le at there =
       let first : n ≡ f.line = ap (λ (r : Recorded). r.line) (some_same at) in
       omega (arith, first, above q there)
   step n rest f g above later (Some bytes) (suc p) zero le at there = absurd (omega (arith, le))
   step n rest f g above later (Some bytes) (suc p) (suc q) le at there = later p q (omega (arith, le)) at there
 
-  rising : (n : ℕ) (lines : List (List ℕ)) (p q : ℕ) (f g : Recorded) → p ≤ q → slice_get (recorded_from setup t n lines) p ≡ Some f → slice_get (recorded_from setup t n lines) q ≡ Some g
+  rising : (n : ℕ) (lines : List (List ℕ)) (p q : ℕ) (f g : Recorded) → p ≤ q → slice_get (recorded_from setup t n lines) p ≡ Some f
+      → slice_get (recorded_from setup t n lines) q ≡ Some g
       → f.line ≤ g.line
   rising n [] p q f g le at there = absurd (clash at)
   rising n (line ∷ lines) p q f g le at there =
@@ -142,7 +149,8 @@ here_or_later a t le = pick (nat_lt a t) refl
 earlier_cases : (a b : ℕ × Difference) → ((earlier a b ≡ a) × (a.1.line ≤ b.1.line)) ⊎ ((earlier a b ≡ b) × (b.1.line ≤ a.1.line))
 earlier_cases a b = pick (nat_lt b.1.line a.1.line) refl
   where
-    pick : (t : Bool) → nat_lt b.1.line a.1.line ≡ t → (((if t then b else a) ≡ a) × (a.1.line ≤ b.1.line)) ⊎ (((if t then b else a) ≡ b) × (b.1.line ≤ a.1.line))
+    pick : (t : Bool) → nat_lt b.1.line a.1.line ≡ t
+        → (((if t then b else a) ≡ a) × (a.1.line ≤ b.1.line)) ⊎ (((if t then b else a) ≡ b) × (b.1.line ≤ a.1.line))
     pick true e = inr (refl, (let under : b.1.line < a.1.line = grind (arith, nat_tests) in omega (arith, under)))
     pick false e = inl (refl, grind (arith, nat_tests))
 
@@ -162,7 +170,8 @@ found_later g a n x f = record { at = f.at; low = omega (arith, f.low); high = o
 abbrev found_here : {X : Type 0} (g : ℕ → Option X) (a n : ℕ) (x : X) → g a ≡ Some x → Found g a (suc n) x
 found_here g a n x is = record { at = a; low = omega arith; high = omega arith; gives = is }
 
-least_later : (g : ℕ → Option (ℕ × Difference)) (a n : ℕ) (r : ℕ × Difference) → ((x : ℕ × Difference) → g a ≡ Some x → r.1.line ≤ x.1.line) → Least g (suc a) n r → Least g a (suc n) r
+least_later : (g : ℕ → Option (ℕ × Difference)) (a n : ℕ) (r : ℕ × Difference) → ((x : ℕ × Difference) → g a ≡ Some x → r.1.line ≤ x.1.line)
+    → Least g (suc a) n r → Least g a (suc n) r
 unfolding Least
 least_later g a n r here later t x low high is = elim (here_or_later a t low) [
   | inl e ↦ here x (ap g (sym e) ∙ is)
@@ -178,7 +187,8 @@ record Folded (g : ℕ → Option (ℕ × Difference)) (a n : ℕ) (first r : �
 line_same : {a b : ℕ × Difference} → a ≡ b → a.1.line ≡ b.1.line
 line_same e = ap (λ (d : ℕ × Difference). d.1.line) e
 
-folded : (g : ℕ → Option (ℕ × Difference)) (a n : ℕ) (first r : ℕ × Difference) → fold earlier first (filter_map g (counted_from a n)) ≡ r → Folded g a n first r
+folded : (g : ℕ → Option (ℕ × Difference)) (a n : ℕ) (first r : ℕ × Difference) → fold earlier first (filter_map g (counted_from a n)) ≡ r
+    → Folded g a n first r
 unfolding Least
 folded g a zero first r is = record {
   below = omega (arith, line_same is);
@@ -203,25 +213,29 @@ folded g a (suc n) first r is = pick (g a) refl is (λ next e. folded g (suc a) 
               let same : (earlier first x).1.line ≡ first.1.line = line_same kept.0 in
               record {
                 below = omega (arith, f.below, same);
-                least = least_later g a n r (λ y at. (let here : x.1.line ≡ y.1.line = line_same (some_same (sym some ∙ at)) in omega (arith, f.below, same, kept.1, here))) f.least;
+                least = least_later g a n r (λ y at. (let here : x.1.line ≡ y.1.line = line_same (some_same (sym some ∙ at)) in
+                    omega (arith, f.below, same, kept.1, here))) f.least;
                 found = elim f.found [ inl is ↦ inl (is ∙ kept.0) | inr there ↦ inr (found_later g a n r there) ];
               })
           | inr took ↦ (
               let same : (earlier first x).1.line ≡ x.1.line = line_same took.0 in
               record {
                 below = omega (arith, f.below, same, took.1);
-                least = least_later g a n r (λ y at. (let here : x.1.line ≡ y.1.line = line_same (some_same (sym some ∙ at)) in omega (arith, f.below, same, here))) f.least;
+                least = least_later g a n r (λ y at. (let here : x.1.line ≡ y.1.line = line_same (some_same (sym some ∙ at)) in
+                    omega (arith, f.below, same, here))) f.least;
                 found = elim f.found [ inl is ↦ inr (found_here g a n r (some ∙ ap Some (sym (is ∙ took.0)))) | inr there ↦ inr (found_later g a n r there) ];
               })
         ]
 
-reduced : (g : ℕ → Option (ℕ × Difference)) (a n : ℕ) (r : ℕ × Difference) → reduce earlier (filter_map g (counted_from a n)) ≡ Some r → Found g a n r × Least g a n r
+reduced : (g : ℕ → Option (ℕ × Difference)) (a n : ℕ) (r : ℕ × Difference) → reduce earlier (filter_map g (counted_from a n)) ≡ Some r
+    → Found g a n r × Least g a n r
 unfolding Least
 reduced g a zero r is = absurd (clash is)
 reduced g a (suc n) r is = pick (g a) refl is (λ e. reduced g (suc a) n r e)
   where
     pick : (o : Option (ℕ × Difference)) → g a ≡ o → reduce earlier (cons_option o (filter_map g (counted_from (suc a) n))) ≡ Some r
-        → (reduce earlier (filter_map g (counted_from (suc a) n)) ≡ Some r → Found g (suc a) n r × Least g (suc a) n r) → Found g a (suc n) r × Least g a (suc n) r
+        → (reduce earlier (filter_map g (counted_from (suc a) n)) ≡ Some r → Found g (suc a) n r × Least g (suc a) n r)
+        → Found g a (suc n) r × Least g a (suc n) r
     pick None none e later =
         let f = later e in
         (found_later g a n r f.0, least_later g a n r (λ x at. absurd (clash (sym none ∙ at))) f.1)
@@ -346,7 +360,8 @@ module _ (setup : RawSetup) (lines : List (List ℕ)) where
     means_rest (v ∷ lacks) are =
         let first = first_found (lack_of setup lines) 1 (length setup.testers) v lacks are in
         let t = first.there.at in
-        let from = mapped_from (Lacks t (length (recorded setup lines t))) (slice_get (expected setup lines t) (length (recorded setup lines t))) v first.there.gives in
+        let from = mapped_from (Lacks t (length (recorded setup lines t))) (slice_get (expected setup lines t) (length (recorded setup lines t))) v
+        first.there.gives in
         let next = from.0 in
         subst (Means setup lines) from.2 (record {
           tester = (first.there.low, omega (arith, first.there.high));
@@ -359,7 +374,8 @@ module _ (setup : RawSetup) (lines : List (List ℕ)) where
   means : Means setup lines (verdict setup lines)
   means = pick (first_difference setup lines) refl
     where
-      pick : (o : Option (ℕ × Difference)) → first_difference setup lines ≡ o → Means setup lines (verdict_by o (filter_map (lack_of setup lines) (places setup)))
+      pick : (o : Option (ℕ × Difference)) → first_difference setup lines ≡ o
+          → Means setup lines (verdict_by o (filter_map (lack_of setup lines) (places setup)))
       pick (Some r) is = means_first r is
       pick None none = means_rest none (filter_map (lack_of setup lines) (places setup)) refl
 
@@ -370,7 +386,8 @@ module _ (setup : RawSetup) (lines : List (List ℕ)) where
       ap (option_map (λ (d : Difference). (t, d))) (ap (difference (recorded setup lines t)) (sym e) ∙ same_none (recorded setup lines t))) in
       let miss = all_none (lack_of setup lines) 1 (length setup.testers) (λ t low high.
       let e = agree t (low, omega (arith, high)) in
-      ap (option_map (Lacks t (length (recorded setup lines t)))) (ap (λ (w : List (List ℕ)). slice_get w (length (recorded setup lines t))) (sym e) ∙ none_missing (recorded setup lines t))) in
+      ap (option_map (Lacks t (length (recorded setup lines t))))
+      (ap (λ (w : List (List ℕ)). slice_get w (length (recorded setup lines t))) (sym e) ∙ none_missing (recorded setup lines t))) in
       ap₂ verdict_by (ap (reduce earlier) differ) miss
 
 pub meaning : VerdictLaw

@@ -52,13 +52,15 @@ put_of key k x [] = refl
 put_of key k x (y ∷ ys) = pick (nat_le (key x) (key y)) refl (put_of key k x ys)
   where
     swap : (a b : Bool) → (key x == k) ≡ a → (key y == k) ≡ b → nat_le (key x) (key y) ≡ false
-        → cond b (y ∷ cond a (x ∷ of key k ys) (of key k ys)) (cond a (x ∷ of key k ys) (of key k ys)) ≡ cond a (x ∷ cond b (y ∷ of key k ys) (of key k ys)) (cond b (y ∷ of key k ys) (of key k ys))
+        → cond b (y ∷ cond a (x ∷ of key k ys) (of key k ys)) (cond a (x ∷ of key k ys) (of key k ys))
+        ≡ cond a (x ∷ cond b (y ∷ of key k ys) (of key k ys)) (cond b (y ∷ of key k ys) (of key k ys))
     swap true true p q e = absurd (grind (arith, nat_tests))
     swap true false p q e = refl
     swap false true p q e = refl
     swap false false p q e = refl
 
-    pick : (b : Bool) → nat_le (key x) (key y) ≡ b → of key k (insert_in_order key x ys) ≡ of key k (x ∷ ys) → of key k (cond b (x ∷ y ∷ ys) (y ∷ insert_in_order key x ys)) ≡ of key k (x ∷ y ∷ ys)
+    pick : (b : Bool) → nat_le (key x) (key y) ≡ b → of key k (insert_in_order key x ys) ≡ of key k (x ∷ ys)
+        → of key k (cond b (x ∷ y ∷ ys) (y ∷ insert_in_order key x ys)) ≡ of key k (x ∷ y ∷ ys)
     pick true e rest = refl
     pick false e rest = ap (λ w. cond (key y == k) (y ∷ w) w) rest ∙ swap (key x == k) (key y == k) refl refl e
 
@@ -126,7 +128,8 @@ up_of {X = X} key (y ∷ ys) h = (
     least_of key n (x ∷ xs) f = (f zero x (omega arith), least_of key n xs (λ j d less. f (suc j) d (omega (arith, less))))
 
 -- what a stable sort gives
-pub sorted_is : {X : Type 0} (key : X → ℕ) (xs ys : List X) → IsNonDecreasingBy key ys → ((x : X) → of key (key x) ys ≡ of key (key x) xs) → ys ≡ in_order key xs
+pub sorted_is : {X : Type 0} (key : X → ℕ) (xs ys : List X) → IsNonDecreasingBy key ys → ((x : X) → of key (key x) ys ≡ of key (key x) xs)
+    → ys ≡ in_order key xs
 sorted_is key xs ys up same = one_order key ys (in_order key xs) (up_of key ys up) (in_order_up key xs) (λ x. same x ∙ sym (in_order_of key (key x) xs))
 
 -- rows that tie are those of one key

@@ -32,19 +32,22 @@ pub ticks_time : (n now : ℕ) → time_after now (Ticks n) ≤ now + n
 ticks_time n now = omega arith
 
 -- a server that took an event of the tester
-pub went_on : (old new : ServerView) (place span : ℕ) (e : Event) (asked : Option Entry) (more : List Sent) → MovedOn (server_of old).links (server_of new).links place e asked more
+pub went_on : (old new : ServerView) (place span : ℕ) (e : Event) (asked : Option Entry) (more : List Sent)
+    → MovedOn (server_of old).links (server_of new).links place e asked more
     → ((now : ℕ) → time_after now e ≤ now + span) → OneWentOn old new place span
-went_on old new place span e asked more moved most = λ i link at. elim (set_cases (server_of old).links place i moved.after link (subst (λ ls. slice_get ls i ≡ Some link) moved.set at)) [
-  | inl p ↦ (
-      let same : link.now ≡ moved.after.now = ap (λ (l : LinkState). l.now) p.1 in
-      let fits : link.now ≤ moved.before.now + span = omega (arith, same, moved.time, most moved.before.now) in
-      (moved.before, subst (λ k. slice_get (server_of old).links k ≡ Some moved.before) (sym p.0) moved.found, inl (p.0, fits)))
-  | inr p ↦ (let same : link.now ≤ link.now = omega arith in (link, p.1, inr same))
-]
+went_on old new place span e asked more moved most =
+    λ i link at. elim (set_cases (server_of old).links place i moved.after link (subst (λ ls. slice_get ls i ≡ Some link) moved.set at)) [
+      | inl p ↦ (
+          let same : link.now ≡ moved.after.now = ap (λ (l : LinkState). l.now) p.1 in
+          let fits : link.now ≤ moved.before.now + span = omega (arith, same, moved.time, most moved.before.now) in
+          (moved.before, subst (λ k. slice_get (server_of old).links k ≡ Some moved.before) (sym p.0) moved.found, inl (p.0, fits)))
+      | inr p ↦ (let same : link.now ≤ link.now = omega arith in (link, p.1, inr same))
+    ]
 
 -- a server that is as it was
 pub stays : (old new : ServerView) (place span : ℕ) → server_of new ≡ server_of old → OneWentOn old new place span
-stays old new place span is = λ i link at. (let same : link.now ≤ link.now = omega arith in (link, subst (λ (s : ServerState). slice_get s.links i ≡ Some link) is at, inr same))
+stays old new place span is = λ i link at.
+    (let same : link.now ≤ link.now = omega arith in (link, subst (λ (s : ServerState). slice_get s.links i ≡ Some link) is at, inr same))
 
 -- ---- one tester behind the other
 
@@ -90,7 +93,8 @@ pub has_left : (a b : ServerView) (all n m : ℕ) → n + m ≤ all → HasTime 
 has_left a b all n m fits h took = record { time = h.time + n; by = took h.time h.by; early = omega (arith, h.early, fits) }
 
 -- the bus's clock goes on by as much
-pub line_paced : (old new : ServerView) (clock clock' : Clock) (said : BusLine) → GoesOn clock said clock' → IsBy old clock.time → TookTime old new (span_said clock.reference (Ok said)) → IsBy new clock'.time
+pub line_paced : (old new : ServerView) (clock clock' : Clock) (said : BusLine) → GoesOn clock said clock' → IsBy old clock.time
+    → TookTime old new (span_said clock.reference (Ok said)) → IsBy new clock'.time
 line_paced old new clock clock' said on by took = λ i link at. (let low = took clock.time by i link at in omega (arith, low, on.time))
 
 -- ---- frames
@@ -99,8 +103,10 @@ within_sent : (from to last : ℕ) (more : List Sent) → AreWithin from to more
 within_sent from to last more h fits = λ k d less. (let one = h k d less in omega (arith, one.1, fits))
 
 -- the tester's list has grown by frames that were sent up to what its clock tells
-pub sent_one : (old new : MidLine) (place i span : ℕ) (e : Event) (asked : Option Entry) (frames more : List Sent) → MovedOn (server_of old.server).links (server_of new.server).links place e asked more
-    → ((now : ℕ) → time_after now e ≤ now + span) → slice_get (lists_of old) i ≡ Some frames → lists_of new ≡ slice_set (lists_of old) i (frames ++ more) → OneSentIn old new place span
+pub sent_one : (old new : MidLine) (place i span : ℕ) (e : Event) (asked : Option Entry) (frames more : List Sent)
+    → MovedOn (server_of old.server).links (server_of new.server).links place e asked more
+    → ((now : ℕ) → time_after now e ≤ now + span) → slice_get (lists_of old) i ≡ Some frames
+    → lists_of new ≡ slice_set (lists_of old) i (frames ++ more) → OneSentIn old new place span
 sent_one old new place i span e asked frames more moved most found lists = λ last early by j fs at.
     let told = early moved.before moved.found in
     let fits : moved.after.now ≤ last = omega (arith, moved.time, most moved.before.now, told) in
@@ -114,7 +120,8 @@ pub sent_none : (a : MidLine) (span : ℕ) → SentIn a a span
 sent_none a span = λ time last by fits old. old
 
 -- one tester more of those that go on by as much
-pub sent_some : (a b c : MidLine) (n place span : ℕ) → place ≡ n → SomeWentOn a.server b.server n span → SentIn a b span → OneSentIn b c place span → SentIn a c span
+pub sent_some : (a b c : MidLine) (n place span : ℕ) → place ≡ n → SomeWentOn a.server b.server n span → SentIn a b span → OneSentIn b c place span
+    → SentIn a c span
 sent_some a b c n place span is some sent one = λ time last by fits old.
     one last (λ link at. (let low = (some time by place link at).1 (omega (arith, is)) in omega (arith, low, fits))) (sent time last by fits old)
 
@@ -129,4 +136,5 @@ sent_more a b c n m all less took first second = λ time last by fits old.
 
 -- lists without frames
 pub sent_nothing : (lists : List (List Sent)) (last : ℕ) → ((i : ℕ) (frames : List Sent) → slice_get lists i ≡ Some frames → frames ≡ []) → AreSentBy lists last
-sent_nothing lists last empty = λ i frames at. subst (λ (ss : List Sent). All (λ f. f.at ≤ last) ss) (sym (empty i frames at)) (λ k d less. absurd (omega (arith, less)))
+sent_nothing lists last empty = λ i frames at. subst (λ (ss : List Sent). All (λ f. f.at ≤ last) ss) (sym (empty i frames at))
+    (λ k d less. absurd (omega (arith, less)))

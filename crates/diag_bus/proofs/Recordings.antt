@@ -29,7 +29,8 @@ recorded_push setup t n [] line =
     append-nil (line_has setup t n line) ∙ ap (λ k. line_has setup t k line) none
 recorded_push setup t n (first ∷ lines) line =
     let next : n + 1 + length lines ≡ n + length (first ∷ lines) = omega arith in
-    ap (λ w. line_has setup t n first ++ w) (recorded_push setup t (n + 1) lines line ∙ ap (λ k. recorded_from setup t (n + 1) lines ++ line_has setup t k line) next)
+    ap (λ w. line_has setup t n first ++ w) (recorded_push setup t (n + 1) lines line
+    ∙ ap (λ k. recorded_from setup t (n + 1) lines ++ line_has setup t k line) next)
     ∙ sym (append_assoc (line_has setup t n first) (recorded_from setup t (n + 1) lines) (line_has setup t (n + length (first ∷ lines)) line))
 
 -- ---- of all testers
@@ -49,9 +50,6 @@ pub some_same : {X : Type 0} {x y : X} → Some x ≡ Some y → x ≡ y
 some_same e = cc
 
 module _ (setup : RawSetup) (n : ℕ) (said : BusLine) (drawn : List (List Sent)) (old : List Comparison) where
-  pub took_none : TookEach setup n said drawn old old 0
-  took_none = record { lists = refl; left = λ k above. refl; done = λ k before after frames less. absurd (omega (arith, less)) }
-
   pub took_one : (new : List Comparison) (i : ℕ) → TookEach setup n said drawn old new i → (before after : Comparison) (own : List Sent)
       → slice_get new i ≡ Some before → slice_get drawn i ≡ Some own → Takes before after (said_has setup n said i) (map sent_bytes own)
       → TookEach setup n said drawn old (slice_set new i after) (i + 1)
@@ -85,8 +83,10 @@ took_all setup old new said drawn count each many lines line is drew h = record 
       let frames = found_at drawn i (omega (arith, within, each.lists, h.many, many)) in
       let number : old.lines + 1 ≡ 1 + length lines = omega (arith, h.count) in
       let has : said_has setup (old.lines + 1) said i ≡ line_has setup (i + 1) (1 + length lines) line =
-      ap (λ n. said_has setup n said i) number ∙ ap (λ r. option_to_list (option_map (at_line (1 + length lines)) (reply_said (ids_of setup (i + 1)).response r))) (sym is) in
-      let took = each.done i before.0 own frames.0 (omega (arith, within, each.lists)) before.1 at frames.1 (recorded setup lines (i + 1)) (expected setup lines (i + 1)) (h.each i before.0 before.1) in
+      ap (λ n. said_has setup n said i) number
+      ∙ ap (λ r. option_to_list (option_map (at_line (1 + length lines)) (reply_said (ids_of setup (i + 1)).response r))) (sym is) in
+      let took = each.done i before.0 own frames.0 (omega (arith, within, each.lists)) before.1 at frames.1 (recorded setup lines (i + 1))
+      (expected setup lines (i + 1)) (h.each i before.0 before.1) in
       let seen : recorded setup lines (i + 1) ++ said_has setup (old.lines + 1) said i ≡ recorded setup (lines ++ line ∷ []) (i + 1) =
       ap (λ w. recorded setup lines (i + 1) ++ w) has ∙ sym (recorded_push setup (i + 1) 1 lines line) in
       let due : expected setup lines (i + 1) ++ map sent_bytes frames.0 ≡ expected setup (lines ++ line ∷ []) (i + 1) =

@@ -34,7 +34,9 @@ digits_low least most text r h = pick (nat_le least (prefix_len is_digit text)) 
     clash : None ≡ Some r → ⊥
     clash h = cc
 
-    pick : (a b : Bool) → nat_le (prefix_len is_digit text) most ≡ b → cond (a && b) (Some (take (prefix_len is_digit text) text, drop (prefix_len is_digit text) text)) None ≡ Some r → AllPass is_digit r.0 × (length r.0 ≤ most)
+    pick : (a b : Bool) → nat_le (prefix_len is_digit text) most ≡ b
+        → cond (a && b) (Some (take (prefix_len is_digit text) text, drop (prefix_len is_digit text) text)) None ≡ Some r
+        → AllPass is_digit r.0 × (length r.0 ≤ most)
     pick true true is h =
         let same : (take (prefix_len is_digit text) text, drop (prefix_len is_digit text) text) ≡ r = cc in
         let front : take (prefix_len is_digit text) text ≡ r.0 = ap (λ (p : List ℕ × List ℕ). p.0) same in
@@ -113,7 +115,8 @@ frame_low r (Ok frame) said low h =
     let same : Stamped r.0 frame ≡ said = cc in
     subst (λ (s : BusLine). SaidBelow s moment_end) same low
 
-line_low : (o : Option (ℕ × List ℕ)) (said : BusLine) → ((r : ℕ × List ℕ) → o ≡ Some r → r.0 < moment_end) → stamped_line o ≡ Ok said → SaidBelow said moment_end
+line_low : (o : Option (ℕ × List ℕ)) (said : BusLine) → ((r : ℕ × List ℕ) → o ≡ Some r → r.0 < moment_end) → stamped_line o ≡ Ok said
+    → SaidBelow said moment_end
 line_low None said low h = absurd (clash h)
   where
     clash : Err BadLine ≡ Ok said → ⊥

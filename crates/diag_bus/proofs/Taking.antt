@@ -37,20 +37,25 @@ judges_on End setup old new said drawn lines line takes is drew h = h
 judges_on Verdict setup old new said drawn lines line takes is drew h = takes lines line is drew h
 
 -- the line begins, what it says is given to the server, and what that drew is written
-pub took_line : (setup : RawSetup) (lines : List (List ℕ)) (line : List ℕ) (said : BusLine) (old begun taken done : MidLine) (clock clock' : Clock) (compared compared' : Comparisons)
+pub took_line : (setup : RawSetup) (lines : List (List ℕ)) (line : List ℕ) (said : BusLine) (old begun taken done : MidLine) (clock clock' : Clock)
+    (compared compared' : Comparisons)
     → bus_line line ≡ Ok said → fault_said (bus_line line) (clock.time + span_said clock.reference (bus_line line)) ≡ None → GoesOn clock said clock'
     → length old.drawn.items ≡ length setup.testers
-    → ((i : ℕ) (frames : List Sent) → slice_get (lists_of begun) i ≡ Some frames → frames ≡ []) → begun.text.items ≡ [] → begun.server ≡ old.server → SameShape old begun
+    → ((i : ℕ) (frames : List Sent) → slice_get (lists_of begun) i ≡ Some frames → frames ≡ []) → begun.text.items ≡ [] → begun.server ≡ old.server
+    → SameShape old begun
     → Gave begun taken (said_gives setup clock.reference said) → SameShape begun taken
     → TakesLine setup compared compared' said (lists_of taken)
     → done.server ≡ taken.server → SameShape taken done
     → TookLines (seen setup old clock compared) lines
     → TookLines (seen setup done clock' compared') (lines ++ line ∷ [])
-    × (written old.output setup (lines ++ line ∷ []) ≡ written old.output setup lines ++ added taken.output taken.text.items setup clock'.start (lists_of taken))
+    × (written old.output setup (lines ++ line ∷ [])
+    ≡ written old.output setup lines ++ added taken.output taken.text.items setup clock'.start (lists_of taken))
 took_line setup lines line said old begun taken done clock clock' compared compared' is well on lists empty none server first gave second takes after third h =
-    let stands : BusStands setup (server_of begun.server) clock lines = subst (λ (s : ServerView). BusStands setup (server_of s) clock lines) (sym server) h.stands in
+    let stands : BusStands setup (server_of begun.server) clock lines =
+    subst (λ (s : ServerView). BusStands setup (server_of s) clock lines) (sym server) h.stands in
     let t = line_taken setup lines line said begun taken clock clock' is stands on (first.lists ∙ lists) empty none gave second.output in
-    let calm = ap₂ (λ time reference. fault_said (bus_line line) (time + span_said reference (bus_line line))) (sym h.stands.time) (sym h.stands.reference) ∙ well in
+    let calm = ap₂ (λ time reference. fault_said (bus_line line) (time + span_said reference (bus_line line))) (sym h.stands.time)
+    (sym h.stands.reference) ∙ well in
     let same : taken.output ≡ old.output = second.output ∙ first.output in (
       record {
         well = well_more lines line h.well calm;
@@ -83,7 +88,8 @@ sound_taken setup line said old begun taken clock clock' compared compared' h is
 )
 
 -- what it drew was written
-pub sound_written : (setup : RawSetup) (taken done : MidLine) (clock : Clock) (compared : Comparisons) → AreSound setup taken compared clock → done.server ≡ taken.server → SameShape taken done
+pub sound_written : (setup : RawSetup) (taken done : MidLine) (clock : Clock) (compared : Comparisons) → AreSound setup taken compared clock
+    → done.server ≡ taken.server → SameShape taken done
     → AreSound setup done compared clock
 sound_written setup taken done clock compared h server shape = (
   shape.links ∙ h.0,

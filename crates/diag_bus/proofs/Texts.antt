@@ -40,7 +40,8 @@ gathered_is setup L M a (frames ∷ lists) h =
     subst (λ t. sent_of setup M t ≡ sent_of setup L t ++ fs) same (h (suc i) fs at)) ∙ ap (λ n. gathered n lists) next)
 
 -- what a line writes is what `write_batch` writes for the lists of the testers, with the clock behind the line
-pub line_writes : (setup : RawSetup) (lines : List (List ℕ)) (line : List ℕ) (server : ServerState) (drawn : List (List Sent)) (clock : Clock) → LineTaken setup lines line server drawn clock
+pub line_writes : (setup : RawSetup) (lines : List (List ℕ)) (line : List ℕ) (server : ServerState) (drawn : List (List Sent)) (clock : Clock)
+    → LineTaken setup lines line server drawn clock
     → flat_map (line_of setup clock.start) (in_order time_of (gathered 1 drawn)) ≡ line_text setup lines line
 line_writes setup lines line server drawn clock h =
     let all = gathered_is setup (events_of setup lines) (events_of setup (lines ++ line ∷ [])) 1 drawn h.frames in
@@ -53,7 +54,8 @@ line_writes setup lines line server drawn clock h =
     resumed_none None before = refl
     resumed_none (Some s) before = refl
 
-push_after : (setup : RawSetup) (past lines : List (List ℕ)) (line : List ℕ) → text_after setup past (lines ++ line ∷ []) ≡ text_after setup past lines ++ line_text setup (past ++ lines) line
+push_after : (setup : RawSetup) (past lines : List (List ℕ)) (line : List ℕ)
+    → text_after setup past (lines ++ line ∷ []) ≡ text_after setup past lines ++ line_text setup (past ++ lines) line
 push_after setup past [] line = append-nil (line_text setup past line) ∙ ap (λ p. line_text setup p line) (sym (append-nil past))
 push_after setup past (first ∷ lines) line =
     let here = line_text setup past first in
@@ -62,11 +64,13 @@ push_after setup past (first ∷ lines) line =
     ∙ sym (append_assoc here (text_after setup (past ++ first ∷ []) lines) (line_text setup (past ++ first ∷ lines) line))
 
 -- the text of one line more
-pub text_push : (setup : RawSetup) (lines : List (List ℕ)) (line : List ℕ) → text_of setup (lines ++ line ∷ []) ≡ text_of setup lines ++ line_text setup lines line
+pub text_push : (setup : RawSetup) (lines : List (List ℕ)) (line : List ℕ)
+    → text_of setup (lines ++ line ∷ []) ≡ text_of setup lines ++ line_text setup lines line
 text_push setup lines line = push_after setup [] lines line
 
 -- what the whole text has more with a line that was taken
-pub wrote : (output : Output) (setup : RawSetup) (lines : List (List ℕ)) (line : List ℕ) (server : ServerState) (drawn : List (List Sent)) (clock : Clock) (T : List ℕ) → LineTaken setup lines line server drawn clock
+pub wrote : (output : Output) (setup : RawSetup) (lines : List (List ℕ)) (line : List ℕ) (server : ServerState) (drawn : List (List Sent))
+    (clock : Clock) (T : List ℕ) → LineTaken setup lines line server drawn clock
     → entered output (run_of setup (events_of setup (lines ++ line ∷ []))) ≡ entered output (run_of setup (events_of setup lines)) ++ T
     → written output setup (lines ++ line ∷ []) ≡ written output setup lines ++ added output T setup clock.start drawn
 wrote Replies setup lines line server drawn clock T h more =
@@ -76,7 +80,8 @@ wrote End setup lines line server drawn clock T h more = refl
 wrote Verdict setup lines line server drawn clock T h more = refl
 
 -- one list more
-gathered_more : (n : ℕ) (lists : List (List Sent)) (frames : List Sent) → gathered n (lists ++ frames ∷ []) ≡ gathered n lists ++ map (drawn_for (n + length lists)) frames
+gathered_more : (n : ℕ) (lists : List (List Sent)) (frames : List Sent)
+    → gathered n (lists ++ frames ∷ []) ≡ gathered n lists ++ map (drawn_for (n + length lists)) frames
 gathered_more n [] frames = append-nil (map (drawn_for n) frames) ∙ (let none : n ≡ n + 0 = omega arith in ap (λ t. map (drawn_for t) frames) none)
 gathered_more n (first ∷ lists) frames =
     let next : n + 1 + length lists ≡ n + length (first ∷ lists) = omega arith in
@@ -89,7 +94,8 @@ gathered_next xs i who x at is =
     let within = slice_get_within xs i x at in
     let lists = map (λ (f : Vec Sent Global). f.items) (take i xs) in
     let one : take (i + 1) xs ≡ take i xs ++ x ∷ [] = take_more xs i x within ∙ ap (λ y. take i xs ++ y ∷ []) (get_or_from_slice_get xs i x x at) in
-    let count : 1 + length lists ≡ who = omega (arith, length-map (take i xs) (λ (f : Vec Sent Global). f.items), length-take-le i xs (omega (arith, within)), is) in
+    let count : 1 + length lists ≡ who = omega
+    (arith, length-map (take i xs) (λ (f : Vec Sent Global). f.items), length-take-le i xs (omega (arith, within)), is) in
     ap (λ l. gathered 1 (map (λ f. f.items) l)) one
     ∙ (ap (gathered 1) (map-append (λ (f : Vec Sent Global). f.items) (take i xs) (x ∷ []))
     ∙ (gathered_more 1 lists x.items ∙ ap (λ t. gathered 1 lists ++ map (drawn_for t) x.items) count))
@@ -105,7 +111,9 @@ all_of n a (f ∷ frames) le = all_cons (λ (d : Drawn). d.who ≤ n) (drawn_for
 -- the frames are of testers that there are
 pub gathered_within : (n a : ℕ) (lists : List (List Sent)) → a + length lists ≤ n + 1 → All (λ (d : Drawn). d.who ≤ n) (gathered a lists)
 gathered_within n a [] le = λ k d less. absurd (omega (arith, less))
-gathered_within n a (frames ∷ lists) le = All-append (λ (d : Drawn). d.who ≤ n) (map (drawn_for a) frames) (gathered (a + 1) lists) (all_of n a frames (omega (arith, le))) (gathered_within n (a + 1) lists (omega (arith, le)))
+gathered_within n a (frames ∷ lists) le =
+    All-append (λ (d : Drawn). d.who ≤ n) (map (drawn_for a) frames) (gathered (a + 1) lists) (all_of n a frames (omega (arith, le)))
+    (gathered_within n (a + 1) lists (omega (arith, le)))
 
 -- and no later than those of the lists
 pub gathered_sent : (a time : ℕ) (lists : List (List Sent)) → AreSentBy lists time → All (λ (d : Drawn). d.sent.at ≤ time) (gathered a lists)

@@ -91,9 +91,3 @@ verdict_lacks setup lines i v none before less at =
     let next : 1 + i ≡ i + 1 = omega arith in
     let first = first_at (lack_of setup lines) v 1 (length setup.testers) i before less (ap (lack_of setup lines) next ∙ at) in
     sym (ap₂ verdict_by none first.1)
-
-pub verdict_agrees : (setup : RawSetup) (lines : List (List ℕ)) → first_difference setup lines ≡ None → filter_map (lack_of setup lines) (places setup) ≡ [] → Agrees ≡ verdict setup lines
-verdict_agrees setup lines none all = sym (ap₂ verdict_by none all)
-
-pub verdict_differs : (setup : RawSetup) (lines : List (List ℕ)) (who : ℕ) (d : Difference) → Some (who, d) ≡ first_difference setup lines → Differs who d ≡ verdict setup lines
-verdict_differs setup lines who d is = ap (λ o. verdict_by o (filter_map (lack_of setup lines) (places setup))) is

@@ -18,12 +18,14 @@ some_piece : (text : List ℕ) → 0 < length (slice_split is_feed text)
 some_piece text = omega (arith, length-slice_split is_feed text)
 
 fed : (pieces : List (List ℕ)) (rest : List ℕ) → 0 < length pieces
-    → [] ∷ (front_pieces pieces ++ slice_split is_feed (last_piece pieces ++ rest)) ≡ front_pieces ([] ∷ pieces) ++ slice_split is_feed (last_piece ([] ∷ pieces) ++ rest)
+    → [] ∷ (front_pieces pieces ++ slice_split is_feed (last_piece pieces ++ rest))
+    ≡ front_pieces ([] ∷ pieces) ++ slice_split is_feed (last_piece ([] ∷ pieces) ++ rest)
 fed [] rest some = absurd (omega arith)
 fed (piece ∷ pieces) rest some = refl
 
 not_fed : (c : ℕ) (pieces : List (List ℕ)) (rest : List ℕ) → is_feed c ≡ false → 0 < length pieces
-    → onto_first c (front_pieces pieces ++ slice_split is_feed (last_piece pieces ++ rest)) ≡ front_pieces (onto_first c pieces) ++ slice_split is_feed (last_piece (onto_first c pieces) ++ rest)
+    → onto_first c (front_pieces pieces ++ slice_split is_feed (last_piece pieces ++ rest))
+    ≡ front_pieces (onto_first c pieces) ++ slice_split is_feed (last_piece (onto_first c pieces) ++ rest)
 not_fed c [] rest plain some = absurd (omega arith)
 not_fed c (piece ∷ []) rest plain some = sym (slice_split-cons_no is_feed c (piece ++ rest) plain)
 not_fed c (piece ∷ next ∷ pieces) rest plain some = refl
@@ -36,8 +38,10 @@ slice_split-more (c ∷ text) rest =
     let pieces = slice_split is_feed text in
     let more = slice_split-more text rest in
     elim (cases_Bool (is_feed c)) [
-      | inl is_fed ↦ rw (slice_split-cons_yes is_feed c (text ++ rest) is_fed, slice_split-cons_yes is_feed c text is_fed, more) (fed pieces rest (some_piece text))
-      | inr plain ↦ rw (slice_split-cons_no is_feed c (text ++ rest) plain, slice_split-cons_no is_feed c text plain, more) (not_fed c pieces rest plain (some_piece text))
+      | inl is_fed ↦ rw (slice_split-cons_yes is_feed c (text ++ rest) is_fed, slice_split-cons_yes is_feed c text is_fed, more)
+          (fed pieces rest (some_piece text))
+      | inr plain ↦ rw (slice_split-cons_no is_feed c (text ++ rest) plain, slice_split-cons_no is_feed c text plain, more)
+          (not_fed c pieces rest plain (some_piece text))
     ]
 
 last_onto : (c : ℕ) (pieces : List (List ℕ)) → is_feed c ≡ false → HasNoFeed (last_piece pieces) → HasNoFeed (last_piece (onto_first c pieces))

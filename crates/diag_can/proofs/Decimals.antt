@@ -51,7 +51,8 @@ zero_filled-digits (suc width) n few small =
       | inr more ↦
           let step = decimal_step n (omega arith) small in
           let front = zero_filled-digits width (n / 10) (omega arith) (omega arith) in
-          ap (zero_filled (suc (suc width))) step ∙ fill-more (suc width) (decimal (n / 10)) (48 + n % 10) ∙ ap (λ (xs : List ℕ). xs ++ (48 + n % 10) ∷ []) front
+          ap (zero_filled (suc (suc width))) step ∙ fill-more (suc width) (decimal (n / 10)) (48 + n % 10)
+          ∙ ap (λ (xs : List ℕ). xs ++ (48 + n % 10) ∷ []) front
     ]
 
 power-pos : (k : ℕ) → 1 ≤ 10 ^ k
@@ -72,7 +73,8 @@ zero_filled-long n le small =
     rw none refl
 
 -- a long stamp is put together from its parts
-pub stamp_parts : (old seconds thousandths a b c d e : List ℕ) → a ≡ old ++ 40 ∷ [] → b ≡ a ++ seconds → c ≡ b ++ 46 ∷ [] → d ≡ c ++ thousandths → e ≡ d ++ codes "000) "
+pub stamp_parts : (old seconds thousandths a b c d e : List ℕ) → a ≡ old ++ 40 ∷ [] → b ≡ a ++ seconds → c ≡ b ++ 46 ∷ [] → d ≡ c ++ thousandths
+    → e ≡ d ++ codes "000) "
     → e ≡ old ++ (codes "(" ++ seconds ++ codes "." ++ thousandths ++ codes "000)" ++ codes " ")
 stamp_parts old seconds thousandths a b c d e p q r s t = rw (t, s, r, q, p) (simp append_assoc)
 
@@ -114,7 +116,8 @@ four_by_pairs n few =
 
 -- the five pairs of ten digits, by two and twice four
 pub ten_by_pairs : (n : ℕ) → n < 10 ^ 10 → n < 2 ^ 64 → zero_filled 10 (decimal n)
-    ≡ two (n / 10 ^ 8) ++ two (n % 10 ^ 8 / 10 ^ 4 / 100) ++ two (n % 10 ^ 8 / 10 ^ 4 % 100) ++ two (n % 10 ^ 8 % 10 ^ 4 / 100) ++ two (n % 10 ^ 8 % 10 ^ 4 % 100)
+    ≡ two (n / 10 ^ 8) ++ two (n % 10 ^ 8 / 10 ^ 4 / 100) ++ two (n % 10 ^ 8 / 10 ^ 4 % 100) ++ two (n % 10 ^ 8 % 10 ^ 4 / 100)
+    ++ two (n % 10 ^ 8 % 10 ^ 4 % 100)
 ten_by_pairs n few small =
     let a : n / 100 / 100 / 100 / 100 % 100 ≡ n / 10 ^ 8 = omega arith in
     let b : n / 100 / 100 / 100 % 100 ≡ n % 10 ^ 8 / 10 ^ 4 / 100 = omega arith in

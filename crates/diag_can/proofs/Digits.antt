@@ -51,13 +51,16 @@ run-more text count value next below digit is r = record {
   digits = below_more (λ k. is_digit (get_or text k 0) ≡ true) count r.digits digit;
   value_is = λ le.
       let before = r.value_is (omega arith) in
-      let small = decimal_value-lt 12 (take count text) (run-digits text count value (omega arith) r) (omega (arith, length-take-le count text (omega arith))) in
+      let small = decimal_value-lt 12 (take count text) (run-digits text count value (omega arith) r)
+      (omega (arith, length-take-le count text (omega arith))) in
       let nine = is_digit-le (get_or text count 0) digit in
-      let step : decimal_value (take (count + 1) text) ≡ decimal_value (take count text) * 10 + (get_or text count 0 - 48) = fold_more (λ n c. n * 10 + (c - 48)) 0 text count 0 below in
+      let step : decimal_value (take (count + 1) text) ≡ decimal_value (take count text) * 10 + (get_or text count 0 - 48) =
+      fold_more (λ n c. n * 10 + (c - 48)) 0 text count 0 below in
       omega (arith, before, small, nine, step, is);
 }
 
-pub run-count : (text : List ℕ) (count value : ℕ) → count < length text → is_digit (get_or text count 0) ≡ false → IsRun text count value → count ≡ prefix_len is_digit text
+pub run-count : (text : List ℕ) (count value : ℕ) → count < length text → is_digit (get_or text count 0) ≡ false → IsRun text count value
+    → count ≡ prefix_len is_digit text
 run-count text count value below stop r = sym (prefix_len_is is_digit text count 0 (omega arith) r.digits (λ lt. stop))
 
 pub run-all : (text : List ℕ) (value : ℕ) → IsRun text (length text) value → length text ≡ prefix_len is_digit text

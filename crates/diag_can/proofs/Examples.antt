@@ -34,7 +34,8 @@ fraction_of_seven_digits : of_line (codes "(1436509052.2497131)   can1  7df#023e
 unfolding hex_on_literals
 fraction_of_seven_digits = refl
 
-suffix_and_more : of_line (codes "(1436509052.249903)   can1  7df#023e00AAAAAAAAAA_9 R") ≡ Ok (Some (Functional (0x02 ∷ 0x3E ∷ 0x00 ∷ 0xAA ∷ 0xAA ∷ 0xAA ∷ 0xAA ∷ 0xAA ∷ [])))
+suffix_and_more : of_line (codes "(1436509052.249903)   can1  7df#023e00AAAAAAAAAA_9 R")
+    ≡ Ok (Some (Functional (0x02 ∷ 0x3E ∷ 0x00 ∷ 0xAA ∷ 0xAA ∷ 0xAA ∷ 0xAA ∷ 0xAA ∷ [])))
 unfolding hex_on_literals
 suffix_and_more = refl
 
@@ -167,7 +168,8 @@ unfolding events hex_on_literals
 reference_stays = refl
 
 -- 130 seconds
-long_time : events (codes "(0.000000) a 7E0#023E00\n(130.000000) a 7E0#023E00\n") ids Stamps ≡ Ok (Physical (0x02 ∷ 0x3E ∷ 0x00 ∷ []) ∷ Ticks 60000 ∷ Ticks 60000 ∷ Ticks 10000 ∷ Physical (0x02 ∷ 0x3E ∷ 0x00 ∷ []) ∷ [])
+long_time : events (codes "(0.000000) a 7E0#023E00\n(130.000000) a 7E0#023E00\n") ids Stamps
+    ≡ Ok (Physical (0x02 ∷ 0x3E ∷ 0x00 ∷ []) ∷ Ticks 60000 ∷ Ticks 60000 ∷ Ticks 10000 ∷ Physical (0x02 ∷ 0x3E ∷ 0x00 ∷ []) ∷ [])
 unfolding events hex_on_literals
 long_time = refl
 

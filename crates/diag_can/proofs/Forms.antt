@@ -15,7 +15,9 @@ same_event : (ids : Ids) (id moment : ℕ) (r : Result (List ℕ) LineFault) →
 same_event ids id moment (Err fault) = refl
 same_event ids id moment (Ok bytes) = pick (id == ids.request) (id == ids.functional)
   where
-    pick : (a b : Bool) → cond {A = Result (Option Event) LineFault} a (Ok (Some (event.Physical bytes))) (cond {A = Result (Option Event) LineFault} b (Ok (Some (event.Functional bytes))) (Ok None)) ≡ Ok (cond {A = Option Event} a (Some (event.Physical bytes)) (cond {A = Option Event} b (Some (event.Functional bytes)) None))
+    pick : (a b : Bool) → cond {A = Result (Option Event) LineFault} a (Ok (Some (event.Physical bytes)))
+        (cond {A = Result (Option Event) LineFault} b (Ok (Some (event.Functional bytes))) (Ok None))
+        ≡ Ok (cond {A = Option Event} a (Some (event.Physical bytes)) (cond {A = Option Event} b (Some (event.Functional bytes)) None))
     pick true b = refl
     pick false true = refl
     pick false false = refl
@@ -31,7 +33,8 @@ same_id : (ids : Ids) (o : Option ℕ) (moment : ℕ) (rest : List ℕ) → id_e
 same_id ids None moment rest = refl
 same_id ids (Some id) moment rest = same_data ids id moment rest
 
-same_digits : (ids : Ids) (moment : ℕ) (digits : List ℕ) (o : Option (List ℕ)) → digits_event ids digits o ≡ said_for ids (stamped moment (digits_frame digits o))
+same_digits : (ids : Ids) (moment : ℕ) (digits : List ℕ) (o : Option (List ℕ))
+    → digits_event ids digits o ≡ said_for ids (stamped moment (digits_frame digits o))
 same_digits ids moment digits None = refl
 same_digits ids moment digits (Some rest) = pick (length digits == 8)
   where

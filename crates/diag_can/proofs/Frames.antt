@@ -10,7 +10,8 @@ use lib.Lanes.{sel_l, top}
 
 -- the first k of some bytes were written, and then those from m on, which begin inside the first
 pub ends : (xs ys : List ℕ) (at k m : ℕ) → at + length ys ≤ length xs → k ≤ length ys → length ys ≤ m + k → m ≤ k → m ≤ length ys
-    → take (at + length ys) (put_mid (at + m) (at + m + k - (at + m)) (put_mid at (at + k - at) xs (take k ys)) (take (length ys - m) (drop m ys))) ≡ take at xs ++ ys
+    → take (at + length ys) (put_mid (at + m) (at + m + k - (at + m)) (put_mid at (at + k - at) xs (take k ys)) (take (length ys - m) (drop m ys)))
+    ≡ take at xs ++ ys
 ends xs ys at k m room inside all back few =
     let first = put_mid at (at + k - at) xs (take k ys) in
     let taken = length-take-le k ys inside in
@@ -22,7 +23,8 @@ ends xs ys at k m room inside all back few =
     let start : take (at + m) (take at xs ++ take k ys) ≡ take at xs ++ take m ys =
     (rw before at (take-append-add (take at xs) (take k ys) m)) ∙ ap (λ (t : List ℕ). take at xs ++ t) (take-take m k ys back) in
     ap (λ (t : List ℕ). take (at + length ys) (put_mid (at + m) (at + m + k - (at + m)) first t)) rest
-    ∙ take-put_mid (at + m) (at + m + k - (at + m)) first (drop m ys) (at + length ys) (omega (arith, length-drop m ys)) (omega (arith, taken, before, long, longer))
+    ∙ take-put_mid (at + m) (at + m + k - (at + m)) first (drop m ys) (at + length ys) (omega (arith, length-drop m ys))
+    (omega (arith, taken, before, long, longer))
     ∙ ap (λ (t : List ℕ). t ++ drop m ys) (sym (take-take (at + m) (at + k) first (omega arith)) ∙ ap (take (at + m)) front ∙ start)
     ∙ append_assoc (take at xs) (take m ys) (drop m ys) ∙ ap (λ (t : List ℕ). take at xs ++ t) (take-append-drop m ys)
 

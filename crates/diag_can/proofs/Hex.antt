@@ -29,7 +29,8 @@ two_digits pair b is = rw is refl
 pub upper_more : (old bytes text next pair : List ℕ) (i b : ℕ) → slice_get bytes i ≡ Some b → text ≡ old ++ encode_upper (take i bytes) → next ≡ text ++ pair
     → pair ≡ encode_upper (b ∷ []) → next ≡ old ++ encode_upper (take (i + 1) bytes)
 upper_more old bytes text next pair i b at t n p =
-    let taken : take (i + 1) bytes ≡ take i bytes ++ b ∷ [] = take_more bytes i b (slice_get_within bytes i b at) ∙ ap (λ x. take i bytes ++ x ∷ []) (get_or_from_slice_get bytes i b b at) in
+    let taken : take (i + 1) bytes ≡ take i bytes ++ b ∷ [] =
+    take_more bytes i b (slice_get_within bytes i b at) ∙ ap (λ x. take i bytes ++ x ∷ []) (get_or_from_slice_get bytes i b b at) in
     n ∙ (λ j. t j ++ p j) ∙ append_assoc old (encode_upper (take i bytes)) _ ∙ ap (λ x. old ++ x) (sym (ap encode_upper taken ∙ upper-append (take i bytes) b))
 
 pub upper_none : (old : List ℕ) → old ≡ old ++ encode_upper []
@@ -40,7 +41,8 @@ upper_none old = sym (append-nil old)
 pub digits_at : (b : ℕ) → b < 256 → get_or DIGITS b [] ≡ encode_upper (b ∷ [])
 unfolding encode_with
 digits_at b byte =
-    (bytes_eq-Decides (get_or DIGITS b []) (encode_upper (b ∷ []))).0 (agree_below_at (λ b. bytes_eq (get_or DIGITS b []) (encode_upper (b ∷ []))) (λ b. true) 256 b refl byte)
+    (bytes_eq-Decides (get_or DIGITS b []) (encode_upper (b ∷ []))).0
+    (agree_below_at (λ b. bytes_eq (get_or DIGITS b []) (encode_upper (b ∷ []))) (λ b. true) 256 b refl byte)
 
 -- the three digits of an identifier
 abbrev three : ℕ → List ℕ
@@ -49,7 +51,8 @@ three n = (48 + n / 256) ∷ encode_upper ((n % 256) ∷ [])
 pub three_digits : (n : ℕ) → n < 2048 → zero_filled 3 (digits 16 true n) ≡ three n
 unfolding digits encode_with
 three_digits n below =
-    (bytes_eq-Decides (zero_filled 3 (digits 16 true n)) (three n)).0 (agree_below_at (λ n. bytes_eq (zero_filled 3 (digits 16 true n)) (three n)) (λ n. true) 2048 n refl below)
+    (bytes_eq-Decides (zero_filled 3 (digits 16 true n)) (three n)).0
+    (agree_below_at (λ n. bytes_eq (zero_filled 3 (digits 16 true n)) (three n)) (λ n. true) 2048 n refl below)
 
 -- those digits, one by one
 pub three_parts : (id text : List ℕ) (n : ℕ) → n < 2048 → id ≡ zero_filled 3 (digits 16 true n)
@@ -119,4 +122,5 @@ upper-take (suc n) (b ∷ bytes) =
 pub taken_back : (a b digits places bytes : List ℕ) (end : ℕ) → b ≡ a ++ digits → digits ≡ encode_upper places → take (length bytes) places ≡ bytes
     → end ≡ length a + 2 * length bytes → take end b ≡ a ++ encode_upper bytes
 taken_back a b digits places bytes end p q r s =
-    rw (s, p, q) (take-append-add a (encode_upper places) (2 * length bytes) ∙ ap (λ (t : List ℕ). a ++ t) (upper-take (length bytes) places ∙ ap encode_upper r))
+    rw (s, p, q) (take-append-add a (encode_upper places) (2 * length bytes)
+    ∙ ap (λ (t : List ℕ). a ++ t) (upper-take (length bytes) places ∙ ap encode_upper r))

@@ -42,7 +42,8 @@ module _ (q : ℕ → Bool) (d : List ℕ) (i n r : ℕ) (z : List ℕ) (room : 
   counted : r ≡ prefix_len (λ x. not (stopped x)) (chunk i n d)
   counted =
       let v = chunk i n d in
-      let mask = ap (λ l. mask_l l % 2 ^ 64) (ap (map (top 7)) lanes ∙ map-map (top 7) f v) ∙ mask_l-mod (map stopped v) 64 (omega (arith, length-map v stopped, long)) in
+      let mask = ap (λ l. mask_l l % 2 ^ 64) (ap (map (top 7)) lanes ∙ map-map (top 7) f v)
+      ∙ mask_l-mod (map stopped v) 64 (omega (arith, length-map v stopped, long)) in
       found ∙ ap (λ m. first_set m n) mask ∙ run_is stopped v n long few
 
   goes_on : (k : ℕ) → i ≤ k → k < i + r → stopped (get_or d k 0) ≡ false
@@ -83,7 +84,8 @@ module _ (q : ℕ → Bool) (d : List ℕ) (i n s : ℕ) (z : List ℕ) (room : 
   mask_is : mask_l (map (top 7) z) % 2 ^ 64 ≡ mask_l (map past (chunk i n d))
   mask_is =
       let v = chunk i n d in
-      ap (λ l. mask_l l % 2 ^ 64) (ap (map (top 7)) lanes ∙ map-map (top 7) f v) ∙ mask_l-mod (map past v) 64 (omega (arith, length-map v past, length-chunk i n d room))
+      ap (λ l. mask_l l % 2 ^ 64) (ap (map (top 7)) lanes ∙ map-map (top 7) f v)
+      ∙ mask_l-mod (map past v) 64 (omega (arith, length-map v past, length-chunk i n d room))
 
   -- where no lane past the first s stops, each byte there passes q
   pub tail_in : agree_below past (λ x. not (q x)) 256 ≡ true → (k : ℕ) → i + s ≤ k → k < i + n → q (get_or d k 0) ≡ true

@@ -30,51 +30,16 @@ weight-most c byte =
 -- a digit is below 16
 pub value-lt : (c : ℕ) → c < 256 → (v : ℕ) → hex_digit_value c ≡ Some v → v < 16
 value-lt c byte v is =
-    let tested : nat_le (unwrap_or (hex_digit_value c) 0) 15 ≡ true = agree_below_at (λ c. nat_le (unwrap_or (hex_digit_value c) 0) 15) (λ c. true) 256 c refl byte in
+    let tested : nat_le (unwrap_or (hex_digit_value c) 0) 15 ≡ true =
+    agree_below_at (λ c. nat_le (unwrap_or (hex_digit_value c) 0) 15) (λ c. true) 256 c refl byte in
     let low : nat_le v 15 ≡ true = ap (λ (o : Option ℕ). nat_le (unwrap_or o 0) 15) (sym is) ∙ tested in
     grind (arith, nat_tests)
-
 -- ---- a pair
 
--- what two weights make
-pub pair_from_weights : (o p : Option ℕ) → unwrap_or o 4096 * 16 + unwrap_or p 4096 < 256 → byte_of o p ≡ Some (unwrap_or o 4096 * 16 + unwrap_or p 4096)
-pair_from_weights None p lt = absurd (omega arith)
-pair_from_weights (Some v) None lt = absurd (omega arith)
-pair_from_weights (Some v) (Some w) lt = refl
-
--- weights that make no byte
-pub no_pair_from_weights : (o p : Option ℕ) → ((v : ℕ) → o ≡ Some v → v < 16) → ((w : ℕ) → p ≡ Some w → w < 16)
-    → 256 ≤ unwrap_or o 4096 * 16 + unwrap_or p 4096 → byte_of o p ≡ None
-no_pair_from_weights None p high low le = refl
-no_pair_from_weights (Some v) None high low le = refl
-no_pair_from_weights (Some v) (Some w) high low le =
-    let h = high v refl in
-    let l = low w refl in
-    absurd (omega arith)
-
-pub pair-length : (text : List ℕ) (b : ℕ) → pair text ≡ Some b → 2 ≤ length text
 pair-length [] b is = cc is
 pair-length (c ∷ []) b is = cc is
 pair-length (c ∷ d ∷ text) b is = omega arith
 
-no-run : (o p : Option ℕ) (n : ℕ) → byte_of o p ≡ None → cond (is_some o) (1 + cond (is_some p) (1 + n) 0) 0 < 2
-no-run None p n is = omega arith
-no-run (Some v) None n is = omega arith
-no-run (Some v) (Some w) n is = cc is
-
--- where no pair stands, no two digits do
-pub run_from_no_pair : (text : List ℕ) → pair text ≡ None → prefix_len is_hex_digit text < 2
-run_from_no_pair [] is = omega arith
-run_from_no_pair (c ∷ []) is =
-    elim (is_hex_digit c) as (λ b. cond b 1 0 < 2) [
-      | true ↦ omega arith
-      | false ↦ omega arith
-    ]
-run_from_no_pair (c ∷ d ∷ text) is = no-run (hex_digit_value c) (hex_digit_value d) (prefix_len is_hex_digit text) is
-
--- ---- pairs
-
--- the first pairs of a text write these bytes
 pub record IsPairs (text bytes : List ℕ) (count : ℕ) : Type 0 where
   pub counted : length bytes ≡ count
   pub few : 2 * count ≤ length text

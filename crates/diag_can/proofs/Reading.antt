@@ -28,11 +28,13 @@ reduce-option moments None = rw append-nil (sym (later-none (reduce max moments)
 reduce-option moments (Some moment) = reduce-more moments moment
 
 reference-more : (ids : Ids) (past : List (List ℕ)) (line : List ℕ) → reference ids (past ++ line ∷ []) ≡ later (reference ids past) (frame_moment ids line)
-reference-more ids past line = rw (filter_map-append (frame_moment ids) past (line ∷ [])) (reduce-option (filter_map (frame_moment ids) past) (frame_moment ids line))
+reference-more ids past line = rw (filter_map-append (frame_moment ids) past (line ∷ []))
+    (reduce-option (filter_map (frame_moment ids) past) (frame_moment ids line))
 
 -- ---- the events
 
-events-more : (timing : Timing) (ids : Ids) (past lines : List (List ℕ)) (line : List ℕ) → events_after timing ids past (lines ++ line ∷ []) ≡ events_after timing ids past lines ++ line_gives timing (reference ids (past ++ lines)) ids line
+events-more : (timing : Timing) (ids : Ids) (past lines : List (List ℕ)) (line : List ℕ)
+    → events_after timing ids past (lines ++ line ∷ []) ≡ events_after timing ids past lines ++ line_gives timing (reference ids (past ++ lines)) ids line
 events-more timing ids past [] line = rw (append-nil past) (append-nil (line_gives timing (reference ids past) ids line))
 events-more timing ids past (first ∷ lines) line =
     let earlier : List (List ℕ) = past ++ first ∷ [] in
@@ -40,7 +42,8 @@ events-more timing ids past (first ∷ lines) line =
     let between : List Event = events_after timing ids earlier lines in
     let last : List Event = line_gives timing (reference ids (earlier ++ lines)) ids line in
     let more : events_after timing ids earlier (lines ++ line ∷ []) ≡ between ++ last = events-more timing ids earlier lines line in
-    let all : here ++ events_after timing ids earlier (lines ++ line ∷ []) ≡ (here ++ between) ++ last = ap (λ (es : List Event). here ++ es) more ∙ sym (append_assoc here between last) in
+    let all : here ++ events_after timing ids earlier (lines ++ line ∷ []) ≡ (here ++ between) ++ last =
+    ap (λ (es : List Event). here ++ es) more ∙ sym (append_assoc here between last) in
     let joined : earlier ++ lines ≡ past ++ first ∷ lines = append_assoc past (first ∷ []) lines in
     rw joined at all
 
@@ -51,7 +54,8 @@ abbrev pub outcome : Timing → Ids → List (List ℕ) → List (List ℕ) → 
 outcome timing ids past lines = unless_fault (events_after timing ids [] (past ++ lines)) (first_fault timing ids past lines)
 
 -- the first lines of a text were read and are well
-pub record IsReadTo (text : List ℕ) (ids : Ids) (timing : Timing) (rest : List ℕ) (found : List Event) (latest : Option ℕ) (count : ℕ) (past : List (List ℕ)) : Type 0 where
+pub record IsReadTo (text : List ℕ) (ids : Ids) (timing : Timing) (rest : List ℕ) (found : List Event) (latest : Option ℕ) (count : ℕ)
+    (past : List (List ℕ)) : Type 0 where
   pub stands : events text ids timing ≡ outcome timing ids past (lines_of rest)
   pub found_is : found ≡ events_after timing ids [] past
   pub latest_is : latest ≡ reference ids past
@@ -63,8 +67,10 @@ unfolding events
 read-none text ids timing = record { stands = refl; found_is = refl; latest_is = refl; count_is = refl; few = omega arith }
 
 -- the faults of the next line, by what was found
-fault_after-is : {text : List ℕ} {ids : Ids} {timing : Timing} {rest : List ℕ} {found : List Event} {latest : Option ℕ} {count : ℕ} {past : List (List ℕ)} (line : List ℕ)
-    → IsReadTo text ids timing rest found latest count past → count < 1000000 → fault_after timing ids past line ≡ fault_with timing ids found latest (count + 1) line
+fault_after-is : {text : List ℕ} {ids : Ids} {timing : Timing} {rest : List ℕ} {found : List Event} {latest : Option ℕ} {count : ℕ}
+    {past : List (List ℕ)} (line : List ℕ)
+    → IsReadTo text ids timing rest found latest count past → count < 1000000
+    → fault_after timing ids past line ≡ fault_with timing ids found latest (count + 1) line
 fault_after-is {ids = ids} {timing = timing} {past = past} line r lt =
     let below : nat_le 1000000 (length past) ≡ false = let c = r.count_is in grind (arith, nat_tests) in
     rw (below, events-more timing ids [] past line, ← r.found_is, ← r.latest_is, r.count_is) refl
@@ -80,16 +86,19 @@ outcome-more timing ids past line lines well =
 outcome-fault : (timing : Timing) (ids : Ids) (past : List (List ℕ)) (line : List ℕ) (lines : List (List ℕ)) (fault : LogFault)
     → fault_after timing ids past line ≡ Some fault → outcome timing ids past (line ∷ lines) ≡ Err fault
 outcome-fault timing ids past line lines fault at =
-    ap (λ (found : Option LogFault). unless_fault (events_after timing ids [] (past ++ line ∷ lines)) (option_or found (first_fault timing ids (past ++ line ∷ []) lines))) at
+    ap (λ (found : Option LogFault). unless_fault (events_after timing ids [] (past ++ line ∷ lines))
+    (option_or found (first_fault timing ids (past ++ line ∷ []) lines))) at
 
-pub read-more : {text : List ℕ} {ids : Ids} {timing : Timing} {rest : List ℕ} {found : List Event} {latest : Option ℕ} {count : ℕ} {past : List (List ℕ)} (line after : List ℕ)
+pub read-more : {text : List ℕ} {ids : Ids} {timing : Timing} {rest : List ℕ} {found : List Event} {latest : Option ℕ} {count : ℕ}
+    {past : List (List ℕ)} (line after : List ℕ)
     → IsReadTo text ids timing rest found latest count past → count < 1000000
     → lines_of rest ≡ line ∷ lines_of after
     → fault_with timing ids found latest (count + 1) line ≡ None
     → length (found ++ line_gives timing latest ids line) ≤ 1000000
     → IsReadTo text ids timing after (found ++ line_gives timing latest ids line) (later latest (frame_moment ids line)) (count + 1) (past ++ line ∷ [])
 read-more {ids = ids} {timing = timing} {latest = latest} {past = past} line after r lt lines well few = record {
-  stands = r.stands ∙ ap (λ (ls : List (List ℕ)). outcome timing ids past ls) lines ∙ outcome-more timing ids past line (lines_of after) (fault_after-is line r lt ∙ well);
+  stands = r.stands ∙ ap (λ (ls : List (List ℕ)). outcome timing ids past ls) lines
+      ∙ outcome-more timing ids past line (lines_of after) (fault_after-is line r lt ∙ well);
   found_is = ap (λ (events : List Event). events ++ line_gives timing latest ids line) r.found_is
       ∙ ap (λ (moment : Option ℕ). events_after timing ids [] past ++ line_gives timing moment ids line) r.latest_is
       ∙ sym (events-more timing ids [] past line);
@@ -98,10 +107,12 @@ read-more {ids = ids} {timing = timing} {latest = latest} {past = past} line aft
   few = few;
 }
 
-pub read-fault : {text : List ℕ} {ids : Ids} {timing : Timing} {rest : List ℕ} {found : List Event} {latest : Option ℕ} {count : ℕ} {past : List (List ℕ)} (line after : List ℕ) (fault : LogFault)
+pub read-fault : {text : List ℕ} {ids : Ids} {timing : Timing} {rest : List ℕ} {found : List Event} {latest : Option ℕ} {count : ℕ}
+    {past : List (List ℕ)} (line after : List ℕ) (fault : LogFault)
     → IsReadTo text ids timing rest found latest count past → count < 1000000
     → lines_of rest ≡ line ∷ lines_of after
     → fault_with timing ids found latest (count + 1) line ≡ Some fault
     → events text ids timing ≡ Err fault
 read-fault {ids = ids} {timing = timing} {past = past} line after fault r lt lines at =
-    r.stands ∙ ap (λ (ls : List (List ℕ)). outcome timing ids past ls) lines ∙ outcome-fault timing ids past line (lines_of after) fault (fault_after-is line r lt ∙ at)
+    r.stands ∙ ap (λ (ls : List (List ℕ)). outcome timing ids past ls) lines
+    ∙ outcome-fault timing ids past line (lines_of after) fault (fault_after-is line r lt ∙ at)

@@ -16,7 +16,8 @@ lane c = (c % 16 + cond (top 7 (cond (leb 64 c) 255 0)) 9 0) % 256
 
 lane-is : (c v : ℕ) → c < 256 → hex_digit_value c ≡ Some v → lane c ≡ v
 lane-is c v byte is =
-    let tested : eqb (unwrap_or (hex_digit_value c) (lane c)) (lane c) ≡ true = agree_below_at (λ c. eqb (unwrap_or (hex_digit_value c) (lane c)) (lane c)) (λ c. true) 256 c refl byte in
+    let tested : eqb (unwrap_or (hex_digit_value c) (lane c)) (lane c) ≡ true =
+    agree_below_at (λ c. eqb (unwrap_or (hex_digit_value c) (lane c)) (lane c)) (λ c. true) 256 c refl byte in
     sym (eqb-true _ _ tested) ∙ ap (λ (o : Option ℕ). unwrap_or o (lane c)) is
 
 -- the bytes of the pairs
@@ -29,7 +30,8 @@ value_of : (o : Option ℕ) → is_some o ≡ true → (v : ℕ) × (o ≡ Some 
 value_of None is = cc is
 value_of (Some v) is = (v, refl)
 
-decode-both : (i : ℕ) (text : List ℕ) → length text % 2 ≡ 0 → AllPass is_hex_digit text → ((k : ℕ) → Fits w8 (get_or text k 0)) → decode_pairs i text ≡ Ok (both text)
+decode-both : (i : ℕ) (text : List ℕ) → length text % 2 ≡ 0 → AllPass is_hex_digit text → ((k : ℕ) → Fits w8 (get_or text k 0))
+    → decode_pairs i text ≡ Ok (both text)
 unfolding decode_pairs
 decode-both i [] even all fits = refl
 decode-both i (c ∷ []) even all fits = absurd (omega arith)
@@ -53,7 +55,8 @@ drop-both (suc k) (c ∷ d ∷ text) = let more : 2 * suc k ≡ suc (suc (2 * k)
 
 -- what the lanes make of sixteen digits
 abbrev values : List ℕ → List ℕ
-values w = zip2 (λ a b. (a + b) % 256) (zip2 (λ a b. a % b) w (replicate 16 16)) (sel_l (map (top 7) (zip2 (λ a b. cond (leb a b) 255 0) (replicate 16 64) w)) (replicate 16 9) (replicate 16 0))
+values w = zip2 (λ a b. (a + b) % 256) (zip2 (λ a b. a % b) w (replicate 16 16))
+    (sel_l (map (top 7) (zip2 (λ a b. cond (leb a b) 255 0) (replicate 16 64) w)) (replicate 16 9) (replicate 16 0))
 
 abbrev pub looked : List ℕ → List ℕ
 looked w =
@@ -65,7 +68,8 @@ looked-is : (a b c d e f g h i j k l m n o p : ℕ) → let w : List ℕ = a ∷
 looked-is a b c d e f g h i j k l m n o p = refl
 
 pub digits_read : (line : List ℕ) → 16 ≤ length line → ((k : ℕ) → Fits w8 (get_or line k 0))
-    → (n : ℕ) → n ≤ 8 → IsOk (decode_of (drop (length line - 2 * n) line)) → decode_of (drop (length line - 2 * n) line) ≡ Ok (drop (8 - n) (looked (chunk (length line - 16) 16 line)))
+    → (n : ℕ) → n ≤ 8 → IsOk (decode_of (drop (length line - 2 * n) line))
+    → decode_of (drop (length line - 2 * n) line) ≡ Ok (drop (8 - n) (looked (chunk (length line - 16) 16 line)))
 digits_read line long fits n few ok =
     let at : ℕ = length line - 2 * n in
     let text = drop at line in

@@ -28,9 +28,11 @@ behind_at byte xs i lt is =
     let same : (get_or xs i 0 == byte) ≡ true = eq-eqb _ _ is in
     rw (here, same) (ap (λ (k : ℕ). Some (drop k xs)) (sym (add-one i)))
 
-run_at : (p : ℕ → Bool) (xs : List ℕ) (i n : ℕ) → i + n < length xs → ((k : ℕ) → k < n → p (get_or xs (i + k) 0) ≡ true) → p (get_or xs (i + n) 0) ≡ false → prefix_len p (drop i xs) ≡ n
+run_at : (p : ℕ → Bool) (xs : List ℕ) (i n : ℕ) → i + n < length xs → ((k : ℕ) → k < n → p (get_or xs (i + k) 0) ≡ true)
+    → p (get_or xs (i + n) 0) ≡ false → prefix_len p (drop i xs) ≡ n
 run_at p xs i n lt all stop =
-    prefix_len_is p (drop i xs) n 0 (omega (arith, length-drop i xs)) (λ k below. ap p (get_or-drop i xs k 0) ∙ all k below) (λ _. ap p (get_or-drop i xs n 0) ∙ stop)
+    prefix_len_is p (drop i xs) n 0 (omega (arith, length-drop i xs)) (λ k below. ap p (get_or-drop i xs k 0) ∙ all k below)
+    (λ _. ap p (get_or-drop i xs n 0) ∙ stop)
 
 digits_at : (least most n : ℕ) (xs : List ℕ) (i : ℕ) → (nat_le least n && nat_le n most) ≡ true → prefix_len is_digit (drop i xs) ≡ n
     → digits_of least most (drop i xs) ≡ Some (take n (drop i xs), drop (i + n) xs)
@@ -42,12 +44,14 @@ skip_at p n xs i some run =
     rw (run, filled) (ap (λ (rest : List ℕ). Some rest) (drop-drop n i xs))
 
 -- one space, and no second
-one_space : (xs : List ℕ) (i : ℕ) → i + 1 < length xs → get_or xs i 0 ≡ 32 → (get_or xs (i + 1) 0 == 32) ≡ false → behind_run is_space (drop i xs) ≡ Some (drop (i + 1) xs)
+one_space : (xs : List ℕ) (i : ℕ) → i + 1 < length xs → get_or xs i 0 ≡ 32 → (get_or xs (i + 1) 0 == 32) ≡ false
+    → behind_run is_space (drop i xs) ≡ Some (drop (i + 1) xs)
 one_space xs i lt is next =
     skip_at is_space 1 xs i (omega arith) (run_at is_space xs i 1 lt (λ k below. let first : i + k ≡ i = omega arith in rw first (eq-eqb _ _ is)) next)
 
 -- a line from its parts
-stamped_from : (line seconds fraction a b c d e f g h : List ℕ) → behind 40 line ≡ Some a → digits_of 1 12 a ≡ Some (seconds, b) → behind 46 b ≡ Some c → digits_of 6 9 c ≡ Some (fraction, d)
+stamped_from : (line seconds fraction a b c d e f g h : List ℕ) → behind 40 line ≡ Some a → digits_of 1 12 a ≡ Some (seconds, b)
+    → behind 46 b ≡ Some c → digits_of 6 9 c ≡ Some (fraction, d)
     → behind 41 d ≡ Some e → behind_run is_space e ≡ Some f → behind_run is_no_space f ≡ Some g → behind_run is_space g ≡ Some h
     → stamped_frame line ≡ Some (moment_of seconds fraction, h)
 stamped_from line seconds fraction a b c d e f g h p q r s t u v w = rw (p, q, r, s, t, u, v, w) refl
@@ -59,7 +63,8 @@ no_time (c ∷ line) some is = let first : c ≡ 40 = is in rw first refl
 run_of : (p : ℕ → Bool) (xs : List ℕ) (i w n : ℕ) → i + w ≤ length xs → n < w → IsRunIn p xs i w n → prefix_len p (drop i xs) ≡ n
 run_of p xs i w n le lt r = run_at p xs i n (omega arith) (λ k below. r.pass (i + k) (omega arith) (omega arith)) (r.stops lt)
 
-pub framed : (line : List ℕ) (word : ℕ) → 28 ≤ length line → get_or line 0 0 ≡ 40 → IsRunIn is_digit line 1 16 10 → get_or line 11 0 ≡ 46 → IsRunIn is_digit line 12 8 6 → get_or line 18 0 ≡ 41
+pub framed : (line : List ℕ) (word : ℕ) → 28 ≤ length line → get_or line 0 0 ≡ 40 → IsRunIn is_digit line 1 16 10 → get_or line 11 0 ≡ 46
+    → IsRunIn is_digit line 12 8 6 → get_or line 18 0 ≡ 41
     → get_or line 19 0 ≡ 32 → IsRunIn is_no_space line 20 8 word → 1 ≤ word → word ≤ 6 → (get_or line (21 + word) 0 == 32) ≡ false → IsFramed line (21 + word)
 framed line word long begins seconds dot fraction close space name some few next =
     let before : (get_or line 20 0 == 32) ≡ false = not-true _ (name.pass 20 (omega arith) (omega arith)) in
@@ -72,7 +77,8 @@ framed line word long begins seconds dot fraction close space name some few next
       seconds = seconds;
       fraction = fraction;
       is_frame = no_time line (omega arith) begins;
-      stamped = stamped_from line (take 10 (drop 1 line)) (take 6 (drop 12 line)) (drop 1 line) (drop 11 line) (drop 12 line) (drop 18 line) (drop 19 line) (drop 20 line) (drop (20 + word) line) (drop (21 + word) line)
+      stamped = stamped_from line (take 10 (drop 1 line)) (take 6 (drop 12 line)) (drop 1 line) (drop 11 line) (drop 12 line) (drop 18 line)
+          (drop 19 line) (drop 20 line) (drop (20 + word) line) (drop (21 + word) line)
           (behind_at 40 line 0 (omega arith) begins)
           (digits_at 1 12 10 line 1 refl (run_of is_digit line 1 16 10 (omega arith) (omega arith) seconds))
           (behind_at 46 line 11 (omega arith) dot)
@@ -88,7 +94,8 @@ framed line word long begins seconds dot fraction close space name some few next
 all_run : (xs : List ℕ) → AllPass is_hex_digit xs → prefix_len is_hex_digit xs ≡ length xs
 all_run xs all = prefix_len_is is_hex_digit xs (length xs) 0 (omega arith) (λ k below. all k 0 below) (λ lt. absurd (omega arith))
 
-data_from_digits : (rest bytes : List ℕ) → AllPass is_hex_digit rest → length rest ≤ 16 → length rest % 2 ≡ 0 → decode_of rest ≡ Ok bytes → frame_data rest ≡ Ok bytes
+data_from_digits : (rest bytes : List ℕ) → AllPass is_hex_digit rest → length rest ≤ 16 → length rest % 2 ≡ 0 → decode_of rest ≡ Ok bytes
+    → frame_data rest ≡ Ok bytes
 data_from_digits rest bytes all few even is =
     let count = all_run rest all in
     let fits : nat_lt 16 (length rest) ≡ false = grind (arith, nat_tests) in
@@ -114,7 +121,8 @@ not_passed (c ∷ rest) all = no_mark c (all 0 0 (omega arith))
 three_of : (text : List ℕ) → 4 ≤ length text → (length (take 3 text) == 8) ≡ false
 three_of text le = let three = length-take-le 3 text (omega arith) in rw three refl
 
-module _ (text rest : List ℕ) (id : ℕ) (run : prefix_len is_hex_digit text ≡ 3) (long : 4 ≤ length text) (is : id_of (take 3 text) ≡ Some id) (hash : behind 35 (drop 3 text) ≡ Some rest)
+module _ (text rest : List ℕ) (id : ℕ) (run : prefix_len is_hex_digit text ≡ 3) (long : 4 ≤ length text) (is : id_of (take 3 text) ≡ Some id)
+    (hash : behind 35 (drop 3 text) ≡ Some rest)
     (all : AllPass is_hex_digit rest) where
   frame_event-is : (ids : Ids) → frame_event ids text ≡ event_of ids id (frame_data rest)
   frame_event-is ids = let short = three_of text long in let data_only = not_passed rest all in rw (run, hash, short, is, data_only) refl
@@ -132,7 +140,8 @@ usual line place id at framed four inside run is hash few even digits =
     let rest : List ℕ = drop at line in
     let text : List ℕ = drop place line in
     let count : length rest ≡ length line - at = length-drop at line in
-    let all : AllPass is_hex_digit rest = All-from_get_or (λ c. is_hex_digit c ≡ true) rest 0 (λ k below. ap is_hex_digit (get_or-drop at line k 0) ∙ digits (at + k) (omega arith) (omega arith)) in
+    let all : AllPass is_hex_digit rest = All-from_get_or (λ c. is_hex_digit c ≡ true) rest 0
+    (λ k below. ap is_hex_digit (get_or-drop at line k 0) ∙ digits (at + k) (omega arith) (omega arith)) in
     let long : 4 ≤ length text = omega (arith, length-drop place line) in
     let value = decode_of-digits rest (ap (λ (n : ℕ). n % 2) count ∙ even) all in
     record {
@@ -172,7 +181,8 @@ pub passes-run : (p : ℕ → Bool) (xs : List ℕ) (i w n : ℕ) → i + n ≤ 
 passes-run p xs i w n le r = λ k d lt.
     let count = length-take-le n (drop i xs) (omega (arith, length-drop i xs)) in
     let inside : k < n = omega (arith, lt, count) in
-    ap p (get_or-take n (drop i xs) k d inside ∙ get_or-drop i xs k d ∙ get_or_default_zero xs (i + k) d (omega (arith, inside, le))) ∙ r.pass (i + k) (omega arith) (omega (arith, inside))
+    ap p (get_or-take n (drop i xs) k d inside ∙ get_or-drop i xs k d ∙ get_or_default_zero xs (i + k) d (omega (arith, inside, le)))
+    ∙ r.pass (i + k) (omega arith) (omega (arith, inside))
 
 -- ---- what such a line says
 
@@ -180,25 +190,13 @@ module _ (line : List ℕ) (id at : ℕ) (u : IsUsual line id at) where
   says-event : (ids : Ids) → line_event line ids ≡ event_of ids id (frame_data (drop at line))
   says-event ids = go line u.framed.long u.framed.is_frame u.framed.stamped ∙ u.event ids
     where
-      go : (xs : List ℕ) → 28 ≤ length xs → is_time xs ≡ false → stamped_frame xs ≡ Some (usual_moment line, drop u.place line) → line_event xs ids ≡ frame_event ids (drop u.place line)
+      go : (xs : List ℕ) → 28 ≤ length xs → is_time xs ≡ false → stamped_frame xs ≡ Some (usual_moment line, drop u.place line)
+          → line_event xs ids ≡ frame_event ids (drop u.place line)
       go [] long plain is = absurd (omega arith)
       go (c ∷ xs) long plain is = rw (plain, is) refl
 
   moment-event : (ids : Ids) → frame_moment ids line ≡ event_moment (usual_moment line) (event_of ids id (frame_data (drop at line)))
   moment-event ids = let plain = u.framed.is_frame in let is = u.framed.stamped in let event = u.event ids in rw (plain, is, event) refl
-
-  -- of what stands behind the `#`
-  pub is-physical : (ids : Ids) (bytes : List ℕ) → decode_of (drop at line) ≡ Ok bytes → (id == ids.request) ≡ true
-      → (line_event line ids ≡ Ok (Some (Physical bytes))) × (Some (usual_moment line) ≡ frame_moment ids line)
-  is-physical ids bytes is own =
-      let all = u.decoded bytes is in
-      (says-event ids ∙ rw (all, own) refl, sym (moment-event ids ∙ rw (all, own) refl))
-
-  pub is-functional : (ids : Ids) (bytes : List ℕ) → decode_of (drop at line) ≡ Ok bytes → (id == ids.request) ≡ false → (id == ids.functional) ≡ true
-      → (line_event line ids ≡ Ok (Some (Functional bytes))) × (Some (usual_moment line) ≡ frame_moment ids line)
-  is-functional ids bytes is other own =
-      let all = u.decoded bytes is in
-      (says-event ids ∙ rw (all, other, own) refl, sym (moment-event ids ∙ rw (all, other, own) refl))
 
   pub is-foreign : (ids : Ids) → (id == ids.request) ≡ false → (id == ids.functional) ≡ false
       → (line_event line ids ≡ Ok None) × (None ≡ frame_moment ids line)
@@ -214,6 +212,7 @@ module _ (line : List ℕ) (id at : ℕ) (u : IsUsual line id at) where
       go line u.framed.long u.framed.is_frame u.framed.stamped (u.frame ∙ ap (frame_of id) all)
     where
       go : (xs : List ℕ) → 28 ≤ length xs → is_time xs ≡ false → stamped_frame xs ≡ Some (usual_moment line, drop u.place line)
-          → text_frame (drop u.place line) ≡ Ok (Some (record { id = id; bytes = bytes })) → line_says xs ≡ Ok (Stamped (usual_moment line) (Some (record { id = id; bytes = bytes })))
+          → text_frame (drop u.place line) ≡ Ok (Some (record { id = id; bytes = bytes }))
+          → line_says xs ≡ Ok (Stamped (usual_moment line) (Some (record { id = id; bytes = bytes })))
       go [] long plain stamp frame = absurd (omega arith)
       go (c ∷ xs) long plain stamp frame = rw (plain, stamp, frame) refl

@@ -47,7 +47,8 @@ pub ticks-append : (t : ℕ) (es : List Entry) (e : Entry) → ticks_of t (es ++
 ticks-append t [] e = omega arith
 ticks-append t (x ∷ xs) e = let rest = ticks-append t xs e in omega (arith, rest)
 
-tell_one : (ticks next : List ℕ) (es : List Entry) (e : Entry) (t : ℕ) → t < 9 → e.who < 9 → Tells ticks es → next ≡ slice_set ticks e.who (ticks_of e.who es + ticks_in e.step)
+tell_one : (ticks next : List ℕ) (es : List Entry) (e : Entry) (t : ℕ) → t < 9 → e.who < 9 → Tells ticks es
+    → next ≡ slice_set ticks e.who (ticks_of e.who es + ticks_in e.step)
     → slice_index next t ≡ ticks_of t (es ++ e ∷ [])
 tell_one ticks next es e t lt below h is =
     let inside : e.who < length ticks = omega (arith, h.places) in
@@ -55,7 +56,8 @@ tell_one ticks next es e t lt below h is =
     elim (e.who == t) as (λ b. (e.who == t) ≡ b → slice_index (slice_set ticks e.who (ticks_of e.who es + ticks_in e.step)) t ≡ ticks_of t (es ++ e ∷ [])) [
       | true ↦ λ k.
           let same : e.who ≡ t = eqb-true e.who t k in
-          let more : ticks_of t (es ++ e ∷ []) ≡ ticks_of t es + ticks_in e.step = ticks-append t es e ∙ ap (λ b. ticks_of t es + cond b (ticks_in e.step) 0) k in
+          let more : ticks_of t (es ++ e ∷ []) ≡ ticks_of t es + ticks_in e.step =
+          ticks-append t es e ∙ ap (λ b. ticks_of t es + cond b (ticks_in e.step) 0) k in
           ap (λ i. slice_index (slice_set ticks e.who (ticks_of e.who es + ticks_in e.step)) i) (sym same)
           ∙ get_or-set_same ticks e.who (ticks_of e.who es + ticks_in e.step) 0 inside
           ∙ ap (λ i. ticks_of i es + ticks_in e.step) same ∙ sym more
@@ -65,7 +67,8 @@ tell_one ticks next es e t lt below h is =
           get_or-set_other ticks e.who t (ticks_of e.who es + ticks_in e.step) 0 (λ s. cc (sym k ∙ eq-eqb e.who t (sym s))) ∙ other ∙ omega (arith, less)
     ] refl
 
-pub tells_more : (ticks next : List ℕ) (es : List Entry) (e : Entry) → e.who < 9 → Tells ticks es → next ≡ slice_set ticks e.who (ticks_of e.who es + ticks_in e.step) → Tells next (es ++ e ∷ [])
+pub tells_more : (ticks next : List ℕ) (es : List Entry) (e : Entry) → e.who < 9 → Tells ticks es
+    → next ≡ slice_set ticks e.who (ticks_of e.who es + ticks_in e.step) → Tells next (es ++ e ∷ [])
 tells_more ticks next es e below h is = record {
   places = ap length is ∙ length-set ticks e.who (ticks_of e.who es + ticks_in e.step) ∙ h.places;
   each = λ t lt. tell_one ticks next es e t lt below h is;

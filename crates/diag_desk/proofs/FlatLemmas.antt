@@ -65,7 +65,8 @@ pushed_fits heads heads' head bytes bytes' more hs bs within fits =
     let longer : length bytes ≤ length bytes' = omega (arith, ap length bs, length-append bytes more) in
     rw hs (fits_push heads head (length bytes) (length bytes') within longer fits)
 
-pub pushed_entries : (heads heads' : List Head) (head : Head) (bytes bytes' more : List ℕ) (entry : Entry) → heads' ≡ heads ++ head ∷ [] → bytes' ≡ bytes ++ more
+pub pushed_entries : (heads heads' : List Head) (head : Head) (bytes bytes' more : List ℕ) (entry : Entry) → heads' ≡ heads ++ head ∷ []
+    → bytes' ≡ bytes ++ more
     → HeadsFit heads (length bytes) → entry_of bytes' head ≡ entry → map (entry_of bytes') heads' ≡ map (entry_of bytes) heads ++ entry ∷ []
 pushed_entries heads heads' head bytes bytes' more entry hs bs within e =
     rw (hs, bs) (entries_push bytes more heads head entry within (rw bs at e))

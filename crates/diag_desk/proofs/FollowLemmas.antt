@@ -56,7 +56,8 @@ plays_behind setup play past e some h = record {
 }
 
 -- an entry whose reply is the ECU's
-pub plays_same : (setup : RawSetup) (play new : Play) (past : List Entry) (e : Entry) → play.differs ≡ None → new.differs ≡ play.differs → e.who ≤ length setup.testers
+pub plays_same : (setup : RawSetup) (play new : Play) (past : List Entry) (e : Entry) → play.differs ≡ None → new.differs ≡ play.differs
+    → e.who ≤ length setup.testers
     → e.reply ≡ reply_to play.ecu e.who e.step → new.ecu ≡ after_step play.ecu e.who e.step → Plays setup play past → Plays setup new (past ++ e ∷ [])
 plays_same setup play new past e none kept who reply step h =
     let so_far = h.run none in
@@ -66,7 +67,8 @@ plays_same setup play new past e none kept who reply step h =
     }
 
 -- the first entry that differs
-pub plays_other : (setup : RawSetup) (play new : Play) (past : List Entry) (e : Entry) (number : ℕ) → play.differs ≡ None → new.differs ≡ Some number → number ≡ length past + 1
+pub plays_other : (setup : RawSetup) (play new : Play) (past : List Entry) (e : Entry) (number : ℕ) → play.differs ≡ None → new.differs ≡ Some number
+    → number ≡ length past + 1
     → (e.who ≤ length setup.testers → e.reply ≡ reply_to play.ecu e.who e.step → ⊥) → Plays setup play past → Plays setup new (past ++ e ∷ [])
 plays_other setup play new past e number none is at other h =
     let so_far = h.run none in
@@ -76,11 +78,6 @@ plays_other setup play new past e number none is at other h =
           let same : number ≡ n = same_Some number n (sym is ∙ some) in
           subst (DiffersAt setup (past ++ e ∷ [])) (sym at ∙ same) (differs_here setup past e play.ecu so_far.0 so_far.1 other);
     }
-
--- a text that was read to its end
-pub whole_text : (stamped : Bool) (past : List Entry) (text rest : List ℕ) → text ≡ text_of stamped past ++ rest → rest ≡ [] → IsTextOf text past
-whole_text false past text rest t e = inl (t ∙ ap (λ r. text_of false past ++ r) e ∙ append-nil (text_of false past))
-whole_text true past text rest t e = inr (t ∙ ap (λ r. text_of true past ++ r) e ∙ append-nil (text_of true past))
 
 abbrev number_of : TextFault → ℕ
 number_of (Line n) = n

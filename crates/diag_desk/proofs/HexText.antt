@@ -88,5 +88,9 @@ encode-decode_sized s n bytes upper h =
 pub text-message : (m text : List ℕ) → IsMessage m → encode_upper m ≡ text
     → (length text ≡ 2 * length m) × (list_all is_upper_digit text ≡ true) × (decode_sized text (length m) ≡ Ok m)
 text-message m text h e =
-    let len : length text ≡ 2 * length m = ap length (sym e) ∙ length-encode_with upper_digits m in
-    (len, ap (list_all is_upper_digit) (sym e) ∙ upper-encode m h.2, decode_sized-twice text (length m) len ∙ ap decode_of (sym e) ∙ decode_of-encode_upper m h.2)
+    let len : length text ≡ 2 * length m = ap length (sym e) ∙ length-encode_with upper_digits m in (
+      len,
+      ap (list_all is_upper_digit) (sym e) ∙ upper-encode m h.2,
+      decode_sized-twice text (length m) len ∙ ap decode_of (sym e)
+          ∙ decode_of-encode_upper m h.2,
+    )

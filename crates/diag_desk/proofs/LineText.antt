@@ -100,7 +100,8 @@ cut_request : (m : List ℕ) (r : Option (List ℕ)) (body : List ℕ) → IsMes
 cut_request m r body h e = ap (cut 32) (sym e) ∙ cut-there 32 (encode_upper m) (reply_text r) (above-free 32 (encode_upper m) (hex_above m h))
 
 -- the body of a request
-pub request-body : (functional : Bool) (body : List ℕ) (s : Step) (r : Option (List ℕ)) → IsStep s r → HasBody (request_kind functional) s r body → RequestBody r body
+pub request-body : (functional : Bool) (body : List ℕ) (s : Step) (r : Option (List ℕ)) → IsStep s r → HasBody (request_kind functional) s r body
+    → RequestBody r body
 request-body true body (Request true m) r h e = record { message = m; is_message = h.0; is_reply = h.1; cuts = cut_request m r body h.0 (ap (drop 3) e) }
 request-body false body (Request false m) r h e = record { message = m; is_message = h.0; is_reply = h.1; cuts = cut_request m r body h.0 (ap (drop 3) e) }
 request-body true body (Request false m) r h e = absurd (apart _ _ e refl)
@@ -109,7 +110,8 @@ request-body true body (Ticks n) r h e = absurd (apart _ _ e refl)
 request-body false body (Ticks n) r h e = absurd (apart _ _ e refl)
 
 -- a request's text is put together from its parts
-pub request-text : (functional : Bool) (m : List ℕ) (r : Option (List ℕ)) (message reply body : List ℕ) → encode_upper m ≡ message → reply_text r ≡ reply → body ≡ message ++ 32 ∷ reply
+pub request-text : (functional : Bool) (m : List ℕ) (r : Option (List ℕ)) (message reply body : List ℕ) → encode_upper m ≡ message
+    → reply_text r ≡ reply → body ≡ message ++ 32 ∷ reply
     → HasBody (request_kind functional) (Request functional m) r body
 request-text true m r message reply body a b e = ap (λ l. 32 ∷ 70 ∷ 32 ∷ l) ((λ i. a i ++ (32 ∷ b i)) ∙ sym e)
 request-text false m r message reply body a b e = ap (λ l. 32 ∷ 80 ∷ 32 ∷ l) ((λ i. a i ++ (32 ∷ b i)) ∙ sym e)
@@ -140,10 +142,12 @@ line_parts e =
 
 step_same : (s t : Step) (p q : Option (List ℕ)) → IsStep s p → IsStep t q → step_text s p ≡ step_text t q → (s ≡ t) × (p ≡ q)
 step_same (Request true m) (Request true n) p q h k e =
-    let both = same_cut 32 (encode_upper m) (encode_upper n) (reply_text p) (reply_text q) (above-free 32 _ (hex_above m h.0)) (above-free 32 _ (hex_above n k.0)) (ap (drop 3) e) in
+    let both = same_cut 32 (encode_upper m) (encode_upper n) (reply_text p) (reply_text q) (above-free 32 _ (hex_above m h.0))
+    (above-free 32 _ (hex_above n k.0)) (ap (drop 3) e) in
     (ap (λ l. Request true l) (message_same m n h.0 k.0 both.0), reply_same p q h.1 k.1 both.1)
 step_same (Request false m) (Request false n) p q h k e =
-    let both = same_cut 32 (encode_upper m) (encode_upper n) (reply_text p) (reply_text q) (above-free 32 _ (hex_above m h.0)) (above-free 32 _ (hex_above n k.0)) (ap (drop 3) e) in
+    let both = same_cut 32 (encode_upper m) (encode_upper n) (reply_text p) (reply_text q) (above-free 32 _ (hex_above m h.0))
+    (above-free 32 _ (hex_above n k.0)) (ap (drop 3) e) in
     (ap (λ l. Request false l) (message_same m n h.0 k.0 both.0), reply_same p q h.1 k.1 both.1)
 step_same (Request true m) (Request false n) p q h k e = absurd (apart _ _ e refl)
 step_same (Request false m) (Request true n) p q h k e = absurd (apart _ _ e refl)
@@ -180,8 +184,14 @@ low_append xs ys h k = above_append 10 xs (32 ∷ ys) (above_lower 10 32 xs (ome
 
 -- no line has an end in it
 step_above : (s : Step) (r : Option (List ℕ)) → IsStep s r → Above 10 (step_text s r)
-step_above (Request true m) r h = (omega arith, (omega arith, (omega arith, low_append (encode_upper m) (reply_text r) (hex_above m h.0) (above_lower 10 32 _ (omega arith) (reply_above r h.1)))))
-step_above (Request false m) r h = (omega arith, (omega arith, (omega arith, low_append (encode_upper m) (reply_text r) (hex_above m h.0) (above_lower 10 32 _ (omega arith) (reply_above r h.1)))))
+step_above (Request true m) r h = (
+  omega arith,
+  (omega arith, (omega arith, low_append (encode_upper m) (reply_text r) (hex_above m h.0) (above_lower 10 32 _ (omega arith) (reply_above r h.1)))),
+)
+step_above (Request false m) r h = (
+  omega arith,
+  (omega arith, (omega arith, low_append (encode_upper m) (reply_text r) (hex_above m h.0) (above_lower 10 32 _ (omega arith) (reply_above r h.1)))),
+)
 step_above (Ticks n) r h = (omega arith, (omega arith, (omega arith, above_lower 10 32 _ (omega arith) (decimal_above n (omega (arith, h.1))))))
 
 pub line_above : (e : Entry) → IsEntry e → Above 10 (entry_line e)

@@ -29,7 +29,8 @@ pub next_cut : (stamped : Bool) (past : List Entry) (text : List ℕ) (e : Entry
 next_cut stamped past text e st h le k is =
     cut_stamp (ticks_of e.who past + ticks_in e.step) (entry_line e) text (stamp_bound past e h le k) (sym (ap (λ b. line_after b past e) st) ∙ is)
 
-pub next_is : (stamped : Bool) (past : List Entry) (text at line : List ℕ) (e : Entry) (clock : ℕ) → stamped ≡ true → clock ≡ ticks_of e.who past + ticks_in e.step
+pub next_is : (stamped : Bool) (past : List Entry) (text at line : List ℕ) (e : Entry) (clock : ℕ) → stamped ≡ true
+    → clock ≡ ticks_of e.who past + ticks_in e.step
     → decimal clock ≡ at → entry_line e ≡ line → text ≡ at ++ 32 ∷ line → line_after stamped past e ≡ text
 next_is stamped past text at line e clock st c d l t =
     ap (λ b. line_after b past e) st ∙ ap (λ n. decimal n ++ (32 ∷ entry_line e)) (sym c) ∙ (λ i. d i ++ (32 ∷ l i)) ∙ sym t
@@ -43,7 +44,8 @@ other_stamp past at line e f clock h k c fl ae le =
 
 after_above : (stamped : Bool) (past : List Entry) (e : Entry) → AreEntries past → length past ≤ 1000000 → IsEntry e → Above 10 (line_after stamped past e)
 after_above false past e h le k = line_above e k
-after_above true past e h le k = low_append (decimal (ticks_of e.who past + ticks_in e.step)) (entry_line e) (decimal_above _ (stamp_bound past e h le k)) (line_above e k)
+after_above true past e h le k = low_append (decimal (ticks_of e.who past + ticks_in e.step)) (entry_line e)
+    (decimal_above _ (stamp_bound past e h le k)) (line_above e k)
 
 after_free : (stamped : Bool) (past : List Entry) (e : Entry) → AreEntries past → length past ≤ 1000000 → IsEntry e → Free 10 (line_after stamped past e)
 after_free stamped past e h le k = above-free 10 (line_after stamped past e) (after_above stamped past e h le k)
@@ -69,7 +71,8 @@ clocks_more es js e ticks next clock k h is c n =
 join : (l t rest : List ℕ) → (ended l ++ t) ++ rest ≡ l ++ (10 ∷ (t ++ rest))
 join l t rest = append_assoc (ended l) t rest ∙ append_assoc l (10 ∷ []) (t ++ rest)
 
-lines_more : (stamped : Bool) (past es : List Entry) (e : Entry) → lines_after stamped past (es ++ e ∷ []) ≡ lines_after stamped past es ++ ended (line_after stamped (past ++ es) e)
+lines_more : (stamped : Bool) (past es : List Entry) (e : Entry)
+    → lines_after stamped past (es ++ e ∷ []) ≡ lines_after stamped past es ++ ended (line_after stamped (past ++ es) e)
 lines_more stamped past [] e =
     append-nil (ended (line_after stamped past e)) ∙ ap (λ p. ended (line_after stamped p e)) (sym (append-nil past))
 lines_more stamped past (x ∷ xs) e =
@@ -80,10 +83,12 @@ lines_more stamped past (x ∷ xs) e =
 -- a text, one entry later
 pub text_one : (stamped : Bool) (es : List Entry) (e : Entry) → text_of stamped (es ++ e ∷ []) ≡ text_of stamped es ++ ended (line_after stamped es e)
 text_one stamped es e =
-    ap (λ x. ended (header stamped) ++ x) (lines_more stamped [] es e) ∙ sym (append_assoc (ended (header stamped)) (lines_after stamped [] es) (ended (line_after stamped es e)))
+    ap (λ x. ended (header stamped) ++ x) (lines_more stamped [] es e)
+    ∙ sym (append_assoc (ended (header stamped)) (lines_after stamped [] es) (ended (line_after stamped es e)))
 
 -- the text of version 2, one entry later
-pub journal_text_at_more : (es : List Entry) (e : Entry) → journal_text_at (es ++ e ∷ []) ≡ journal_text_at es ++ ended (stamped_line true (ticks_of e.who es + ticks_in e.step) (entry_line e))
+pub journal_text_at_more : (es : List Entry) (e : Entry)
+    → journal_text_at (es ++ e ∷ []) ≡ journal_text_at es ++ ended (stamped_line true (ticks_of e.who es + ticks_in e.step) (entry_line e))
 journal_text_at_more es e = text_one true es e
 
 -- the text so far, one line later
@@ -91,20 +96,25 @@ pub text_more : (stamped : Bool) (es : List Entry) (e : Entry) (text rest line m
     → line_after stamped es e ≡ line → text ≡ text_of stamped (es ++ e ∷ []) ++ more
 text_more stamped es e text rest line more t r l =
     let whole : text_of stamped (es ++ e ∷ []) ≡ text_of stamped es ++ ended line = text_one stamped es e ∙ ap (λ x. text_of stamped es ++ ended x) l in
-    t ∙ ap (λ x. text_of stamped es ++ x) (r ∙ sym (append_assoc line (10 ∷ []) more)) ∙ sym (append_assoc (text_of stamped es) (ended line) more) ∙ ap (λ x. x ++ more) (sym whole)
+    t ∙ ap (λ x. text_of stamped es ++ x) (r ∙ sym (append_assoc line (10 ∷ []) more)) ∙ sym (append_assoc (text_of stamped es) (ended line) more)
+    ∙ ap (λ x. x ++ more) (sym whole)
 
 -- the text written so far, one line later
-pub written_more : (stamped : Bool) (all : List Entry) (i : ℕ) (e : Entry) (text next : List ℕ) (clock : ℕ) → slice_get all i ≡ Some e → text ≡ text_of stamped (take i all)
-    → clock ≡ ticks_of e.who (take i all) + ticks_in e.step → next ≡ text ++ ended (stamped_line stamped clock (entry_line e)) → next ≡ text_of stamped (take (i + 1) all)
+pub written_more : (stamped : Bool) (all : List Entry) (i : ℕ) (e : Entry) (text next : List ℕ) (clock : ℕ) → slice_get all i ≡ Some e
+    → text ≡ text_of stamped (take i all)
+    → clock ≡ ticks_of e.who (take i all) + ticks_in e.step → next ≡ text ++ ended (stamped_line stamped clock (entry_line e))
+    → next ≡ text_of stamped (take (i + 1) all)
 written_more stamped all i e text next clock at t c n =
-    n ∙ (λ j. t j ++ ended (stamped_line stamped (c j) (entry_line e))) ∙ sym (text_one stamped (take i all) e) ∙ ap (text_of stamped) (sym (take_one all i e at))
+    n ∙ (λ j. t j ++ ended (stamped_line stamped (c j) (entry_line e))) ∙ sym (text_one stamped (take i all) e)
+    ∙ ap (text_of stamped) (sym (take_one all i e at))
 
 pub written_clocks : (all : List Entry) (i : ℕ) (e : Entry) (ticks next : List ℕ) (clock : ℕ) → slice_get all i ≡ Some e → e.who ≤ 8 → Tells ticks (take i all)
     → clock ≡ ticks_of e.who (take i all) + ticks_in e.step → next ≡ slice_set ticks e.who clock → Tells next (take (i + 1) all)
 written_clocks all i e ticks next clock at low h c n =
     subst (Tells next) (sym (take_one all i e at)) (tells_more ticks next (take i all) e (omega arith) h (n ∙ ap (slice_set ticks e.who) c))
 
-pub written_small : (all : List Entry) (i : ℕ) (e : Entry) → slice_get all i ≡ Some e → SmallTicks (take i all) → ticks_in e.step ≤ 60000 → SmallTicks (take (i + 1) all)
+pub written_small : (all : List Entry) (i : ℕ) (e : Entry) → slice_get all i ≡ Some e → SmallTicks (take i all) → ticks_in e.step ≤ 60000
+    → SmallTicks (take (i + 1) all)
 written_small all i e at h k = subst SmallTicks (sym (take_one all i e at)) (small_more (take i all) e h k)
 
 above_all : (xs : List ℕ) → list_all (λ x. nat_lt 10 x) xs ≡ true → Above 10 xs
@@ -119,9 +129,11 @@ pub text_begins : (stamped : Bool) (text first rest : List ℕ) → text ≡ fir
 text_begins stamped text first rest t f =
     t ∙ ap (λ l. l ++ 10 ∷ rest) f ∙ sym (append_assoc (header stamped) (10 ∷ []) rest) ∙ ap (λ l. l ++ rest) (sym (append-nil (ended (header stamped))))
 
-header_cut : (stamped : Bool) (es : List Entry) (text rest : List ℕ) → text ≡ text_of stamped es ++ rest → cut 10 text ≡ Some (header stamped, lines_after stamped [] es ++ rest)
+header_cut : (stamped : Bool) (es : List Entry) (text rest : List ℕ) → text ≡ text_of stamped es ++ rest
+    → cut 10 text ≡ Some (header stamped, lines_after stamped [] es ++ rest)
 header_cut stamped es text rest t =
-    ap (cut 10) (t ∙ join (header stamped) (lines_after stamped [] es) rest) ∙ cut-there 10 (header stamped) (lines_after stamped [] es ++ rest) (header_free stamped)
+    ap (cut 10) (t ∙ join (header stamped) (lines_after stamped [] es) rest)
+    ∙ cut-there 10 (header stamped) (lines_after stamped [] es ++ rest) (header_free stamped)
 
 -- a text of a journal begins with its header
 text_header : (es : List Entry) (text : List ℕ) → IsTextOf text es → (stamped : Bool) × (text ≡ text_of stamped es ++ [])
@@ -141,14 +153,18 @@ pub record Stuck (stamped : Bool) (es : List Entry) (rest : List ℕ) : Type 0 w
   pub some : rest ≡ [] → ⊥
   pub no_line : (e : Entry) (more : List ℕ) → IsEntry e → length es < 1000000 → rest ≡ line_after stamped es e ++ 10 ∷ more → ⊥
 
-lines_apart : (stamped : Bool) (past es ks full : List Entry) (rest more : List ℕ) → AreEntries past → AreEntries es → AreEntries ks → length past + length es ≤ 1000000
-    → length past + length ks ≤ 1000000 → lines_after stamped past es ++ rest ≡ lines_after stamped past ks ++ more → full ≡ past ++ es → Stuck stamped full rest
+lines_apart : (stamped : Bool) (past es ks full : List Entry) (rest more : List ℕ) → AreEntries past → AreEntries es → AreEntries ks
+    → length past + length es ≤ 1000000
+    → length past + length ks ≤ 1000000 → lines_after stamped past es ++ rest ≡ lines_after stamped past ks ++ more → full ≡ past ++ es
+    → Stuck stamped full rest
     → (length ks ≤ length es) × (more ≡ [] → ⊥)
 lines_apart stamped past [] [] full rest more hp he hk le lk is f stuck = (omega arith, λ e. stuck.some (is ∙ e))
 lines_apart stamped past [] (k ∷ ks) full rest more hp he hk le lk is f stuck =
     let same : full ≡ past = f ∙ append-nil past in
     let short : length full < 1000000 = omega (arith, ap length same, lk) in
-    absurd (stuck.no_line k (lines_after stamped (past ++ k ∷ []) ks ++ more) hk.0 short (is ∙ join (line_after stamped past k) (lines_after stamped (past ++ k ∷ []) ks) more ∙ ap (λ p. line_after stamped p k ++ 10 ∷ (lines_after stamped (past ++ k ∷ []) ks ++ more)) (sym same)))
+    absurd (stuck.no_line k (lines_after stamped (past ++ k ∷ []) ks ++ more) hk.0 short
+    (is ∙ join (line_after stamped past k) (lines_after stamped (past ++ k ∷ []) ks) more
+    ∙ ap (λ p. line_after stamped p k ++ 10 ∷ (lines_after stamped (past ++ k ∷ []) ks ++ more)) (sym same)))
 lines_apart stamped past (e ∷ es) [] full rest more hp he hk le lk is f stuck = (
   omega arith,
   λ empty.
@@ -157,13 +173,16 @@ lines_apart stamped past (e ∷ es) [] full rest more hp he hk le lk is f stuck 
 )
 lines_apart stamped past (e ∷ es) (k ∷ ks) full rest more hp he hk le lk is f stuck =
     let within : length past ≤ 1000000 = omega arith in
-    let both = same_cut 10 (line_after stamped past e) (line_after stamped past k) (lines_after stamped (past ++ e ∷ []) es ++ rest) (lines_after stamped (past ++ k ∷ []) ks ++ more)
+    let both = same_cut 10 (line_after stamped past e) (line_after stamped past k) (lines_after stamped (past ++ e ∷ []) es ++ rest)
+    (lines_after stamped (past ++ k ∷ []) ks ++ more)
     (after_free stamped past e hp within he.0) (after_free stamped past k hp within hk.0)
-    (sym (join (line_after stamped past e) (lines_after stamped (past ++ e ∷ []) es) rest) ∙ is ∙ join (line_after stamped past k) (lines_after stamped (past ++ k ∷ []) ks) more) in
+    (sym (join (line_after stamped past e) (lines_after stamped (past ++ e ∷ []) es) rest) ∙ is
+    ∙ join (line_after stamped past k) (lines_after stamped (past ++ k ∷ []) ks) more) in
     let same : e ≡ k = line_same stamped past e k hp within he.0 hk.0 both.0 in
     let one : length (past ++ e ∷ []) ≡ length past + 1 = length-append past (e ∷ []) in
     let rest_is = both.1 ∙ ap (λ (x : Entry). lines_after stamped (past ++ x ∷ []) ks ++ more) (sym same) in
-    let ih = lines_apart stamped (past ++ e ∷ []) es ks full rest more (entries_more past e hp he.0) he.1 hk.1 (omega (arith, one, le)) (omega (arith, one, lk)) rest_is
+    let ih = lines_apart stamped (past ++ e ∷ []) es ks full rest more (entries_more past e hp he.0) he.1 hk.1 (omega (arith, one, le))
+    (omega (arith, one, lk)) rest_is
     (f ∙ sym (append_assoc past (e ∷ []) es)) stuck in
     (omega (arith, ih.0), ih.1)
 
@@ -177,7 +196,8 @@ headers_apart true false e = absurd (digits_apart _ _ (ap (λ l. slice_index l 1
 headers_apart false true e = absurd (digits_apart _ _ (ap (λ l. slice_index l 13) e) refl)
 
 -- where the text so far is a journal's and no entry can follow, the next line is the first at fault
-texts_apart : (stamped other : Bool) (es ks : List Entry) (text rest more : List ℕ) → IsJournal es → IsJournal ks → text ≡ text_of stamped es ++ rest → text ≡ text_of other ks ++ more
+texts_apart : (stamped other : Bool) (es ks : List Entry) (text rest more : List ℕ) → IsJournal es → IsJournal ks → text ≡ text_of stamped es ++ rest
+    → text ≡ text_of other ks ++ more
     → Stuck stamped es rest → (length ks ≤ length es) × (more ≡ [] → ⊥)
 texts_apart stamped other es ks text rest more h k t u stuck =
     let both = one_cut 10 text _ _ _ _ (header_cut stamped es text rest t) (header_cut other ks text more u) in
@@ -186,11 +206,13 @@ texts_apart stamped other es ks text rest more h k t u stuck =
     let right = k.1 in
     lines_apart stamped [] es ks es rest more tt h.0 k.0 (omega arith) (omega arith) (both.1 ∙ ap (λ b. lines_after b [] ks ++ more) (sym same)) refl stuck
 
-pub stuck_fault : (stamped : Bool) (es : List Entry) (text rest : List ℕ) (n : ℕ) → IsJournal es → text ≡ text_of stamped es ++ rest → n ≡ length es + 2 → Stuck stamped es rest → FaultAt text n
+pub stuck_fault : (stamped : Bool) (es : List Entry) (text rest : List ℕ) (n : ℕ) → IsJournal es → text ≡ text_of stamped es ++ rest
+    → n ≡ length es + 2 → Stuck stamped es rest → FaultAt text n
 stuck_fault stamped es text rest n h t number stuck = record {
   some = omega arith;
   before = λ lt. record { stamped = stamped; entries = es; rest = rest; journal = h; lines = omega arith; is = t };
-  fault = λ b. let apart = texts_apart stamped b.stamped es b.entries text rest b.rest h b.journal t b.is stuck in let lines = b.lines in absurd (omega (arith, apart.0));
+  fault = λ b. let apart = texts_apart stamped b.stamped es b.entries text rest b.rest h b.journal t b.is stuck in let lines = b.lines in
+      absurd (omega (arith, apart.0));
   none = λ ks k is. let parts = text_header ks text is in (texts_apart stamped parts.0 es ks text rest [] h k t parts.1 stuck).1 refl;
 }
 
@@ -202,11 +224,13 @@ stuck_at_end stamped es rest h some none = record {
 }
 
 -- a line that is no entry's
-pub stuck_at_line : (r : PartRead) (rest line more : List ℕ) → IsJournal r.entries → (rest ≡ [] → ⊥) → cut 10 rest ≡ Some (line, more) → HasNoNext r line → Stuck r.stamped r.entries rest
+pub stuck_at_line : (r : PartRead) (rest line more : List ℕ) → IsJournal r.entries → (rest ≡ [] → ⊥) → cut 10 rest ≡ Some (line, more)
+    → HasNoNext r line → Stuck r.stamped r.entries rest
 stuck_at_line r rest line more h some cuts none = record {
   some = some;
   no_line = λ e after k short is.
-      none e k short (one_cut 10 rest _ _ _ _ (ap (cut 10) is ∙ cut-there 10 (line_after r.stamped r.entries e) after (after_free r.stamped r.entries e h.0 h.1 k)) cuts).0;
+      none e k short (one_cut 10 rest _ _ _ _ (ap (cut 10) is
+      ∙ cut-there 10 (line_after r.stamped r.entries e) after (after_free r.stamped r.entries e h.0 h.1 k)) cuts).0;
 }
 
 abbrev number_of : JournalFault → ℕ
@@ -219,7 +243,8 @@ fault_at text m n h e = subst (FaultAt text) (ap number_of e) h
 
 -- ---- one text, one journal
 
-lines_one : (stamped : Bool) (past es ks : List Entry) → AreEntries past → AreEntries es → AreEntries ks → length past + length es ≤ 1000000 → length past + length ks ≤ 1000000
+lines_one : (stamped : Bool) (past es ks : List Entry) → AreEntries past → AreEntries es → AreEntries ks → length past + length es ≤ 1000000
+    → length past + length ks ≤ 1000000
     → lines_after stamped past es ≡ lines_after stamped past ks → es ≡ ks
 lines_one stamped past [] [] hp he hk le lk is = refl
 lines_one stamped past [] (k ∷ ks) hp he hk le lk is =
@@ -230,7 +255,8 @@ lines_one stamped past (e ∷ es) [] hp he hk le lk is =
     absurd (omega (arith, long, length-append (line_after stamped past e) (10 ∷ lines_after stamped (past ++ e ∷ []) es)))
 lines_one stamped past (e ∷ es) (k ∷ ks) hp he hk le lk is =
     let within : length past ≤ 1000000 = omega arith in
-    let both = same_cut 10 (line_after stamped past e) (line_after stamped past k) (lines_after stamped (past ++ e ∷ []) es) (lines_after stamped (past ++ k ∷ []) ks)
+    let both = same_cut 10 (line_after stamped past e) (line_after stamped past k) (lines_after stamped (past ++ e ∷ []) es)
+    (lines_after stamped (past ++ k ∷ []) ks)
     (after_free stamped past e hp within he.0) (after_free stamped past k hp within hk.0)
     (sym (append_assoc (line_after stamped past e) (10 ∷ []) _) ∙ is ∙ append_assoc (line_after stamped past k) (10 ∷ []) _) in
     let same : e ≡ k = line_same stamped past e k hp within he.0 hk.0 both.0 in

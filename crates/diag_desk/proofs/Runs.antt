@@ -66,7 +66,8 @@ pub take_one : (es : List Entry) (i : ℕ) (e : Entry) → slice_get es i ≡ So
 take_one es i e at = take_more es i e (slice_get_within es i e at) ∙ ap (λ x. take i es ++ x ∷ []) (get_or_from_slice_get es i e e at)
 
 -- one entry more of a run
-pub run_more : (setup : RawSetup) (es : List Entry) (i : ℕ) (e : Entry) (now next : State) → slice_get es i ≡ Some e → IsRun setup (take i es) → now ≡ after (opening setup) (take i es)
+pub run_more : (setup : RawSetup) (es : List Entry) (i : ℕ) (e : Entry) (now next : State) → slice_get es i ≡ Some e → IsRun setup (take i es)
+    → now ≡ after (opening setup) (take i es)
     → e.who ≤ length setup.testers → e.reply ≡ reply_to now e.who e.step → next ≡ after_step now e.who e.step
     → IsRun setup (take (i + 1) es) × (next ≡ after (opening setup) (take (i + 1) es))
 run_more setup es i e now next at run is who reply step =
@@ -77,7 +78,8 @@ back : (i : ℕ) → i ≡ i + 1 - 1
 back i = omega arith
 
 -- an entry that differs
-pub differs_at : (setup : RawSetup) (es : List Entry) (i : ℕ) (e : Entry) (now : State) → slice_get es i ≡ Some e → IsRun setup (take i es) → now ≡ after (opening setup) (take i es)
+pub differs_at : (setup : RawSetup) (es : List Entry) (i : ℕ) (e : Entry) (now : State) → slice_get es i ≡ Some e → IsRun setup (take i es)
+    → now ≡ after (opening setup) (take i es)
     → (e.who ≤ length setup.testers → e.reply ≡ reply_to now e.who e.step → ⊥) → DiffersAt setup es (i + 1)
 differs_at setup es i e now at run is other = record {
   some = omega arith;
@@ -85,7 +87,8 @@ differs_at setup es i e now at run is other = record {
   before = subst (λ n. IsRun setup (take n es)) (back i) run;
   differs = λ h.
       let one = subst (IsRun setup) (take_one es i e at) h in
-      other (testers_last (length setup.testers) (take i es) e one.0) (legal_last (opening setup) (take i es) e one.1 ∙ ap (λ s. reply_to s e.who e.step) (sym is));
+      other (testers_last (length setup.testers) (take i es) e one.0)
+      (legal_last (opening setup) (take i es) e one.1 ∙ ap (λ s. reply_to s e.who e.step) (sym is));
 }
 
 abbrev number_of : ReplayFault → ℕ

@@ -86,7 +86,8 @@ step_rules s who (Ticks n) = ecu.elapse_rules s who n
 
 run_rules : (s : State) (entries : List Entry) → ecu.SameRules s (after s entries)
 run_rules s [] = λ id. refl
-run_rules s (e ∷ entries) = ecu.rules_then s (after_entry s e) (after (after_entry s e) entries) (step_rules s e.who e.step) (run_rules (after_entry s e) entries)
+run_rules s (e ∷ entries) = ecu.rules_then s (after_entry s e) (after (after_entry s e) entries) (step_rules s e.who e.step)
+    (run_rules (after_entry s e) entries)
 
 -- ---- a written value
 
@@ -97,7 +98,8 @@ legal_at s [] i e legal at = cc
 legal_at s (x ∷ entries) zero e legal at = let same = same_Some x e at in rw (← same) legal.0
 legal_at s (x ∷ entries) (suc i) e legal at = legal_at (after_entry s x) entries i e legal.1 at
 
-reply_open : (s : State) (who id : ℕ) (step : Step) → reply_to s who step ≡ Some (0x6E ∷ bytes_16 id) → 0 < write_level_of s id → HasUnlocked s who (write_level_of s id)
+reply_open : (s : State) (who id : ℕ) (step : Step) → reply_to s who step ≡ Some (0x6E ∷ bytes_16 id) → 0 < write_level_of s id
+    → HasUnlocked s who (write_level_of s id)
 reply_open s who id (Ticks n) e above = cc e
 reply_open s who id (Request functional p) e above = ecu.reply_open s who id functional p e above
 

@@ -76,11 +76,13 @@ taken_more bytes i b at = take_more bytes i b (slice_get_within bytes i b at) �
 
 -- ---- whole lines
 
-line_joined : (functional : Bool) (who : ℕ) (m : List ℕ) (r : Option (List ℕ)) → entry_line (entry who (Request functional m) r) ≡ fronted (48 + who) (kind_code (request_kind functional)) (encode_upper m ++ 32 ∷ reply_text r)
+line_joined : (functional : Bool) (who : ℕ) (m : List ℕ) (r : Option (List ℕ))
+    → entry_line (entry who (Request functional m) r) ≡ fronted (48 + who) (kind_code (request_kind functional)) (encode_upper m ++ 32 ∷ reply_text r)
 line_joined true who m r = refl
 line_joined false who m r = refl
 
-pub usual_line : (functional : Bool) (who : ℕ) (m : List ℕ) (r : Option (List ℕ)) (text body rest : List ℕ) → text ≡ fronted (48 + who) (kind_code (request_kind functional)) body
+pub usual_line : (functional : Bool) (who : ℕ) (m : List ℕ) (r : Option (List ℕ)) (text body rest : List ℕ)
+    → text ≡ fronted (48 + who) (kind_code (request_kind functional)) body
     → body ≡ encode_upper m ++ 32 ∷ (reply_text r ++ 10 ∷ rest) → text ≡ entry_line (entry who (Request functional m) r) ++ 10 ∷ rest
 usual_line functional who m r text body rest t b =
     t ∙ ap (fronted (48 + who) (kind_code (request_kind functional))) (b ∙ sym (append_assoc (encode_upper m) (32 ∷ reply_text r) (10 ∷ rest)))
@@ -97,7 +99,8 @@ number-first text tail first number t low high is =
     let one : first ≡ 48 + number = omega arith in
     t ∙ ap (λ c. c ∷ tail) one ∙ ap (λ l. l ++ tail) (sym (decimal_digit number (omega arith)))
 
-pub number-more : (text rest tail : List ℕ) (number digit next : ℕ) → text ≡ decimal number ++ rest → rest ≡ digit ∷ tail → 1 ≤ number → number ≤ 6000 → 48 ≤ digit → digit ≤ 57
+pub number-more : (text rest tail : List ℕ) (number digit next : ℕ) → text ≡ decimal number ++ rest → rest ≡ digit ∷ tail → 1 ≤ number → number ≤ 6000
+    → 48 ≤ digit → digit ≤ 57
     → next ≡ number * 10 + (digit - 48) → text ≡ decimal next ++ tail
 number-more text rest tail number digit next t r some few low high is =
     let front : next / 10 ≡ number = omega arith in

@@ -79,7 +79,8 @@ of_a_key s who service p nrc wrong found =
     ] refl
 
 -- so its sub-function is one of a level
-pub key_passes : (s : State) (who : ℕ) (service : Service) (p : List ℕ) (nrc : Nrc) → is_of_wrong_key nrc ≡ true → first_holding (checks s who service p) ≡ Some nrc
+pub key_passes : (s : State) (who : ℕ) (service : Service) (p : List ℕ) (nrc : Nrc) → is_of_wrong_key nrc ≡ true
+    → first_holding (checks s who service p) ≡ Some nrc
     → is_sub_function s OfLevels (sub p) ≡ true
 key_passes s who service p nrc wrong found =
     let of = of_a_key s who service p nrc wrong found in
@@ -87,7 +88,8 @@ key_passes s who service p nrc wrong found =
     grind (arith, passes)
 
 -- and it leads where its own checks say
-pub key_served : (s : State) (who : ℕ) (service : Service) (p : List ℕ) (nrc : Nrc) → is_of_wrong_key nrc ≡ true → first_holding (checks s who service p) ≡ Some nrc
+pub key_served : (s : State) (who : ℕ) (service : Service) (p : List ℕ) (nrc : Nrc) → is_of_wrong_key nrc ≡ true
+    → first_holding (checks s who service p) ≡ Some nrc
     → (own_outcome s who SecurityAccess p).state ≡ (served s who (Some service) p).state
 key_served s who service p nrc wrong found =
     let of = of_a_key s who service p nrc wrong found in

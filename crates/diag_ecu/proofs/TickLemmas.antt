@@ -57,7 +57,8 @@ apart (suc n) s who true e =
           let one : ticked s who ≡ session_ended before = rw (e, ends) refl in
           let other : session_ticked whole ≡ session_ended (routines_ticked whole) = rw (held, ends) refl in
           let rest = apart n (session_ended before) who false refl in
-          let security_too = ap (λ (x : SecurityState). record (session_ended before) { security = x }) (ticks_locked n (security.after_tick s.security who) who) in
+          let security_too = ap (λ (x : SecurityState). record (session_ended before) { security = x })
+          (ticks_locked n (security.after_tick s.security who) who) in
           rw (one, other) (rest ∙ security_too ∙ sym (not_held n (session_ended (routines_ticked whole)) refl))
       | false ↦ λ lasts.
           let one : ticked s who ≡ record before { s3_left = s.s3_left - 1 } = rw (e, lasts) refl in

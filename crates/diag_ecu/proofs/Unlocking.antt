@@ -82,9 +82,11 @@ session_keeps s who n =
 
 given_unlocked : (x : SecurityState) (sub : ℕ) → (security.after_seed_given x sub).unlocked ≡ x.unlocked
 given_unlocked x sub =
-    elim (security.is_unlocked x sub) as (λ b. (cond b x (if is_some (security.outstanding_row x.outstanding sub) then x else security.with_new_seed x sub)).unlocked ≡ x.unlocked) [
+    elim (security.is_unlocked x sub) as (λ b.
+    (cond b x (if is_some (security.outstanding_row x.outstanding sub) then x else security.with_new_seed x sub)).unlocked ≡ x.unlocked) [
       | true ↦ refl
-      | false ↦ elim (is_some (security.outstanding_row x.outstanding sub)) as (λ b. (cond b x (security.with_new_seed x sub)).unlocked ≡ x.unlocked) [ true ↦ refl | false ↦ refl ]
+      | false ↦ elim (is_some (security.outstanding_row x.outstanding sub)) as (λ b. (cond b x (security.with_new_seed x sub)).unlocked ≡ x.unlocked)
+          [ true ↦ refl | false ↦ refl ]
     ]
 
 seed_unlocked : (x : SecurityState) (who sub : ℕ) → (security.after_seed x who sub).unlocked ≡ x.unlocked
@@ -95,16 +97,22 @@ seed_unlocked x who sub =
 key_unlocked : (x : SecurityState) (who sub : ℕ) (key : List ℕ) (level : ℕ) → (security.after_key x who sub key).unlocked ≡ Some level
     → (x.unlocked ≡ Some level) ⊎ (sub ≡ level)
 key_unlocked x who sub key level =
-    elim (security.is_delayed x who) as (λ b. (cond b x (if is_none (security.outstanding_row x.outstanding sub) then x else if security.is_right_key x sub key then security.after_right_key x who sub else security.after_wrong_key x who)).unlocked ≡ Some level
+    elim (security.is_delayed x who) as (λ b.
+    (cond b x (if is_none (security.outstanding_row x.outstanding sub) then x else if security.is_right_key x sub key then
+    security.after_right_key x who sub else security.after_wrong_key x who)).unlocked ≡ Some level
     → (x.unlocked ≡ Some level) ⊎ (sub ≡ level)) [
       | true ↦ λ h. inl h
-      | false ↦ elim (is_none (security.outstanding_row x.outstanding sub)) as (λ b. (cond b x (if security.is_right_key x sub key then security.after_right_key x who sub else security.after_wrong_key x who)).unlocked ≡ Some level
+      | false ↦ elim (is_none (security.outstanding_row x.outstanding sub))
+          as (λ b. (cond b x (if security.is_right_key x sub key then security.after_right_key x who sub else security.after_wrong_key x
+          who)).unlocked ≡ Some level
           → (x.unlocked ≡ Some level) ⊎ (sub ≡ level)) [
             | true ↦ λ h. inl h
-            | false ↦ elim (security.is_right_key x sub key) as (λ b. (cond b (security.after_right_key x who sub) (security.after_wrong_key x who)).unlocked ≡ Some level → (x.unlocked ≡ Some level) ⊎ (sub ≡ level)) [
-              | true ↦ λ h. inr (same_Some sub level h)
-              | false ↦ λ h. inl h
-            ]
+            | false ↦ elim (security.is_right_key x sub key)
+                as (λ b. (cond b (security.after_right_key x who sub) (security.after_wrong_key x who)).unlocked ≡ Some level
+                → (x.unlocked ≡ Some level) ⊎ (sub ≡ level)) [
+                  | true ↦ λ h. inr (same_Some sub level h)
+                  | false ↦ λ h. inl h
+                ]
           ]
     ]
 
@@ -184,11 +192,13 @@ pub effect_unlocks : (s : State) (who : ℕ) (service : Service) (p : List ℕ) 
     → first_holding (ecu.checks s who service p) ≡ None
     → HasUnlocked (ecu.effect s who service p) holder level
     → HasUnlocked s holder level ⊎ ((service ≡ SecurityAccess) × KeyOf s who p holder level)
-effect_unlocks s who DiagnosticSessionControl p holder level passes h = inl (unlocked_before s (ecu.session_effect s who (ecu.sub p)) holder level (session_keeps s who (ecu.sub p)) h)
+effect_unlocks s who DiagnosticSessionControl p holder level passes h =
+    inl (unlocked_before s (ecu.session_effect s who (ecu.sub p)) holder level (session_keeps s who (ecu.sub p)) h)
 effect_unlocks s who EcuReset p holder level passes h = cc h.0
 effect_unlocks s who SecurityAccess p holder level passes h =
     elim (ecu.is_seed_request s p) as (λ b. ecu.is_seed_request s p ≡ b
-    → HasUnlocked (cond b (record s { security = security.after_seed s.security who (ecu.sub p) }) (record s { security = security.after_key s.security who (ecu.key_level p) (drop 2 p) })) holder level
+    → HasUnlocked (cond b (record s { security = security.after_seed s.security who (ecu.sub p) })
+    (record s { security = security.after_key s.security who (ecu.key_level p) (drop 2 p) })) holder level
     → HasUnlocked s holder level ⊎ ((SecurityAccess ≡ SecurityAccess) × KeyOf s who p holder level)) [
       | true ↦ λ is_seed u. inl (u.0, sym (seed_unlocked s.security who (ecu.sub p)) ∙ u.1)
       | false ↦ λ is_key u.
@@ -200,7 +210,8 @@ effect_unlocks s who SecurityAccess p holder level passes h =
                 inr (refl, rw (← sender, ← its_level) accepted.1)
           ]
     ] refl h
-effect_unlocks s who RoutineControl p holder level passes h = inl (unlocked_before s (ecu.routine_effect s (number_16 p 2) (ecu.sub p)) holder level (routine_keeps s (number_16 p 2) (ecu.sub p)) h)
+effect_unlocks s who RoutineControl p holder level passes h =
+    inl (unlocked_before s (ecu.routine_effect s (number_16 p 2) (ecu.sub p)) holder level (routine_keeps s (number_16 p 2) (ecu.sub p)) h)
 effect_unlocks s who service p holder level passes h = inl h
 
 -- ---- a request
@@ -212,10 +223,12 @@ security_access_id : (n : ℕ) → service_of n ≡ Some SecurityAccess → n �
 security_access_id n e = grind arith
 
 -- what is unlocked after a request was so before, or its key unlocked it
-pub request_unlocks : (s : State) (who : ℕ) (functional : Bool) (p : List ℕ) (holder level : ℕ) → HasUnlocked (ecu.after_request s who functional p) holder level
+pub request_unlocks : (s : State) (who : ℕ) (functional : Bool) (p : List ℕ) (holder level : ℕ)
+    → HasUnlocked (ecu.after_request s who functional p) holder level
     → HasUnlocked s holder level ⊎ ((who ≡ holder) × IsKey s p level)
 request_unlocks s who functional p holder level h =
-    let served = unlocked_before (ecu.outcome s who p).state (ecu.after_request s who functional p) holder level (alive_keeps (ecu.outcome s who p).state who) h in
+    let served = unlocked_before (ecu.outcome s who p).state (ecu.after_request s who functional p) holder level
+    (alive_keeps (ecu.outcome s who p).state who) h in
     elim (service_of (ecu.sid p)) as (λ service. service_of (ecu.sid p) ≡ service → HasUnlocked (ecu.served s who service p).state holder level
     → HasUnlocked s holder level ⊎ ((who ≡ holder) × IsKey s p level)) [
       | None ↦ λ is u. inl u
@@ -257,12 +270,16 @@ either_rules s a b false x y = y
 value_rules : (rows : List DidRow) (id at : ℕ) (value : List ℕ) → dids.rule_of (dids.with_value rows id value) at ≡ dids.rule_of rows at
 value_rules [] id at value = refl
 value_rules (row ∷ rows) id at value =
-    elim (row.id == id) as (λ b. dids.rule_of (cond b (record row { value = record { items = value } } ∷ rows) (row ∷ dids.with_value rows id value)) at ≡ dids.rule_of (row ∷ rows) at) [
-      | true ↦ elim (row.id == at) as (λ b. option_map (λ (r : DidRow). r.rule) (cond b (Some (record row { value = record { items = value } })) (dids.row_of rows at)) ≡ option_map (λ (r : DidRow). r.rule) (cond b (Some row) (dids.row_of rows at))) [ true ↦ refl | false ↦ refl ]
-      | false ↦ elim (row.id == at) as (λ b. option_map (λ (r : DidRow). r.rule) (cond b (Some row) (dids.row_of (dids.with_value rows id value) at)) ≡ option_map (λ (r : DidRow). r.rule) (cond b (Some row) (dids.row_of rows at))) [
-        | true ↦ refl
-        | false ↦ value_rules rows id at value
-      ]
+    elim (row.id == id) as (λ b. dids.rule_of (cond b (record row { value = record { items = value } } ∷ rows) (row ∷ dids.with_value rows id value))
+    at ≡ dids.rule_of (row ∷ rows) at) [
+      | true ↦ elim (row.id == at) as (λ b. option_map (λ (r : DidRow). r.rule)
+          (cond b (Some (record row { value = record { items = value } })) (dids.row_of rows at))
+          ≡ option_map (λ (r : DidRow). r.rule) (cond b (Some row) (dids.row_of rows at))) [ true ↦ refl | false ↦ refl ]
+      | false ↦ elim (row.id == at) as (λ b. option_map (λ (r : DidRow). r.rule) (cond b (Some row) (dids.row_of (dids.with_value rows id value) at))
+          ≡ option_map (λ (r : DidRow). r.rule) (cond b (Some row) (dids.row_of rows at))) [
+            | true ↦ refl
+            | false ↦ value_rules rows id at value
+          ]
     ]
 
 tick_rules : (s : State) (who : ℕ) → SameRules s (ticked s who)
@@ -284,10 +301,12 @@ effect_rules s who DiagnosticSessionControl p =
     either_rules s (s3_filled (record (relocked s) { holder = Some who })) (if is_holder s who then session_ended s else s) (ecu.sub p == 0x03) (λ id. refl)
     (either_rules s (session_ended s) s (is_holder s who) (λ id. refl) (λ id. refl))
 effect_rules s who SecurityAccess p =
-    either_rules s (record s { security = security.after_seed s.security who (ecu.sub p) }) (record s { security = security.after_key s.security who (ecu.key_level p) (drop 2 p) }) (ecu.is_seed_request s p) (λ id. refl) (λ id. refl)
+    either_rules s (record s { security = security.after_seed s.security who (ecu.sub p) })
+    (record s { security = security.after_key s.security who (ecu.key_level p) (drop 2 p) }) (ecu.is_seed_request s p) (λ id. refl) (λ id. refl)
 effect_rules s who WriteDataByIdentifier p = λ id. value_rules s.dids (number_16 p 1) id (drop 3 p)
 effect_rules s who RoutineControl p =
-    either_rules s (record s { routines = routines.started s.routines (number_16 p 2) }) (if ecu.sub p == 0x02 then record s { routines = routines.stopped s.routines (number_16 p 2) } else s) (ecu.sub p == 0x01) (λ id. refl)
+    either_rules s (record s { routines = routines.started s.routines (number_16 p 2) })
+    (if ecu.sub p == 0x02 then record s { routines = routines.stopped s.routines (number_16 p 2) } else s) (ecu.sub p == 0x01) (λ id. refl)
     (either_rules s (record s { routines = routines.stopped s.routines (number_16 p 2) }) s (ecu.sub p == 0x02) (λ id. refl) (λ id. refl))
 effect_rules s who service p = λ id. refl
 
@@ -332,10 +351,12 @@ positive_sent functional p reply whole e =
 -- the reply of a service begins with its identifier and 40
 dtc_first : (s : State) (p : List ℕ) → slice_index (ecu.dtc_reply s p) 0 ≡ 0x59
 dtc_first s p =
-    elim (ecu.sub p == 0x01) as (λ b. slice_index (cond b (0x59 ∷ 0x01 ∷ s.values.availability ∷ 0x01 ∷ bytes_16 (length (dtcs.matching s.dtcs (ecu.mask_of s p))))
+    elim (ecu.sub p == 0x01) as (λ b. slice_index
+    (cond b (0x59 ∷ 0x01 ∷ s.values.availability ∷ 0x01 ∷ bytes_16 (length (dtcs.matching s.dtcs (ecu.mask_of s p))))
     (if ecu.sub p == 0x02 then ecu.counted_reply s (ecu.mask_of s p) else ecu.all_reply s)) 0 ≡ 0x59) [
       | true ↦ refl
-      | false ↦ elim (ecu.sub p == 0x02) as (λ b. slice_index (cond b (ecu.counted_reply s (ecu.mask_of s p)) (ecu.all_reply s)) 0 ≡ 0x59) [ true ↦ refl | false ↦ refl ]
+      | false ↦ elim (ecu.sub p == 0x02) as (λ b. slice_index (cond b (ecu.counted_reply s (ecu.mask_of s p)) (ecu.all_reply s)) 0 ≡ 0x59)
+          [ true ↦ refl | false ↦ refl ]
     ]
 
 reply_first : (s : State) (service : Service) (p : List ℕ) → slice_index (ecu.positive_reply s service p) 0 ≡ (row service).identifier + 0x40
@@ -379,9 +400,11 @@ write_open : (s : State) (who id : ℕ) (service : Service) (p : List ℕ) → s
 write_open s who id service p is passes e above =
     write_passes s who id p (ap (λ x. first_holding (ecu.checks s who x p)) (sym is) ∙ passes) (ap (λ x. ecu.positive_reply s x p) (sym is) ∙ e) above
 
-pub reply_open : (s : State) (who id : ℕ) (functional : Bool) (p : List ℕ) → ecu.reply s who functional p ≡ Some (0x6E ∷ bytes_16 id) → 0 < write_level_of s id → HasUnlocked s who (write_level_of s id)
+pub reply_open : (s : State) (who id : ℕ) (functional : Bool) (p : List ℕ) → ecu.reply s who functional p ≡ Some (0x6E ∷ bytes_16 id)
+    → 0 < write_level_of s id → HasUnlocked s who (write_level_of s id)
 reply_open s who id functional p e above =
-    elim (service_of (ecu.sid p)) as (λ service. ecu.sent functional p (ecu.served s who service p).answer ≡ Some (0x6E ∷ bytes_16 id) → HasUnlocked s who (write_level_of s id)) [
+    elim (service_of (ecu.sid p)) as (λ service. ecu.sent functional p (ecu.served s who service p).answer ≡ Some (0x6E ∷ bytes_16 id)
+    → HasUnlocked s who (write_level_of s id)) [
       | None ↦ λ r. absurd (negative_differs functional p _ ServiceNotSupported r)
       | Some service ↦ λ r.
           elim (first_holding (ecu.checks s who service p)) as (λ first. first_holding (ecu.checks s who service p) ≡ first

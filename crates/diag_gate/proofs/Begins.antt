@@ -56,9 +56,11 @@ own_same t e is = ap (λ b. cond b (e ∷ []) []) (eq-eqb e.who t is)
 pub owns_read : (k n t : ℕ) (journal l : List Entry) → get_or (owns_from k n journal) t None ≡ Some l → owned (k + t) journal ≡ l
 owns_read k zero t journal l e = absurd (cc)
 owns_read k (suc n) zero journal l e = let same : k + 0 ≡ k = omega arith in ap (λ (u : ℕ). owned u journal) same ∙ (let f = e in cc)
-owns_read k (suc n) (suc t) journal l e = let same : k + suc t ≡ suc k + t = omega arith in ap (λ (u : ℕ). owned u journal) same ∙ owns_read (suc k) n t journal l e
+owns_read k (suc n) (suc t) journal l e = let same : k + suc t ≡ suc k + t = omega arith in
+    ap (λ (u : ℕ). owned u journal) same ∙ owns_read (suc k) n t journal l e
 
 pub owns_there : (k n t : ℕ) (journal : List Entry) → t < n → get_or (owns_from k n journal) t None ≡ Some (owned (k + t) journal)
 owns_there k zero t journal h = absurd (omega arith)
 owns_there k (suc n) zero journal h = let same : k ≡ k + 0 = omega arith in ap (λ (u : ℕ). Some (owned u journal)) same
-owns_there k (suc n) (suc t) journal h = let same : suc k + t ≡ k + suc t = omega arith in owns_there (suc k) n t journal (omega arith) ∙ ap (λ (u : ℕ). Some (owned u journal)) same
+owns_there k (suc n) (suc t) journal h = let same : suc k + t ≡ k + suc t = omega arith in
+    owns_there (suc k) n t journal (omega arith) ∙ ap (λ (u : ℕ). Some (owned u journal)) same

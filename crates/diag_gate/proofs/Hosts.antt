@@ -25,11 +25,13 @@ some_of (Some x) e = (x, refl)
 some_of None e = absurd (cc)
 
 -- a tester that was not given out is with the host
-pub host_has : (me : Sat) (given home : List Bool) → IsHost me given home → (t : ℕ) → t < 9 → get_or given t false ≡ false → (l : List Entry) × (get_or me.0.owns t None ≡ Some l)
+pub host_has : (me : Sat) (given home : List Bool) → IsHost me given home → (t : ℕ) → t < 9 → get_or given t false ≡ false
+    → (l : List Entry) × (get_or me.0.owns t None ≡ Some l)
 host_has me given home is t h not_yet = some_of (get_or me.0.owns t None) (sym (is.here t h) ∙ is.left t h not_yet)
 
 -- the host names a tester and gives it out
-module _ (me : Sat) (given home : List Bool) (is : IsHost me given home) (who named at : ℕ) (low : who < 9) (named_is : named ≡ who) (at_is : at ≡ who) (me1 me2 : Sat) (first : me1 ≡ (naming me.0 named, me.1)) (second : me2 ≡ (host_without me1.0, me1.1)) where
+module _ (me : Sat) (given home : List Bool) (is : IsHost me given home) (who named at : ℕ) (low : who < 9) (named_is : named ≡ who)
+    (at_is : at ≡ who) (me1 me2 : Sat) (first : me1 ≡ (naming me.0 named, me.1)) (second : me2 ≡ (host_without me1.0, me1.1)) where
   v1_is : me1.0 ≡ naming me.0 named
   v1_is = ap (λ (m : Sat). m.0) first
 
@@ -40,9 +42,11 @@ module _ (me : Sat) (given home : List Bool) (is : IsHost me given home) (who na
   owns_are = ap (λ (v : View). v.owns) v2_is ∙ ap (λ (t : ℕ). set me.0.owns t None) named_is
 
   pub named_has : (l : List Entry) → get_or me.0.owns who None ≡ Some l → own_of me1.0 me1.0.who ≡ Some l
-  named_has l e = ap (λ (v : View). own_of v v.who) v1_is ∙ ap (λ b. own_if b named me.0.own me.0.owns named) (ap (λ (m : Sat). m.0.is_seat) is.is) ∙ ap (λ (t : ℕ). get_or me.0.owns t None) named_is ∙ e
+  named_has l e = ap (λ (v : View). own_of v v.who) v1_is ∙ ap (λ b. own_if b named me.0.own me.0.owns named) (ap (λ (m : Sat). m.0.is_seat) is.is)
+      ∙ ap (λ (t : ℕ). get_or me.0.owns t None) named_is ∙ e
 
-  pub gave_is : (h : HostView) (z z2 zs : TableId) (mine : Sat) → seen_as z me given ≡ h → get_or given at false ≡ false → mine ≡ (new_seat me1.0, []) → z2 ≡ z → zs ≡ z
+  pub gave_is : (h : HostView) (z z2 zs : TableId) (mine : Sat) → seen_as z me given ≡ h → get_or given at false ≡ false → mine ≡ (new_seat me1.0, [])
+      → z2 ≡ z → zs ≡ z
       → Gave h (seen_as z2 me2 (set given at true)) who (seat_as zs who mine)
   gave_is h z z2 zs mine e not_yet third same2 same_s =
       let not_given : get_or given who false ≡ false = sym (ap (λ (t : ℕ). get_or given t false) at_is) ∙ not_yet in
@@ -54,7 +58,8 @@ module _ (me : Sat) (given home : List Bool) (is : IsHost me given home) (who na
       let opening_is : mine.0.opening ≡ me.0.opening = ap (λ (v : View). v.opening) m_is ∙ ap (λ (v : View). v.opening) v1_is in
       let seen_is : mine.0.seen ≡ me.0.seen = ap (λ (v : View). v.seen) m_is ∙ ap (λ (v : View). v.seen) v1_is in
       let missed_is : mine.0.missed ≡ 0 = ap (λ (v : View). v.missed) m_is in
-      let s_is : seat_as zs who mine ≡ fresh old who l = λ i. record { gate = same_s i; who = who; opening = opening_is i; own = own_is i; seen = seen_is i; missed = missed_is i } in
+      let s_is : seat_as zs who mine ≡ fresh old who l =
+      λ i. record { gate = same_s i; who = who; opening = opening_is i; own = own_is i; seen = seen_is i; missed = missed_is i } in
       let n_is : seen_as z2 me2 (set given at true) ≡ gave old who = λ i. record {
         gate = same2 i;
         opening = ap (λ (v : View). v.opening) v2_is i;
@@ -75,7 +80,8 @@ pub record Left (h : HostView) (desk : Option Run) : Type 0 where
   pub there : desk ≡ Some run_is
   pub closed : Closed h run_is
 
-pub left_is : (h : HostView) (z : TableId) (id : ℕ) (me : Sat) (given home : List Bool) (words : List ℕ) (slots : List (Option Run)) (desk : Option Run) → seen_as z me given ≡ h → IsHost me given home → AllHome h
+pub left_is : (h : HostView) (z : TableId) (id : ℕ) (me : Sat) (given home : List Bool) (words : List ℕ) (slots : List (Option Run))
+    (desk : Option Run) → seen_as z me given ≡ h → IsHost me given home → AllHome h
     → Final (Seen Kept id me.0) words slots → get_elem? slots 0 ≡ some desk → Left h desk
 left_is h z id me given home words slots desk e is all final taken =
     let host = ap (λ (m : Sat). m.0.is_seat) is.is in

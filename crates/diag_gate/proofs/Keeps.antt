@@ -31,7 +31,8 @@ knows_set o journal place views id w others mine j u e =
     (at_set views id j w u e)
 
 -- who says that it holds the slot after one view was written: that one, or one that said so before
-holds_set : (views : List View) (id : ℕ) (w : View) (C : ℕ → Type 0) → ((j : ℕ) (u : View) → get_elem? views j ≡ some u → u.holds ≡ true → C j) → (w.holds ≡ true → C id)
+holds_set : (views : List View) (id : ℕ) (w : View) (C : ℕ → Type 0) → ((j : ℕ) (u : View) → get_elem? views j ≡ some u → u.holds ≡ true → C j)
+    → (w.holds ≡ true → C id)
     → (j : ℕ) (u : View) → get_elem? (set views id w) j ≡ some u → u.holds ≡ true → C j
 holds_set views id w C others mine j u e h =
     ⊎_elim
@@ -45,12 +46,15 @@ word_set ws n long = get_or-set_same ws 0 n 0 (omega arith)
 apart : {b : Bool} → b ≡ false → b ≡ true → ⊥
 apart p q = cc
 
-home_set : (o : State) (journal : List Entry) (homes : List _) (views : List View) (id : ℕ) (w : View) → w.holds ≡ false → AtHome o journal homes views → AtHome o journal homes (set views id w)
+home_set : (o : State) (journal : List Entry) (homes : List _) (views : List View) (id : ℕ) (w : View) → w.holds ≡ false
+    → AtHome o journal homes views → AtHome o journal homes (set views id w)
 home_set o journal homes views id w off h = record { desk = h.desk; free = holds_set views id w (λ _. ⊥) h.free (apart off) }
 
-out_set : (journal : List Entry) (views : List View) (id : ℕ) (v w : View) → get_elem? views id ≡ some v → v.holds ≡ false → w.holds ≡ false → Out journal views → Out journal (set views id w)
+out_set : (journal : List Entry) (views : List View) (id : ℕ) (v w : View) → get_elem? views id ≡ some v → v.holds ≡ false → w.holds ≡ false
+    → Out journal views → Out journal (set views id w)
 out_set journal views id v w at was off h =
-    let other : h.holder ≢ id = λ e. apart was (ap (λ (x : View). x.holds) (some-injective v h.view (sym at ∙ ap (λ j. get_elem? views j) (sym e) ∙ h.there)) ∙ h.holds) in record {
+    let other : h.holder ≢ id = λ e. apart was
+    (ap (λ (x : View). x.holds) (some-injective v h.view (sym at ∙ ap (λ j. get_elem? views j) (sym e) ∙ h.there)) ∙ h.holds) in record {
       holder = h.holder;
       view = h.view;
       there = set_else views id h.holder w other ∙ h.there;
@@ -105,7 +109,13 @@ begins r legal = record {
 }
   where
     first : Knows r.opening r.journal (λ _. 0) 0 (starting r)
-    first = record { opened = λ _. refl; seen = begins_whole r.journal; told = (r.journal, refl); owns = λ t l e. (refl, (let same : t ≡ 0 + t = omega arith in ap (λ (u : ℕ). owned u r.journal) same) ∙ owns_read 0 9 t r.journal l e) }
+    first = record {
+      opened = λ _. refl;
+      seen = begins_whole r.journal;
+      told = (r.journal, refl);
+      owns =
+          λ t l e. (refl, (let same : t ≡ 0 + t = omega arith in ap (λ (u : ℕ). owned u r.journal) same) ∙ owns_read 0 9 t r.journal l e);
+    }
 
     one : (by : ℕ) (v : View) → get_elem? (starting r ∷ []) by ≡ some v → Knows r.opening r.journal (λ _. 0) by v
     one zero v e = subst (Knows r.opening r.journal (λ _. 0) 0) (some-injective _ _ e) first
@@ -172,7 +182,9 @@ takes_or_misses slots id m live off empty seat tester s k wide at small =
       missing m.0,
       keeps,
       tt,
-      stays s k id m.0 (missing m.0) at off off (λ o journal place known. record { opened = known.opened; seen = known.seen; told = known.told; owns = known.owns }) (λ t l e. e) (either (eqb x 0) 1 x) (unchanged x 0 1 busy),
+      stays s k id m.0 (missing m.0) at off off
+          (λ o journal place known. record { opened = known.opened; seen = known.seen; told = known.told; owns = known.owns }) (λ t l e. e)
+          (either (eqb x 0) 1 x) (unchanged x 0 1 busy),
       ((λ is. absurd (busy is)), λ _. refl),
     ))
 
@@ -202,8 +214,13 @@ names_next slots id t m host off s k wide at small =
 
 pub learns : (slots id : ℕ) (m : Me (Option Run) View) → m.0.holds ≡ false → Allows Kept slots id m 0 (λ x. x) (learned (step slots 0 0 0 none) m)
 learns slots id m off s k wide at small =
-    let known = k.knows id m.0 at in
-    (m.0, keeps, tt, stays s k id m.0 m.0 at off off (λ o journal place h. h) (λ t l e. e) (get_or s.words 0 0) refl, (refl, λ le. begins_shorter k.journal m.0.told m.0.seen known.told known.seen le))
+    let known = k.knows id m.0 at in (
+      m.0,
+      keeps,
+      tt,
+      stays s k id m.0 m.0 at off off (λ o journal place h. h) (λ t l e. e) (get_or s.words 0 0) refl,
+      (refl, λ le. begins_shorter k.journal m.0.told m.0.seen known.told known.seen le),
+    )
 
 -- the entries that a step adds are the seat's alone
 own_kept : (t : ℕ) (journal next more : List Entry) → next ≡ journal ++ more → owned t more ≡ [] → owned t next ≡ owned t journal
@@ -236,8 +253,10 @@ pub carried_same : (d d' : Run) → ◌≡◌ {A = List (ℕ × Option Run)} ((0
 unfolding desk_of desk_in
 carried_same d d' e = ap (desk_of d) e
 
-module _ (id : ℕ) (v : View) (d : Run) (more : List Entry) (seat : v.is_seat ≡ true) (on : v.holds ≡ true) (same : d.opening ≡ v.opening) (live : v.live ≡ true) (legal : IsLegal d) (grown : d.journal ≡ v.seen ++ more) (mine : (t : ℕ) → t ≢ v.who → owned t more ≡ []) where
-  pub puts_back : (slots : ℕ) → slots ≡ 1 → Allows Kept slots id (v, (0, Some d) ∷ []) 0 (λ _. 0) (λ _. released (step slots 0 0 0 none) (v, (0, Some d) ∷ []) 0)
+module _ (id : ℕ) (v : View) (d : Run) (more : List Entry) (seat : v.is_seat ≡ true) (on : v.holds ≡ true) (same : d.opening ≡ v.opening)
+    (live : v.live ≡ true) (legal : IsLegal d) (grown : d.journal ≡ v.seen ++ more) (mine : (t : ℕ) → t ≢ v.who → owned t more ≡ []) where
+  pub puts_back : (slots : ℕ) → slots ≡ 1 → Allows Kept slots id (v, (0, Some d) ∷ []) 0 (λ _. 0)
+      (λ _. released (step slots 0 0 0 none) (v, (0, Some d) ∷ []) 0)
   puts_back slots one s k wide at small =
       let x : ℕ = get_or s.words 0 0 in
       let w = letting_go v d in
@@ -289,10 +308,12 @@ module _ (id : ℕ) (v : View) (d : Run) (more : List Entry) (seat : v.is_seat �
       )
 
 -- the same at a seat that is known to be so
-pub puts_back_as : (slots id : ℕ) (m : Me (Option Run) View) (v : View) (d : Run) (more : List Entry) → m ≡ (v, (0, Some d) ∷ []) → v.is_seat ≡ true → v.holds ≡ true → d.opening ≡ v.opening → v.live ≡ true → IsLegal d → d.journal ≡ v.seen ++ more
+pub puts_back_as : (slots id : ℕ) (m : Me (Option Run) View) (v : View) (d : Run) (more : List Entry) → m ≡ (v, (0, Some d) ∷ []) → v.is_seat ≡ true
+    → v.holds ≡ true → d.opening ≡ v.opening → v.live ≡ true → IsLegal d → d.journal ≡ v.seen ++ more
     → ((t : ℕ) → t ≢ v.who → owned t more ≡ []) → slots ≡ 1 → Allows Kept slots id m 0 (λ _. 0) (λ _. released (step slots 0 0 0 none) m 0)
 puts_back_as slots id m v d more is seat on same live legal grown mine one =
-    subst (λ x. Allows Kept slots id x 0 (λ _. 0) (λ _. released (step slots 0 0 0 none) x 0)) (sym is) (puts_back id v d more seat on same live legal grown mine slots one)
+    subst (λ x. Allows Kept slots id x 0 (λ _. 0) (λ _. released (step slots 0 0 0 none) x 0)) (sym is)
+    (puts_back id v d more seat on same live legal grown mine slots one)
 
 there_within : {A : Type 0} → (l : List A) (i : ℕ) (a : A) → get_elem? l i ≡ some a → i < length l
 there_within [] i a e = absurd (some-ne-none a (sym e))
@@ -320,7 +341,8 @@ own_else : (v : View) (who t : ℕ) (x : Option (List Entry)) → v.is_seat ≡ 
 own_else v who t x host not = ap (λ b. own_if b v.who v.own (set v.owns who x) t) host ∙ get_or-set_other v.owns who t x None not ∙ sym (own_of_host v t host)
 
 -- a view that has not the tester whose place is changed
-knows_moved : (o : State) (journal : List Entry) (place : ℕ → ℕ) (who to by : ℕ) (u : View) → place who ≢ by → Knows o journal place by u → Knows o journal (moved place who to) by u
+knows_moved : (o : State) (journal : List Entry) (place : ℕ → ℕ) (who to by : ℕ) (u : View) → place who ≢ by → Knows o journal place by u
+    → Knows o journal (moved place who to) by u
 knows_moved o journal place who to by u away h = record {
   opened = h.opened;
   seen = h.seen;
@@ -338,7 +360,8 @@ last_there [] r = refl
 last_there (x ∷ xs) r = last_there xs r
 
 -- the last of all views: its place is the number of the others
-place_snoc : {A : Type 0} → (views : List A) (r u : A) (j : ℕ) → get_elem? (views ++ r ∷ []) j ≡ some u → (get_elem? views j ≡ some u) ⊎ ((j ≡ length views) × (r ≡ u))
+place_snoc : {A : Type 0} → (views : List A) (r u : A) (j : ℕ) → get_elem? (views ++ r ∷ []) j ≡ some u
+    → (get_elem? views j ≡ some u) ⊎ ((j ≡ length views) × (r ≡ u))
 place_snoc [] r u zero e = inr (refl, some-injective r u e)
 place_snoc [] r u (suc j) e = absurd (some-ne-none u (sym e))
 place_snoc (x ∷ xs) r u zero e = inl e
@@ -353,7 +376,8 @@ snoc_knows o journal place views r new long first last j u e =
     (λ (y : (j ≡ length views) × (r ≡ u)). subst (λ (z : ℕ × View). Knows o journal place z.0 z.1) (λ i. (sym (y.0 ∙ long) i, y.1 i)) last)
     (place_snoc views r u j e)
 
-pub gives_seat : (id : ℕ) (v : View) (l : List Entry) → v.is_seat ≡ false → v.holds ≡ false → v.live ≡ true → own_of v v.who ≡ Some l → Splits Kept id v (host_without v) (new_seat v)
+pub gives_seat : (id : ℕ) (v : View) (l : List Entry) → v.is_seat ≡ false → v.holds ≡ false → v.live ≡ true → own_of v v.who ≡ Some l
+    → Splits Kept id v (host_without v) (new_seat v)
 gives_seat id v l host off live has s k at =
     let w = host_without v in
     let r = new_seat v in
@@ -370,7 +394,8 @@ gives_seat id v l host off live has s k at =
       owns = λ t x f. ⊎_elim
           (λ (y : (t ≡ v.who) × (None ≡ Some x)). absurd (let z = y.1 in cc))
           (λ (y : get_or v.owns t None ≡ Some x). let g = known.owns t x (own_of_host v t host ∙ y) in dite (ℕ_discrete t v.who)
-          (λ is. absurd (let z : get_or (set v.owns v.who None) v.who None ≡ Some x = sym (ap (λ (u : ℕ). get_or (set v.owns v.who None) u None) is) ∙ sym (own_of_host w t host) ∙ f in none_read v.owns v.who x z))
+          (λ is. absurd (let z : get_or (set v.owns v.who None) v.who None ≡ Some x =
+          sym (ap (λ (u : ℕ). get_or (set v.owns v.who None) u None) is) ∙ sym (own_of_host w t host) ∙ f in none_read v.owns v.who x z))
           (λ not. (moved_else k.place v.who new t not ∙ g.0, g.1)))
           (read_set v.owns v.who t None None (Some x) (sym (own_of_host w t host) ∙ f));
     } in
@@ -407,7 +432,8 @@ gives_seat id v l host off live has s k at =
           });
       home = λ z. let h = home_set k.opening k.journal s.homes s.views id w off (k.home z) in record {
         desk = h.desk;
-        free = λ j u e on. ⊎_elim (λ (y : get_elem? views j ≡ some u). h.free j u y on) (λ (y : r ≡ u). apart refl (ap (λ (z : View). z.holds) y ∙ on)) (at_snoc views r u j e);
+        free = λ j u e on. ⊎_elim (λ (y : get_elem? views j ≡ some u). h.free j u y on)
+            (λ (y : r ≡ u). apart refl (ap (λ (z : View). z.holds) y ∙ on)) (at_snoc views r u j e);
       };
       out = λ nz. let h = out_set k.journal s.views id v w at off off (k.out nz) in record {
         holder = h.holder;
@@ -417,11 +443,13 @@ gives_seat id v l host off live has s k at =
         seen = h.seen;
         seat = h.seat;
         tester = h.tester;
-        only = λ j u e on. ⊎_elim (λ (y : get_elem? views j ≡ some u). h.only j u y on) (λ (y : r ≡ u). absurd (apart refl (ap (λ (z : View). z.holds) y ∙ on))) (at_snoc views r u j e);
+        only = λ j u e on. ⊎_elim (λ (y : get_elem? views j ≡ some u). h.only j u y on)
+            (λ (y : r ≡ u). absurd (apart refl (ap (λ (z : View). z.holds) y ∙ on))) (at_snoc views r u j e);
       };
     }
 
-pub takes_seat_in : (id : ℕ) (v : View) (other : ℕ) (w : View) → v.is_seat ≡ false → v.holds ≡ false → w.is_seat ≡ true → w.holds ≡ false → w.who < length v.owns → Joins Kept id v other w (host_with v w) spent
+pub takes_seat_in : (id : ℕ) (v : View) (other : ℕ) (w : View) → v.is_seat ≡ false → v.holds ≡ false → w.is_seat ≡ true → w.holds ≡ false
+    → w.who < length v.owns → Joins Kept id v other w (host_with v w) spent
 takes_seat_in id v other w host off seat w_off deep s k at distinct there =
     let b = host_with v w in
     let views = set s.views id b in
@@ -435,7 +463,8 @@ takes_seat_in id v other w host off seat w_off deep s k at distinct there =
       seen = longer_begins k.journal v.seen w.seen known.seen theirs.seen;
       told = shorter_begins k.journal v.seen w.seen known.seen theirs.seen;
       owns = λ t l f. ⊎_elim
-          (λ (y : (t ≡ w.who) × (Some w.own ≡ Some l)). (moved_here k.place w.who id t y.0, ap (λ (u : ℕ). owned u k.journal) y.0 ∙ mine.1 ∙ (let z = y.1 in cc)))
+          (λ (y : (t ≡ w.who) × (Some w.own ≡ Some l)).
+          (moved_here k.place w.who id t y.0, ap (λ (u : ℕ). owned u k.journal) y.0 ∙ mine.1 ∙ (let z = y.1 in cc)))
           (λ (y : get_or v.owns t None ≡ Some l). let g = known.owns t l (own_of_host v t host ∙ y) in
           (dite (ℕ_discrete t w.who) (λ is. moved_here k.place w.who id t is) (λ not. moved_else k.place w.who id t not ∙ g.0), g.1))
           (read_set v.owns w.who t (Some w.own) None (Some l) (sym (own_of_host b t host) ∙ f));
@@ -454,7 +483,8 @@ takes_seat_in id v other w host off seat w_off deep s k at distinct there =
       knows = knows_set k.opening k.journal place views other spent
           (λ j u not_other e. ⊎_elim
           (λ (y : (j ≡ id) × (b ≡ u)). subst (λ (z : ℕ × View). Knows k.opening k.journal place z.0 z.1) (λ i. (sym y.0 i, y.1 i)) b_knows)
-          (λ (y : (j ≢ id) × (get_elem? s.views j ≡ some u)). knows_moved k.opening k.journal k.place w.who id j u (λ z. not_other (sym z ∙ mine.0)) (k.knows j u y.1))
+          (λ (y : (j ≢ id) × (get_elem? s.views j ≡ some u)). knows_moved k.opening k.journal k.place w.who id j u (λ z. not_other (sym z ∙ mine.0))
+          (k.knows j u y.1))
           (at_set s.views id j b u e))
           spent_knows;
       placed = λ t small. dite (ℕ_discrete t w.who)
@@ -480,7 +510,8 @@ pub record Closes (v : View) (homes : List _) : Type 0 where
   pub owns : (t : ℕ) (l : List Entry) → own_of v t ≡ Some l → owned t journal ≡ l
   pub desk : get_elem? homes 0 ≡ some (some (Some (run v.opening journal)))
 
-pub closes : (id : ℕ) (v : View) (s : Board (Option Run) View) → Seen Kept id v s → v.live ≡ true → v.holds ≡ false → ((t : ℕ) → t < 9 → (l : List Entry) × (own_of v t ≡ Some l)) → Closes v s.homes
+pub closes : (id : ℕ) (v : View) (s : Board (Option Run) View) → Seen Kept id v s → v.live ≡ true → v.holds ≡ false
+    → ((t : ℕ) → t < 9 → (l : List Entry) × (own_of v t ≡ Some l)) → Closes v s.homes
 closes id v s seen live off all =
     let k = seen.0 in
     let known = k.knows id v seen.1 in
@@ -490,7 +521,8 @@ closes id v s seen live off all =
     let here = (known.owns t (all t out.tester).0 (all t out.tester).1).0 in
     let there = ((k.knows out.holder out.view out.there).owns t out.view.own (own_of_seat out.view out.seat)).0 in
     let one : out.holder ≡ id = sym there ∙ here in
-    absurd (apart off (ap (λ (x : View). x.holds) (some-injective v out.view (sym seen.1 ∙ ap (λ j. get_elem? s.views j) (sym one) ∙ out.there)) ∙ out.holds))) in record {
+    absurd (apart off (ap (λ (x : View). x.holds) (some-injective v out.view (sym seen.1 ∙ ap (λ j. get_elem? s.views j) (sym one) ∙ out.there))
+    ∙ out.holds))) in record {
       journal = k.journal;
       legal = subst (λ o. Legal o k.journal) (sym same) k.legal;
       begins = known.seen;

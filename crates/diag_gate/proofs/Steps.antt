@@ -33,7 +33,8 @@ head_same a b xs ys e = ap (λ (l : List (ℕ × Option Run)). first l) e
     first (x ∷ l) = x.1
 
 -- the seat takes the desk
-module _ (who : ℕ) (me me1 me2 : Sat) (result : Option Run) (is : IsSeat who me) (t : Taken me.0 me1) (taken : me1.1 ≡ (0, result) ∷ rest me1.1) (after : me2 ≡ (me1.0, (0, None) ∷ rest me1.1)) where
+module _ (who : ℕ) (me me1 me2 : Sat) (result : Option Run) (is : IsSeat who me) (t : Taken me.0 me1) (taken : me1.1 ≡ (0, result) ∷ rest me1.1)
+    (after : me2 ≡ (me1.0, (0, None) ∷ rest me1.1)) where
   pub run_is : result ≡ Some (run me.0.opening t.journal)
   run_is = head_same _ _ _ _ (sym taken ∙ ap (λ (m : Sat). m.1) t.after)
 
@@ -42,7 +43,8 @@ module _ (who : ℕ) (me me1 me2 : Sat) (result : Option Run) (is : IsSeat who m
 
   pub held_is : IsGuard who me2 (run me.0.opening t.journal)
   held_is = record {
-    is = me2_is ∙ (λ i. (holding (ap (λ (m : Sat). m.0) is.is i) t.journal, (0, None) ∷ [])) ∙ (λ i. (holding (seat_view (opening_is i) who (own_is i) [] (missed_is i)) (seen_is i), (0, None) ∷ []));
+    is = me2_is ∙ (λ i. (holding (ap (λ (m : Sat). m.0) is.is i) t.journal, (0, None) ∷ []))
+        ∙ (λ i. (holding (seat_view (opening_is i) who (own_is i) [] (missed_is i)) (seen_is i), (0, None) ∷ []));
     place = is.place;
     desk = λ i. run (opening_is i) (seen_is i);
     entries = ap (owned who) (sym seen_is) ∙ t.owns who me.0.own (seat_has who me is) ∙ own_is;
@@ -62,7 +64,15 @@ module _ (who : ℕ) (me me1 me2 : Sat) (result : Option Run) (is : IsSeat who m
 
   pub finds_is : (z0 z : TableId) → z ≡ z0 → Finds (seat_as z0 who me) (seat_as z who me2)
   finds_is z0 z same = record {
-    seat = λ i. record { gate = same i; who = who; opening = ap (λ (m : Sat). m.0.opening) me2_is i; own = ap (λ (m : Sat). m.0.own) me2_is i; seen = me2.0.seen; missed = ap (λ (m : Sat). m.0.missed) me2_is i };
+    seat = λ i. record {
+      gate = same i;
+      who = who;
+      opening = ap (λ (m : Sat). m.0.opening) me2_is i;
+      own = ap (λ (m : Sat). m.0.own) me2_is i;
+      seen =
+          me2.0.seen;
+      missed = ap (λ (m : Sat). m.0.missed) me2_is i;
+    };
     legal = subst (Legal me.0.opening) (sym seen_is) t.legal;
     begins = subst (λ l. BeginsWith l me.0.seen) (sym seen_is) t.begins;
     entries = ap (owned who) seen_is ∙ t.owns who me.0.own (seat_has who me is);
@@ -74,7 +84,13 @@ module _ (who : ℕ) (me me1 me2 : Sat) (result : Option Run) (is : IsSeat who m
 -- the seat puts the desk back
 pub put_is : (who : ℕ) (me me2 : Sat) (before d : Run) → IsGuard who me before → me2 ≡ (letting_go me.0 d, []) → IsSeat who me2
 put_is who me me2 before d is after = record {
-  is = after ∙ ap (λ (m : Sat). (letting_go m.0 d, [])) is.is ∙ (λ i. (seat_view (sym (ap (λ (m : Sat). m.0.opening) after) i) who ((ap (λ (t : ℕ). owned t d.journal) (sym who_is) ∙ sym (ap (λ (m : Sat). m.0.own) after)) i) (sym (ap (λ (m : Sat). m.0.seen) after) i) (sym (ap (λ (m : Sat). m.0.missed) after) i), []));
+  is = after ∙ ap (λ (m : Sat). (letting_go m.0 d, [])) is.is
+      ∙ (λ i. (
+        seat_view (sym (ap (λ (m : Sat). m.0.opening) after) i) who
+            ((ap (λ (t : ℕ). owned t d.journal) (sym who_is) ∙ sym (ap (λ (m : Sat). m.0.own) after)) i) (sym (ap (λ (m : Sat). m.0.seen) after) i)
+            (sym (ap (λ (m : Sat). m.0.missed) after) i),
+        [],
+      ));
   place = is.place;
 }
   where
@@ -88,7 +104,8 @@ not_full : ◌≡◌ {A = Answer} (Err Memory) (Err JournalFull) → ⊥
 not_full e = cc
 
 -- one step at the desk
-module _ (who : ℕ) (me me2 : Sat) (d d2 : Run) (z z2 : TableId) (is : IsGuard who me d) (legal : IsLegal d2) (after : me2.0 ≡ letting_go me.0 d2) (same : z2 ≡ z) where
+module _ (who : ℕ) (me me2 : Sat) (d d2 : Run) (z z2 : TableId) (is : IsGuard who me d) (legal : IsLegal d2) (after : me2.0 ≡ letting_go me.0 d2)
+    (same : z2 ≡ z) where
   who_is : me.0.who ≡ who
   who_is = ap (λ (m : Sat). m.0.who) is.is
 
@@ -103,11 +120,13 @@ module _ (who : ℕ) (me me2 : Sat) (d d2 : Run) (z z2 : TableId) (is : IsGuard 
     missed = ap (λ (v : View). v.missed) after i;
   }
 
-  pub answered_is : (step : Step) (reply : Option (List ℕ)) → d2 ≡ entered d (entry who step reply) → Answered (seat_as z who me) (seat_as z2 who me2) step reply
+  pub answered_is : (step : Step) (reply : Option (List ℕ)) → d2 ≡ entered d (entry who step reply)
+      → Answered (seat_as z who me) (seat_as z2 who me2) step reply
   answered_is step reply more =
       let e = entry who step reply in
       let journal_is : d2.journal ≡ me.0.seen ++ e ∷ [] = ap (λ (r : Run). r.journal) more ∙ ap (λ (r : Run). r.journal ++ e ∷ []) is.desk in
-      let own_is : owned who d2.journal ≡ me.0.own ++ e ∷ [] = ap (owned who) journal_is ∙ own-append who me.0.seen (e ∷ []) ∙ (λ i. is.entries i ++ own_same who e refl i) in
+      let own_is : owned who d2.journal ≡ me.0.own ++ e ∷ [] =
+      ap (owned who) journal_is ∙ own-append who me.0.seen (e ∷ []) ∙ (λ i. is.entries i ++ own_same who e refl i) in
       let n_is = left_as _ _ journal_is own_is in
       let opening_is : d2.opening ≡ me.0.opening = ap (λ (r : Run). r.opening) more ∙ ap (λ (r : Run). r.opening) is.desk in
       let seen_is : d2.journal ≡ me2.0.seen = sym (ap (λ (v : View). v.seen) after) in record {
@@ -119,7 +138,8 @@ module _ (who : ℕ) (me me2 : Sat) (d d2 : Run) (z z2 : TableId) (is : IsGuard 
       }
 
   -- the step comes behind what the seat has seen
-  pub behind_is : (step : Step) (result : Result (Option (List ℕ)) StepFault) → IfOk result (λ r. d2 ≡ entered d (entry who step r)) → IfOk result (λ r. me2.0.seen ≡ me.0.seen ++ entry who step r ∷ [])
+  pub behind_is : (step : Step) (result : Result (Option (List ℕ)) StepFault) → IfOk result (λ r. d2 ≡ entered d (entry who step r))
+      → IfOk result (λ r. me2.0.seen ≡ me.0.seen ++ entry who step r ∷ [])
   behind_is step (Ok r) more =
       ap (λ (v : View). v.seen) after
       ∙ (ap (λ (r : Run). r.journal) more ∙ ap (λ (d : Run). d.journal ++ entry who step r ∷ []) is.desk)
@@ -130,8 +150,10 @@ module _ (who : ℕ) (me me2 : Sat) (d d2 : Run) (z z2 : TableId) (is : IsGuard 
       let journal_is : d2.journal ≡ me.0.seen = ap (λ (r : Run). r.journal) (none ∙ is.desk) in
       left_as _ _ journal_is (ap (owned who) journal_is ∙ is.entries)
 
-  pub worked_is : (step : Step) (result : Result (Option (List ℕ)) StepFault) → IfOk result (λ r. d2 ≡ entered d (entry who step r)) → OnErr result (d2 ≡ d) → ((result ≡ Err JournalFull) ↔ (length d.journal ≡ 1000000)) → length d.journal ≤ 1000000
-      → MatchResult result (λ r. Answered (seat_as z who me) (seat_as z2 who me2) step r) (λ e. (seat_as z2 who me2 ≡ seat_as z who me) × IsFull (seat_as z who me) e)
+  pub worked_is : (step : Step) (result : Result (Option (List ℕ)) StepFault) → IfOk result (λ r. d2 ≡ entered d (entry who step r))
+      → OnErr result (d2 ≡ d) → ((result ≡ Err JournalFull) ↔ (length d.journal ≡ 1000000)) → length d.journal ≤ 1000000
+      → MatchResult result (λ r. Answered (seat_as z who me) (seat_as z2 who me2) step r)
+      (λ e. (seat_as z2 who me2 ≡ seat_as z who me) × IsFull (seat_as z who me) e)
   worked_is step (Ok r) ok err full most = answered_is step r ok
   worked_is step (Err e) ok err full most = (same_is err, full_is e full)
     where
@@ -143,7 +165,8 @@ module _ (who : ℕ) (me me2 : Sat) (d d2 : Run) (z z2 : TableId) (is : IsGuard 
 
 -- one call after another
 
-answers_at : (s : SeatView) (seen : List Entry) (n : SeatView) (step : Step) (reply : Option (List ℕ)) → BeginsWith seen s.seen → Answered (record s { seen = seen }) n step reply → Answered s n step reply
+answers_at : (s : SeatView) (seen : List Entry) (n : SeatView) (step : Step) (reply : Option (List ℕ)) → BeginsWith seen s.seen
+    → Answered (record s { seen = seen }) n step reply → Answered s n step reply
 answers_at s seen n step reply begins a = record {
   found = a.found;
   begins = (begins.0 ++ a.begins.0, a.begins.1 ∙ ap (λ l. l ++ a.begins.0) begins.1 ∙ append_assoc s.seen begins.0 a.begins.0);
@@ -168,6 +191,12 @@ made_of s h n step (Err e) f a = finds_then_refused s h n e f a
 pub tried_of : (s h n : SeatView) (step : Step) (result : Result (Option (List ℕ)) StepFault) (tried : Result (Option (List ℕ)) TryFault) → Finds s h
     → MatchResult result (λ r. Answered h n step r) (λ e. (n ≡ h) × IsFull h e) → tried ≡ as_tried result
     → MatchResult tried (λ r. Answered s n step r) (λ e. NotMade s n step e)
-tried_of s h n step (Ok r) tried f a is = subst (λ (t : Result (Option (List ℕ)) TryFault). MatchResult t (λ r. Answered s n step r) (λ e. NotMade s n step e)) (sym is) (finds_then_answers s h n step r f a)
-tried_of s h n step (Err Memory) tried f a is = subst (λ (t : Result (Option (List ℕ)) TryFault). MatchResult t (λ r. Answered s n step r) (λ e. NotMade s n step e)) (sym is) (finds_then_refused s h n Memory f a)
-tried_of s h n step (Err JournalFull) tried f a is = subst (λ (t : Result (Option (List ℕ)) TryFault). MatchResult t (λ r. Answered s n step r) (λ e. NotMade s n step e)) (sym is) (finds_then_refused s h n JournalFull f a)
+tried_of s h n step (Ok r) tried f a is =
+    subst (λ (t : Result (Option (List ℕ)) TryFault). MatchResult t (λ r. Answered s n step r) (λ e. NotMade s n step e)) (sym is)
+    (finds_then_answers s h n step r f a)
+tried_of s h n step (Err Memory) tried f a is =
+    subst (λ (t : Result (Option (List ℕ)) TryFault). MatchResult t (λ r. Answered s n step r) (λ e. NotMade s n step e)) (sym is)
+    (finds_then_refused s h n Memory f a)
+tried_of s h n step (Err JournalFull) tried f a is =
+    subst (λ (t : Result (Option (List ℕ)) TryFault). MatchResult t (λ r. Answered s n step r) (λ e. NotMade s n step e)) (sym is)
+    (finds_then_refused s h n JournalFull f a)

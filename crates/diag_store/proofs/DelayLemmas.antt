@@ -63,4 +63,6 @@ over (suc n) s who (suc (suc left)) e some ends =
     let next : SecurityState = record s { delays = slice_set s.delays (who - 1) (suc (suc left) - 1) } in
     let some_left : 1 ≤ slice_index s.delays (who - 1) = omega (arith, e) in
     let rest = over n next who (suc (suc left) - 1) (index_set s.delays (who - 1) (suc (suc left) - 1) some_left) (omega arith) (omega arith) in
-    rw (goes_on s who (suc (suc left)) e (omega arith)) (rest ∙ ap (λ (d : List ℕ). record s { delays = d; wrong_keys = slice_set s.wrong_keys (who - 1) 0 }) (set_twice s.delays (who - 1) (suc (suc left) - 1) 0))
+    rw (goes_on s who (suc (suc left)) e (omega arith))
+    (rest ∙ ap (λ (d : List ℕ). record s { delays = d; wrong_keys = slice_set s.wrong_keys (who - 1) 0 })
+    (set_twice s.delays (who - 1) (suc (suc left) - 1) 0))

@@ -28,7 +28,8 @@ module _ {X : Type 0} (test : X → Bool) (change : X → X) where
       change_here xs i x here.0 here.1 here.2 ∙ ap (λ z. slice_set xs i (change z)) same
 
   -- the same for rows of numbers alone, which an index reads with a default
-  pub change_first-or : (xs : List X) (i : ℕ) (d : X) → position test xs ≡ Some i → change_first test change xs ≡ slice_set xs i (change (slice_index_or xs i d))
+  pub change_first-or : (xs : List X) (i : ℕ) (d : X) → position test xs ≡ Some i
+      → change_first test change xs ≡ slice_set xs i (change (slice_index_or xs i d))
   change_first-or xs i d found = let here = position-Some test xs i d found in change_here xs i d here.0 here.1 here.2
 
   -- where no row passes, nothing changes
@@ -36,14 +37,16 @@ module _ {X : Type 0} (test : X → Bool) (change : X → X) where
   change_none [] h = refl
   change_none (y ∷ ys) h =
       let rest = change_none ys in
-      elim (test y) as (λ b. suc (length ys) ≤ cond (not b) (1 + position_or_len test ys) 0 → cond b (change y ∷ ys) (y ∷ change_first test change ys) ≡ y ∷ ys) [
+      elim (test y) as (λ b. suc (length ys) ≤ cond (not b) (1 + position_or_len test ys) 0
+      → cond b (change y ∷ ys) (y ∷ change_first test change ys) ≡ y ∷ ys) [
         | true ↦ λ p. absurd (omega arith)
         | false ↦ λ p. ap (λ z. y ∷ z) (rest (omega arith))
       ] h
 
   pub change_first-nowhere : (xs : List X) → position test xs ≡ None → change_first test change xs ≡ xs
   change_first-nowhere xs e =
-      elim (nat_lt (position_or_len test xs) (length xs)) as (λ b. nat_lt (position_or_len test xs) (length xs) ≡ b → cond b (Some (position_or_len test xs)) None ≡ None → change_first test change xs ≡ xs) [
+      elim (nat_lt (position_or_len test xs) (length xs))
+      as (λ b. nat_lt (position_or_len test xs) (length xs) ≡ b → cond b (Some (position_or_len test xs)) None ≡ None → change_first test change xs ≡ xs) [
         | true ↦ λ below found. cc
         | false ↦ λ above found. change_none xs (omega (arith, ltb-false (position_or_len test xs) (length xs) above))
       ] refl e
@@ -72,12 +75,15 @@ map_step-or f xs ys i d e below =
 -- rows with the same keys rise alike
 rising_by_keys : {X : Type 0} (key : X → ℕ) (xs : List X) → is_rising key xs ≡ is_rising (λ n. n) (map key xs)
 rising_by_keys key [] = refl
-rising_by_keys key (x ∷ xs) = rw (list_all-map (λ n. nat_lt (key x) n) key xs) (ap (λ b. list_all (λ y. nat_lt (key x) (key y)) xs && b) (rising_by_keys key xs))
+rising_by_keys key (x ∷ xs) = rw (list_all-map (λ n. nat_lt (key x) n) key xs)
+    (ap (λ b. list_all (λ y. nat_lt (key x) (key y)) xs && b) (rising_by_keys key xs))
 
-same_keys-rise : {X Y : Type 0} (key : X → ℕ) (other : Y → ℕ) (xs : List X) (ys : List Y) → map key xs ≡ map other ys → is_rising other ys ≡ true → is_rising key xs ≡ true
+same_keys-rise : {X Y : Type 0} (key : X → ℕ) (other : Y → ℕ) (xs : List X) (ys : List Y) → map key xs ≡ map other ys → is_rising other ys ≡ true
+    → is_rising key xs ≡ true
 same_keys-rise key other xs ys same h = rising_by_keys key xs ∙ ap (is_rising (λ n. n)) same ∙ sym (rising_by_keys other ys) ∙ h
 
-change_first-keys : {X : Type 0} (key : X → ℕ) (test : X → Bool) (change : X → X) → ((x : X) → key (change x) ≡ key x) → (xs : List X) → map key (change_first test change xs) ≡ map key xs
+change_first-keys : {X : Type 0} (key : X → ℕ) (test : X → Bool) (change : X → X) → ((x : X) → key (change x) ≡ key x) → (xs : List X)
+    → map key (change_first test change xs) ≡ map key xs
 change_first-keys key test change same [] = refl
 change_first-keys key test change same (x ∷ xs) =
     let rest = change_first-keys key test change same xs in
@@ -90,10 +96,12 @@ map-keys : {X Y : Type 0} (key : X → ℕ) (other : Y → ℕ) (f : Y → X) �
 map-keys key other f same [] = refl
 map-keys key other f same (y ∷ ys) = rw (same y) (ap (λ ks. other y ∷ ks) (map-keys key other f same ys))
 
-pub change_first_rises : {X : Type 0} (key : X → ℕ) (test : X → Bool) (change : X → X) → ((x : X) → key (change x) ≡ key x) → (xs : List X) → is_rising key xs ≡ true → is_rising key (change_first test change xs) ≡ true
+pub change_first_rises : {X : Type 0} (key : X → ℕ) (test : X → Bool) (change : X → X) → ((x : X) → key (change x) ≡ key x) → (xs : List X)
+    → is_rising key xs ≡ true → is_rising key (change_first test change xs) ≡ true
 change_first_rises key test change same xs h = same_keys-rise key key (change_first test change xs) xs (change_first-keys key test change same xs) h
 
-pub map_rises : {X Y : Type 0} (key : X → ℕ) (other : Y → ℕ) (f : Y → X) → ((y : Y) → key (f y) ≡ other y) → (ys : List Y) → is_rising other ys ≡ true → is_rising key (map f ys) ≡ true
+pub map_rises : {X Y : Type 0} (key : X → ℕ) (other : Y → ℕ) (f : Y → X) → ((y : Y) → key (f y) ≡ other y) → (ys : List Y) → is_rising other ys ≡ true
+    → is_rising key (map f ys) ≡ true
 map_rises key other f same ys h = same_keys-rise key other (map f ys) ys (map-keys key other f same ys) h
 
 take_all : {X : Type 0} (xs ys : List X) → take (length xs) (xs ++ ys) ≡ xs

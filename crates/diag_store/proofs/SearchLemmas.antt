@@ -31,36 +31,48 @@ module _ {X : Type 0} (key : X → ℕ) where
   comparisons_rise : (xs : List X) → is_rising key xs ≡ true → (k : ℕ) → IsNonDecreasingBy (λ y. ordering_index (nat_cmp (key y) k)) xs
   comparisons_rise xs h k i j d le in_range =
       let rise : i < j → key (slice_index_or xs i d) < key (slice_index_or xs j d) = λ lt. below xs h i j d lt in_range in
-      elim (nat_lt i j) as (λ b. nat_lt i j ≡ b → ordering_index (nat_cmp (key (slice_index_or xs i d)) k) ≤ ordering_index (nat_cmp (key (slice_index_or xs j d)) k)) [
+      elim (nat_lt i j) as (λ b. nat_lt i j ≡ b
+      → ordering_index (nat_cmp (key (slice_index_or xs i d)) k) ≤ ordering_index (nat_cmp (key (slice_index_or xs j d)) k)) [
         | true ↦ λ e. let lt = rise (ltb-true i j e) in grind (arith, nat_tests)
         | false ↦ λ e. let same : i ≡ j = let past = ltb-false i j e in omega arith in rw same (omega arith)
       ] refl
 
   -- the row at i is the first of its key
-  placed_at : (xs : List X) → is_rising key xs ≡ true → (k i : ℕ) → i < length xs → ((d : X) → key (slice_index_or xs i d) ≡ k) → position (λ y. key y == k) xs ≡ Some i
+  placed_at : (xs : List X) → is_rising key xs ≡ true → (k i : ℕ) → i < length xs → ((d : X) → key (slice_index_or xs i d) ≡ k)
+      → position (λ y. key y == k) xs ≡ Some i
   placed_at [] h k i in_range here = absurd (omega arith)
   placed_at (x ∷ xs) h k i in_range here =
-      let first : position_or_len (λ y. key y == k) (x ∷ xs) ≡ i = position_or_len_is (λ y. key y == k) (x ∷ xs) i x (omega arith) (λ j lt. let less = below (x ∷ xs) h j i x lt in_range in let same = here x in grind (arith, nat_tests)) (λ lt. eq-eqb (key (slice_index_or (x ∷ xs) i x)) k (here x)) in
+      let first : position_or_len (λ y. key y == k) (x ∷ xs) ≡ i =
+      position_or_len_is (λ y. key y == k) (x ∷ xs) i x (omega arith)
+      (λ j lt. let less = below (x ∷ xs) h j i x lt in_range in let same = here x in grind (arith, nat_tests))
+      (λ lt. eq-eqb (key (slice_index_or (x ∷ xs) i x)) k (here x)) in
       rw (first, lt-ltb i (length (x ∷ xs)) in_range) refl
 
   -- no row has the key
-  placed_nowhere : (xs : List X) → (k i : ℕ) → ((j : ℕ) (d : X) → j < i → j < length xs → key (slice_index_or xs j d) < k) → ((j : ℕ) (d : X) → i ≤ j → j < length xs → k < key (slice_index_or xs j d)) → position (λ y. key y == k) xs ≡ None
+  placed_nowhere : (xs : List X) → (k i : ℕ) → ((j : ℕ) (d : X) → j < i → j < length xs → key (slice_index_or xs j d) < k)
+      → ((j : ℕ) (d : X) → i ≤ j → j < length xs → k < key (slice_index_or xs j d)) → position (λ y. key y == k) xs ≡ None
   placed_nowhere [] k i less more = refl
   placed_nowhere (x ∷ xs) k i less more =
-      let none : position_or_len (λ y. key y == k) (x ∷ xs) ≡ length (x ∷ xs) = position_or_len_is (λ y. key y == k) (x ∷ xs) (length (x ∷ xs)) x (omega arith) (λ j lt. grind (arith, nat_tests, less j x, more j x)) (λ lt. absurd (omega arith)) in
+      let none : position_or_len (λ y. key y == k) (x ∷ xs) ≡ length (x ∷ xs) =
+      position_or_len_is (λ y. key y == k) (x ∷ xs) (length (x ∷ xs)) x (omega arith) (λ j lt. grind (arith, nat_tests, less j x, more j x))
+      (λ lt. absurd (omega arith)) in
       rw none (let not_below : nat_lt (length (x ∷ xs)) (length (x ∷ xs)) ≡ false = grind (arith, nat_tests) in rw not_below refl)
 
   -- a binary search ends at the row of the key, or finds none
-  pub placed : (xs : List X) → is_rising key xs ≡ true → (k : ℕ) (r : Result ℕ ℕ) → IsSearchInRange r (length xs) → IsBinarySearchResult (λ y. nat_cmp (key y) k) xs r → result_ok r ≡ position (λ y. key y == k) xs
+  pub placed : (xs : List X) → is_rising key xs ≡ true → (k : ℕ) (r : Result ℕ ℕ) → IsSearchInRange r (length xs)
+      → IsBinarySearchResult (λ y. nat_cmp (key y) k) xs r → result_ok r ≡ position (λ y. key y == k) xs
   placed xs h k (Ok i) in_range equal = sym (placed_at xs h k i in_range (λ d. ranked _ k _ (sym (equal d))))
   placed xs h k (Err i) in_range parted =
       let parts = parted (comparisons_rise xs h k) in
-      sym (placed_nowhere xs k i (λ j d lt below. ranked _ k _ (sym (parts.0 j d (omega arith) lt))) (λ j d le below. ranked _ k _ (sym (parts.1 j d le below))))
+      sym (placed_nowhere xs k i (λ j d lt below. ranked _ k _ (sym (parts.0 j d (omega arith) lt)))
+      (λ j d le below. ranked _ k _ (sym (parts.1 j d le below))))
 
 -- the row that is found is the one at its index
 pub find_by_place : {X : Type 0} (p : X → Bool) (xs : List X) → find p xs ≡ option_and_then (slice_get xs) (position p xs)
 find_by_place p xs =
-    find_at p xs ∙ elim (nat_lt (position_or_len p xs) (length xs)) as (λ b. nat_lt (position_or_len p xs) (length xs) ≡ b → slice_get xs (position_or_len p xs) ≡ option_and_then (slice_get xs) (cond b (Some (position_or_len p xs)) None)) [
+    find_at p xs ∙ elim (nat_lt (position_or_len p xs) (length xs))
+    as (λ b. nat_lt (position_or_len p xs) (length xs) ≡ b
+    → slice_get xs (position_or_len p xs) ≡ option_and_then (slice_get xs) (cond b (Some (position_or_len p xs)) None)) [
       | true ↦ λ e. refl
       | false ↦ λ e. past_end xs (position_or_len p xs) (ltb-false (position_or_len p xs) (length xs) e)
     ] refl

@@ -25,7 +25,8 @@ right_key-keeps s who sub h = record {
   next = h.next;
   left = λ k below still.
       elim (k == who - 1) as (λ b. (k == who - 1) ≡ b → slice_index (slice_set s.wrong_keys (who - 1) 0) k < s.attempts) [
-        | true ↦ λ e. let here : k ≡ who - 1 = eqb-true k (who - 1) e in let at = h.attempts in let all = h.counts in rw (here, get_or-set_same s.wrong_keys (who - 1) 0 0 (omega arith)) (omega arith)
+        | true ↦ λ e. let here : k ≡ who - 1 = eqb-true k (who - 1) e in let at = h.attempts in let all = h.counts in
+            rw (here, get_or-set_same s.wrong_keys (who - 1) 0 0 (omega arith)) (omega arith)
         | false ↦ λ e. rw (get_or-set_other s.wrong_keys (who - 1) k 0 0 (eqb-false k (who - 1) e)) (h.left k below still)
       ] refl;
 }
@@ -33,19 +34,23 @@ right_key-keeps s who sub h = record {
 wrong_key-keeps : (s : SecurityState) (who : ℕ) → IsSecurity s → IsSecurity (after_wrong_key s who)
 wrong_key-keeps s who h = record {
   counts = length-set s.wrong_keys (who - 1) (slice_index s.wrong_keys (who - 1) + 1) ∙ h.counts;
-  delays = elim (is_last_attempt s who) as (λ b. length (cond b (slice_set s.delays (who - 1) s.delay_ms) s.delays) ≡ 8) [ true ↦ length-set s.delays (who - 1) s.delay_ms ∙ h.delays | false ↦ h.delays ];
+  delays = elim (is_last_attempt s who) as (λ b. length (cond b (slice_set s.delays (who - 1) s.delay_ms) s.delays) ≡ 8)
+      [ true ↦ length-set s.delays (who - 1) s.delay_ms ∙ h.delays | false ↦ h.delays ];
   attempts = h.attempts;
   delay = h.delay;
   next = h.next;
   left = λ k below.
       let count = slice_index s.wrong_keys (who - 1) + 1 in
-      elim (k == who - 1) as (λ b. (k == who - 1) ≡ b → slice_index (cond (is_last_attempt s who) (slice_set s.delays (who - 1) s.delay_ms) s.delays) k ≡ 0 → slice_index (slice_set s.wrong_keys (who - 1) count) k < s.attempts) [
+      elim (k == who - 1) as (λ b. (k == who - 1) ≡ b
+      → slice_index (cond (is_last_attempt s who) (slice_set s.delays (who - 1) s.delay_ms) s.delays) k ≡ 0
+      → slice_index (slice_set s.wrong_keys (who - 1) count) k < s.attempts) [
         | true ↦ λ e.
             let here : k ≡ who - 1 = eqb-true k (who - 1) e in
             let counts = h.counts in
             let delays = h.delays in
             rw (here, get_or-set_same s.wrong_keys (who - 1) count 0 (omega arith))
-            (elim (is_last_attempt s who) as (λ b. is_last_attempt s who ≡ b → slice_index (cond b (slice_set s.delays (who - 1) s.delay_ms) s.delays) (who - 1) ≡ 0 → count < s.attempts) [
+            (elim (is_last_attempt s who) as (λ b. is_last_attempt s who ≡ b
+            → slice_index (cond b (slice_set s.delays (who - 1) s.delay_ms) s.delays) (who - 1) ≡ 0 → count < s.attempts) [
               | true ↦ λ last still.
                   let set : s.delay_ms ≡ 0 = sym (get_or-set_same s.delays (who - 1) s.delay_ms 0 (omega arith)) ∙ still in
                   let some = h.delay in
@@ -54,7 +59,8 @@ wrong_key-keeps s who h = record {
             ] refl)
         | false ↦ λ e.
             rw (get_or-set_other s.wrong_keys (who - 1) k count 0 (eqb-false k (who - 1) e))
-            (elim (is_last_attempt s who) as (λ b. slice_index (cond b (slice_set s.delays (who - 1) s.delay_ms) s.delays) k ≡ 0 → slice_index s.wrong_keys k < s.attempts) [
+            (elim (is_last_attempt s who) as (λ b. slice_index (cond b (slice_set s.delays (who - 1) s.delay_ms) s.delays) k ≡ 0
+            → slice_index s.wrong_keys k < s.attempts) [
               | true ↦ λ still. h.left k below (sym (get_or-set_other s.delays (who - 1) k s.delay_ms 0 (eqb-false k (who - 1) e)) ∙ still)
               | false ↦ λ still. h.left k below still
             ])
@@ -65,15 +71,17 @@ pub key-keeps : (s : SecurityState) (who sub : ℕ) (key : List ℕ) → IsSecur
 key-keeps s who sub key h =
     let right = right_key-keeps s who sub h in
     let wrong = wrong_key-keeps s who h in
-    elim (is_delayed s who) as (λ b. IsSecurity (cond b s (cond (is_none (outstanding_row s.outstanding sub)) s (cond (is_right_key s sub key) (after_right_key s who sub) (after_wrong_key s who))))) [
+    elim (is_delayed s who) as (λ b. IsSecurity
+    (cond b s (cond (is_none (outstanding_row s.outstanding sub)) s (cond (is_right_key s sub key) (after_right_key s who sub) (after_wrong_key s who))))) [
       | true ↦ h
-      | false ↦ elim (is_none (outstanding_row s.outstanding sub)) as (λ b. IsSecurity (cond b s (cond (is_right_key s sub key) (after_right_key s who sub) (after_wrong_key s who)))) [
-        | true ↦ h
-        | false ↦ elim (is_right_key s sub key) as (λ b. IsSecurity (cond b (after_right_key s who sub) (after_wrong_key s who))) [
-          | true ↦ right
-          | false ↦ wrong
-        ]
-      ]
+      | false ↦ elim (is_none (outstanding_row s.outstanding sub))
+          as (λ b. IsSecurity (cond b s (cond (is_right_key s sub key) (after_right_key s who sub) (after_wrong_key s who)))) [
+            | true ↦ h
+            | false ↦ elim (is_right_key s sub key) as (λ b. IsSecurity (cond b (after_right_key s who sub) (after_wrong_key s who))) [
+              | true ↦ right
+              | false ↦ wrong
+            ]
+          ]
     ]
 
 moved_on-in_range : (level : Level) → next_is_in_range level ≡ true → next_is_in_range (moved_on level) ≡ true
@@ -81,16 +89,19 @@ moved_on-in_range level h =
     let below : level.next < length level.rows = ltb-true level.next (length level.rows) h in
     lt-ltb ((level.next + 1) % length level.rows) (length level.rows) (omega arith)
 
-pub move_on-in_range : (sub : ℕ) (levels : List Level) → list_all next_is_in_range levels ≡ true → list_all next_is_in_range (change_first (has_sub sub) moved_on levels) ≡ true
+pub move_on-in_range : (sub : ℕ) (levels : List Level) → list_all next_is_in_range levels ≡ true
+    → list_all next_is_in_range (change_first (has_sub sub) moved_on levels) ≡ true
 move_on-in_range sub [] h = refl
 move_on-in_range sub (level ∷ levels) h =
     let rest = move_on-in_range sub levels in
     let moved = moved_on-in_range level in
-    elim (next_is_in_range level) as (λ b. next_is_in_range level ≡ b → (b && list_all next_is_in_range levels) ≡ true → list_all next_is_in_range (cond (has_sub sub level) (moved_on level ∷ levels) (level ∷ change_first (has_sub sub) moved_on levels)) ≡ true) [
-      | true ↦ λ e others. elim (has_sub sub level) as (λ b. list_all next_is_in_range (cond b (moved_on level ∷ levels) (level ∷ change_first (has_sub sub) moved_on levels)) ≡ true) [
-        | true ↦ rw (moved e) others
-        | false ↦ rw e (rest others)
-      ]
+    elim (next_is_in_range level) as (λ b. next_is_in_range level ≡ b → (b && list_all next_is_in_range levels) ≡ true
+    → list_all next_is_in_range (cond (has_sub sub level) (moved_on level ∷ levels) (level ∷ change_first (has_sub sub) moved_on levels)) ≡ true) [
+      | true ↦ λ e others. elim (has_sub sub level)
+          as (λ b. list_all next_is_in_range (cond b (moved_on level ∷ levels) (level ∷ change_first (has_sub sub) moved_on levels)) ≡ true) [
+            | true ↦ rw (moved e) others
+            | false ↦ rw e (rest others)
+          ]
       | false ↦ λ e others. cc
     ] refl h
 
@@ -104,7 +115,8 @@ seed-keeps s who sub h =
       next = move_on-in_range sub s.levels h.next;
       left = h.left;
     } in
-    elim (is_delayed s who) as (λ b. IsSecurity (cond b s (cond (is_unlocked s sub) s (cond (is_some (outstanding_row s.outstanding sub)) s (with_new_seed s sub))))) [
+    elim (is_delayed s who) as (λ b. IsSecurity
+    (cond b s (cond (is_unlocked s sub) s (cond (is_some (outstanding_row s.outstanding sub)) s (with_new_seed s sub))))) [
       | true ↦ h
       | false ↦ elim (is_unlocked s sub) as (λ b. IsSecurity (cond b s (cond (is_some (outstanding_row s.outstanding sub)) s (with_new_seed s sub)))) [
         | true ↦ h

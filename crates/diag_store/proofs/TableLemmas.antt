@@ -17,10 +17,13 @@ use Rattle.diag_store.specs.Dtcs as dtcs
 use Rattle.diag_store.specs.Routines as routines
 use Rattle.diag_store.proofs.RowLemmas.{change_first_rises, map_rises}
 
-pub with_value_rises : (rows : List DidRow) (id : ℕ) (value : List ℕ) → is_rising dids.id_of rows ≡ true → is_rising dids.id_of (dids.with_value rows id value) ≡ true
-with_value_rises rows id value h = change_first_rises dids.id_of (dids.has_id id) (λ (row : DidRow). record row { value = record { items = value } }) (λ row. refl) rows h
+pub with_value_rises : (rows : List DidRow) (id : ℕ) (value : List ℕ) → is_rising dids.id_of rows ≡ true
+    → is_rising dids.id_of (dids.with_value rows id value) ≡ true
+with_value_rises rows id value h = change_first_rises dids.id_of (dids.has_id id) (λ (row : DidRow). record row { value = record { items = value } })
+    (λ row. refl) rows h
 
-pub with_status_rises : (rows : List Dtc) (code status : ℕ) → is_rising dtcs.code_of rows ≡ true → is_rising dtcs.code_of (dtcs.with_status rows code status) ≡ true
+pub with_status_rises : (rows : List Dtc) (code status : ℕ) → is_rising dtcs.code_of rows ≡ true
+    → is_rising dtcs.code_of (dtcs.with_status rows code status) ≡ true
 with_status_rises rows code status h = change_first_rises dtcs.code_of (dtcs.has_code code) (dtcs.set_status status) (λ row. refl) rows h
 
 pub all_cleared_rises : (rows : List Dtc) → is_rising dtcs.code_of rows ≡ true → is_rising dtcs.code_of (map (dtcs.set_status dtcs.cleared_status) rows) ≡ true
@@ -61,7 +64,8 @@ pub with_status_unknown : (rows : List Dtc) (code status : ℕ) → is_some (dtc
 with_status_unknown [] code status h = refl
 with_status_unknown (row ∷ rows) code status h =
     let rest = with_status_unknown rows code status in
-    elim (dtcs.has_code code row) as (λ b. is_some (option_map (λ (r : Dtc). r.status) (cond b (Some row) (find (dtcs.has_code code) rows))) ≡ false → cond b (dtcs.set_status status row ∷ rows) (row ∷ dtcs.with_status rows code status) ≡ row ∷ rows) [
+    elim (dtcs.has_code code row) as (λ b. is_some (option_map (λ (r : Dtc). r.status) (cond b (Some row) (find (dtcs.has_code code) rows))) ≡ false
+    → cond b (dtcs.set_status status row ∷ rows) (row ∷ dtcs.with_status rows code status) ≡ row ∷ rows) [
       | true ↦ λ e. cc
       | false ↦ λ e. ap (λ rs. row ∷ rs) (rest e)
     ] h

@@ -46,7 +46,9 @@ cut-rest P pad a (suc n) =
 cut-message : (P : List ℕ) (pad : Option ℕ) → Each IsOfMessage (cut P pad)
 unfolding cut
 cut-message P pad =
-    elim (nat_le (length P) 7) as (λ b. nat_le (length P) 7 ≡ b → Each IsOfMessage (if b then filled pad (single_bytes P) ∷ [] else filled pad (first_bytes (length P) (take (head_size (length P)) P)) ∷ map (λ i. filled pad (consecutive_bytes i (part_of P i))) (counted_from 1 (consecutive_count (length P))))) [
+    elim (nat_le (length P) 7) as (λ b. nat_le (length P) 7 ≡ b
+    → Each IsOfMessage (if b then filled pad (single_bytes P) ∷ [] else filled pad (first_bytes (length P) (take (head_size (length P)) P))
+    ∷ map (λ i. filled pad (consecutive_bytes i (part_of P i))) (counted_from 1 (consecutive_count (length P))))) [
       | true ↦ λ t.
           let short : length P ≤ 7 = grind (arith, nat_tests) in
           let none : length P / 16 ≡ 0 = omega arith in
@@ -68,7 +70,9 @@ started-message : (s : LinkSetup) (W : List (List ℕ)) → Each IsOfMessage (st
 started-message s [] = tt
 started-message s (P ∷ W) =
     let first = Each-take IsOfMessage 1 (cut P s.pad) (cut-message P s.pad) in
-    elim (nat_le (frame_count s P) 1) as (λ b. Each IsOfMessage (if b then before_these (take 1 (cut P s.pad)) (started s W) else record { due = take 1 (cut P s.pad); current = Some (record { message = P; next = 1; due = 0; phase = AwaitsFlow s.n_bs }); waiting = W }).due) [
+    elim (nat_le (frame_count s P) 1) as (λ b. Each IsOfMessage
+    (if b then before_these (take 1 (cut P s.pad)) (started s W) else
+    record { due = take 1 (cut P s.pad); current = Some (record { message = P; next = 1; due = 0; phase = AwaitsFlow s.n_bs }); waiting = W }).due) [
       | true ↦ Each-append IsOfMessage (take 1 (cut P s.pad)) (started s W).due first (started-message s W)
       | false ↦ first
     ]
@@ -79,7 +83,9 @@ settled-message s (Some c) W =
     let all = cut c.message s.pad in
     let frames = take c.due (drop c.next all) in
     let these = Each-take IsOfMessage c.due (drop c.next all) (Each-drop IsOfMessage c.next all (cut-message c.message s.pad)) in
-    elim (c.next + c.due == frame_count s c.message) as (λ b. Each IsOfMessage (if b then before_these frames (started s W) else record { due = frames; current = Some (record { message = c.message; next = c.next + c.due; due = 0; phase = c.phase }); waiting = W }).due) [
+    elim (c.next + c.due == frame_count s c.message)
+    as (λ b. Each IsOfMessage (if b then before_these frames (started s W) else
+    record { due = frames; current = Some (record { message = c.message; next = c.next + c.due; due = 0; phase = c.phase }); waiting = W }).due) [
       | true ↦ Each-append IsOfMessage frames (started s W).due these (started-message s W)
       | false ↦ these
     ]
@@ -93,7 +99,8 @@ message-count s t (bytes ∷ frames) h =
     let one : cond {A = ℕ} (not (is_flow (stamped s t bytes).frame.bytes)) 1 0 ≡ 1 = ap (λ (b : Bool). cond {A = ℕ} (not b) 1 0) h.0 in
     omega arith
 
-due-count : (s : LinkSetup) (t : ℕ) (g : Option (List ℕ)) (frames : List (List ℕ)) → IsFlow g → Each IsOfMessage frames → message_frames (map (stamped s t) (option_to_list g ++ frames)) ≡ length frames
+due-count : (s : LinkSetup) (t : ℕ) (g : Option (List ℕ)) (frames : List (List ℕ)) → IsFlow g → Each IsOfMessage frames
+    → message_frames (map (stamped s t) (option_to_list g ++ frames)) ≡ length frames
 due-count s t None frames g h = message-count s t frames h
 due-count s t (Some bytes) frames g h =
     let rest = message-count s t frames h in
@@ -106,7 +113,8 @@ drop-all [] ys = refl
 drop-all (x ∷ xs) ys = drop-all xs ys
 
 -- what a link has left, by the definitions
-pub left-all : (s : LinkSetup) (link : LinkState) (E : List Event) (A : List Placed) (Q : List Sent) → IsFlow link.grant → Each IsOfMessage link.sender.due → StandsFor s link E A Q →
+pub left-all : (s : LinkSetup) (link : LinkState) (E : List Event) (A : List Placed) (Q : List Sent) → IsFlow link.grant
+    → Each IsOfMessage link.sender.due → StandsFor s link E A Q →
     total s link.sender ≡ frames_left s E A Q
 left-all s link E A Q g each h =
     let rest : drop (length Q) (wire s E A) ≡ map (stamped s (last_time E)) (due link) =

@@ -27,7 +27,8 @@ frame_gives s E (Functional bytes) h some = of_functional (kind bytes s.max_requ
     of_functional k some = cc
 frame_gives s E (Physical bytes) h some = of_physical (Physical bytes ∷ history E) (kind bytes s.max_request) some
   where
-    of_whole : (b : Bool) (message : List ℕ) → IsSome (cond b (Some (step.Request false message)) None) → IsTrue (is_request (cond b (Some (step.Request false message)) None))
+    of_whole : (b : Bool) (message : List ℕ) → IsSome (cond b (Some (step.Request false message)) None)
+        → IsTrue (is_request (cond b (Some (step.Request false message)) None))
     of_whole true message some = refl
     of_whole false message some = cc
 

@@ -79,10 +79,18 @@ now-ticks (suc n) past = omega (arith, now-ticks n past)
 
 now-after : (past E : List Event) → now (after past E) ≡ now past + count_by is_tick (moments E)
 now-after past [] = omega arith
-now-after past (Physical bytes ∷ E) = omega (arith, now-after (Physical bytes ∷ past) E, sum_by-cons (λ (e : Event). cond (is_tick e) 1 0) (Physical bytes) (moments E))
-now-after past (Functional bytes ∷ E) = omega (arith, now-after (Functional bytes ∷ past) E, sum_by-cons (λ (e : Event). cond (is_tick e) 1 0) (Functional bytes) (moments E))
+now-after past (Physical bytes ∷ E) = omega
+    (arith, now-after (Physical bytes ∷ past) E, sum_by-cons (λ (e : Event). cond (is_tick e) 1 0) (Physical bytes) (moments E))
+now-after past (Functional bytes ∷ E) = omega
+    (arith, now-after (Functional bytes ∷ past) E, sum_by-cons (λ (e : Event). cond (is_tick e) 1 0) (Functional bytes) (moments E))
 now-after past (Ticks n ∷ E) =
-    omega (arith, now-after (replicate n (Ticks 1) ++ past) E, now-ticks n past, sum_by-append (λ (e : Event). cond (is_tick e) 1 0) (replicate n (Ticks 1)) (moments E), count-ticks n)
+    omega (
+      arith,
+      now-after (replicate n (Ticks 1) ++ past) E,
+      now-ticks n past,
+      sum_by-append (λ (e : Event). cond (is_tick e) 1 0) (replicate n (Ticks 1)) (moments E),
+      count-ticks n,
+    )
   where
     count-ticks : (n : ℕ) → count_by is_tick (replicate n (Ticks 1)) ≡ n
     count-ticks zero = refl

@@ -39,7 +39,10 @@ started-total s (P ∷ W) =
     let one = length-take 1 (cut P s.pad) in
     let some = some-frame s P in
     let more = length-append (take 1 (cut P s.pad)) (started s W).due in
-    elim (nat_le (frame_count s P) 1) as (λ b. nat_le (frame_count s P) 1 ≡ b → total s (if b then before_these (take 1 (cut P s.pad)) (started s W) else record { due = take 1 (cut P s.pad); current = Some (record { message = P; next = 1; due = 0; phase = AwaitsFlow s.n_bs }); waiting = W }) ≡ sum_by (frame_count s) (P ∷ W)) [
+    elim (nat_le (frame_count s P) 1) as (λ b. nat_le (frame_count s P) 1 ≡ b
+    → total s (if b then before_these (take 1 (cut P s.pad)) (started s W) else
+    record { due = take 1 (cut P s.pad); current = Some (record { message = P; next = 1; due = 0; phase = AwaitsFlow s.n_bs }); waiting = W })
+    ≡ sum_by (frame_count s) (P ∷ W)) [
       | true ↦ λ t. let short : frame_count s P ≤ 1 = grind (arith, nat_tests) in omega arith
       | false ↦ λ f. let long : 1 < frame_count s P = grind (arith, nat_tests) in omega arith
     ] refl
@@ -51,7 +54,15 @@ advanced-total s k phase c W =
     let taken = length-take k (drop c.next all) in
     let kept = length-drop c.next all in
     let more = length-append (take k (drop c.next all)) (started s W).due in
-    elim (c.next + k == frame_count s c.message) as (λ b. (c.next + k == frame_count s c.message) ≡ b → total s (if b then before_these (take k (drop c.next all)) (started s W) else record { due = take k (drop c.next all); current = Some (record { message = c.message; next = c.next + k; due = 0; phase = phase }); waiting = W }) ≡ left s (Some c) W) [
+    elim (c.next + k == frame_count s c.message)
+    as (λ b. (c.next + k == frame_count s c.message) ≡ b
+    → total s (if b then before_these (take k (drop c.next all)) (started s W) else
+    record {
+      due = take k (drop c.next all);
+      current = Some (record { message = c.message; next = c.next + k; due = 0; phase = phase });
+      waiting =
+          W;
+    }) ≡ left s (Some c) W) [
       | true ↦ λ t. let whole : c.next + k ≡ frame_count s c.message = grind (arith, nat_tests) in omega arith
       | false ↦ λ f. omega arith
     ] refl
@@ -68,7 +79,8 @@ started-fewer s W = let same = ap length (started-waits s W) in let few = waits-
 pub started-within : (s : LinkSetup) (W : List (List ℕ)) → IsWithin s (started s W) (sum_by (frame_count s) W) (length W)
 started-within s W = let all = started-total s W in record { frames = omega arith; replies = started-fewer s W }
 
-pub advanced-within : (s : LinkSetup) (k : ℕ) (phase : Phase) (c : Current) (W : List (List ℕ)) → IsWithin s (advanced s k phase c W) (left s (Some c) W) (length W)
+pub advanced-within : (s : LinkSetup) (k : ℕ) (phase : Phase) (c : Current) (W : List (List ℕ))
+    → IsWithin s (advanced s k phase c W) (left s (Some c) W) (length W)
 advanced-within s k phase c W =
     let all = advanced-total s k phase c W in
     let few = started-fewer s W in
@@ -76,7 +88,14 @@ advanced-within s k phase c W =
     record {
       frames = omega arith;
       replies =
-          elim (c.next + k == frame_count s c.message) as (λ b. length (if b then before_these frames (started s W) else record { due = frames; current = Some (record { message = c.message; next = c.next + k; due = 0; phase = phase }); waiting = W }).waiting ≤ length W) [
+          elim (c.next + k == frame_count s c.message)
+          as (λ b. length (if b then before_these frames (started s W) else
+          record {
+            due = frames;
+            current = Some (record { message = c.message; next = c.next + k; due = 0; phase = phase });
+            waiting =
+                W;
+          }).waiting ≤ length W) [
             | true ↦ omega arith
             | false ↦ omega arith
           ];
@@ -88,30 +107,37 @@ started-left s c W =
     let frames = h.frames in
     record { frames = omega arith; replies = h.replies }
 
-tick-within : (s : LinkSetup) (n : ℕ) (p : Phase) (c : Current) (W : List (List ℕ)) → IsWithin s (settled_in s (tick_fields s n c p) W) (left s (Some c) W) (length W)
+tick-within : (s : LinkSetup) (n : ℕ) (p : Phase) (c : Current) (W : List (List ℕ))
+    → IsWithin s (settled_in s (tick_fields s n c p) W) (left s (Some c) W) (length W)
 tick-within s n (AwaitsFlow ticks) c W =
-    elim (nat_le ticks n) as (λ b. IsWithin s (settled_in s (if b then None else Some (in_phase c (AwaitsFlow (ticks - n)))) W) (left s (Some c) W) (length W)) [
+    elim (nat_le ticks n) as (λ b. IsWithin s (settled_in s (if b then None else Some (in_phase c (AwaitsFlow (ticks - n)))) W) (left s (Some c) W)
+    (length W)) [
       | true ↦ started-left s c W
       | false ↦ advanced-within s c.due (AwaitsFlow (ticks - n)) c W
     ]
 tick-within s n (InBlock rest gap ticks) c W =
-    elim (nat_le ticks n) as (λ b. IsWithin s (settled_in s (if b then Some (with c 1 (within_block s (rest - 1) gap)) else Some (in_phase c (InBlock rest gap (ticks - n)))) W) (left s (Some c) W) (length W)) [
+    elim (nat_le ticks n) as (λ b. IsWithin s
+    (settled_in s (if b then Some (with c 1 (within_block s (rest - 1) gap)) else Some (in_phase c (InBlock rest gap (ticks - n)))) W)
+    (left s (Some c) W) (length W)) [
       | true ↦ advanced-within s 1 (within_block s (rest - 1) gap) c W
       | false ↦ advanced-within s c.due (InBlock rest gap (ticks - n)) c W
     ]
 
-flow-within : (s : LinkSetup) (p : Phase) (choice : Decision) (c : Current) (W : List (List ℕ)) → IsWithin s (settled_in s (flow_fields s c choice p) W) (left s (Some c) W) (length W)
+flow-within : (s : LinkSetup) (p : Phase) (choice : Decision) (c : Current) (W : List (List ℕ))
+    → IsWithin s (settled_in s (flow_fields s c choice p) W) (left s (Some c) W) (length W)
 flow-within s (InBlock rest gap ticks) choice c W = advanced-within s c.due c.phase c W
 flow-within s (AwaitsFlow ticks) GiveUp c W = started-left s c W
 flow-within s (AwaitsFlow ticks) Wait c W = advanced-within s c.due (AwaitsFlow s.n_bs) c W
 flow-within s (AwaitsFlow ticks) (Go block gap) c W =
     let b = block_size block (frames_of c.message - c.next) in
-    elim (gap == 0) as (λ v. IsWithin s (settled_in s (Some (if v then with c b (AwaitsFlow s.n_bs) else with c 1 (within_block s (b - 1) gap))) W) (left s (Some c) W) (length W)) [
+    elim (gap == 0) as (λ v. IsWithin s (settled_in s (Some (if v then with c b (AwaitsFlow s.n_bs) else with c 1 (within_block s (b - 1) gap))) W)
+    (left s (Some c) W) (length W)) [
       | true ↦ advanced-within s b (AwaitsFlow s.n_bs) c W
       | false ↦ advanced-within s 1 (within_block s (b - 1) gap) c W
     ]
 
-sender-flow-within : (s : LinkSetup) (choice : Decision) (cur : Option Current) (W : List (List ℕ)) → IsWithin s (sender_flow s choice cur W) (left s cur W) (length W)
+sender-flow-within : (s : LinkSetup) (choice : Decision) (cur : Option Current) (W : List (List ℕ))
+    → IsWithin s (sender_flow s choice cur W) (left s cur W) (length W)
 sender-flow-within s choice None W = record { frames = omega arith; replies = omega arith }
 sender-flow-within s choice (Some c) W = flow-within s c.phase choice c W
 
@@ -133,15 +159,24 @@ event-within s (Functional bytes) cur W = no-flow-within s cur W
 event-within s (Ticks n) cur W = sender-ticks-within s 1 cur W
 
 -- one more reply: at most one more frame is due, and one more waits
-pub replied-numbers : (s : LinkSetup) (P : List ℕ) (r : SenderState) → (length (replied s P r).due ≤ length r.due + 1) × (length (replied s P r).waiting ≤ length r.waiting + 1)
+pub replied-numbers : (s : LinkSetup) (P : List ℕ) (r : SenderState)
+    → (length (replied s P r).due ≤ length r.due + 1) × (length (replied s P r).waiting ≤ length r.waiting + 1)
 replied-numbers s P r = go r.current
   where
-    go : (cur : Option Current) → (length (replied_in s P r.due cur r.waiting).due ≤ length r.due + 1) × (length (replied_in s P r.due cur r.waiting).waiting ≤ length r.waiting + 1)
+    go : (cur : Option Current) → (length (replied_in s P r.due cur r.waiting).due ≤ length r.due + 1)
+        × (length (replied_in s P r.due cur r.waiting).waiting ≤ length r.waiting + 1)
     go (Some c) = let sum = length-append r.waiting (P ∷ []) in (omega arith, omega arith)
     go None =
         let one = length-take 1 (cut P s.pad) in
         let none : List (List ℕ) = [] in
-        elim (nat_le (frame_count s P) 1) as (λ b. (n : SenderState) → n ≡ (if b then before_these (take 1 (cut P s.pad)) (started s []) else record { due = take 1 (cut P s.pad); current = Some (record { message = P; next = 1; due = 0; phase = AwaitsFlow s.n_bs }); waiting = none }) → (length (r.due ++ n.due) ≤ length r.due + 1) × (length n.waiting ≤ length r.waiting + 1)) [
+        elim (nat_le (frame_count s P) 1) as (λ b. (n : SenderState)
+        → n ≡ (if b then before_these (take 1 (cut P s.pad)) (started s []) else
+        record {
+          due = take 1 (cut P s.pad);
+          current = Some (record { message = P; next = 1; due = 0; phase = AwaitsFlow s.n_bs });
+          waiting =
+              none;
+        }) → (length (r.due ++ n.due) ≤ length r.due + 1) × (length n.waiting ≤ length r.waiting + 1)) [
           | true ↦ λ n e.
               let due = ap (λ q. length q.due) e in
               let waiting = ap (λ q. length q.waiting) e in

@@ -29,21 +29,27 @@ abbrev pub current_later : ℕ → Current → Current
 current_later n c = in_phase c (phase_later n c.phase)
 
 -- one tick more of a reception
-partial-more : (n_cr k : ℕ) (o : Option Partial) → option_and_then (ticks_later n_cr (suc k)) o ≡ option_and_then (one_tick_later n_cr) (option_and_then (ticks_later n_cr k) o)
+partial-more : (n_cr k : ℕ) (o : Option Partial)
+    → option_and_then (ticks_later n_cr (suc k)) o ≡ option_and_then (one_tick_later n_cr) (option_and_then (ticks_later n_cr k) o)
 partial-more n_cr k None = refl
 partial-more n_cr k (Some p) =
     let e : p.silence + suc k ≡ p.silence + k + 1 = omega arith in
     let at = λ (n : ℕ). let q : Partial = record { len = p.len; count = p.count; bytes = p.bytes; silence = n } in q in
     rw e (
-    elim (nat_lt (p.silence + k) n_cr) as (λ b. nat_lt (p.silence + k) n_cr ≡ b → (if nat_lt (p.silence + k + 1) n_cr then Some (at (p.silence + k + 1)) else None) ≡ option_and_then (one_tick_later n_cr) (if b then Some (at (p.silence + k)) else None)) [
+    elim (nat_lt (p.silence + k) n_cr) as (λ b. nat_lt (p.silence + k) n_cr ≡ b
+    → (if nat_lt (p.silence + k + 1) n_cr then Some (at (p.silence + k + 1)) else None)
+    ≡ option_and_then (one_tick_later n_cr) (if b then Some (at (p.silence + k)) else None)) [
       | true ↦ λ t. refl
       | false ↦ λ f. let over : nat_lt (p.silence + k + 1) n_cr ≡ false = grind (arith, nat_tests) in rw over refl
     ] refl)
 
 -- ticks in which nothing happens to a message
-phase-still : (s : LinkSetup) (k : ℕ) (c : Current) (W : List (List ℕ)) (p : Phase) → IsStill (Some c) → k < phase_quiet p → settled_in s (tick_fields s k c p) W ≡ resting (in_phase c (phase_later k p)) W
-phase-still s k c W (AwaitsFlow ticks) still h = let later : nat_le ticks k ≡ false = grind (arith, nat_tests) in rw later (rests s c (AwaitsFlow (ticks - k)) W still.0 still.1)
-phase-still s k c W (InBlock rest gap ticks) still h = let later : nat_le ticks k ≡ false = grind (arith, nat_tests) in rw later (rests s c (InBlock rest gap (ticks - k)) W still.0 still.1)
+phase-still : (s : LinkSetup) (k : ℕ) (c : Current) (W : List (List ℕ)) (p : Phase) → IsStill (Some c) → k < phase_quiet p
+    → settled_in s (tick_fields s k c p) W ≡ resting (in_phase c (phase_later k p)) W
+phase-still s k c W (AwaitsFlow ticks) still h = let later : nat_le ticks k ≡ false = grind (arith, nat_tests) in
+    rw later (rests s c (AwaitsFlow (ticks - k)) W still.0 still.1)
+phase-still s k c W (InBlock rest gap ticks) still h = let later : nat_le ticks k ≡ false = grind (arith, nat_tests) in
+    rw later (rests s c (InBlock rest gap (ticks - k)) W still.0 still.1)
 
 sender-still : (s : LinkSetup) (k : ℕ) (cur : Option Current) (W : List (List ℕ)) → IsStill cur → k < sender_quiet cur →
     sender_ticks s k cur W ≡ record { due = []; current = option_map (current_later k) cur; waiting = W }
@@ -88,7 +94,8 @@ link_later n link =
 
 -- ticks, before the last of which nothing falls due
 stands_later :
-    (s : LinkSetup) (link : LinkState) (E : List Event) (A : List Placed) (Q : List Sent) (k : ℕ) → IsStill link.sender.current → due link ≡ [] → suc k ≤ quiet link → StandsFor s link E A Q →
+    (s : LinkSetup) (link : LinkState) (E : List Event) (A : List Placed) (Q : List Sent) (k : ℕ) → IsStill link.sender.current → due link ≡ []
+    → suc k ≤ quiet link → StandsFor s link E A Q →
     StandsFor s (link_later (suc k) link) (E ++ Ticks (suc k) ∷ []) A Q
 stands_later s link E A Q zero still none h stands = stands_more s link (link_later 1 link) E A Q (Ticks 1) refl tt none refl refl refl refl refl stands
 stands_later s link E A Q (suc k) still none h stands =
@@ -103,15 +110,18 @@ stands_later s link E A Q (suc k) still none h stands =
     (stands_later s link E A Q k still none (omega arith) stands))
 
 pub stands_ticks :
-    (s : LinkSetup) (link link' : LinkState) (E : List Event) (A : List Placed) (Q : List Sent) (n : ℕ) → IsStill link.sender.current → 1 ≤ n → n ≤ quiet link → due link ≡ [] → link'.grant ≡ None →
-    link'.sender ≡ sender_ticks link.setup n link.sender.current link.sender.waiting → link'.partial ≡ option_and_then (ticks_later link.setup.n_cr n) link.partial →
+    (s : LinkSetup) (link link' : LinkState) (E : List Event) (A : List Placed) (Q : List Sent) (n : ℕ) → IsStill link.sender.current → 1 ≤ n
+    → n ≤ quiet link → due link ≡ [] → link'.grant ≡ None →
+    link'.sender ≡ sender_ticks link.setup n link.sender.current link.sender.waiting
+    → link'.partial ≡ option_and_then (ticks_later link.setup.n_cr n) link.partial →
     link'.setup ≡ link.setup → link'.now ≡ min (link.now + n) last_tick → StandsFor s link E A Q → StandsFor s link' (E ++ Ticks n ∷ []) A Q
 stands_ticks s link link' E A Q zero still some h none grant sender partial same now stands = absurd (omega arith)
 stands_ticks s link link' E A Q (suc k) still some h none grant sender partial same now stands =
     stands_same s (link_later (suc k) link) link' (E ++ Ticks (suc k) ∷ []) A Q grant sender partial same now (stands_later s link E A Q k still none h stands)
 
 -- before the last tick nothing falls due
-pub silent : (s : LinkSetup) (n : ℕ) (link link' : LinkState) → IsStill link.sender.current → 1 ≤ n → due link ≡ [] → n < quiet link → link'.grant ≡ None → link'.sender ≡ sender_ticks s n link.sender.current link.sender.waiting → length (due link') ≡ 0
+pub silent : (s : LinkSetup) (n : ℕ) (link link' : LinkState) → IsStill link.sender.current → 1 ≤ n → due link ≡ [] → n < quiet link
+    → link'.grant ≡ None → link'.sender ≡ sender_ticks s n link.sender.current link.sender.waiting → length (due link') ≡ 0
 silent s n link link' still some none h grant sender =
     ap (λ g. length (option_to_list g ++ link'.sender.due)) grant
     ∙ ap (λ r. length r.due) (sender ∙ sender-still s n link.sender.current link.sender.waiting still (quiet-sender link n none some h))

@@ -58,7 +58,8 @@ pub record Numbers (link link' : LinkState) (grants : ℕ) : Type 0 where
 
 pub within-numbers :
     (link link' : LinkState) (r : SenderState) (grants : ℕ) → length (option_to_list link'.grant) ≤ grants → link'.setup ≡ link.setup → link'.sender ≡ r →
-    IsWithin link.setup r (current_left link.setup link.sender.current + sum_by (frame_count link.setup) link.sender.waiting) (length link.sender.waiting) → Numbers link link' grants
+    IsWithin link.setup r (current_left link.setup link.sender.current + sum_by (frame_count link.setup) link.sender.waiting)
+    (length link.sender.waiting) → Numbers link link' grants
 unfolding waiting_count
 within-numbers link link' r grants few same sender h =
     let old = unsent-total link in
@@ -78,18 +79,23 @@ grant-few None = omega arith
 grant-few (Some g) = omega arith
 
 -- a frame
-pub fed-numbers : (link link' : LinkState) (x : Event) → link'.setup ≡ link.setup → link'.sender ≡ sender_event link.setup x link.sender.current link.sender.waiting → Numbers link link' 1
+pub fed-numbers : (link link' : LinkState) (x : Event) → link'.setup ≡ link.setup
+    → link'.sender ≡ sender_event link.setup x link.sender.current link.sender.waiting → Numbers link link' 1
 fed-numbers link link' x same sender =
-    within-numbers link link' (sender_event link.setup x link.sender.current link.sender.waiting) 1 (grant-few link'.grant) same sender (event-within link.setup x link.sender.current link.sender.waiting)
+    within-numbers link link' (sender_event link.setup x link.sender.current link.sender.waiting) 1 (grant-few link'.grant) same sender
+    (event-within link.setup x link.sender.current link.sender.waiting)
 
 -- ticks
-pub ticks-numbers : (link link' : LinkState) (n : ℕ) → link'.grant ≡ None → link'.setup ≡ link.setup → link'.sender ≡ sender_ticks link.setup n link.sender.current link.sender.waiting → Numbers link link' 0
+pub ticks-numbers : (link link' : LinkState) (n : ℕ) → link'.grant ≡ None → link'.setup ≡ link.setup
+    → link'.sender ≡ sender_ticks link.setup n link.sender.current link.sender.waiting → Numbers link link' 0
 ticks-numbers link link' n none same sender =
     let few = ap (λ g. length (option_to_list g)) none in
-    within-numbers link link' (sender_ticks link.setup n link.sender.current link.sender.waiting) 0 (omega arith) same sender (sender-ticks-within link.setup n link.sender.current link.sender.waiting)
+    within-numbers link link' (sender_ticks link.setup n link.sender.current link.sender.waiting) 0 (omega arith) same sender
+    (sender-ticks-within link.setup n link.sender.current link.sender.waiting)
 
 -- a reply
-pub answered-numbers : (link link' : LinkState) (P : List ℕ) → link'.grant ≡ link.grant → link'.sender ≡ replied link.setup P link.sender → (pending link' ≤ pending link + 1) × (waiting_count link' ≤ waiting_count link + 1)
+pub answered-numbers : (link link' : LinkState) (P : List ℕ) → link'.grant ≡ link.grant → link'.sender ≡ replied link.setup P link.sender
+    → (pending link' ≤ pending link + 1) × (waiting_count link' ≤ waiting_count link + 1)
 unfolding pending waiting_count
 answered-numbers link link' P grant sender =
     let more = replied-numbers link.setup P link.sender in
@@ -103,7 +109,8 @@ answered-numbers link link' P grant sender =
     (omega arith, omega arith)
 
 -- a frame that is handed out
-pub handed-numbers : (link link' : LinkState) (bytes : List ℕ) → due link ≡ bytes ∷ due link' → link'.sender.current ≡ link.sender.current → link'.sender.waiting ≡ link.sender.waiting → link'.setup ≡ link.setup →
+pub handed-numbers : (link link' : LinkState) (bytes : List ℕ) → due link ≡ bytes ∷ due link' → link'.sender.current ≡ link.sender.current
+    → link'.sender.waiting ≡ link.sender.waiting → link'.setup ≡ link.setup →
     (pending link ≡ pending link' + 1) × (unsent link ≡ unsent link' + 1)
 unfolding pending unsent
 handed-numbers link link' bytes less current waiting same =
@@ -122,21 +129,25 @@ all_none s link E A Q o f g h = (
   λ e. g (length-zero (due link) (let sizes = stands_length s link E A Q h in let same = ap length e in omega arith)),
 )
 
-pub none_pending : {X : Type 0} (link : LinkState) (o : Option X) → (IsNone o → due link ≡ []) → (due link ≡ [] → IsNone o) → (IsNone o → pending link ≡ 0) × (pending link ≡ 0 → IsNone o)
+pub none_pending : {X : Type 0} (link : LinkState) (o : Option X) → (IsNone o → due link ≡ []) → (due link ≡ [] → IsNone o)
+    → (IsNone o → pending link ≡ 0) × (pending link ≡ 0 → IsNone o)
 unfolding pending
 none_pending link o f g = (λ t. ap length (f t), λ e. g (length-zero (due link) e))
 
 -- a frame that is handed out, in each history
 pub handed : (link link' : LinkState) (o : Option Frame) → IfSome o (λ frame. (due link ≡ frame.bytes ∷ due link') × (frame.id ≡ link.setup.ids.response)) →
-    link'.sender.current ≡ link.sender.current → link'.sender.waiting ≡ link.sender.waiting → link'.partial ≡ link.partial → link'.setup ≡ link.setup → link'.now ≡ link.now →
+    link'.sender.current ≡ link.sender.current → link'.sender.waiting ≡ link.sender.waiting → link'.partial ≡ link.partial → link'.setup ≡ link.setup
+    → link'.now ≡ link.now →
     IfSome o (λ frame. EachHistory link (λ s E A Q. StandsFor s link' E A (Q ++ record { at = last_time E; frame = frame } ∷ [])))
 handed link link' None some current waiting partial same now = tt
 handed link link' (Some frame) some current waiting partial same now =
     λ s E A Q h.
-    subst (λ (id : ℕ). StandsFor s link' E A (Q ++ (let sent : Sent = record { at = last_time E; frame = record { id = id; bytes = frame.bytes } } in sent) ∷ [])) (sym some.1)
+    subst (λ (id : ℕ). StandsFor s link' E A
+    (Q ++ (let sent : Sent = record { at = last_time E; frame = record { id = id; bytes = frame.bytes } } in sent) ∷ [])) (sym some.1)
     (stands_next s link link' E A Q frame.bytes some.0 current waiting partial same now h)
 
-pub handed-fewer : (link link' : LinkState) (o : Option Frame) → IfSome o (λ frame. (due link ≡ frame.bytes ∷ due link') × (frame.id ≡ link.setup.ids.response)) →
+pub handed-fewer : (link link' : LinkState) (o : Option Frame)
+    → IfSome o (λ frame. (due link ≡ frame.bytes ∷ due link') × (frame.id ≡ link.setup.ids.response)) →
     link'.sender.current ≡ link.sender.current → link'.sender.waiting ≡ link.sender.waiting → link'.setup ≡ link.setup →
     IsSome o → (pending link ≡ pending link' + 1) × (unsent link ≡ unsent link' + 1)
 handed-fewer link link' None some current waiting same h = cc

@@ -12,24 +12,31 @@ use Rattle.diag_world.proofs.Worlds.{own-append}
 pub drop_next : (xs : List Entry) (i : ℕ) (x : Entry) → slice_get xs i ≡ Some x → drop i xs ≡ x ∷ drop (i + 1) xs
 drop_next xs i x h =
     append_cancel_left (take i xs) (drop i xs) (x ∷ drop (i + 1) xs)
-    (take-append-drop i xs ∙ (sym (take-append-drop (i + 1) xs) ∙ (ap (λ w. w ++ drop (i + 1) xs) (take_one xs i x h) ∙ append_assoc (take i xs) (x ∷ []) (drop (i + 1) xs))))
+    (take-append-drop i xs ∙ (sym (take-append-drop (i + 1) xs)
+    ∙ (ap (λ w. w ++ drop (i + 1) xs) (take_one xs i x h) ∙ append_assoc (take i xs) (x ∷ []) (drop (i + 1) xs))))
 
-pub own_skips : (journal : List Entry) (t i : ℕ) (x : Entry) → slice_get journal i ≡ Some x → (x.who == t) ≡ false → own (take (i + 1) journal) t ≡ own (take i journal) t
+pub own_skips : (journal : List Entry) (t i : ℕ) (x : Entry) → slice_get journal i ≡ Some x → (x.who == t) ≡ false
+    → own (take (i + 1) journal) t ≡ own (take i journal) t
 own_skips journal t i x at apart =
-    ap (λ w. own w t) (take_one journal i x at) ∙ (own-append (take i journal) (x ∷ []) t ∙ (ap (λ b. own (take i journal) t ++ cond b (x ∷ []) []) apart ∙ append-nil (own (take i journal) t)))
+    ap (λ w. own w t) (take_one journal i x at)
+    ∙ (own-append (take i journal) (x ∷ []) t ∙ (ap (λ b. own (take i journal) t ++ cond b (x ∷ []) []) apart ∙ append-nil (own (take i journal) t)))
 
-pub own_takes : (journal : List Entry) (t i : ℕ) (x : Entry) → slice_get journal i ≡ Some x → (x.who == t) ≡ true → own (take (i + 1) journal) t ≡ own (take i journal) t ++ x ∷ []
+pub own_takes : (journal : List Entry) (t i : ℕ) (x : Entry) → slice_get journal i ≡ Some x → (x.who == t) ≡ true
+    → own (take (i + 1) journal) t ≡ own (take i journal) t ++ x ∷ []
 own_takes journal t i x at mine =
     ap (λ w. own w t) (take_one journal i x at) ∙ (own-append (take i journal) (x ∷ []) t ∙ ap (λ b. own (take i journal) t ++ cond b (x ∷ []) []) mine)
 
 -- the tester's entries from its entry at i on
-own_from : (journal : List Entry) (t i : ℕ) (x : Entry) → slice_get journal i ≡ Some x → (x.who == t) ≡ true → own journal t ≡ own (take i journal) t ++ x ∷ own (drop (i + 1) journal) t
+own_from : (journal : List Entry) (t i : ℕ) (x : Entry) → slice_get journal i ≡ Some x → (x.who == t) ≡ true
+    → own journal t ≡ own (take i journal) t ++ x ∷ own (drop (i + 1) journal) t
 own_from journal t i x at mine =
     ap (λ w. own w t) (sym (take-append-drop i journal)) ∙ (own-append (take i journal) (drop i journal) t
-    ∙ (ap (λ w. own (take i journal) t ++ own w t) (drop_next journal i x at) ∙ ap (λ b. own (take i journal) t ++ cond b (x ∷ own (drop (i + 1) journal) t) (own (drop (i + 1) journal) t)) mine))
+    ∙ (ap (λ w. own (take i journal) t ++ own w t) (drop_next journal i x at)
+    ∙ ap (λ b. own (take i journal) t ++ cond b (x ∷ own (drop (i + 1) journal) t) (own (drop (i + 1) journal) t)) mine))
 
 -- where a record that began alike is the tester's entries, it goes on with the tester's entry
-kept_from : (journal kept : List Entry) (t i next : ℕ) (x : Entry) → slice_get journal i ≡ Some x → (x.who == t) ≡ true → take next kept ≡ own (take i journal) t → kept ≡ own journal t
+kept_from : (journal kept : List Entry) (t i next : ℕ) (x : Entry) → slice_get journal i ≡ Some x → (x.who == t) ≡ true
+    → take next kept ≡ own (take i journal) t → kept ≡ own journal t
     → drop next kept ≡ x ∷ own (drop (i + 1) journal) t
 kept_from journal kept t i next x at mine same whole =
     append_cancel_left (take next kept) (drop next kept) (x ∷ own (drop (i + 1) journal) t)
@@ -38,14 +45,16 @@ kept_from journal kept t i next x at mine same whole =
 drop_none : {X : Type 0} (xs : List X) (n : ℕ) → slice_get xs n ≡ None → drop n xs ≡ []
 drop_none xs n h = elim (slice_get_cases xs n).1 [ inl p ↦ (let there = p.2 in absurd cc) | inr p ↦ drop_all n xs p.0 ]
 
-pub none_left : (journal kept : List Entry) (t i next : ℕ) (x : Entry) → slice_get journal i ≡ Some x → (x.who == t) ≡ true → take next kept ≡ own (take i journal) t
+pub none_left : (journal kept : List Entry) (t i next : ℕ) (x : Entry) → slice_get journal i ≡ Some x → (x.who == t) ≡ true
+    → take next kept ≡ own (take i journal) t
     → slice_get kept next ≡ None → kept ≡ own journal t → ⊥
 none_left journal kept t i next x at mine same over whole =
     let rest = kept_from journal kept t i next x at mine same whole in
     let empty = drop_none kept next over in
     cc
 
-pub other_left : (journal kept : List Entry) (t i next : ℕ) (x k : Entry) → slice_get journal i ≡ Some x → (x.who == t) ≡ true → take next kept ≡ own (take i journal) t
+pub other_left : (journal kept : List Entry) (t i next : ℕ) (x k : Entry) → slice_get journal i ≡ Some x → (x.who == t) ≡ true
+    → take next kept ≡ own (take i journal) t
     → slice_get kept next ≡ Some k → (x ≡ k → ⊥) → kept ≡ own journal t → ⊥
 other_left journal kept t i next x k at mine same known apart whole =
     let rest = kept_from journal kept t i next x at mine same whole in

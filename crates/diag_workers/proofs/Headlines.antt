@@ -40,7 +40,8 @@ FreshFrom z n (s ∷ seats) = (s.gate ≡ z) × (s.who ≡ n) × (s.own ≡ []) 
 abbrev IsFresh : TableId → ℕ → SeatView → Type 0
 IsFresh z n s = (s.gate ≡ z) × (s.who ≡ n) × (s.own ≡ [])
 
-fresh_from : (z : TableId) (n : ℕ) (seats : List SeatView) → ((k : ℕ) (d : SeatView) → k < length seats → IsFresh z (n + k) (get_or seats k d)) → FreshFrom z n seats
+fresh_from : (z : TableId) (n : ℕ) (seats : List SeatView) → ((k : ℕ) (d : SeatView) → k < length seats → IsFresh z (n + k) (get_or seats k d))
+    → FreshFrom z n seats
 fresh_from z n [] each = tt
 fresh_from z n (s ∷ seats) each =
     let low : 0 < length (s ∷ seats) = omega arith in
@@ -53,7 +54,8 @@ fresh_from z n (s ∷ seats) each =
 
 pub places_are : (z : TableId) (n : ℕ) (seats : List SeatView) → FreshFrom z n seats → map (λ (s : SeatView). s.who) seats ≡ counted_from n (length seats)
 places_are z n [] f = refl
-places_are z n (s ∷ seats) f = ap₂ (λ (x : ℕ) (xs : List ℕ). x ∷ xs) f.1 (places_are z (n + 1) seats f.3 ∙ ap (λ (m : ℕ). counted_from m (length seats)) (add-one n))
+places_are z n (s ∷ seats) f = ap₂ (λ (x : ℕ) (xs : List ℕ). x ∷ xs) f.1
+    (places_are z (n + 1) seats f.3 ∙ ap (λ (m : ℕ). counted_from m (length seats)) (add-one n))
 
 -- ---- the logs of testers in order, and the entries that their seats have
 
@@ -90,7 +92,8 @@ abbrev seats_of : {D K : Type 0} → (D → SeatView) → List (WorkerRecord K �
 seats_of seat done = map (λ r. seat r.1) done
 
 module _ {D K : Type 0} (seat : D → SeatView) (links : ℕ → LinkSetup) (keeps : K → List Entry → Type 0) (z : TableId) where
-  done_count : (logs : List (List Event)) (doors : List D) (done : List (WorkerRecord K × D)) → Done seat links keeps logs doors done → (length done ≡ length logs) × (length doors ≡ length logs)
+  done_count : (logs : List (List Event)) (doors : List D) (done : List (WorkerRecord K × D)) → Done seat links keeps logs doors done
+      → (length done ≡ length logs) × (length doors ≡ length logs)
   done_count [] [] [] all = (refl, refl)
   done_count (log ∷ logs) (door ∷ doors) (r ∷ rs) all = let c = done_count logs doors rs all.1 in (ap suc c.0, ap suc c.1)
   done_count [] [] (r ∷ rs) all = absurd all
@@ -105,11 +108,13 @@ module _ {D K : Type 0} (seat : D → SeatView) (links : ℕ → LinkSetup) (kee
     own_is : s.own ≡ entries_at n seats (n + k)
 
   -- the entries of a seat that was fresh are those that its worker asked
-  own_played : (n : ℕ) (log : List Event) (door : D) (r : WorkerRecord K × D) → IsFresh z n (seat door) → (w : Worked links (λ d. (seat d).who) (λ d. (seat d).own) (λ d. Some (seat d).gate) keeps log door r.0 r.1)
+  own_played : (n : ℕ) (log : List Event) (door : D) (r : WorkerRecord K × D) → IsFresh z n (seat door)
+      → (w : Worked links (λ d. (seat d).who) (λ d. (seat d).own) (λ d. Some (seat d).gate) keeps log door r.0 r.1)
       → (seat r.1).own ≡ w.played.entries
   own_played n log door r f w = w.played.given ∙ ap (λ l. l ++ w.played.entries) f.2
 
-  seats_kept : (n : ℕ) (logs : List (List Event)) (doors : List D) (done : List (WorkerRecord K × D)) → FreshFrom z n (map seat doors) → Done seat links keeps logs doors done
+  seats_kept : (n : ℕ) (logs : List (List Event)) (doors : List D) (done : List (WorkerRecord K × D)) → FreshFrom z n (map seat doors)
+      → Done seat links keeps logs doors done
       → (k : ℕ) (d : SeatView) → k < length done → Kept n k (seats_of seat done) (get_or (seats_of seat done) k d)
   seats_kept n [] [] [] f all k d h = absurd (omega arith)
   seats_kept n (log ∷ logs) (door ∷ doors) (r ∷ rs) f all zero d h =
@@ -134,7 +139,8 @@ module _ {D K : Type 0} (seat : D → SeatView) (links : ℕ → LinkSetup) (kee
   seats_kept n (log ∷ logs) [] rs f all k d h = absurd all
   seats_kept n (log ∷ logs) (door ∷ doors) [] f all k d h = absurd all
 
-  asks_at : (n : ℕ) (logs : List (List Event)) (doors : List D) (done : List (WorkerRecord K × D)) (t : ℕ) → FreshFrom z n (map seat doors) → Done seat links keeps logs doors done
+  asks_at : (n : ℕ) (logs : List (List Event)) (doors : List D) (done : List (WorkerRecord K × D)) (t : ℕ) → FreshFrom z n (map seat doors)
+      → Done seat links keeps logs doors done
       → asked (entries_at n (seats_of seat done) t) ≡ steps (links t) (log_at n logs t)
   asks_at n [] [] [] t f all = refl
   asks_at n (log ∷ logs) (door ∷ doors) (r ∷ rs) t f all =
@@ -143,15 +149,20 @@ module _ {D K : Type 0} (seat : D → SeatView) (links : ℕ → LinkSetup) (kee
       let entries = (seat r.1).own in
       let played = all.0.played in
       let own = own_played n log door r (f.0, f.1, f.2) all.0 in dite (ℕ_discrete n t)
-      (λ is. ap asked (here_reads n t (List Entry) entries rest is ∙ own) ∙ (asks_of (seat door).who played.entries (steps (links (seat door).who) log) played.asked ∙ (ap (λ (m : ℕ). steps (links m) log) (f.1 ∙ is) ∙ ap (steps (links t)) (sym (here_reads n t (List Event) log rest_log is)))))
-      (λ not. ap asked (past_reads n t (List Entry) entries rest not) ∙ (asks_at (n + 1) logs doors rs t f.3 all.1 ∙ ap (steps (links t)) (sym (past_reads n t (List Event) log rest_log not))))
+      (λ is. ap asked (here_reads n t (List Entry) entries rest is ∙ own)
+      ∙ (asks_of (seat door).who played.entries (steps (links (seat door).who) log) played.asked
+      ∙ (ap (λ (m : ℕ). steps (links m) log) (f.1 ∙ is) ∙ ap (steps (links t)) (sym (here_reads n t (List Event) log rest_log is)))))
+      (λ not. ap asked (past_reads n t (List Entry) entries rest not)
+      ∙ (asks_at (n + 1) logs doors rs t f.3 all.1 ∙ ap (steps (links t)) (sym (past_reads n t (List Event) log rest_log not))))
   asks_at n [] [] (r ∷ rs) t f all = absurd all
   asks_at n [] (door ∷ doors) rs t f all = absurd all
   asks_at n (log ∷ logs) [] rs t f all = absurd all
   asks_at n (log ∷ logs) (door ∷ doors) [] t f all = absurd all
 
-  sent_at : (n : ℕ) (logs : List (List Event)) (doors : List D) (done : List (WorkerRecord K × D)) (i : ℕ) (frames : List Sent) → FreshFrom z n (map seat doors) → Done seat links keeps logs doors done
-      → slice_get (map (λ r. r.0.sent.items) done) i ≡ Some frames → frames ≡ drawn (links (n + i)) (log_at n logs (n + i)) (replies (entries_at n (seats_of seat done) (n + i)))
+  sent_at : (n : ℕ) (logs : List (List Event)) (doors : List D) (done : List (WorkerRecord K × D)) (i : ℕ) (frames : List Sent)
+      → FreshFrom z n (map seat doors) → Done seat links keeps logs doors done
+      → slice_get (map (λ r. r.0.sent.items) done) i ≡ Some frames
+      → frames ≡ drawn (links (n + i)) (log_at n logs (n + i)) (replies (entries_at n (seats_of seat done) (n + i)))
   sent_at n [] [] [] i frames f all at = absurd (let low = slice_get_within [] i frames at in omega arith)
   sent_at n (log ∷ logs) (door ∷ doors) (r ∷ rs) zero frames f all at =
       let same : n ≡ n + 0 = omega arith in
@@ -187,7 +198,8 @@ pub record Opened (setup : RawSetup) (h : HostView) : Type 0 where
   pub owns : (t : ℕ) → t < 9 → of_host h t ≡ Some []
   pub wide : length h.owns ≡ 9
 
-pub opened : (setup : RawSetup) (h : HostView) (gate : TableId) (d : Run) → d ≡ record { opening = opening setup; journal = [] } → h ≡ new_host gate d → Opened setup h
+pub opened : (setup : RawSetup) (h : HostView) (gate : TableId) (d : Run) → d ≡ record { opening = opening setup; journal = [] } → h ≡ new_host gate d
+    → Opened setup h
 opened setup h gate d is made =
     let none : h.owns ≡ owns_from 0 9 [] = ap (λ (x : HostView). x.owns) made ∙ ap (λ (r : Run). owns_from 0 9 r.journal) is in record {
       opening_is = ap (λ (x : HostView). x.opening) made ∙ ap (λ (r : Run). r.opening) is;
@@ -206,7 +218,8 @@ out_is_fresh setup h h1 n seats few o out = fresh_from h.gate 1 seats (λ k d lo
     (ap (λ (s : SeatView). s.gate) e.2, ap (λ (s : SeatView). s.who) e.2 ∙ same, ap (λ (s : SeatView). s.own) e.2 ∙ none))
 
 -- the host has its seats again
-pub home_again : (setup : RawSetup) (h h1 h2 : HostView) (n : ℕ) (out_seats seats : List SeatView) → n ≤ 8 → length seats ≡ n → Opened setup h → Out h h1 n out_seats → Back h1 h2 seats → AllHome h2
+pub home_again : (setup : RawSetup) (h h1 h2 : HostView) (n : ℕ) (out_seats seats : List SeatView) → n ≤ 8 → length seats ≡ n → Opened setup h
+    → Out h h1 n out_seats → Back h1 h2 seats → AllHome h2
 home_again setup h h1 h2 n out_seats seats few many o out back zero low = ap is_some (back.rest 0 (inl refl) ∙ ((out.rest 0 (inl refl)).0 ∙ o.owns 0 low))
 home_again setup h h1 h2 n out_seats seats few many o out back (suc k) low = elim (cases_lt k n) [ inl lt ↦ back_is lt | inr ge ↦ rest_is ge ]
   where
@@ -227,7 +240,8 @@ home_again setup h h1 h2 n out_seats seats few many o out back (suc k) low = eli
 
 -- ---- the headline
 
-module _ {D K : Type 0} (seat : D → SeatView) (keeps : K → List Entry → Type 0) (setup : RawSetup) (h h1 : HostView) (n : ℕ) (few : n ≤ 8) (out_seats : List SeatView) (logs : List (List Event)) (doors : List D) (done : List (WorkerRecord K × D))
+module _ {D K : Type 0} (seat : D → SeatView) (keeps : K → List Entry → Type 0) (setup : RawSetup) (h h1 : HostView) (n : ℕ) (few : n ≤ 8)
+    (out_seats : List SeatView) (logs : List (List Event)) (doors : List D) (done : List (WorkerRecord K × D))
     (o : Opened setup h) (out : Out h h1 n out_seats) (doors_are : map seat doors ≡ out_seats) (all : Done seat (link_of setup) keeps logs doors done) where
   doors_fresh : FreshFrom h.gate 1 (map seat doors)
   doors_fresh = subst (FreshFrom h.gate 1) (sym doors_are) (out_is_fresh setup h h1 n out_seats few o out)
@@ -241,15 +255,18 @@ module _ {D K : Type 0} (seat : D → SeatView) (keeps : K → List Entry → Ty
   seats_many = length-map done (λ r. seat r.1) ∙ done_many
 
   -- what taking the seats in asks
-  pub seats_home : (k : ℕ) (s : SeatView) → k < length (seats_of seat done) → ((get_or (seats_of seat done) k s).gate ≡ h.gate) × ((get_or (seats_of seat done) k s).who ≡ k + 1)
+  pub seats_home : (k : ℕ) (s : SeatView) → k < length (seats_of seat done)
+      → ((get_or (seats_of seat done) k s).gate ≡ h.gate) × ((get_or (seats_of seat done) k s).who ≡ k + 1)
   seats_home k s low =
       let within : k < length done = omega (arith, low, length-map done (λ r. seat r.1)) in
       let kept = seats_kept seat (link_of setup) keeps h.gate 1 logs doors done doors_fresh all k s within in
       let same : 1 + k ≡ k + 1 = omega arith in
       (kept.gate, kept.who ∙ same)
 
-module _ {D K : Type 0} (seat : D → SeatView) (keeps : K → List Entry → Type 0) (setup : RawSetup) (h h1 h2 : HostView) (n : ℕ) (few : n ≤ 8) (out_seats : List SeatView) (logs : List (List Event)) (doors : List D) (done : List (WorkerRecord K × D)) (d : Run)
-    (o : Opened setup h) (out : Out h h1 n out_seats) (doors_are : map seat doors ≡ out_seats) (all : Done seat (link_of setup) keeps logs doors done) (back : Back h1 h2 (seats_of seat done)) where
+module _ {D K : Type 0} (seat : D → SeatView) (keeps : K → List Entry → Type 0) (setup : RawSetup) (h h1 h2 : HostView) (n : ℕ) (few : n ≤ 8)
+    (out_seats : List SeatView) (logs : List (List Event)) (doors : List D) (done : List (WorkerRecord K × D)) (d : Run)
+    (o : Opened setup h) (out : Out h h1 n out_seats) (doors_are : map seat doors ≡ out_seats) (all : Done seat (link_of setup) keeps logs doors done)
+    (back : Back h1 h2 (seats_of seat done)) where
   abbrev rs : List SeatView
   rs = seats_of seat done
 
@@ -272,7 +289,8 @@ module _ {D K : Type 0} (seat : D → SeatView) (keeps : K → List Entry → Ty
         let kept = seats_kept seat (link_of setup) keeps h.gate 1 logs doors done fresh_here all k nobody within in
         let place : k + 1 ≡ suc k = omega arith in
         let same : 1 + k ≡ suc k = omega arith in
-        closed.owns (suc k) (get_or (seats_of seat done) k nobody).own (ap (of_host h2) (sym place) ∙ back.each k nobody low) ∙ (kept.own_is ∙ ap (entries_at 1 rs) same)
+        closed.owns (suc k) (get_or (seats_of seat done) k nobody).own (ap (of_host h2) (sym place) ∙ back.each k nobody low)
+        ∙ (kept.own_is ∙ ap (entries_at 1 rs) same)
         )
     | inr ge ↦ (
         let past : n < suc k = omega (arith, ge) in
@@ -295,7 +313,8 @@ module _ {D K : Type 0} (seat : D → SeatView) (keeps : K → List Entry → Ty
       → IsPlay setup (weave (link_of setup) d.journal logs) logs d sent
   headline law closed placed sent sent_is =
       let same = own_is closed placed in
-      let asks : AsksItsLog (link_of setup) d.journal logs = λ t. ap asked (same t) ∙ asks_at seat (link_of setup) keeps h.gate 1 logs doors done t fresh_here all in
+      let asks : AsksItsLog (link_of setup) d.journal logs =
+      λ t. ap asked (same t) ∙ asks_at seat (link_of setup) keeps h.gate 1 logs doors done t fresh_here all in
       let woven = law (link_of setup) d.journal logs asks in
       let counts = done_count seat (link_of setup) keeps h.gate logs doors done all in record {
         opening = closed.opening ∙ (back.same.1 ∙ (out.same.1 ∙ o.opening_is));
@@ -318,7 +337,8 @@ who_map seat [] = refl
 who_map seat (d ∷ ds) = ap (λ l. (seat d).who ∷ l) (who_map seat ds)
 
 -- the doors stand in the testers' order
-pub doors_placed : {D : Type 0} (seat : D → SeatView) (setup : RawSetup) (h h1 : HostView) (n m : ℕ) (seats : List SeatView) (doors : List D) → n ≤ 8 → n ≡ m → Opened setup h → Out h h1 n seats → map seat doors ≡ seats
+pub doors_placed : {D : Type 0} (seat : D → SeatView) (setup : RawSetup) (h h1 : HostView) (n m : ℕ) (seats : List SeatView) (doors : List D) → n ≤ 8
+    → n ≡ m → Opened setup h → Out h h1 n seats → map seat doors ≡ seats
     → map (λ d. (seat d).who) doors ≡ counted_from 1 m
 doors_placed seat setup h h1 n m seats doors few same o out doors_are =
     who_map seat doors ∙ (ap (map (λ (s : SeatView). s.who)) doors_are
@@ -329,7 +349,8 @@ pub host_gate : (h : HostView) (gate : TableId) (d : Run) → h ≡ new_host gat
 host_gate h gate d made = ap (λ (x : HostView). x.gate) made
 
 -- a seat that was given out is of the host's gate
-pub seat_gate : (h h1 : HostView) (n : ℕ) (seats : List SeatView) → Out h h1 n seats → (k : ℕ) (s : SeatView) → k < length seats → (get_or seats k s).gate ≡ h.gate
+pub seat_gate : (h h1 : HostView) (n : ℕ) (seats : List SeatView) → Out h h1 n seats → (k : ℕ) (s : SeatView) → k < length seats
+    → (get_or seats k s).gate ≡ h.gate
 seat_gate h h1 n seats out k s low =
     let within : k < n = omega (arith, low, out.many) in
     ap (λ (x : SeatView). x.gate) (out.each k s within).2

@@ -11,7 +11,8 @@ length-counted_from first (suc n) = ap suc (length-counted_from (suc first) n)
 pub places_count : {D : Type 0} (tester : D → ℕ) (doors : List D) (first n : ℕ) → map tester doors ≡ counted_from first n → length doors ≡ n
 places_count tester doors first n h = sym (length-map doors tester) ∙ (ap length h ∙ length-counted_from first n)
 
-pub places_below : {D : Type 0} (tester : D → ℕ) (doors : List D) (first n most : ℕ) → first + n ≤ most + 1 → map tester doors ≡ counted_from first n → AllByRecursion (λ (door : D). tester door ≤ most) doors
+pub places_below : {D : Type 0} (tester : D → ℕ) (doors : List D) (first n most : ℕ) → first + n ≤ most + 1 → map tester doors ≡ counted_from first n
+    → AllByRecursion (λ (door : D). tester door ≤ most) doors
 places_below tester [] first n most room h = tt
 places_below tester (door ∷ doors) first zero most room h = absurd (clash h)
   where

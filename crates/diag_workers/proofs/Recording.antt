@@ -59,7 +59,8 @@ at_most_one None = omega arith
 at_most_one (Some x) = omega arith
 
 -- an event more
-pub worker_more : (s : LinkSetup) (who tester : ℕ) (channel channel' : ChannelState) (E : List Event) (e : Event) (before given given' : List Entry) (P P' : List Entry → Type 0)
+pub worker_more : (s : LinkSetup) (who tester : ℕ) (channel channel' : ChannelState) (E : List Event) (e : Event) (before given given' : List Entry)
+    (P P' : List Entry → Type 0)
     → length E ≤ 1000000 → WorkerStands s who channel E before given P → tester ≡ who → WorkerTook tester channel channel' e given given' P P'
     → WorkerStands s who channel' (E ++ e ∷ []) before given' P'
 worker_more s who tester channel channel' E e before given given' P P' few old is took' =

@@ -69,16 +69,19 @@ goes_on_step s E K e k link link' more h some sent =
       record {
         stands = subst (λ Q. StandsFor s link' (E ++ e ∷ []) (placed s (E ++ e ∷ []) (replies (K ++ k ∷ []))) Q) all
             (subst (λ A. StandsFor s link' (E ++ e ∷ []) A (drawn s E (replies K) ++ more)) (sym same) sent.stands);
-        asks = map-append (λ (x : Entry). x.step) K (k ∷ []) ∙ (ap (λ w. w ++ k.step ∷ []) h.asks ∙ sym (steps_push s E e ∙ ap (λ o. steps s E ++ option_to_list o) some));
+        asks = map-append (λ (x : Entry). x.step) K (k ∷ [])
+            ∙ (ap (λ w. w ++ k.step ∷ []) h.asks ∙ sym (steps_push s E e ∙ ap (λ o. steps s E ++ option_to_list o) some));
       },
       sym all,
     )
 
 -- the port goes on with the entry that the event makes
-pub goes_on : (s : LinkSetup) (who : ℕ) (E : List Event) (K : List Entry) (e : Event) (reply : Option (List ℕ)) (link link' : LinkState) (more : List Sent) (o : Option Step)
+pub goes_on : (s : LinkSetup) (who : ℕ) (E : List Event) (K : List Entry) (e : Event) (reply : Option (List ℕ)) (link link' : LinkState)
+    (more : List Sent) (o : Option Step)
     → PortStands s link E K → gives s E e ≡ o → (o ≡ None → reply ≡ None)
     → HandedOut s link' (E ++ e ∷ []) (placed s E (replies K) ++ placed_at (last_moment (E ++ e ∷ [])) reply) (drawn s E (replies K) ++ more)
-    → PortStands s link' (E ++ e ∷ []) (K ++ entries_of who o reply) × (drawn s (E ++ e ∷ []) (replies (K ++ entries_of who o reply)) ≡ drawn s E (replies K) ++ more)
+    → PortStands s link' (E ++ e ∷ []) (K ++ entries_of who o reply)
+    × (drawn s (E ++ e ∷ []) (replies (K ++ entries_of who o reply)) ≡ drawn s E (replies K) ++ more)
 goes_on s who E K e reply link link' more None h is quiet sent = goes_on_quiet s who E K e reply link link' more h is (quiet refl) sent
 goes_on s who E K e reply link link' more (Some step) h is quiet sent = goes_on_step s E K e (entry who step reply) link link' more h is sent
 
@@ -92,8 +95,10 @@ port_took s who E K e reply link link' more h quiet sent =
     record { stands = done.0; grown = done.1 }
 
 -- the channel goes on with the entry of the step that the event gives, if any
-pub went_on : (who : ℕ) (old new : ChannelState) (e : Event) (o : Option Step) (reply : Option (List ℕ)) → EachChannelRun old (λ s E K. o ≡ gives s E e) → (o ≡ None → reply ≡ None)
-    → EachChannelRun old (λ s E K. length K ≤ 1000000 → (gives s E e ≡ None → reply ≡ None) → ChannelStands s new (E ++ e ∷ []) (K ++ entries_of who (gives s E e) reply))
+pub went_on : (who : ℕ) (old new : ChannelState) (e : Event) (o : Option Step) (reply : Option (List ℕ))
+    → EachChannelRun old (λ s E K. o ≡ gives s E e) → (o ≡ None → reply ≡ None)
+    → EachChannelRun old (λ s E K. length K ≤ 1000000 → (gives s E e ≡ None → reply ≡ None)
+    → ChannelStands s new (E ++ e ∷ []) (K ++ entries_of who (gives s E e) reply))
     → GoesOn who old new e (entries_of who o reply)
 went_on who old new e o reply is none took = λ s E K h few.
     let same = is s E K h in (

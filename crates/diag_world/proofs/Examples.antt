@@ -44,10 +44,12 @@ long_placed : placed (links 1) long_log (None ∷ Some (126 ∷ 0 ∷ []) ∷ []
 unfolding gives kind open_at
 long_placed = refl
 
-in_turn : turns (long_log ∷ short_log ∷ []) ≡ (1, Physical (16 ∷ 8 ∷ 1 ∷ 2 ∷ 3 ∷ 4 ∷ 5 ∷ 6 ∷ [])) ∷ (2, Physical (2 ∷ 62 ∷ 0 ∷ [])) ∷ (1, Ticks 2) ∷ (1, Physical (33 ∷ 7 ∷ 8 ∷ [])) ∷ []
+in_turn : turns (long_log ∷ short_log ∷ [])
+    ≡ (1, Physical (16 ∷ 8 ∷ 1 ∷ 2 ∷ 3 ∷ 4 ∷ 5 ∷ 6 ∷ [])) ∷ (2, Physical (2 ∷ 62 ∷ 0 ∷ [])) ∷ (1, Ticks 2) ∷ (1, Physical (33 ∷ 7 ∷ 8 ∷ [])) ∷ []
 in_turn = refl
 
-steps_in_turn : steps_of links (turns (long_log ∷ short_log ∷ [])) ≡ (2, step.Request false (62 ∷ 0 ∷ [])) ∷ (1, step.Ticks 2) ∷ (1, step.Request false (1 ∷ 2 ∷ 3 ∷ 4 ∷ 5 ∷ 6 ∷ 7 ∷ 8 ∷ [])) ∷ []
+steps_in_turn : steps_of links (turns (long_log ∷ short_log ∷ []))
+    ≡ (2, step.Request false (62 ∷ 0 ∷ [])) ∷ (1, step.Ticks 2) ∷ (1, step.Request false (1 ∷ 2 ∷ 3 ∷ 4 ∷ 5 ∷ 6 ∷ 7 ∷ 8 ∷ [])) ∷ []
 unfolding gives kind open_at
 steps_in_turn = refl
 

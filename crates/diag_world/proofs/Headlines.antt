@@ -25,7 +25,8 @@ pub asked_own : (J : List Entry) (t : ℕ) → items_of (asked_by J) t ≡ asked
 asked_own [] t = refl
 asked_own (k ∷ J) t = pick (k.who == t) (asked_own J t)
   where
-    pick : (b : Bool) → items_of (asked_by J) t ≡ asked (own J t) → cond b (k.step ∷ items_of (asked_by J) t) (items_of (asked_by J) t) ≡ asked (cond b (k ∷ own J t) (own J t))
+    pick : (b : Bool) → items_of (asked_by J) t ≡ asked (own J t)
+        → cond b (k.step ∷ items_of (asked_by J) t) (items_of (asked_by J) t) ≡ asked (cond b (k ∷ own J t) (own J t))
     pick true h = ap (λ w. k.step ∷ w) h
     pick false h = h
 
@@ -40,7 +41,8 @@ headline setup w M logs sent law inter h many is = record {
   asks = λ t. sym (asked_own w.desk.journal t) ∙ (ap (λ x. items_of x t) h.serves.run ∙ (law (link_of setup) M t ∙ ap (steps (link_of setup t)) (inter t)));
   testers = ap length is ∙ (h.testers ∙ sym many);
   frames = λ i frames at.
-      h.frames i frames (subst (λ s. slice_get s i ≡ Some frames) is at) ∙ ap (λ E. drawn (link_of setup (i + 1)) E (replies (own w.desk.journal (i + 1)))) (inter (i + 1));
+      h.frames i frames (subst (λ s. slice_get s i ≡ Some frames) is at)
+      ∙ ap (λ E. drawn (link_of setup (i + 1)) E (replies (own w.desk.journal (i + 1)))) (inter (i + 1));
 }
 
 -- further events take no step away
@@ -52,7 +54,8 @@ step_given : (links : ℕ → LinkSetup) (M : List (ℕ × Event)) (t : ℕ) (e 
 step_given links M t e None is some = cc
 step_given links M t e (Some x) is some =
     let one : steps_of_after links M ((t, e) ∷ []) ≡ (t, x) ∷ [] = ap (λ o. all_by t (option_to_list o) ++ []) is in
-    ap length (steps_of_after-append links [] M ((t, e) ∷ [])) ∙ omega (arith, length-append (steps_of links M) (steps_of_after links M ((t, e) ∷ [])), ap length one)
+    ap length (steps_of_after-append links [] M ((t, e) ∷ []))
+    ∙ omega (arith, length-append (steps_of links M) (steps_of_after links M ((t, e) ∷ [])), ap length one)
 
 -- a journal that is full has no place for one more step
 pub too_many : (setup : RawSetup) (w : WorldState) (M N all : List (ℕ × Event)) (t : ℕ) (e : Event) → Stands setup w M → length w.desk.journal ≡ 1000000
@@ -61,7 +64,15 @@ too_many setup w M N all t e h full some is =
     let links = link_of setup in
     let by : Entry → ℕ × Step = λ k. (k.who, k.step) in
     let count = length-map w.desk.journal by in
-    omega (arith, ap length h.serves.run, count, full, step_given links M t e (gives (links t) (items_of M t) e) refl some, steps_grow links (M ++ (t, e) ∷ []) N, ap (λ x. length (steps_of links x)) is)
+    omega (
+      arith,
+      ap length h.serves.run,
+      count,
+      full,
+      step_given links M t e (gives (links t) (items_of M t) e) refl some,
+      steps_grow links (M ++ (t, e) ∷ []) N,
+      ap (λ x. length (steps_of links x)) is,
+    )
 
 pub same_fault : {X Y : Type 0} (a b : Y) (r : Result X Y) → r ≡ Err a → r ≡ Err b → a ≡ b
 same_fault a b r h k = cc

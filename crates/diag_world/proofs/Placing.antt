@@ -21,10 +21,12 @@ steps_push s E e = steps_after-append s [] E (e ∷ []) ∙ ap (λ w. steps s E 
 abbrev here : LinkSetup → List Event → Event → List ℕ
 here s p e = map (λ step. last_moment (p ++ e ∷ [])) (option_to_list (gives s p e))
 
-moments_after-append : (s : LinkSetup) (p xs ys : List Event) → moments_of_steps_after s p (xs ++ ys) ≡ moments_of_steps_after s p xs ++ moments_of_steps_after s (p ++ xs) ys
+moments_after-append : (s : LinkSetup) (p xs ys : List Event)
+    → moments_of_steps_after s p (xs ++ ys) ≡ moments_of_steps_after s p xs ++ moments_of_steps_after s (p ++ xs) ys
 moments_after-append s p [] ys = ap (λ q. moments_of_steps_after s q ys) (sym (append-nil p))
 moments_after-append s p (x ∷ xs) ys =
-    ap (λ w. here s p x ++ w) (moments_after-append s (p ++ x ∷ []) xs ys ∙ ap (λ q. moments_of_steps_after s (p ++ x ∷ []) xs ++ moments_of_steps_after s q ys) (append_assoc p (x ∷ []) xs))
+    ap (λ w. here s p x ++ w) (moments_after-append s (p ++ x ∷ []) xs ys
+    ∙ ap (λ q. moments_of_steps_after s (p ++ x ∷ []) xs ++ moments_of_steps_after s q ys) (append_assoc p (x ∷ []) xs))
     ∙ sym (append_assoc (here s p x) (moments_of_steps_after s (p ++ x ∷ []) xs) (moments_of_steps_after s (p ++ x ∷ xs) ys))
 
 -- each step has its moment
@@ -54,7 +56,8 @@ moments_push s E e = moments_after-append s [] E (e ∷ []) ∙ ap (λ w. moment
 pub placed_quiet : (s : LinkSetup) (E : List Event) (e : Event) (rs : List (Option (List ℕ))) → gives s E e ≡ None → placed s (E ++ e ∷ []) rs ≡ placed s E rs
 placed_quiet s E e rs none =
     let same : moments_of_steps s (E ++ e ∷ []) ≡ moments_of_steps s E =
-    moments_push s E e ∙ (ap (λ o. moments_of_steps s E ++ map (λ step. last_moment (E ++ e ∷ [])) (option_to_list o)) none ∙ append-nil (moments_of_steps s E)) in
+    moments_push s E e ∙ (ap (λ o. moments_of_steps s E ++ map (λ step. last_moment (E ++ e ∷ [])) (option_to_list o)) none
+    ∙ append-nil (moments_of_steps s E)) in
     ap (λ m. flat_map (λ (p : ℕ × Option (List ℕ)). placed_at p.0 p.1) (zip m rs)) same
 
 -- an event that gives a step places its reply at its moment

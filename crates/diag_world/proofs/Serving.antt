@@ -45,8 +45,10 @@ entries_asked who (Some x) (Some k) reply h same =
     let step : k.step ≡ x = cc in
     ap₂ (λ (e : Entry) (rest : List Entry). e ∷ rest) (entry_is k who x reply same.0 step same.1) refl
   where
-    entry_is : (k : Entry) (who : ℕ) (x : Step) (reply : Option (List ℕ)) → k.who ≡ who → k.step ≡ x → k.reply ≡ reply → record { who = who; step = x; reply = reply } ≡ k
-    entry_is k who x reply a b r = sym (ap₂ (λ w s. (let e : Entry = record { who = w; step = s; reply = k.reply } in e)) a b ∙ ap (λ r'. (let e : Entry = record { who = who; step = x; reply = r' } in e)) r)
+    entry_is : (k : Entry) (who : ℕ) (x : Step) (reply : Option (List ℕ)) → k.who ≡ who → k.step ≡ x → k.reply ≡ reply
+        → record { who = who; step = x; reply = reply } ≡ k
+    entry_is k who x reply a b r = sym (ap₂ (λ w s. (let e : Entry = record { who = w; step = s; reply = k.reply } in e)) a b
+        ∙ ap (λ r'. (let e : Entry = record { who = who; step = x; reply = r' } in e)) r)
 
 -- what the entry asks is what the event gives
 pub asked_gives : (who : ℕ) (o : Option Step) (asked : Option Entry) → option_map (λ k. k.step) asked ≡ o → IfSome asked (λ k. k.who ≡ who)
@@ -54,16 +56,19 @@ pub asked_gives : (who : ℕ) (o : Option Step) (asked : Option Entry) → optio
 asked_gives who o None h same = ap (λ x. all_by who (option_to_list x)) h
 asked_gives who o (Some k) h same = ap (λ w. (w, k.step) ∷ []) same ∙ ap (λ x. all_by who (option_to_list x)) h
 
-pub legal_asked : (s now : State) (K : List Entry) (asked : Option Entry) → Legal s K → now ≡ after s K → IfSome asked (λ k. k.reply ≡ reply_to now k.who k.step) → Legal s (K ++ option_to_list asked)
+pub legal_asked : (s now : State) (K : List Entry) (asked : Option Entry) → Legal s K → now ≡ after s K
+    → IfSome asked (λ k. k.reply ≡ reply_to now k.who k.step) → Legal s (K ++ option_to_list asked)
 legal_asked s now K None h is same = subst (Legal s) (sym (append-nil K)) h
 legal_asked s now K (Some k) h is same = legal_more s K k h (same ∙ ap (λ x. reply_to x k.who k.step) is)
 
-pub after_asked : (s now : State) (K : List Entry) (asked : Option Entry) → now ≡ after s K → after now (option_to_list asked) ≡ after s (K ++ option_to_list asked)
+pub after_asked : (s now : State) (K : List Entry) (asked : Option Entry) → now ≡ after s K
+    → after now (option_to_list asked) ≡ after s (K ++ option_to_list asked)
 after_asked s now K None is = is ∙ ap (after s) (sym (append-nil K))
 after_asked s now K (Some k) is = ap (λ x. after x (k ∷ [])) is ∙ sym (after_more s K k)
 
 -- an event more of a tester, with the entries that it gives
-module _ (setup : RawSetup) (M : List (ℕ × Event)) (K more : List Entry) (who : ℕ) (e : Event) (given : asked_by more ≡ all_by who (option_to_list (gives (link_of setup who) (items_of M who) e))) where
+module _ (setup : RawSetup) (M : List (ℕ × Event)) (K more : List Entry) (who : ℕ) (e : Event)
+    (given : asked_by more ≡ all_by who (option_to_list (gives (link_of setup who) (items_of M who) e))) where
   pub own_more : own (K ++ more) who ≡ own K who ++ more
   own_more = own-append K more who ∙ ap (λ w. own K who ++ w) (own_mine more who _ given)
 
@@ -76,13 +81,15 @@ module _ (setup : RawSetup) (M : List (ℕ × Event)) (K more : List Entry) (who
 
   -- a server goes on as the link of the tester does
   pub serves_more : (old new : ServerState) (i : ℕ) (link : LinkState) → Serves setup old M K → who ≡ i + 1 → new.links ≡ slice_set old.links i link
-      → Legal (opening setup) (K ++ more) → new.ecu ≡ after (opening setup) (K ++ more) → PortStands (link_of setup who) link (items_of M who ++ e ∷ []) (own K who ++ more)
+      → Legal (opening setup) (K ++ more) → new.ecu ≡ after (opening setup) (K ++ more)
+      → PortStands (link_of setup who) link (items_of M who ++ e ∷ []) (own K who ++ more)
       → Serves setup new (M ++ (who, e) ∷ []) (K ++ more)
   serves_more old new i link h is links legal ecu port = record {
     legal = legal;
     ecu = ecu;
     testers = ap length links ∙ (length-set old.links i link ∙ h.testers);
-    run = map-append (λ (k : Entry). (k.who, k.step)) K more ∙ (ap₂ ◌++◌ h.run (given ∙ sym (append-nil _)) ∙ sym (steps_of_after-append (link_of setup) [] M ((who, e) ∷ [])));
+    run = map-append (λ (k : Entry). (k.who, k.step)) K more
+        ∙ (ap₂ ◌++◌ h.run (given ∙ sym (append-nil _)) ∙ sym (steps_of_after-append (link_of setup) [] M ((who, e) ∷ [])));
     ports = λ j l at. elim (set_cases old.links i j link l (subst (λ ls. slice_get ls j ≡ Some l) links at)) [
       | inl p ↦ (let place : j + 1 ≡ who = omega (arith, is, p.0) in rw (place, p.1, items_mine M who e, own_more) port)
       | inr p ↦ (let away = other_place i j who is p.0 in rw (items_other M who (j + 1) e away, own_other (j + 1) away) (h.ports j l p.1))
@@ -90,18 +97,21 @@ module _ (setup : RawSetup) (M : List (ℕ × Event)) (K more : List Entry) (who
   }
 
 -- the same where the ECU gives the reply
-pub server_takes : (setup : RawSetup) (old new : ServerState) (M : List (ℕ × Event)) (K : List Entry) (who : ℕ) (e : Event) (asked : Option Entry) (i : ℕ) (link' : LinkState) (more : List Sent)
+pub server_takes : (setup : RawSetup) (old new : ServerState) (M : List (ℕ × Event)) (K : List Entry) (who : ℕ) (e : Event) (asked : Option Entry)
+    (i : ℕ) (link' : LinkState) (more : List Sent)
     → Serves setup old M K → who ≡ i + 1
     → new.links ≡ slice_set old.links i link' → new.ecu ≡ after old.ecu (option_to_list asked)
     → option_map (λ k. k.step) asked ≡ gives (link_of setup who) (items_of M who) e
     → IfSome asked (λ k. k.who ≡ who) → IfSome asked (λ k. k.reply ≡ reply_to old.ecu k.who k.step)
     → PortStands (link_of setup who) link' (items_of M who ++ e ∷ []) (own K who ++ option_to_list asked)
-    × (drawn (link_of setup who) (items_of M who ++ e ∷ []) (replies (own K who ++ option_to_list asked)) ≡ drawn (link_of setup who) (items_of M who) (replies (own K who)) ++ more)
+    × (drawn (link_of setup who) (items_of M who ++ e ∷ []) (replies (own K who ++ option_to_list asked))
+    ≡ drawn (link_of setup who) (items_of M who) (replies (own K who)) ++ more)
     → Served setup new M K who e asked more
 server_takes setup old new M K who e asked i link' more h is links ecu step by reply took =
     let given = asked_gives who (gives (link_of setup who) (items_of M who) e) asked step by in
     record {
-      serves = serves_more setup M K (option_to_list asked) who e given old new i link' h is links (legal_asked (opening setup) old.ecu K asked h.legal h.ecu reply)
+      serves = serves_more setup M K (option_to_list asked) who e given old new i link' h is links
+          (legal_asked (opening setup) old.ecu K asked h.legal h.ecu reply)
           (ecu ∙ after_asked (opening setup) old.ecu K asked h.ecu) took.0;
       grown = ap₂ (λ E L. drawn (link_of setup who) E (replies L)) (items_mine M who e) (own_more setup M K (option_to_list asked) who e given) ∙ took.1;
       others = sent_other setup M K (option_to_list asked) who e given;
@@ -116,14 +126,16 @@ fresh_port s link h none = record { stands = subst (λ (Q : List Sent). StandsFo
     nothing_due s link h none = sym (ap (λ (d : List (List ℕ)). map (stamped s 0) d) (length-zero (due link) none)) ∙ h.out
 
 -- the tester's link, of a server
-pub port_at : (setup : RawSetup) (server : ServerView) (M : List (ℕ × Event)) (K : List Entry) (who i : ℕ) (link : LinkView) → Serves setup (server_of server) M K → who ≡ i + 1
+pub port_at : (setup : RawSetup) (server : ServerView) (M : List (ℕ × Event)) (K : List Entry) (who i : ℕ) (link : LinkView)
+    → Serves setup (server_of server) M K → who ≡ i + 1
     → slice_get server.links i ≡ Some link → PortStands (link_of setup who) link.state (items_of M who) (own K who)
 port_at setup server M K who i link h is found =
     subst (λ t. PortStands (link_of setup t) link.state (items_of M t) (own K t)) (sym is)
     (h.ports i link.state (slice_get-map (λ (l : LinkView). l.state) server.links i ∙ ap (option_map (λ (l : LinkView). l.state)) found))
 
 -- a clock goes on with an entry alone
-pub paced : (e : Event) (asked : Option Entry) (now next : ℕ) → next ≡ time_after now e → next ≤ now + 60000 → (IsTrue (is_tick e) → IsSome asked) → next ≤ now + 60000 * length (option_to_list asked)
+pub paced : (e : Event) (asked : Option Entry) (now next : ℕ) → next ≡ time_after now e → next ≤ now + 60000 → (IsTrue (is_tick e) → IsSome asked)
+    → next ≤ now + 60000 * length (option_to_list asked)
 paced e (Some k) now next time most ticks = omega (arith, most)
 paced (Physical bytes) None now next time most ticks = omega (arith, time)
 paced (Functional bytes) None now next time most ticks = omega (arith, time)

@@ -52,7 +52,11 @@ abbrev sent : ChannelState → List Sent
 sent channel = channel.sent
 
 port_of : (s : LinkSetup) (channel : ChannelState) (E : List Event) (K : List Entry) → ChannelStands s channel E K → PortStands s channel.link E K
-port_of s channel E K h = record { stands = subst (λ (Q : List Sent). StandsFor s channel.link E (placed s E (replies K)) Q) h.all_sent h.stands; asks = h.asks }
+port_of s channel E K h = record {
+  stands =
+      subst (λ (Q : List Sent). StandsFor s channel.link E (placed s E (replies K)) Q) h.all_sent h.stands;
+  asks = h.asks;
+}
 
 -- the world in which nothing has happened
 pub stands_begin : (setup : RawSetup) (channels : List ChannelState) → length channels ≡ length setup.testers
@@ -76,7 +80,14 @@ module _ (desk : Run) (items : List Channel) (i : ℕ) {w : WorldState} {who : �
     (within : who ≤ length w.sent) (is : who ≡ i + 1) (read : channel ≡ get_or items i channel) where
   pub found : slice_get (map channel_of items) i ≡ Some (channel_of channel)
   found =
-      let low : i < length items = omega (arith, within, ap (λ x. length x.sent) seen, length-map (map channel_of items) sent, length-map items channel_of, is) in
+      let low : i < length items = omega (
+        arith,
+        within,
+        ap (λ x. length x.sent) seen,
+        length-map (map channel_of items) sent,
+        length-map items channel_of,
+        is,
+      ) in
       slice_get-map channel_of items i ∙ ap (option_map channel_of) (slice_get_read items (length items) i channel refl low read)
 
   -- what it was sent
@@ -111,7 +122,8 @@ module _ (desk : Run) (items : List Channel) (i : ℕ) {w : WorldState} {who : �
       let s = link_of setup who in
       let c' = channel_of channel' in
       let desk1 : Run = record { opening = desk.opening; journal = J ++ more } in
-      let few : length (own J who) ≤ 1000000 = omega (arith, journal.1, length-filter_both (λ (k : Entry). k.who == who) (λ k. not (k.who == who)) (λ k. refl) J) in
+      let few : length (own J who) ≤ 1000000 =
+      omega (arith, journal.1, length-filter_both (λ (k : Entry). k.who == who) (λ k. not (k.who == who)) (λ k. refl) J) in
       let next = took.goes_on s (items_of M who) (own J who) (channel_stands setup M journal h) few in
       let written = map-set channel_of items i channel' in
       let new : List ChannelState = map channel_of (set items i channel') in

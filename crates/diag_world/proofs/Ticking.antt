@@ -18,7 +18,8 @@ use Rattle.diag_world.specs.Server.{PortSettled, closing_time, entry_of_ticks}
 use Rattle.diag_world.proofs.Channels.{goes_on_step, within_none}
 
 -- where nothing is due, all was handed out
-all_out : (s : LinkSetup) (link : LinkState) (E : List Event) (A : List Placed) (Q : List Sent) → StandsFor s link E A Q → pending link ≡ 0 → HandedOut s link E A Q
+all_out : (s : LinkSetup) (link : LinkState) (E : List Event) (A : List Placed) (Q : List Sent) → StandsFor s link E A Q → pending link ≡ 0
+    → HandedOut s link E A Q
 unfolding pending
 all_out s link E A Q h none = record {
   stands = h;

@@ -24,7 +24,8 @@ use Rattle.diag_world.proofs.Headlines.{asked_own}
 use Rattle.diag_world.proofs.Interleavings.{interleaving}
 
 -- each tester's entries ask what its own events give
-pub own_asks : (links : ℕ → LinkSetup) (M : List (ℕ × Event)) (K : List Entry) (t : ℕ) → asked_by K ≡ steps_of links M → asked (own K t) ≡ steps (links t) (items_of M t)
+pub own_asks : (links : ℕ → LinkSetup) (M : List (ℕ × Event)) (K : List Entry) (t : ℕ) → asked_by K ≡ steps_of links M
+    → asked (own K t) ≡ steps (links t) (items_of M t)
 own_asks links M K t run = sym (asked_own K t) ∙ (ap (λ x. items_of x t) run ∙ interleaving links M t)
 
 -- a tester's ticks are those of its own entries
@@ -32,7 +33,8 @@ ticks_own : (K : List Entry) (t : ℕ) → ticks_of t K ≡ sum_by ticks_in (ask
 ticks_own [] t = refl
 ticks_own (k ∷ K) t = pick (k.who == t) (ticks_own K t)
   where
-    pick : (b : Bool) → ticks_of t K ≡ sum_by ticks_in (asked (own K t)) → cond b (ticks_in k.step) 0 + ticks_of t K ≡ sum_by ticks_in (asked (cond b (k ∷ own K t) (own K t)))
+    pick : (b : Bool) → ticks_of t K ≡ sum_by ticks_in (asked (own K t))
+        → cond b (ticks_in k.step) 0 + ticks_of t K ≡ sum_by ticks_in (asked (cond b (k ∷ own K t) (own K t)))
     pick true h = omega (arith, h, sum_by-cons ticks_in k.step (asked (own K t)))
     pick false h = omega (arith, h)
 
@@ -47,8 +49,10 @@ no_ticks_of (Some (step.Ticks n)) request = absurd (clash (request refl))
 
 -- an event's time is that of the step that it gives
 event_time : (s : LinkSetup) (past : List Event) (e : Event) → sum_by ticks_in (option_to_list (gives s past e)) + last_time past ≡ last_time (past ++ e ∷ [])
-event_time s past (Physical bytes) = omega (arith, no_ticks_of (gives s past (Physical bytes)) (frame_gives s past (Physical bytes) refl), last_time-frame past (Physical bytes) refl)
-event_time s past (Functional bytes) = omega (arith, no_ticks_of (gives s past (Functional bytes)) (frame_gives s past (Functional bytes) refl), last_time-frame past (Functional bytes) refl)
+event_time s past (Physical bytes) = omega
+    (arith, no_ticks_of (gives s past (Physical bytes)) (frame_gives s past (Physical bytes) refl), last_time-frame past (Physical bytes) refl)
+event_time s past (Functional bytes) = omega
+    (arith, no_ticks_of (gives s past (Functional bytes)) (frame_gives s past (Functional bytes) refl), last_time-frame past (Functional bytes) refl)
 event_time s past (Ticks n) =
     let given : sum_by ticks_in (option_to_list (gives s past (Ticks n))) ≡ 0 + n = ap (λ o. sum_by ticks_in (option_to_list o)) (gives_ticks s past n) in
     omega (arith, given, last_time-ticks past n)
@@ -63,11 +67,13 @@ steps_time s past (e ∷ es) =
     omega (arith, both, event_time s past e, rest, whole)
 
 -- the ticks of a tester in the journal of a run are the time that its events take
-pub ticks_of_run : (links : ℕ → LinkSetup) (M : List (ℕ × Event)) (K : List Entry) (t : ℕ) → asked_by K ≡ steps_of links M → ticks_of t K ≡ last_time (items_of M t)
+pub ticks_of_run : (links : ℕ → LinkSetup) (M : List (ℕ × Event)) (K : List Entry) (t : ℕ) → asked_by K ≡ steps_of links M
+    → ticks_of t K ≡ last_time (items_of M t)
 ticks_of_run links M K t run =
     let time = steps_time (links t) [] (items_of M t) in
     ticks_own K t ∙ (ap (sum_by ticks_in) (own_asks links M K t run) ∙ omega (arith, time))
 
 -- the same of what a server took
-pub ticks_served : (setup : RawSetup) (server : ServerState) (M : List (ℕ × Event)) (K : List Entry) (t : ℕ) → Serves setup server M K → ticks_of t K ≡ last_time (items_of M t)
+pub ticks_served : (setup : RawSetup) (server : ServerState) (M : List (ℕ × Event)) (K : List Entry) (t : ℕ) → Serves setup server M K
+    → ticks_of t K ≡ last_time (items_of M t)
 ticks_served setup server M K t h = ticks_of_run (link_of setup) M K t h.run

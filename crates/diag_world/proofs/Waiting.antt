@@ -24,7 +24,8 @@ counted_more a n = let e : n + 1 ≡ suc n = omega arith in ap (counted_from a) 
 
 -- one tester more
 pub each_more : (n : ℕ) (e : Event) (who : ℕ) → who ≡ n + 1 → each_of (n + 1) e ≡ each_of n e ++ (who, e) ∷ []
-each_more n e who is = ap (map (λ t. (t, e))) (counted_more 1 n) ∙ (map-append (λ t. (t, e)) (counted_from 1 n) ((1 + n) ∷ []) ∙ ap (λ t. each_of n e ++ (t, e) ∷ []) (omega (arith, is)))
+each_more n e who is = ap (map (λ t. (t, e))) (counted_more 1 n)
+    ∙ (map-append (λ t. (t, e)) (counted_from 1 n) ((1 + n) ∷ []) ∙ ap (λ t. each_of n e ++ (t, e) ∷ []) (omega (arith, is)))
 
 -- ---- waiting
 
@@ -55,7 +56,8 @@ waited_none s count = record {
 }
 
 -- one tester more
-pub waited_more : (a b c : ServerState) (n who count : ℕ) → who ≡ n + 1 → Waited a b n count → Settled b c who (Ticks count) (Some (entry_of_ticks who count)) [] → Waited a c (n + 1) count
+pub waited_more : (a b c : ServerState) (n who count : ℕ) → who ≡ n + 1 → Waited a b n count
+    → Settled b c who (Ticks count) (Some (entry_of_ticks who count)) [] → Waited a c (n + 1) count
 waited_more a b c n who count is w settled =
     let moved = settled.moved in
     let e = Ticks count in
@@ -69,13 +71,15 @@ waited_more a b c n who count is w settled =
             (moved.before, sym (w.rest i (omega (arith, p.0, is))) ∙ subst (λ k. slice_get b.links k ≡ Some moved.before) (sym p.0) moved.found, fits))
         | inr p ↦ w.time i link p.1
       ];
-      rest = λ i above. ap (λ ls. slice_get ls i) moved.set ∙ (get_set_other b.links (who - 1) i moved.after (λ e. absurd (omega (arith, e, above, is))) ∙ w.rest i (omega (arith, above)));
+      rest = λ i above. ap (λ ls. slice_get ls i) moved.set
+          ∙ (get_set_other b.links (who - 1) i moved.after (λ e. absurd (omega (arith, e, above, is))) ∙ w.rest i (omega (arith, above)));
       served = λ setup M K h.
           let before = w.served setup M K h in
           let M' = M ++ each_of n e in
           let K' = before.0 ++ entry_of_ticks who count ∷ [] in
           let served = settled.served setup M' before.0 before.1 in
-          let events : M' ++ (who, e) ∷ [] ≡ M ++ each_of (n + 1) e = append_assoc M (each_of n e) ((who, e) ∷ []) ∙ ap (λ w. M ++ w) (sym (each_more n e who is)) in (
+          let events : M' ++ (who, e) ∷ [] ≡ M ++ each_of (n + 1) e =
+          append_assoc M (each_of n e) ((who, e) ∷ []) ∙ ap (λ w. M ++ w) (sym (each_more n e who is)) in (
             K',
             subst (λ N. Serves setup c N K') events served.serves,
             λ t. subst (λ N. sent_to setup N K' t ≡ sent_to setup M K t) events
@@ -83,7 +87,8 @@ waited_more a b c n who count is w settled =
           );
     }
   where
-    sent_as : (setup : RawSetup) (M : List (ℕ × Event)) (K K' : List Entry) (M' : List (ℕ × Event)) (who t : ℕ) → sent_to setup M' K' who ≡ sent_to setup M K who ++ []
+    sent_as : (setup : RawSetup) (M : List (ℕ × Event)) (K K' : List Entry) (M' : List (ℕ × Event)) (who t : ℕ)
+        → sent_to setup M' K' who ≡ sent_to setup M K who ++ []
         → ((t : ℕ) → (who == t) ≡ false → sent_to setup M' K' t ≡ sent_to setup M K t) → sent_to setup M' K' t ≡ sent_to setup M K t
     sent_as setup M K K' M' who t mine others = pick (who == t) refl
       where

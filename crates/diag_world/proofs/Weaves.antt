@@ -31,19 +31,23 @@ steps_after-append s p (x ∷ xs) ys =
     ap (λ w. now ++ w) (steps_after-append s (p ++ x ∷ []) xs ys ∙ ap (λ q. steps_after s (p ++ x ∷ []) xs ++ steps_after s q ys) (append_assoc p (x ∷ []) xs))
     ∙ sym (append_assoc now (steps_after s (p ++ x ∷ []) xs) (steps_after s (p ++ x ∷ xs) ys))
 
-pub steps_of_after-append : (links : ℕ → LinkSetup) (p xs ys : List (ℕ × Event)) → steps_of_after links p (xs ++ ys) ≡ steps_of_after links p xs ++ steps_of_after links (p ++ xs) ys
+pub steps_of_after-append : (links : ℕ → LinkSetup) (p xs ys : List (ℕ × Event))
+    → steps_of_after links p (xs ++ ys) ≡ steps_of_after links p xs ++ steps_of_after links (p ++ xs) ys
 steps_of_after-append links p [] ys = ap (λ q. steps_of_after links q ys) (sym (append-nil p))
 steps_of_after-append links p (x ∷ xs) ys =
     let now = all_by x.0 (option_to_list (gives (links x.0) (items_of p x.0) x.1)) in
-    ap (λ w. now ++ w) (steps_of_after-append links (p ++ x ∷ []) xs ys ∙ ap (λ q. steps_of_after links (p ++ x ∷ []) xs ++ steps_of_after links q ys) (append_assoc p (x ∷ []) xs))
+    ap (λ w. now ++ w) (steps_of_after-append links (p ++ x ∷ []) xs ys
+    ∙ ap (λ q. steps_of_after links (p ++ x ∷ []) xs ++ steps_of_after links q ys) (append_assoc p (x ∷ []) xs))
     ∙ sym (append_assoc now (steps_of_after links (p ++ x ∷ []) xs) (steps_of_after links (p ++ x ∷ xs) ys))
 
 -- a run of events of one tester gives what they give to that tester
-steps_of_one : (links : ℕ → LinkSetup) (p : List (ℕ × Event)) (t : ℕ) (es : List Event) → steps_of_after links p (all_by t es) ≡ all_by t (steps_after (links t) (items_of p t) es)
+steps_of_one : (links : ℕ → LinkSetup) (p : List (ℕ × Event)) (t : ℕ) (es : List Event)
+    → steps_of_after links p (all_by t es) ≡ all_by t (steps_after (links t) (items_of p t) es)
 steps_of_one links p t [] = refl
 steps_of_one links p t (e ∷ es) =
     let now = option_to_list (gives (links t) (items_of p t) e) in
-    let grown : items_of (p ++ (t, e) ∷ []) t ≡ items_of p t ++ e ∷ [] = items_of-append p ((t, e) ∷ []) t ∙ ap (λ w. items_of p t ++ w) (items_of-same t (e ∷ [])) in
+    let grown : items_of (p ++ (t, e) ∷ []) t ≡ items_of p t ++ e ∷ [] =
+    items_of-append p ((t, e) ∷ []) t ∙ ap (λ w. items_of p t ++ w) (items_of-same t (e ∷ [])) in
     ap (λ w. all_by t now ++ w) (steps_of_one links (p ++ (t, e) ∷ []) t es ∙ ap (λ q. all_by t (steps_after (links t) q es)) grown)
     ∙ sym (map-append (λ s. (t, s)) now (steps_after (links t) (items_of p t ++ e ∷ []) es))
 
@@ -96,9 +100,12 @@ leftovers_before past n (log ∷ logs) t h =
 leftovers_own : (past : List (ℕ × Event)) (n : ℕ) (logs : List (List Event)) (t : ℕ)
     → items_of (leftovers past n logs) t ≡ left_of (items_of past t) (log_at n logs t)
 leftovers_own past n [] t = sym (drop-nil (length (items_of past t)))
-leftovers_own past n (log ∷ logs) t = by_tester (λ t. items_of (leftovers past n (log ∷ logs)) t ≡ left_of (items_of past t) (log_at n (log ∷ logs) t)) n here (λ t apart. away t apart (leftovers_own past (n + 1) logs t)) t
+leftovers_own past n (log ∷ logs) t = by_tester
+    (λ t. items_of (leftovers past n (log ∷ logs)) t ≡ left_of (items_of past t) (log_at n (log ∷ logs) t)) n here
+    (λ t apart. away t apart (leftovers_own past (n + 1) logs t)) t
   where
-    both : (t : ℕ) → items_of (leftovers past n (log ∷ logs)) t ≡ items_of (all_by n (left_of (items_of past n) log)) t ++ items_of (leftovers past (n + 1) logs) t
+    both : (t : ℕ) → items_of (leftovers past n (log ∷ logs)) t
+        ≡ items_of (all_by n (left_of (items_of past n) log)) t ++ items_of (leftovers past (n + 1) logs) t
     both t = items_of-append (all_by n (left_of (items_of past n) log)) (leftovers past (n + 1) logs) t
 
     here : items_of (leftovers past n (log ∷ logs)) n ≡ left_of (items_of past n) (log_at n (log ∷ logs) n)
@@ -130,7 +137,8 @@ leftovers_silent links past q n (log ∷ logs) same quiet =
     let left = left_of (items_of past n) log in
     let reflexive : n ≤ n = omega arith in
     let here : steps_after (links n) (items_of past n) left ≡ [] =
-    ap (λ b. steps_after (links n) (items_of past n) (left_of (items_of past n) (cond b log (log_at (n + 1) logs n)))) (sym (eq-eqb n n refl)) ∙ quiet n reflexive in
+    ap (λ b. steps_after (links n) (items_of past n) (left_of (items_of past n) (cond b log (log_at (n + 1) logs n)))) (sym (eq-eqb n n refl))
+    ∙ quiet n reflexive in
     steps_of_after-append links q (all_by n left) (leftovers past (n + 1) logs)
     ∙ ap₂ ◌++◌
     (steps_of_one links q n left ∙ ap (λ w. all_by n w) (ap (λ p. steps_after (links n) p left) (same n reflexive) ∙ here))
@@ -138,11 +146,13 @@ leftovers_silent links past q n (log ∷ logs) same quiet =
     (λ t h.
     let lower : n ≤ t = omega arith in
     let above : n < t = omega arith in
-    items_of-append q (all_by n left) t ∙ (ap (λ w. items_of q t ++ w) (items_of-other n t left (above_other n t above)) ∙ (append-nil (items_of q t) ∙ same t lower)))
+    items_of-append q (all_by n left) t ∙ (ap (λ w. items_of q t ++ w) (items_of-other n t left (above_other n t above))
+    ∙ (append-nil (items_of q t) ∙ same t lower)))
     (λ t h.
     let lower : n ≤ t = omega arith in
     let above : n < t = omega arith in
-    ap (λ b. steps_after (links t) (items_of past t) (left_of (items_of past t) (cond b log (log_at (n + 1) logs t)))) (sym (above_other n t above)) ∙ quiet t lower))
+    ap (λ b. steps_after (links t) (items_of past t) (left_of (items_of past t) (cond b log (log_at (n + 1) logs t)))) (sym (above_other n t above))
+    ∙ quiet t lower))
 
 -- what was taken of each log and what is left of it are the log
 abbrev Whole : List (ℕ × Event) → List (List Event) → ℕ → Type 0
@@ -153,7 +163,8 @@ abbrev Asks : (ℕ → LinkSetup) → List (ℕ × Event) → List Entry → Lis
 Asks links past journal logs t = asked (own journal t) ≡ steps_after (links t) (items_of past t) (left_of (items_of past t) (log_of logs t))
 
 -- the same after the events for one entry
-module _ (links : ℕ → LinkSetup) (past : List (ℕ × Event)) (k : Entry) (ks : List Entry) (logs : List (List Event)) (whole : (t : ℕ) → Whole past logs t) (asks : (t : ℕ) → Asks links past (k ∷ ks) logs t) where
+module _ (links : ℕ → LinkSetup) (past : List (ℕ × Event)) (k : Entry) (ks : List Entry) (logs : List (List Event))
+    (whole : (t : ℕ) → Whole past logs t) (asks : (t : ℕ) → Asks links past (k ∷ ks) logs t) where
   own_here : asked (own (k ∷ ks) k.who) ≡ k.step ∷ asked (own ks k.who)
   own_here = ap (λ b. asked (cond b (k ∷ own ks k.who) (own ks k.who))) (eq-eqb k.who k.who refl)
 
@@ -163,17 +174,22 @@ module _ (links : ℕ → LinkSetup) (past : List (ℕ × Event)) (k : Entry) (k
   first_asked : steps_after (links k.who) (items_of past k.who) (left_of (items_of past k.who) (log_of logs k.who)) ≡ k.step ∷ asked (own ks k.who)
   first_asked = sym (asks k.who) ∙ own_here
 
-  taken_here : items_of (past ++ taken_for links past k.who logs) k.who ≡ items_of past k.who ++ until_step (links k.who) (items_of past k.who) (left_of (items_of past k.who) (log_of logs k.who))
-  taken_here = items_of-append past (taken_for links past k.who logs) k.who ∙ ap (λ w. items_of past k.who ++ w) (items_of-same k.who (until_step (links k.who) (items_of past k.who) (left_of (items_of past k.who) (log_of logs k.who))))
+  taken_here : items_of (past ++ taken_for links past k.who logs) k.who
+      ≡ items_of past k.who ++ until_step (links k.who) (items_of past k.who) (left_of (items_of past k.who) (log_of logs k.who))
+  taken_here = items_of-append past (taken_for links past k.who logs) k.who
+      ∙ ap (λ w. items_of past k.who ++ w) (items_of-same k.who
+      (until_step (links k.who) (items_of past k.who) (left_of (items_of past k.who) (log_of logs k.who))))
 
   taken_away : (t : ℕ) → (k.who == t) ≡ false → items_of (past ++ taken_for links past k.who logs) t ≡ items_of past t
   taken_away t apart =
       items_of-append past (taken_for links past k.who logs) t
-      ∙ (ap (λ w. items_of past t ++ w) (items_of-other k.who t (until_step (links k.who) (items_of past k.who) (left_of (items_of past k.who) (log_of logs k.who))) apart) ∙ append-nil (items_of past t))
+      ∙ (ap (λ w. items_of past t ++ w) (items_of-other k.who t
+      (until_step (links k.who) (items_of past k.who) (left_of (items_of past k.who) (log_of logs k.who))) apart) ∙ append-nil (items_of past t))
 
   -- what is then left of the tester's log
   left_here : left_of (items_of (past ++ taken_for links past k.who logs) k.who) (log_of logs k.who)
-      ≡ drop (length (until_step (links k.who) (items_of past k.who) (left_of (items_of past k.who) (log_of logs k.who)))) (left_of (items_of past k.who) (log_of logs k.who))
+      ≡ drop (length (until_step (links k.who) (items_of past k.who) (left_of (items_of past k.who) (log_of logs k.who))))
+      (left_of (items_of past k.who) (log_of logs k.who))
   left_here =
       let p = items_of past k.who in
       let log = log_of logs k.who in
@@ -185,22 +201,29 @@ module _ (links : ℕ → LinkSetup) (past : List (ℕ × Event)) (k : Entry) (k
   whole_next : (t : ℕ) → Whole (past ++ taken_for links past k.who logs) logs t
   whole_next = by_tester (λ t. Whole (past ++ taken_for links past k.who logs) logs t) k.who
       (ap₂ ◌++◌ taken_here left_here
-      ∙ (append_assoc (items_of past k.who) (until_step (links k.who) (items_of past k.who) (left_of (items_of past k.who) (log_of logs k.who))) (drop (length (until_step (links k.who) (items_of past k.who) (left_of (items_of past k.who) (log_of logs k.who)))) (left_of (items_of past k.who) (log_of logs k.who)))
-      ∙ (ap (λ w. items_of past k.who ++ w) (until_begins (links k.who) (items_of past k.who) (left_of (items_of past k.who) (log_of logs k.who))) ∙ whole k.who)))
+      ∙ (append_assoc (items_of past k.who) (until_step (links k.who) (items_of past k.who) (left_of (items_of past k.who) (log_of logs k.who)))
+      (drop (length (until_step (links k.who) (items_of past k.who) (left_of (items_of past k.who) (log_of logs k.who))))
+      (left_of (items_of past k.who) (log_of logs k.who)))
+      ∙ (ap (λ w. items_of past k.who ++ w) (until_begins (links k.who) (items_of past k.who) (left_of (items_of past k.who) (log_of logs k.who)))
+      ∙ whole k.who)))
       (λ t apart. ap (λ w. w ++ left_of w (log_of logs t)) (taken_away t apart) ∙ whole t)
 
   asks_next : (t : ℕ) → Asks links (past ++ taken_for links past k.who logs) ks logs t
   asks_next = by_tester (λ t. Asks links (past ++ taken_for links past k.who logs) ks logs t) k.who
-      (sym (ap₂ (steps_after (links k.who)) taken_here left_here ∙ until_leaves (links k.who) (items_of past k.who) (left_of (items_of past k.who) (log_of logs k.who)) k.step (asked (own ks k.who)) first_asked))
+      (sym (ap₂ (steps_after (links k.who)) taken_here left_here
+      ∙ until_leaves (links k.who) (items_of past k.who) (left_of (items_of past k.who) (log_of logs k.who)) k.step (asked (own ks k.who)) first_asked))
       (λ t apart. sym (own_away t apart) ∙ (asks t ∙ ap (λ w. steps_after (links t) w (left_of w (log_of logs t))) (sym (taken_away t apart))))
 
   gives_next : steps_of_after links past (taken_for links past k.who logs) ≡ (k.who, k.step) ∷ []
   gives_next =
       steps_of_one links past k.who (until_step (links k.who) (items_of past k.who) (left_of (items_of past k.who) (log_of logs k.who)))
-      ∙ ap (λ w. all_by k.who w) (until_gives (links k.who) (items_of past k.who) (left_of (items_of past k.who) (log_of logs k.who)) k.step (asked (own ks k.who)) first_asked)
+      ∙ ap (λ w. all_by k.who w) (until_gives (links k.who) (items_of past k.who) (left_of (items_of past k.who) (log_of logs k.who)) k.step
+      (asked (own ks k.who)) first_asked)
 
-weaves : (links : ℕ → LinkSetup) (journal : List Entry) (past : List (ℕ × Event)) (logs : List (List Event)) → ((t : ℕ) → Whole past logs t) → ((t : ℕ) → Asks links past journal logs t)
-    → ((t : ℕ) → items_of (past ++ weave_after links past journal logs) t ≡ log_of logs t) × (steps_of_after links past (weave_after links past journal logs) ≡ asked_by journal)
+weaves : (links : ℕ → LinkSetup) (journal : List Entry) (past : List (ℕ × Event)) (logs : List (List Event)) → ((t : ℕ) → Whole past logs t)
+    → ((t : ℕ) → Asks links past journal logs t)
+    → ((t : ℕ) → items_of (past ++ weave_after links past journal logs) t ≡ log_of logs t)
+    × (steps_of_after links past (weave_after links past journal logs) ≡ asked_by journal)
 weaves links [] past logs whole asks = (
   (λ t. items_of-append past (leftovers past 1 logs) t ∙ (ap (λ w. items_of past t ++ w) (leftovers_own past 1 logs t) ∙ whole t)),
   leftovers_silent links past past 1 logs (λ t h. refl) (λ t h. sym (asks t)),

@@ -8,8 +8,10 @@ use Rattle.diag_bus.specs.declared.comparing.Comparisons.{Comparisons}
 use Rattle.diag_bus.proofs.Recordings.{nothing_yet}
 use Rattle.diag_bus.proofs.bus.nothing_compared.Goals as goal
 
-nothing : {E : Type 0} (setup : RawSetup) (n : ℕ) (r : Result Comparisons E) → n ≡ length setup.testers → IfOk r (λ kept. kept.lines ≡ 0) → IfOk r (λ kept. length kept.testers.items ≡ n)
-    → IfOk r (λ kept. (i : ℕ) (own : Comparison) → slice_get kept.testers.items i ≡ Some own → Compares own [] []) → IfOk r (λ kept. ComparesLines setup kept [])
+nothing : {E : Type 0} (setup : RawSetup) (n : ℕ) (r : Result Comparisons E) → n ≡ length setup.testers → IfOk r (λ kept. kept.lines ≡ 0)
+    → IfOk r (λ kept. length kept.testers.items ≡ n)
+    → IfOk r (λ kept. (i : ℕ) (own : Comparison) → slice_get kept.testers.items i ≡ Some own → Compares own [] [])
+    → IfOk r (λ kept. ComparesLines setup kept [])
 nothing setup n (Ok kept) is count many each = nothing_yet setup kept count (many ∙ is) each
 nothing setup n (Err e) is count many each = tt
 

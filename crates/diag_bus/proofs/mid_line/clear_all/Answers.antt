@@ -23,5 +23,6 @@ pub returns-clause-empty : goal.returns-clause-empty
 returns-clause-empty c = λ i frames at.
     let t = map_cases (λ (f : Vec Sent Global). f.items) c.loop-index.drawn.items i frames at in
     let within = slice_get_within c.loop-index.drawn.items i t.0 t.1 in
-    let below : i < c.loop-index.index = omega (arith, within, c.loop-index-test.false, c.len-index-end.ensures, c.loop-index.invariant.lists, c.args.drawn.now.ok.0) in
+    let below : i < c.loop-index.index = omega
+    (arith, within, c.loop-index-test.false, c.len-index-end.ensures, c.loop-index.invariant.lists, c.args.drawn.now.ok.0) in
     t.2 ∙ c.loop-index.invariant.empty i t.0 below t.1

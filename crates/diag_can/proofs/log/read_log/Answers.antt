@@ -9,7 +9,8 @@ loop-index-init c = ([], rw c.new.ensures.items (read-none c.args.text.now c.arg
 pub returns-in_err-take_line-in-Some-clause-err : goal.returns-in_err-take_line-in-Some-clause-err
 returns-in_err-take_line-in-Some-clause-err c =
     let p = err_from_is_err_and c.from_residual.result c.from_residual.ensures.1 in
-    rw (p.1, p.2) (λ known. read-fault c.in-Some.line.now c.in-Some.after.now c.in_err-take_line-in-Some.field-0.0 c.loop-index.invariant.1 c.loop-index-test.true c.in-Some.ensures (c.in_err-take_line-in-Some.ensures.fault known))
+    rw (p.1, p.2) (λ known. read-fault c.in-Some.line.now c.in-Some.after.now c.in_err-take_line-in-Some.field-0.0 c.loop-index.invariant.1
+    c.loop-index-test.true c.in-Some.ensures (c.in_err-take_line-in-Some.ensures.fault known))
 
 pub loop-index-preserved : goal.loop-index-preserved
 loop-index-preserved c =
@@ -17,5 +18,6 @@ loop-index-preserved c =
     let given = step.events in
     let latest = step.reference in (
       c.loop-index.invariant.0 ++ c.in-Some.line.now ∷ [],
-      rw (given, latest) (read-more c.in-Some.line.now c.in-Some.after.now c.loop-index.invariant.1 c.loop-index-test.true c.in-Some.ensures step.well (rw given at step.few)),
+      rw (given, latest) (read-more c.in-Some.line.now c.in-Some.after.now c.loop-index.invariant.1 c.loop-index-test.true c.in-Some.ensures step.well
+          (rw given at step.few)),
     )

@@ -12,7 +12,8 @@ loop-count-preserved c =
 
 pub returns-then-not-is_digit-clause-count : goal.returns-then-not-is_digit-clause-count
 returns-then-not-is_digit-clause-count c =
-    run-count c.args.text.now c.loop-count.count c.loop-count.value c.loop-count-test.true (sym c.is_digit.ensures ∙ c.if-not-is_digit.true) c.loop-count.invariant
+    run-count c.args.text.now c.loop-count.count c.loop-count.value c.loop-count-test.true (sym c.is_digit.ensures ∙ c.if-not-is_digit.true)
+    c.loop-count.invariant
 
 pub returns-clause-count : goal.returns-clause-count
 returns-clause-count c =

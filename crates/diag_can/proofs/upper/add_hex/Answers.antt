@@ -18,7 +18,8 @@ loop-byte-preserved c =
     let i = c.loop-byte.byte-index in
     let both = low ∙ ap (λ text. text ++ get_or pair 1 0 ∷ []) high ∙ append_assoc c.loop-byte.text.items (get_or pair 0 0 ∷ []) _ in
     record {
-      written = upper_more c.args.text.now.items c.args.bytes.now c.loop-byte.text.items c.push_reserved-in-loop-byte.new.self.items (get_or pair 0 0 ∷ get_or pair 1 0 ∷ []) i _
+      written = upper_more c.args.text.now.items c.args.bytes.now c.loop-byte.text.items c.push_reserved-in-loop-byte.new.self.items
+          (get_or pair 0 0 ∷ get_or pair 1 0 ∷ []) i _
           (slice_get-get_or c.args.bytes.now i 0 c.loop-byte-test.true) c.loop-byte.invariant.written both (two_digits pair _ c.digits.ensures);
       len = omega (arith, c.loop-byte.invariant.len, c.push_reserved.ensures.len, c.push_reserved-in-loop-byte.ensures.len);
       capacity = c.push_reserved-in-loop-byte.ensures.capacity ∙ c.push_reserved.ensures.capacity ∙ c.loop-byte.invariant.capacity;

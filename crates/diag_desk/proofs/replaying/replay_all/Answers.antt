@@ -25,6 +25,7 @@ loop-index-preserved c =
     let at : slice_get c.args.journal.now.entries c.loop-index.index ≡ Some (entry_seen c.in-Some.entry) = sym c.in-Some.ensures.same in
     let inv = c.loop-index.invariant in
     let same : c.in-Ok-true.field-0 ≡ true = c.in-Ok-true.field-0-test in
-    let more = run_more c.args.setup.now c.args.journal.now.entries c.loop-index.index (entry_seen c.in-Some.entry) c.loop-index.ecu c.play.new.ecu at inv.run inv.ecu
+    let more = run_more c.args.setup.now c.args.journal.now.entries c.loop-index.index (entry_seen c.in-Some.entry) c.loop-index.ecu c.play.new.ecu at
+    inv.run inv.ecu
     (omega arith) (c.in-Ok-true.ensures.reply.0 same) (rw c.in-Ok-true.field-0-test at c.in-Ok-true.ensures.state) in
     record { run = more.0; ecu = more.1 }

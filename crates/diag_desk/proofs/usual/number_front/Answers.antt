@@ -7,7 +7,8 @@ loop-rest-init c =
     let text = c.args.text.now in
     let digit = c.if-not-is_digit.ensures.0 refl in
     record {
-      read = number-first text _ (get_or text 0 0) c.from-number.result (front_one text c.in-len1-up.len_at_least) (omega (arith, digit, c.if-first-eq48.false)) (omega (arith, digit)) (omega (arith, digit, c.from-number.ensures));
+      read = number-first text _ (get_or text 0 0) c.from-number.result (front_one text c.in-len1-up.len_at_least)
+          (omega (arith, digit, c.if-first-eq48.false)) (omega (arith, digit)) (omega (arith, digit, c.from-number.ensures));
       some = omega (arith, digit, c.if-first-eq48.false, c.from-number.ensures);
       small = omega (arith, digit, c.from-number.ensures);
     }
@@ -20,7 +21,8 @@ loop-rest-preserved c =
     let few = c.if-number-gt6000.false in
     let digit = c.if-not-is_digit-2.ensures.0 refl in
     record {
-      read = number-more c.args.text.now rest _ c.loop-rest.number (get_or rest 0 0) _ l.read (front_one rest c.in-len1-up-rest.len_at_least) some few (omega (arith, digit)) (omega (arith, digit)) (omega (arith, digit, c.from.ensures));
+      read = number-more c.args.text.now rest _ c.loop-rest.number (get_or rest 0 0) _ l.read (front_one rest c.in-len1-up-rest.len_at_least) some few
+          (omega (arith, digit)) (omega (arith, digit)) (omega (arith, digit, c.from.ensures));
       some = omega arith;
       small = omega (arith, digit, c.from.ensures);
     }

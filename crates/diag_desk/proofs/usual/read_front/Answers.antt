@@ -9,5 +9,6 @@ loop-rest-init c = front-none c.args.text.now ∙ ap (λ bytes. encode_upper byt
 pub loop-rest-preserved : goal.loop-rest-preserved
 loop-rest-preserved c =
     let rest = c.loop-rest.rest.now in
-    front-more c.args.text.now c.loop-rest.bytes.items _ rest _ c.pair_value-value.result (get_or rest 0 0) (get_or rest 1 0) c.loop-rest.invariant (front_two rest c.in-len2-up.len_at_least)
+    front-more c.args.text.now c.loop-rest.bytes.items _ rest _ c.pair_value-value.result (get_or rest 0 0) (get_or rest 1 0) c.loop-rest.invariant
+    (front_two rest c.in-len2-up.len_at_least)
     (c.pair_value-value.ensures (omega (arith, c.if-value-gt255.false))) (search rules)

@@ -10,9 +10,21 @@ returns-then-len-le7 c =
 pub returns-then-k-eq0 : goal.returns-then-k-eq0
 returns-then-k-eq0 c =
     let long : 7 < length c.args.message.now = rw c.bytes-bytes.ensures.same at c.if-len-le7.false in
-    rw (c.if-k-eq0.true, cut-first_at c.args.message.now c.args.pad long, c.padded-then-k-eq0.ensures, c.first_frame.ensures.bytes, c.from.ensures, c.head_size.ensures, c.bytes-bytes.ensures.same) refl
+    rw (
+      c.if-k-eq0.true,
+      cut-first_at c.args.message.now c.args.pad long,
+      c.padded-then-k-eq0.ensures,
+      c.first_frame.ensures.bytes,
+      c.from.ensures,
+      c.head_size.ensures,
+      c.bytes-bytes.ensures.same,
+    ) refl
 
 pub returns-else-k-eq0 : goal.returns-else-k-eq0
 returns-else-k-eq0 c =
     let long : 7 < length c.args.message.now = rw c.bytes-bytes.ensures.same at c.if-len-le7.false in
-    rw (cut-part_at c.args.message.now c.args.pad c.args.k long (omega (arith, c.if-k-eq0.false)) c.requires, c.nth_consecutive.ensures, c.bytes-bytes.ensures.same) refl
+    rw (
+      cut-part_at c.args.message.now c.args.pad c.args.k long (omega (arith, c.if-k-eq0.false)) c.requires,
+      c.nth_consecutive.ensures,
+      c.bytes-bytes.ensures.same,
+    ) refl

@@ -65,7 +65,8 @@ loop-i-preserved c =
       | else-eq w ↦
           rw w.next-is (
           record {
-            same = c.loop-i.invariant.same ∙ sym (own_skips journal c.args.who c.loop-i.i (entry_seen c.in-Some.entry) (sym c.in-Some.ensures.same) (sym w.if-eq.ensures));
+            same = c.loop-i.invariant.same ∙ sym (own_skips journal c.args.who c.loop-i.i (entry_seen c.in-Some.entry) (sym c.in-Some.ensures.same)
+                (sym w.if-eq.ensures));
             within = c.loop-i.invariant.within;
           }
           )

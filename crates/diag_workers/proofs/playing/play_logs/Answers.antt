@@ -21,7 +21,8 @@ crew_keeping-requires-clause-doors g c κs within =
     let setup = c.args.setup.now in
     let h = c.in_ok-gate.host in
     let o = opened setup h c.in_ok-gate.gate c.in_ok-desk.desk c.in_ok-desk.ensures c.in_ok-gate.ensures in
-    doors_placed {D = WatchedDoor (GateDoor g.row.R.Denot) g.row.W.Denot} (λ d. d.door) setup h c.give_out.new.host c.testers.result (length setup.testers) c.in_ok-seats.seats.items c.in_ok-doors.doors.items c.testers.ensures.few
+    doors_placed {D = WatchedDoor (GateDoor g.row.R.Denot) g.row.W.Denot} (λ d. d.door) setup h c.give_out.new.host c.testers.result
+    (length setup.testers) c.in_ok-seats.seats.items c.in_ok-doors.doors.items c.testers.ensures.few
     c.testers.ensures.same o c.in_ok-seats.ensures c.in_ok-doors.ensures
 
 pub take_in-requires-clause-room : goal.take_in-requires-clause-room
@@ -29,7 +30,8 @@ take_in-requires-clause-room g c =
     let setup = c.args.setup.now in
     let h = c.in_ok-gate.host in
     let o = opened setup h c.in_ok-gate.gate c.in_ok-desk.desk c.in_ok-desk.ensures c.in_ok-gate.ensures in
-    let many = seats_many {D = WatchedDoor (GateDoor g.row.R.Denot) g.row.W.Denot} (λ d. d.door) nothing setup h c.give_out.new.host c.testers.result c.testers.ensures.few c.in_ok-seats.seats.items (map (λ log. log.items) c.args.logs.now)
+    let many = seats_many {D = WatchedDoor (GateDoor g.row.R.Denot) g.row.W.Denot} (λ d. d.door) nothing setup h c.give_out.new.host c.testers.result
+    c.testers.ensures.few c.in_ok-seats.seats.items (map (λ log. log.items) c.args.logs.now)
     c.in_ok-doors.doors.items c.in_ok-done.done.items o c.in_ok-seats.ensures c.in_ok-doors.ensures c.in_ok-done.ensures in
     omega (arith, ap length c.in_ok-seats-2.ensures.seats, many, c.testers.ensures.few, c.in_ok-seats.ensures.wide, o.wide)
 
@@ -38,9 +40,11 @@ take_in-requires-clause-seats g c k s low =
     let setup = c.args.setup.now in
     let h = c.in_ok-gate.host in
     let o = opened setup h c.in_ok-gate.gate c.in_ok-desk.desk c.in_ok-desk.ensures c.in_ok-gate.ensures in
-    let home = seats_home {D = WatchedDoor (GateDoor g.row.R.Denot) g.row.W.Denot} (λ d. d.door) nothing setup h c.give_out.new.host c.testers.result c.testers.ensures.few c.in_ok-seats.seats.items (map (λ log. log.items) c.args.logs.now)
+    let home = seats_home {D = WatchedDoor (GateDoor g.row.R.Denot) g.row.W.Denot} (λ d. d.door) nothing setup h c.give_out.new.host c.testers.result
+    c.testers.ensures.few c.in_ok-seats.seats.items (map (λ log. log.items) c.args.logs.now)
     c.in_ok-doors.doors.items c.in_ok-done.done.items o c.in_ok-seats.ensures c.in_ok-doors.ensures c.in_ok-done.ensures in
-    let r = subst (λ (l : List SeatView). (k : ℕ) (s : SeatView) → k < length l → ((get_or l k s).gate ≡ h.gate) × ((get_or l k s).who ≡ k + 1)) (sym c.in_ok-seats-2.ensures.seats) home k s low in
+    let r = subst (λ (l : List SeatView). (k : ℕ) (s : SeatView) → k < length l → ((get_or l k s).gate ≡ h.gate) × ((get_or l k s).who ≡ k + 1))
+    (sym c.in_ok-seats-2.ensures.seats) home k s low in
     (r.0 ∙ host_gate h c.in_ok-gate.gate c.in_ok-desk.desk c.in_ok-gate.ensures, r.1)
 
 pub close-desk-requires-clause-home : goal.close-desk-requires-clause-home
@@ -48,16 +52,19 @@ close-desk-requires-clause-home g c =
     let setup = c.args.setup.now in
     let h = c.in_ok-gate.host in
     let o = opened setup h c.in_ok-gate.gate c.in_ok-desk.desk c.in_ok-desk.ensures c.in_ok-gate.ensures in
-    let many = seats_many {D = WatchedDoor (GateDoor g.row.R.Denot) g.row.W.Denot} (λ d. d.door) nothing setup h c.give_out.new.host c.testers.result c.testers.ensures.few c.in_ok-seats.seats.items (map (λ log. log.items) c.args.logs.now)
+    let many = seats_many {D = WatchedDoor (GateDoor g.row.R.Denot) g.row.W.Denot} (λ d. d.door) nothing setup h c.give_out.new.host c.testers.result
+    c.testers.ensures.few c.in_ok-seats.seats.items (map (λ log. log.items) c.args.logs.now)
     c.in_ok-doors.doors.items c.in_ok-done.done.items o c.in_ok-seats.ensures c.in_ok-doors.ensures c.in_ok-done.ensures in
-    home_again setup h c.give_out.new.host c.take_in.new.host c.testers.result c.in_ok-seats.seats.items c.in_ok-seats-2.seats.items c.testers.ensures.few (ap length c.in_ok-seats-2.ensures.seats ∙ many) o c.in_ok-seats.ensures c.take_in.ensures
+    home_again setup h c.give_out.new.host c.take_in.new.host c.testers.result c.in_ok-seats.seats.items c.in_ok-seats-2.seats.items
+    c.testers.ensures.few (ap length c.in_ok-seats-2.ensures.seats ∙ many) o c.in_ok-seats.ensures c.take_in.ensures
 
 pub returns : goal.returns
 returns g c =
     let setup = c.args.setup.now in
     let h = c.in_ok-gate.host in
     let o = opened setup h c.in_ok-gate.gate c.in_ok-desk.desk c.in_ok-desk.ensures c.in_ok-gate.ensures in
-    headline {D = WatchedDoor (GateDoor g.row.R.Denot) g.row.W.Denot} (λ d. d.door) nothing setup h c.give_out.new.host c.take_in.new.host c.testers.result c.testers.ensures.few c.in_ok-seats.seats.items (map (λ log. log.items) c.args.logs.now)
+    headline {D = WatchedDoor (GateDoor g.row.R.Denot) g.row.W.Denot} (λ d. d.door) nothing setup h c.give_out.new.host c.take_in.new.host
+    c.testers.result c.testers.ensures.few c.in_ok-seats.seats.items (map (λ log. log.items) c.args.logs.now)
     c.in_ok-doors.doors.items c.in_ok-done.done.items c.close-desk.result o c.in_ok-seats.ensures c.in_ok-doors.ensures c.in_ok-done.ensures
     (subst (Back c.give_out.new.host c.take_in.new.host) c.in_ok-seats-2.ensures.seats c.take_in.ensures)
     c.weaving_law.ensures c.close-desk.ensures c.journal-journal.ensures.journal.0 (map (λ s. s.items) c.in_ok-seats-2.sent.items) c.in_ok-seats-2.ensures.sent

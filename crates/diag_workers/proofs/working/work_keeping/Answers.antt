@@ -33,7 +33,8 @@ loop-event-preserved g c =
     let tester : g.D.Door.tester c.loop-event.door ≡ c.args.who = c.loop-event.invariant.tester ∙ c.requires.own_door in
     let few : length (take i events) ≤ 1000000 = omega (arith, length-take-le i events (omega arith)) in
     let taken = worker_more s c.args.who _ _ _ (take i events) event before _ _ _ _ few c.loop-event.invariant.stands tester c.in_ok-take.ensures.took in
-    let next : take (i + 1) events ≡ take i events ++ event ∷ [] = take_more events i event c.loop-event-test.true ∙ ap (λ (e : Event). take i events ++ e ∷ []) (sym c.event-item.is) in
+    let next : take (i + 1) events ≡ take i events ++ event ∷ [] =
+    take_more events i event c.loop-event-test.true ∙ ap (λ (e : Event). take i events ++ e ∷ []) (sym c.event-item.is) in
     record {
       tester = c.in_ok-take.ensures.tester ∙ c.loop-event.invariant.tester;
       home = c.in_ok-take.ensures.home ∙ c.loop-event.invariant.home;
@@ -47,5 +48,7 @@ returns-clause-played g c =
     let events = c.args.events.now in
     let before = g.D.Door.given c.args.door.now in
     let all : take c.loop-event.event-index events ≡ events = grind (arith, common_steps) in
-    let stood = subst (λ (E : List Event). WorkerStands s c.args.who (channel_of c.loop-event.worker.channel) E before (g.D.Door.given c.loop-event.door) (g.K.Keep.keeps c.loop-event.worker.entries)) all c.loop-event.invariant.stands in
-    rw c.into_sent.ensures (worker_done s c.args.who (channel_of c.loop-event.worker.channel) events before (g.D.Door.given c.loop-event.door) (g.K.Keep.keeps c.loop-event.worker.entries) stood)
+    let stood = subst (λ (E : List Event). WorkerStands s c.args.who (channel_of c.loop-event.worker.channel) E before
+    (g.D.Door.given c.loop-event.door) (g.K.Keep.keeps c.loop-event.worker.entries)) all c.loop-event.invariant.stands in
+    rw c.into_sent.ensures (worker_done s c.args.who (channel_of c.loop-event.worker.channel) events before (g.D.Door.given c.loop-event.door)
+    (g.K.Keep.keeps c.loop-event.worker.entries) stood)

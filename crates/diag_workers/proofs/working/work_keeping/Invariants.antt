@@ -9,5 +9,6 @@ invariant-loop-event g l = record {
   tester : g.D.Door.tester l.door ≡ g.D.Door.tester l.fn.door;
   home : g.D.Door.home l.door ≡ g.D.Door.home l.fn.door;
   drained : due (channel_of l.worker.channel) ≡ 0;
-  stands : WorkerStands (link_of l.setup l.fn.who) l.fn.who (channel_of l.worker.channel) (take l.event-index l.events) (g.D.Door.given l.fn.door) (g.D.Door.given l.door) (g.K.Keep.keeps l.worker.entries);
+  stands : WorkerStands (link_of l.setup l.fn.who) l.fn.who (channel_of l.worker.channel) (take l.event-index l.events) (g.D.Door.given l.fn.door)
+      (g.D.Door.given l.door) (g.K.Keep.keeps l.worker.entries);
 }

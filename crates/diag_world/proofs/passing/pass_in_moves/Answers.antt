@@ -53,16 +53,20 @@ loop-left-preserved c =
       room = omega (arith, inv.room, c.advance.ensures.unsent, c.send_due.ensures.unsent, c.send_due.ensures.capacity);
       waiting = omega (arith, inv.waiting, c.advance.ensures.waiting, c.send_due.ensures.waiting);
       began = λ same. absurd (omega (arith, same, inv.range, c.min-most.ensures, c.quiet.ensures.some, c.from.ensures));
-      time = λ less. later ∙ time_moved c.args.link.now.state.now c.loop-left.link.state.now c.advance.new.self.state.now c.args.count c.loop-left.left c.min-most.result part
-          inv.range (omega (arith, c.min-most.ensures, c.from.ensures)) (omega (arith, c.min-most.ensures, c.quiet.ensures.some, c.from.ensures)) is inv.began inv.time moved_on;
+      time = λ less. later ∙ time_moved c.args.link.now.state.now c.loop-left.link.state.now c.advance.new.self.state.now c.args.count
+          c.loop-left.left c.min-most.result part
+          inv.range (omega (arith, c.min-most.ensures, c.from.ensures)) (omega (arith, c.min-most.ensures, c.quiet.ensures.some, c.from.ensures)) is
+          inv.began inv.time moved_on;
       later = omega (arith, inv.later, c.advance.ensures.later, later);
       grew = record {
         more = more ++ now;
         grown = c.send_due.ensures.stands.grown ∙ (ap (λ w. w ++ now) inv.grew.grown ∙ append_assoc c.args.out.now.items more now);
         holds = (
           within_append c.args.link.now.state.now c.send_due.new.link.state.now more now
-              (within_wider c.args.link.now.state.now c.loop-left.link.state.now c.args.link.now.state.now c.send_due.new.link.state.now more inv.grew.holds.0 (omega arith) (omega (arith, c.advance.ensures.later, later)))
-              (within_wider c.advance.new.self.state.now c.send_due.new.link.state.now c.args.link.now.state.now c.send_due.new.link.state.now now times (omega (arith, inv.later, c.advance.ensures.later)) (omega arith)),
+              (within_wider c.args.link.now.state.now c.loop-left.link.state.now c.args.link.now.state.now c.send_due.new.link.state.now more
+              inv.grew.holds.0 (omega arith) (omega (arith, c.advance.ensures.later, later)))
+              (within_wider c.advance.new.self.state.now c.send_due.new.link.state.now c.args.link.now.state.now c.send_due.new.link.state.now now
+              times (omega (arith, inv.later, c.advance.ensures.later)) (omega arith)),
           λ s E A Q st time.
               let old = inv.grew.holds.1 s E A Q st time in
               let moved = c.advance.ensures.stands s (E ++ Ticks before ∷ []) A (Q ++ more) old.0 in

@@ -29,9 +29,11 @@ returns-clause-received c =
             let answered : StandsFor s c.match-reply.link.state (E ++ e ∷ []) (A ++ placed_at m c.args.reply) Q =
             elim c.match-reply.branch [
               | in-Some w ↦ subst (λ (l : LinkView). StandsFor s l.state (E ++ e ∷ []) (A ++ placed_at m c.args.reply) Q) (sym w.link-is)
-                  (subst (λ r. StandsFor s w.answer.new.self.state (E ++ e ∷ []) (A ++ placed_at m r) Q) (sym w.in-Some.is) (w.answer.ensures.stands s (E ++ e ∷ []) A Q fed))
+                  (subst (λ r. StandsFor s w.answer.new.self.state (E ++ e ∷ []) (A ++ placed_at m r) Q) (sym w.in-Some.is)
+                  (w.answer.ensures.stands s (E ++ e ∷ []) A Q fed))
               | in_default w ↦ subst (λ (l : LinkView). StandsFor s l.state (E ++ e ∷ []) (A ++ placed_at m c.args.reply) Q) (sym w.link-is)
-                  (subst (λ A'. StandsFor s c.settle.new.self.state (E ++ e ∷ []) A' Q) (sym (ap (λ r. A ++ placed_at m r) (none_of c.args.reply w.in_default.not-Some) ∙ append-nil A)) fed)
+                  (subst (λ A'. StandsFor s c.settle.new.self.state (E ++ e ∷ []) A' Q)
+                  (sym (ap (λ r. A ++ placed_at m r) (none_of c.args.reply w.in_default.not-Some) ∙ append-nil A)) fed)
             ] in
             sent.holds.1 s (E ++ e ∷ []) (A ++ placed_at m c.args.reply) Q answered time,
       );

@@ -27,9 +27,12 @@ returns-in-Ticks-clause-took c =
             let none = none_of_some c.args.reply (λ some. no_frame n (rw c.in-Ticks.is at (c.requires.frame some))) in
             let in_time : last_time E + n ≤ last_tick = omega (arith, c.time_law.ensures.ticks E n, rw c.in-Ticks.is at time) in
             let out = passed.holds.1 s E A (drawn s E (replies K)) h.stands in_time in
-            let sent : HandedOut s c.pass.new.link.state (E ++ Ticks n ∷ []) (A ++ placed_at (last_moment (E ++ Ticks n ∷ [])) c.args.reply) (drawn s E (replies K) ++ passed.more) =
-            subst (λ A'. HandedOut s c.pass.new.link.state (E ++ Ticks n ∷ []) A' (drawn s E (replies K) ++ passed.more)) (sym (ap (λ r. A ++ placed_at (last_moment (E ++ Ticks n ∷ [])) r) none ∙ append-nil A)) out in
-            rw c.in-Ticks.is (port_took s who E K (Ticks n) c.args.reply c.args.link.now.state c.pass.new.link.state passed.more h (rw c.in-Ticks.is at quiet) sent),
+            let sent : HandedOut s c.pass.new.link.state (E ++ Ticks n ∷ []) (A ++ placed_at (last_moment (E ++ Ticks n ∷ [])) c.args.reply)
+            (drawn s E (replies K) ++ passed.more) =
+            subst (λ A'. HandedOut s c.pass.new.link.state (E ++ Ticks n ∷ []) A' (drawn s E (replies K) ++ passed.more))
+            (sym (ap (λ r. A ++ placed_at (last_moment (E ++ Ticks n ∷ [])) r) none ∙ append-nil A)) out in
+            rw c.in-Ticks.is (port_took s who E K (Ticks n) c.args.reply c.args.link.now.state c.pass.new.link.state passed.more h
+            (rw c.in-Ticks.is at quiet) sent),
       );
     }
 

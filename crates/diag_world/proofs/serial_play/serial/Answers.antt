@@ -23,7 +23,8 @@ returns-clause-played c =
     let events = map (λ log. log.items) c.args.logs.now in
     let world = c.loop-round.world in
     let ended : c.loop-round.round ≡ longest events = omega (arith, c.longest-round-end.ensures) in
-    let stands : Stands c.args.setup.now world (turns events) = subst (λ r. Stands c.args.setup.now world (rounds r events)) ended c.loop-round.invariant.stands in
+    let stands : Stands c.args.setup.now world (turns events) =
+    subst (λ r. Stands c.args.setup.now world (rounds r events)) ended c.loop-round.invariant.stands in
     let left = c.in_ok-played.ensures in
     let M = turns events in
     subst (λ d. IsPlay c.args.setup.now M events d (map (λ s. s.items) c.in_ok-played.played.sent.items)) (sym left.desk)

@@ -29,7 +29,8 @@ loop-index-preserved c =
           let who = w.in-Some.who in
           let within : r < length log.items = omega (arith, w.if-round-len.true, c.len.ensures, log.ok.0) in
           let here : slice_get log.items r ≡ Some e = slice_get_read log.items (length log.items) r e refl within w.index.ensures in
-          let grown = more ∙ ap (λ x. F ++ x) (round_gives (p + 1) log.items r e here ∙ ap (λ n. (n, e) ∷ []) (sym (who_found c.args.setup.now p w.in-Some.who w.in-Some.ensures))) in
+          let grown = more ∙ ap (λ x. F ++ x) (round_gives (p + 1) log.items r e here
+          ∙ ap (λ n. (n, e) ∷ []) (sym (who_found c.args.setup.now p w.in-Some.who w.in-Some.ensures))) in
           record {
             testers = ap (λ x. length x.sent) w.world-is ∙ (w.in_ok-event.ensures.testers ∙ inv.testers);
             stands = λ M h. subst (λ x. Stands c.args.setup.now x (M ++ first_of_each 1 (take (p + 1) (map (drop r) events)))) (sym w.world-is)

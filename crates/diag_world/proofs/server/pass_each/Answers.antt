@@ -20,19 +20,23 @@ loop-index-init c = record { many = refl; drained = c.requires.drained; waited =
 found : (c : goal.After-pass_at-arg-1) → slice_get c.loop-index.links.items c.loop-index.index ≡ Some c.index_mut.result.now
 found c =
     let links = c.loop-index.links.items in
-    let within : c.loop-index.index < length links = omega (arith, c.loop-index-test.true, c.loop-index.invariant.many, c.requires.in_setup, c.testers-index-end.ensures.same) in
+    let within : c.loop-index.index < length links =
+    omega (arith, c.loop-index-test.true, c.loop-index.invariant.many, c.requires.in_setup, c.testers-index-end.ensures.same) in
     slice_get_read links (length links) c.loop-index.index c.index_mut.result.now refl within c.index_mut.ensures.value
 
 -- and is as it was at first
-untouched : (c : goal.After-pass_at-arg-1) → slice_get (map (λ (l : LinkView). l.state) c.args.links.now.items) c.loop-index.index ≡ Some c.index_mut.result.now.state
+untouched : (c : goal.After-pass_at-arg-1)
+    → slice_get (map (λ (l : LinkView). l.state) c.args.links.now.items) c.loop-index.index ≡ Some c.index_mut.result.now.state
 untouched c =
     let state = λ (l : LinkView). l.state in
-    sym (c.loop-index.invariant.waited.rest c.loop-index.index (omega arith)) ∙ (slice_get-map state c.loop-index.links.items c.loop-index.index ∙ ap (option_map state) (found c))
+    sym (c.loop-index.invariant.waited.rest c.loop-index.index (omega arith))
+    ∙ (slice_get-map state c.loop-index.links.items c.loop-index.index ∙ ap (option_map state) (found c))
 
 pub pass_at-requires : goal.pass_at-requires
 pass_at-requires c = record {
   drained = c.loop-index.invariant.drained c.loop-index.index c.index_mut.result.now (found c);
-  quiet = quiet_each (map (λ (l : LinkView). l.state) c.args.links.now.items) c.loop-index.index c.args.count c.index_mut.result.now.state c.requires.quiet (untouched c);
+  quiet = quiet_each (map (λ (l : LinkView). l.state) c.args.links.now.items) c.loop-index.index c.args.count c.index_mut.result.now.state
+      c.requires.quiet (untouched c);
   early = c.requires.early c.loop-index.index c.index_mut.result.now.state (untouched c);
 }
 
@@ -54,7 +58,8 @@ loop-index-preserved c =
         | inl p ↦ subst (λ (x : LinkView). pending x.state ≡ 0) (sym p.1) c.pass_at.ensures.drained
         | inr p ↦ c.loop-index.invariant.drained j l p.1
       ];
-      waited = waited_more (state_at c.args.ecu.now c.args.links.now.items) (state_at c.loop-index.ecu links) (state_at c.pass_at.new.ecu (slice_set links i link')) i c.in-Some.who n who c.loop-index.invariant.waited
+      waited = waited_more (state_at c.args.ecu.now c.args.links.now.items) (state_at c.loop-index.ecu links)
+          (state_at c.pass_at.new.ecu (slice_set links i link')) i c.in-Some.who n who c.loop-index.invariant.waited
           (server_settles before next c.in-Some.who i (Ticks n) (Some (entry_of_ticks c.in-Some.who n)) link link' [] who there refl c.pass_at.ensures.ecu
           (λ tick. refl) (λ s E A Q h. sym (gives_ticks s E n)) refl refl c.pass_at.ensures.took);
     }

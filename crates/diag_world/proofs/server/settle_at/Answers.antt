@@ -35,7 +35,8 @@ returns-in-Some-clause-took c =
             let done = took.holds.1 s who E K h in_time (λ none. absurd (some_is_not_none (some ∙ none))) in
             let same = subst (λ (o : Option Entry). IfSome o (λ k. (k.who ≡ who) × (k.reply ≡ c.in-Some.field-0.reply))) (sym c.in-Some.is) (entry, refl) in
             let list = entries_asked who (gives s E e) asked k.reply step same in
-            subst (λ L. PortStands s c.settle.new.link.state (E ++ e ∷ []) (K ++ L) × (drawn s (E ++ e ∷ []) (replies (K ++ L)) ≡ drawn s E (replies K) ++ took.more)) list (done.stands, done.grown);
+            subst (λ L. PortStands s c.settle.new.link.state (E ++ e ∷ []) (K ++ L)
+            × (drawn s (E ++ e ∷ []) (replies (K ++ L)) ≡ drawn s E (replies K) ++ took.more)) list (done.stands, done.grown);
       };
     }
 
@@ -59,6 +60,7 @@ returns-in-None-clause-took c =
             let done = took.holds.1 s who E K h in_time (λ none. refl) in
             let same = subst (λ (o : Option Entry). IfSome o (λ k. (k.who ≡ who) × (k.reply ≡ None))) (sym c.in-None.is) tt in
             let list = entries_asked who (gives s E e) asked None step same in
-            subst (λ L. PortStands s c.settle-in-None.new.link.state (E ++ e ∷ []) (K ++ L) × (drawn s (E ++ e ∷ []) (replies (K ++ L)) ≡ drawn s E (replies K) ++ took.more)) list (done.stands, done.grown);
+            subst (λ L. PortStands s c.settle-in-None.new.link.state (E ++ e ∷ []) (K ++ L)
+            × (drawn s (E ++ e ∷ []) (replies (K ++ L)) ≡ drawn s E (replies K) ++ took.more)) list (done.stands, done.grown);
       };
     }

@@ -7,5 +7,6 @@ returns-clause-took c =
     record {
       more = passed.more;
       grown = passed.grown;
-      holds = ticks_settled c.args.link.now c.let_pass.new.link c.args.who c.args.count passed.more c.let_pass.ensures.most c.in_ok-look_at_clock.ensures.open c.in_ok-let_pass.ensures.time passed.holds;
+      holds = ticks_settled c.args.link.now c.let_pass.new.link c.args.who c.args.count passed.more c.let_pass.ensures.most
+          c.in_ok-look_at_clock.ensures.open c.in_ok-let_pass.ensures.time passed.holds;
     }

@@ -21,12 +21,14 @@ returns-clause-took c =
       more = more;
       grown = c.in_ok-write.ensures.ok;
       holds = λ lines h.
-          let took = took_line inside.setup lines line c.in_ok-said.said inside.line c.begin.new.self taken done inside.clock c.clock_after-clock.result inside.compared c.take_line.new.self
+          let took = took_line inside.setup lines line c.in_ok-said.said inside.line c.begin.new.self taken done inside.clock
+          c.clock_after-clock.result inside.compared c.take_line.new.self
           c.in_ok-said.ensures.said c.in_ok-said.ensures.well c.clock_after-clock.ensures.on
           c.self.invariant.0.1
           c.begin.ensures.empty c.begin.ensures.text c.begin.ensures.server c.begin.ensures.shape
           c.in_ok-take_said.ensures.ok c.take_said.ensures.shape
-          (subst (λ (ls : List (Vec Sent Global)). TakesLine inside.setup inside.compared c.take_line.new.self c.in_ok-said.said (map (λ f. f.items) ls)) c.as_slice.ensures.value c.in_ok-take_line.ensures.ok)
+          (subst (λ (ls : List (Vec Sent Global)). TakesLine inside.setup inside.compared c.take_line.new.self c.in_ok-said.said
+          (map (λ f. f.items) ls)) c.as_slice.ensures.value c.in_ok-take_line.ensures.ok)
           c.write.ensures.server c.write.ensures.shape
           (subst (λ (b : BusState). TookLines b lines) (sym c.self.view_is) h) in
           (took.0, subst (λ (b : BusState). written b.output b.setup (lines ++ line ∷ []) ≡ written b.output b.setup lines ++ more) c.self.view_is took.1);
@@ -43,23 +45,29 @@ take_said-requires-clause-early c = record {
 
 pub invariant_of-self : goal.invariant_of-self
 invariant_of-self c = (
-  sound_taken c.self.inside.setup c.args.line.now c.in_ok-said.said c.self.inside.line c.begin.new.self c.take_said.new.self c.self.inside.clock c.clock_after-clock.result c.self.inside.compared c.self.inside.compared
-      c.self.invariant.0 c.in_ok-said.ensures.said c.clock_after-clock.ensures.on c.clock_after-clock.ensures.start c.begin.ensures.server c.begin.ensures.shape c.take_said.ensures.shape c.take_said.ensures.pace refl,
+  sound_taken c.self.inside.setup c.args.line.now c.in_ok-said.said c.self.inside.line c.begin.new.self c.take_said.new.self c.self.inside.clock
+      c.clock_after-clock.result c.self.inside.compared c.self.inside.compared
+      c.self.invariant.0 c.in_ok-said.ensures.said c.clock_after-clock.ensures.on c.clock_after-clock.ensures.start c.begin.ensures.server
+      c.begin.ensures.shape c.take_said.ensures.shape c.take_said.ensures.pace refl,
   c.self.invariant.1,
 )
 
 pub invariant_of-self-in_err-take_line : goal.invariant_of-self-in_err-take_line
 invariant_of-self-in_err-take_line c = (
-  sound_taken c.self.inside.setup c.args.line.now c.in_ok-said.said c.self.inside.line c.begin.new.self c.take_said.new.self c.self.inside.clock c.clock_after-clock.result c.self.inside.compared c.take_line.new.self
-      c.self.invariant.0 c.in_ok-said.ensures.said c.clock_after-clock.ensures.on c.clock_after-clock.ensures.start c.begin.ensures.server c.begin.ensures.shape c.take_said.ensures.shape c.take_said.ensures.pace c.take_line.ensures.shape,
+  sound_taken c.self.inside.setup c.args.line.now c.in_ok-said.said c.self.inside.line c.begin.new.self c.take_said.new.self c.self.inside.clock
+      c.clock_after-clock.result c.self.inside.compared c.take_line.new.self
+      c.self.invariant.0 c.in_ok-said.ensures.said c.clock_after-clock.ensures.on c.clock_after-clock.ensures.start c.begin.ensures.server
+      c.begin.ensures.shape c.take_said.ensures.shape c.take_said.ensures.pace c.take_line.ensures.shape,
   c.self.invariant.1,
 )
 
 pub invariant_of-self-in_err-write : goal.invariant_of-self-in_err-write
 invariant_of-self-in_err-write c = (
   sound_written c.self.inside.setup c.take_said.new.self c.write.new.self c.clock_after-clock.result c.take_line.new.self
-      (sound_taken c.self.inside.setup c.args.line.now c.in_ok-said.said c.self.inside.line c.begin.new.self c.take_said.new.self c.self.inside.clock c.clock_after-clock.result c.self.inside.compared c.take_line.new.self
-      c.self.invariant.0 c.in_ok-said.ensures.said c.clock_after-clock.ensures.on c.clock_after-clock.ensures.start c.begin.ensures.server c.begin.ensures.shape c.take_said.ensures.shape c.take_said.ensures.pace c.take_line.ensures.shape)
+      (sound_taken c.self.inside.setup c.args.line.now c.in_ok-said.said c.self.inside.line c.begin.new.self c.take_said.new.self c.self.inside.clock
+      c.clock_after-clock.result c.self.inside.compared c.take_line.new.self
+      c.self.invariant.0 c.in_ok-said.ensures.said c.clock_after-clock.ensures.on c.clock_after-clock.ensures.start c.begin.ensures.server
+      c.begin.ensures.shape c.take_said.ensures.shape c.take_said.ensures.pace c.take_line.ensures.shape)
       c.write.ensures.server c.write.ensures.shape,
   c.self.invariant.1,
 )
@@ -67,8 +75,10 @@ invariant_of-self-in_err-write c = (
 pub invariant_of-self-2 : goal.invariant_of-self-2
 invariant_of-self-2 c = (
   sound_written c.self.inside.setup c.take_said.new.self c.write.new.self c.clock_after-clock.result c.take_line.new.self
-      (sound_taken c.self.inside.setup c.args.line.now c.in_ok-said.said c.self.inside.line c.begin.new.self c.take_said.new.self c.self.inside.clock c.clock_after-clock.result c.self.inside.compared c.take_line.new.self
-      c.self.invariant.0 c.in_ok-said.ensures.said c.clock_after-clock.ensures.on c.clock_after-clock.ensures.start c.begin.ensures.server c.begin.ensures.shape c.take_said.ensures.shape c.take_said.ensures.pace c.take_line.ensures.shape)
+      (sound_taken c.self.inside.setup c.args.line.now c.in_ok-said.said c.self.inside.line c.begin.new.self c.take_said.new.self c.self.inside.clock
+      c.clock_after-clock.result c.self.inside.compared c.take_line.new.self
+      c.self.invariant.0 c.in_ok-said.ensures.said c.clock_after-clock.ensures.on c.clock_after-clock.ensures.start c.begin.ensures.server
+      c.begin.ensures.shape c.take_said.ensures.shape c.take_said.ensures.pace c.take_line.ensures.shape)
       c.write.ensures.server c.write.ensures.shape,
   c.self.invariant.1,
 )
@@ -84,7 +94,8 @@ write-requires-clause-filled c = c.take_said.ensures.shape.filled (c.begin.ensur
 -- ---- what is written
 
 pub write-requires-clause-start : goal.write-requires-clause-start
-write-requires-clause-start c = c.clock_after-clock.ensures.start moment_end c.self.invariant.0.4 (bus_line_low c.args.line.now c.in_ok-said.said c.in_ok-said.ensures.said)
+write-requires-clause-start c = c.clock_after-clock.ensures.start moment_end c.self.invariant.0.4
+    (bus_line_low c.args.line.now c.in_ok-said.said c.in_ok-said.ensures.said)
 
 pub write-requires-clause-sent : goal.write-requires-clause-sent
 write-requires-clause-sent c =

@@ -16,7 +16,8 @@ returns-in-Some-front c = λ recorded expected h.
     let kept = c.args.self.now in
     let ahead = kept.ahead.items in
     let none = none_of kept.difference c.in_default.not-Some in
-    let there : slice_get ahead 0 ≡ Some c.in-Some-front.frame.now = slice_get_read ahead (length ahead) 0 c.in-Some-front.frame.now refl c.in-Some-front.ensures.item.3.0 c.in-Some-front.ensures.lookup in
+    let there : slice_get ahead 0 ≡ Some c.in-Some-front.frame.now =
+    slice_get_read ahead (length ahead) 0 c.in-Some-front.frame.now refl c.in-Some-front.ensures.item.3.0 c.in-Some-front.ensures.lookup in
     let frame = c.in-Some-front.frame.now in
     ap (λ (b : List ℕ). Some (differs_by (record { line = frame.line; bytes = b }) None)) c.same_bytes.ensures
     ∙ sym (ahead_is kept recorded expected h none frame there)

@@ -8,7 +8,8 @@ use Rattle.diag_bus.proofs.comparing.Comparison.lack.Goals as goal
 pub returns-in-Some : goal.returns-in-Some
 returns-in-Some c = λ recorded expected h same.
     let behind = c.args.self.now.behind.items in
-    let there : slice_get behind 0 ≡ Some c.in-Some.bytes.now = slice_get_read behind (length behind) 0 c.in-Some.bytes.now refl c.in-Some.ensures.item.3.0 c.in-Some.ensures.lookup in
+    let there : slice_get behind 0 ≡ Some c.in-Some.bytes.now =
+    slice_get_read behind (length behind) 0 c.in-Some.bytes.now refl c.in-Some.ensures.item.3.0 c.in-Some.ensures.lookup in
     ap Some c.same_bytes.ensures ∙ (sym there ∙ sym (lack_is c.args.self.now recorded expected h same))
 
 pub returns-in-None : goal.returns-in-None

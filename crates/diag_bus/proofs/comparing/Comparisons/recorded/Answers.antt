@@ -13,4 +13,5 @@ returns-in-Some c = λ setup lines h within.
     let items = c.deref.result.now in
     let here : slice_get items i ≡ Some own = slice_get_read items (length items) i own refl found.3.0 found.1 in
     let place : i + 1 ≡ c.args.who = omega (arith, c.from-index.ensures, c.place.ensures.same, c.place.ensures.fits.0) in
-    (h.each i own (subst (λ (xs : List Comparison). slice_get xs i ≡ Some own) c.deref.ensures.value here)).count ∙ ap (λ t. length (recorded setup lines t)) place
+    (h.each i own (subst (λ (xs : List Comparison). slice_get xs i ≡ Some own) c.deref.ensures.value here)).count
+    ∙ ap (λ t. length (recorded setup lines t)) place

@@ -25,8 +25,10 @@ loop-index-preserved c =
     let here : slice_get now i ≡ Some own = slice_get_read now (length now) i own refl within c.index_mut.ensures.value in
     let list = c.index-drawn-index.result in
     let drew : slice_get drawn i ≡ Some list =
-    slice_get_read drawn (length drawn) i list refl (omega (arith, c.loop-index-test.true, c.len-index-end.ensures, c.requires.in_setup, c.requires.lists)) c.index-drawn-index.is in
-    let frames : slice_get (map (λ (f : Vec Sent Global). f.items) drawn) i ≡ Some list.items = slice_get-map (λ (f : Vec Sent Global). f.items) drawn i ∙ ap (option_map (λ (f : Vec Sent Global). f.items)) drew in
+    slice_get_read drawn (length drawn) i list refl
+    (omega (arith, c.loop-index-test.true, c.len-index-end.ensures, c.requires.in_setup, c.requires.lists)) c.index-drawn-index.is in
+    let frames : slice_get (map (λ (f : Vec Sent Global). f.items) drawn) i ≡ Some list.items =
+    slice_get-map (λ (f : Vec Sent Global). f.items) drawn i ∙ ap (option_map (λ (f : Vec Sent Global). f.items)) drew in
     let who = who_found setup i c.in-Some.who c.in-Some.ensures in
     let n = c.in_ok-line.line in
     let said = c.args.said.now in
@@ -35,12 +37,15 @@ loop-index-preserved c =
     ∙ (ap (λ (ids : Ids). option_map (at_line n) (reply_said ids.response (Ok said))) (c.ids.ensures ∙ ap (ids_of setup) who))) in
     let takes : Takes own c.take.new.self (said_has setup n said i) (map sent_bytes list.items) =
     subst (λ (r : List Recorded). Takes own c.take.new.self r (map sent_bytes list.items)) has
-    (subst (λ (f : List Sent). Takes own c.take.new.self (option_to_list c.reply_in-frame.result) (map sent_bytes f)) c.as_slice.ensures.value c.in_ok-take.ensures) in
-    took_one setup n said (map (λ (f : Vec Sent Global). f.items) drawn) c.args.self.now.testers.items now i c.loop-index.invariant own c.take.new.self list.items here frames takes
+    (subst (λ (f : List Sent). Takes own c.take.new.self (option_to_list c.reply_in-frame.result) (map sent_bytes f)) c.as_slice.ensures.value
+    c.in_ok-take.ensures) in
+    took_one setup n said (map (λ (f : Vec Sent Global). f.items) drawn) c.args.self.now.testers.items now i c.loop-index.invariant own
+    c.take.new.self list.items here frames takes
 
 pub returns-clause-ok : goal.returns-clause-ok
 returns-clause-ok c =
-    let all : c.loop-index.index ≡ length c.args.self.now.testers.items = omega (arith, c.loop-index-test.false, c.len-index-end.ensures, c.loop-index.auto.index-end) in
+    let all : c.loop-index.index ≡ length c.args.self.now.testers.items =
+    omega (arith, c.loop-index-test.false, c.len-index-end.ensures, c.loop-index.auto.index-end) in
     let setup = c.args.setup.now in
     let old = c.args.self.now in
     let n = c.in_ok-line.line in

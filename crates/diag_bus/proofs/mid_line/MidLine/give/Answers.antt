@@ -27,7 +27,14 @@ enter-requires c =
 pub returns-clause-ok : goal.returns-clause-ok
 returns-clause-ok c = λ setup base before M h.
     let old = c.args.self.now in
-    let new : MidLine = record { server = c.settle.new.self; output = old.output; drawn = with_item old.drawn (c.from-index.result - 1) c.settle.new.out; filled = c.after-self.result; text = c.enter.new.text } in
+    let new : MidLine = record {
+      server = c.settle.new.self;
+      output = old.output;
+      drawn =
+          with_item old.drawn (c.from-index.result - 1) c.settle.new.out;
+      filled = c.after-self.result;
+      text = c.enter.new.text;
+    } in
     let drawn = old.drawn.items in
     let i = c.from-index.result - 1 in
     let who = c.args.who in
@@ -54,7 +61,8 @@ returns-clause-ok c = λ setup base before M h.
     let by = (c.in-Ok.ensures.asked link.0 link.1).by in
     drew_more setup old new base before M who i c.now.result c.args.event.now asked list.items grew.more
     settled is found lists refl text
-    (λ K served. clock_told setup c.ask.new.self M K who (who - 1) c.now.result asked (subst (λ (s : ServerState). Serves setup s M K) (sym same) served) place there c.now.ensures early by)
+    (λ K served. clock_told setup c.ask.new.self M K who (who - 1) c.now.result asked
+    (subst (λ (s : ServerState). Serves setup s M K) (sym same) served) place there c.now.ensures early by)
     h
 
 pub unreachable-requires : goal.unreachable-requires
@@ -67,8 +75,10 @@ unreachable-requires c =
 pub returns-clause-pace : goal.returns-clause-pace
 returns-clause-pace c =
     let grew = c.settle.ensures.took in
-    let settled = subst (λ (s : ServerState). Settled s (server_of c.settle.new.self) c.args.who c.args.event.now c.in-Ok.asked.entry grew.more) c.in-Ok.ensures.same grew.holds in
-    went_on c.args.self.now.server c.settle.new.self (c.args.who - 1) 0 c.args.event.now c.in-Ok.asked.entry grew.more settled.moved (frame_time c.args.event.now c.requires.frame)
+    let settled = subst (λ (s : ServerState). Settled s (server_of c.settle.new.self) c.args.who c.args.event.now c.in-Ok.asked.entry grew.more)
+    c.in-Ok.ensures.same grew.holds in
+    went_on c.args.self.now.server c.settle.new.self (c.args.who - 1) 0 c.args.event.now c.in-Ok.asked.entry grew.more settled.moved
+    (frame_time c.args.event.now c.requires.frame)
 
 pub returns-in-Err-Memory-clause-pace : goal.returns-in-Err-Memory-clause-pace
 returns-in-Err-Memory-clause-pace c = stays c.args.self.now.server c.ask.new.self (c.args.who - 1) 0 c.ask.ensures.same
@@ -82,18 +92,35 @@ pub returns-clause-shape : goal.returns-clause-shape
 returns-clause-shape c =
     let old = c.args.self.now in
     let i = c.from-index.result - 1 in
-    let new : MidLine = record { server = c.settle.new.self; output = old.output; drawn = with_item old.drawn i c.settle.new.out; filled = c.after-self.result; text = c.enter.new.text } in
-    let within : i < length old.drawn.items = omega (arith, c.from-index.ensures, c.place.ensures.same, c.place.ensures.fits.0, c.requires.in_setup, c.requires.lists) in
+    let new : MidLine = record {
+      server = c.settle.new.self;
+      output = old.output;
+      drawn = with_item old.drawn i c.settle.new.out;
+      filled =
+          c.after-self.result;
+      text = c.enter.new.text;
+    } in
+    let within : i < length old.drawn.items =
+    omega (arith, c.from-index.ensures, c.place.ensures.same, c.place.ensures.fits.0, c.requires.in_setup, c.requires.lists) in
     let grew = c.settle.ensures.took in
-    let settled = subst (λ (s : ServerState). Settled s (server_of c.settle.new.self) c.args.who c.args.event.now c.in-Ok.asked.entry grew.more) c.in-Ok.ensures.same grew.holds in
+    let settled = subst (λ (s : ServerState). Settled s (server_of c.settle.new.self) c.args.who c.args.event.now c.in-Ok.asked.entry grew.more)
+    c.in-Ok.ensures.same grew.holds in
     shape_after old new i c.settle.new.out c.is_empty.result
-    (links_moved old.server c.settle.new.self c.args.who c.args.event.now c.in-Ok.asked.entry grew.more settled) within refl refl c.after-self.ensures c.is_empty.ensures
+    (links_moved old.server c.settle.new.self c.args.who c.args.event.now c.in-Ok.asked.entry grew.more settled) within refl refl c.after-self.ensures
+    c.is_empty.ensures
 
 pub returns-in-Err-Memory-clause-shape : goal.returns-in-Err-Memory-clause-shape
 returns-in-Err-Memory-clause-shape c =
     let old = c.args.self.now in
     let i = c.from-index.result - 1 in
-    let new : MidLine = record { server = c.ask.new.self; output = old.output; drawn = with_item old.drawn i c.ask.new.out; filled = old.filled; text = old.text } in
+    let new : MidLine = record {
+      server = c.ask.new.self;
+      output = old.output;
+      drawn = with_item old.drawn i c.ask.new.out;
+      filled =
+          old.filled;
+      text = old.text;
+    } in
     shape_same old new i c.ask.new.out c.index_mut-out.result.now
     (links_same old.server c.ask.new.self c.ask.ensures.same) refl c.index_mut-out.ensures.value c.ask.ensures.out refl refl
 
@@ -101,14 +128,28 @@ pub returns-in_err-enter-clause-shape : goal.returns-in_err-enter-clause-shape
 returns-in_err-enter-clause-shape c =
     let old = c.args.self.now in
     let i = c.from-index.result - 1 in
-    let new : MidLine = record { server = c.ask.new.self; output = old.output; drawn = with_item old.drawn i c.ask.new.out; filled = old.filled; text = c.enter.new.text } in
+    let new : MidLine = record {
+      server = c.ask.new.self;
+      output = old.output;
+      drawn = with_item old.drawn i c.ask.new.out;
+      filled =
+          old.filled;
+      text = c.enter.new.text;
+    } in
     shape_same old new i c.ask.new.out c.index_mut-out.result.now
     (links_same old.server c.ask.new.self c.in-Ok.ensures.same) refl c.index_mut-out.ensures.value c.in-Ok.ensures.out refl refl
 
 pub returns-clause-sent : goal.returns-clause-sent
 returns-clause-sent c =
     let old = c.args.self.now in
-    let new : MidLine = record { server = c.settle.new.self; output = old.output; drawn = with_item old.drawn (c.from-index.result - 1) c.settle.new.out; filled = c.after-self.result; text = c.enter.new.text } in
+    let new : MidLine = record {
+      server = c.settle.new.self;
+      output = old.output;
+      drawn =
+          with_item old.drawn (c.from-index.result - 1) c.settle.new.out;
+      filled = c.after-self.result;
+      text = c.enter.new.text;
+    } in
     let drawn = old.drawn.items in
     let i = c.from-index.result - 1 in
     let who = c.args.who in

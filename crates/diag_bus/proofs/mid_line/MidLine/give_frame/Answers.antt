@@ -37,7 +37,8 @@ pub give-requires-clause-frame : goal.give-requires-clause-frame
 give-requires-clause-frame c = c.in-Some.ensures.frame
 
 pub returns-in_err-give-clause-pace : goal.returns-in_err-give-clause-pace
-returns-in_err-give-clause-pace c = took_one c.args.self.now.server c.loop-index.self.server c.give.new.self.server 0 (c.in-Some-who.who - 1) 0 0 (omega arith) c.loop-index.invariant.pace c.give.ensures.pace
+returns-in_err-give-clause-pace c = took_one c.args.self.now.server c.loop-index.self.server c.give.new.self.server 0 (c.in-Some-who.who - 1) 0 0
+    (omega arith) c.loop-index.invariant.pace c.give.ensures.pace
 
 pub loop-index-preserved : goal.loop-index-preserved
 loop-index-preserved c =
@@ -46,13 +47,17 @@ loop-index-preserved c =
     let who = who_found setup c.loop-index.index c.in-Some-who.who c.in-Some-who.ensures in
     let frame = c.args.frame.now in
     let L = flat_map (frame_to setup (Some frame)) (counted_from 1 c.loop-index.index) in
-    let is = frame_given setup frame c.in-Some-who.who (ids_of setup (c.loop-index.index + 1)) c.event_at.result (Some c.in-Some.event) (ap (ids_of setup) (sym who)) (c.event_at.ensures.is setup c.requires.ids) c.in-Some.is in
+    let is = frame_given setup frame c.in-Some-who.who (ids_of setup (c.loop-index.index + 1)) c.event_at.result (Some c.in-Some.event)
+    (ap (ids_of setup) (sym who)) (c.event_at.ensures.is setup c.requires.ids) c.in-Some.is in
     record {
       shape = same_more c.args.self.now c.loop-index.self c.give.new.self inv.shape c.give.ensures.shape;
-      gave = subst (λ N. Gave c.args.self.now c.give.new.self N) (sym (frames_more setup (Some frame) c.loop-index.index c.in-Some-who.who who ∙ ap (λ x. L ++ x) is))
+      gave = subst (λ N. Gave c.args.self.now c.give.new.self N)
+          (sym (frames_more setup (Some frame) c.loop-index.index c.in-Some-who.who who ∙ ap (λ x. L ++ x) is))
           (gave_more c.args.self.now c.loop-index.self c.give.new.self _ _ inv.gave c.in_ok-give.ensures.ok);
-      pace = took_one c.args.self.now.server c.loop-index.self.server c.give.new.self.server 0 (c.in-Some-who.who - 1) 0 0 (omega arith) inv.pace c.give.ensures.pace;
-      sent = sent_then c.args.self.now c.loop-index.self c.give.new.self 0 (c.in-Some-who.who - 1) 0 0 (omega arith) inv.pace inv.sent c.in_ok-give.ensures.sent;
+      pace = took_one c.args.self.now.server c.loop-index.self.server c.give.new.self.server 0 (c.in-Some-who.who - 1) 0 0 (omega arith) inv.pace
+          c.give.ensures.pace;
+      sent = sent_then c.args.self.now c.loop-index.self c.give.new.self 0 (c.in-Some-who.who - 1) 0 0 (omega arith) inv.pace inv.sent
+          c.in_ok-give.ensures.sent;
     }
 
 pub loop-index-preserved-in_default : goal.loop-index-preserved-in_default
@@ -62,10 +67,12 @@ loop-index-preserved-in_default c =
     let frame = c.args.frame.now in
     let who = c.loop-index.index + 1 in
     let L = flat_map (frame_to setup (Some frame)) (counted_from 1 c.loop-index.index) in
-    let is = frame_given setup frame who (ids_of setup who) c.event_at.result None refl (c.event_at.ensures.is setup c.requires.ids) (none_of c.event_at.result c.in_default.not-Some) in
+    let is = frame_given setup frame who (ids_of setup who) c.event_at.result None refl (c.event_at.ensures.is setup c.requires.ids)
+    (none_of c.event_at.result c.in_default.not-Some) in
     record {
       shape = inv.shape;
-      gave = subst (λ N. Gave c.args.self.now c.loop-index.self N) (sym (frames_more setup (Some frame) c.loop-index.index who refl ∙ (ap (λ x. L ++ x) is ∙ append-nil L))) inv.gave;
+      gave = subst (λ N. Gave c.args.self.now c.loop-index.self N)
+          (sym (frames_more setup (Some frame) c.loop-index.index who refl ∙ (ap (λ x. L ++ x) is ∙ append-nil L))) inv.gave;
       pace = inv.pace;
       sent = inv.sent;
     }

@@ -22,7 +22,8 @@ give_ticks-requires-clause-in_setup c =
     omega (arith, who, c.loop-index.invariant.shape.links, c.requires.in_setup, c.testers-index-end.ensures.same)
 
 pub give_ticks-requires-clause-lists : goal.give_ticks-requires-clause-lists
-give_ticks-requires-clause-lists c = omega (arith, c.loop-index.invariant.shape.links, c.loop-index.invariant.shape.lists, c.requires.in_setup, c.requires.lists)
+give_ticks-requires-clause-lists c = omega
+    (arith, c.loop-index.invariant.shape.links, c.loop-index.invariant.shape.lists, c.requires.in_setup, c.requires.lists)
 
 pub give_ticks-requires-clause-early : goal.give_ticks-requires-clause-early
 give_ticks-requires-clause-early c = λ link at.
@@ -39,8 +40,10 @@ loop-index-preserved c =
       shape = same_more c.args.self.now c.loop-index.self c.give_ticks.new.self inv.shape c.give_ticks.ensures.shape;
       gave = subst (λ L. Gave c.args.self.now c.give_ticks.new.self L) (sym (each_more c.loop-index.index (Ticks c.args.count) c.in-Some.who who))
           (gave_more c.args.self.now c.loop-index.self c.give_ticks.new.self _ _ inv.gave c.in_ok-give_ticks.ensures.ok);
-      pace = some_more c.args.self.now.server c.loop-index.self.server c.give_ticks.new.self.server c.loop-index.index (c.in-Some.who - 1) c.args.count (omega (arith, who)) inv.pace c.give_ticks.ensures.pace;
-      sent = sent_some c.args.self.now c.loop-index.self c.give_ticks.new.self c.loop-index.index (c.in-Some.who - 1) c.args.count (omega (arith, who)) inv.pace inv.sent c.in_ok-give_ticks.ensures.sent;
+      pace = some_more c.args.self.now.server c.loop-index.self.server c.give_ticks.new.self.server c.loop-index.index (c.in-Some.who - 1)
+          c.args.count (omega (arith, who)) inv.pace c.give_ticks.ensures.pace;
+      sent = sent_some c.args.self.now c.loop-index.self c.give_ticks.new.self c.loop-index.index (c.in-Some.who - 1) c.args.count
+          (omega (arith, who)) inv.pace inv.sent c.in_ok-give_ticks.ensures.sent;
     }
 
 pub returns-clause-ok : goal.returns-clause-ok
@@ -49,7 +52,8 @@ returns-clause-ok c =
     subst (λ n. Gave c.args.self.now c.loop-index.self (to_each n (Ticks c.args.count))) ended c.loop-index.invariant.gave
 
 pub returns-in_err-give_ticks-clause-shape : goal.returns-in_err-give_ticks-clause-shape
-returns-in_err-give_ticks-clause-shape c = same_more c.args.self.now c.loop-index.self c.give_ticks.new.self c.loop-index.invariant.shape c.give_ticks.ensures.shape
+returns-in_err-give_ticks-clause-shape c =
+    same_more c.args.self.now c.loop-index.self c.give_ticks.new.self c.loop-index.invariant.shape c.give_ticks.ensures.shape
 
 pub returns-clause-pace : goal.returns-clause-pace
 returns-clause-pace c = some_all c.args.self.now.server c.loop-index.self.server c.loop-index.index c.args.count c.loop-index.invariant.pace
@@ -58,7 +62,8 @@ pub returns-in_err-give_ticks-clause-pace : goal.returns-in_err-give_ticks-claus
 returns-in_err-give_ticks-clause-pace c =
     let who = who_found c.args.setup.now c.loop-index.index c.in-Some.who c.in-Some.ensures in
     some_all c.args.self.now.server c.give_ticks.new.self.server (c.loop-index.index + 1) c.args.count
-    (some_more c.args.self.now.server c.loop-index.self.server c.give_ticks.new.self.server c.loop-index.index (c.in-Some.who - 1) c.args.count (omega (arith, who)) c.loop-index.invariant.pace c.give_ticks.ensures.pace)
+    (some_more c.args.self.now.server c.loop-index.self.server c.give_ticks.new.self.server c.loop-index.index (c.in-Some.who - 1) c.args.count
+    (omega (arith, who)) c.loop-index.invariant.pace c.give_ticks.ensures.pace)
 
 pub returns-clause-sent : goal.returns-clause-sent
 returns-clause-sent c = c.loop-index.invariant.sent

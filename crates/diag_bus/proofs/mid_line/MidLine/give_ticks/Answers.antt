@@ -21,12 +21,20 @@ enter_ticks-requires c =
     let links = c.args.self.now.server.links in
     let at = c.args.who - 1 in
     let within : at < length links = omega (arith, c.requires.in_setup, c.place.ensures.same, c.place.ensures.fits.0) in
-    early_now links at c.now-now.result within c.now-now.ensures (λ link there. some_of (λ (l : LinkView). l.state.now ≤ closing_time) (slice_get links at) link there c.in-Ok.ensures.early)
+    early_now links at c.now-now.result within c.now-now.ensures
+    (λ link there. some_of (λ (l : LinkView). l.state.now ≤ closing_time) (slice_get links at) link there c.in-Ok.ensures.early)
 
 pub returns-in-Ok-clause-ok : goal.returns-in-Ok-clause-ok
 returns-in-Ok-clause-ok c =
     let old = c.args.self.now in
-    let new : MidLine = record { server = c.ticks.new.self; output = old.output; drawn = with_item old.drawn (c.from-index.result - 1) c.ticks.new.out; filled = c.after-self.result; text = c.enter_ticks.new.text } in
+    let new : MidLine = record {
+      server = c.ticks.new.self;
+      output = old.output;
+      drawn =
+          with_item old.drawn (c.from-index.result - 1) c.ticks.new.out;
+      filled = c.after-self.result;
+      text = c.enter_ticks.new.text;
+    } in
     let drawn = old.drawn.items in
     let links = old.server.links in
     let i = c.from-index.result - 1 in
@@ -42,7 +50,8 @@ returns-in-Ok-clause-ok c =
     let lists = map-set (λ f. f.items) drawn i c.ticks.new.out ∙ ap (λ (w : List Sent). slice_set (map (λ f. f.items) drawn) i w) grew.grown in
     let place : who ≡ (who - 1) + 1 = omega (arith, is) in
     let there : who - 1 < length links = omega (arith, is, c.requires.in_setup) in
-    let early = early_now links (who - 1) now there c.now-now.ensures (λ link at. some_of (λ (l : LinkView). l.state.now ≤ closing_time) (slice_get links (who - 1)) link at c.in-Ok.ensures.early) in
+    let early = early_now links (who - 1) now there c.now-now.ensures
+    (λ link at. some_of (λ (l : LinkView). l.state.now ≤ closing_time) (slice_get links (who - 1)) link at c.in-Ok.ensures.early) in
     on_ok _ _ c.enter_ticks.result (λ entered. λ setup base before M h.
     drew_more setup old new base before M who i now (Ticks c.args.count) asked list.items grew.more
     grew.holds is found lists refl entered
@@ -53,7 +62,8 @@ returns-in-Ok-clause-ok c =
 pub returns-in-Ok-clause-pace : goal.returns-in-Ok-clause-pace
 returns-in-Ok-clause-pace c =
     let settled = c.in-Ok.ensures.ok.holds in
-    went_on c.args.self.now.server c.ticks.new.self (c.args.who - 1) c.args.count (Ticks c.args.count) (Some (entry_of_ticks c.args.who c.args.count)) c.in-Ok.ensures.ok.more settled.moved (ticks_time c.args.count)
+    went_on c.args.self.now.server c.ticks.new.self (c.args.who - 1) c.args.count (Ticks c.args.count) (Some (entry_of_ticks c.args.who c.args.count))
+    c.in-Ok.ensures.ok.more settled.moved (ticks_time c.args.count)
 
 pub returns-in-Err-Memory-clause-pace : goal.returns-in-Err-Memory-clause-pace
 returns-in-Err-Memory-clause-pace c = stays c.args.self.now.server c.ticks.new.self (c.args.who - 1) c.args.count c.in-Err-Memory.ensures.err.0
@@ -68,7 +78,14 @@ unreachable-requires c =
 pub returns-in-Ok-clause-sent : goal.returns-in-Ok-clause-sent
 returns-in-Ok-clause-sent c =
     let old = c.args.self.now in
-    let new : MidLine = record { server = c.ticks.new.self; output = old.output; drawn = with_item old.drawn (c.from-index.result - 1) c.ticks.new.out; filled = c.after-self.result; text = c.enter_ticks.new.text } in
+    let new : MidLine = record {
+      server = c.ticks.new.self;
+      output = old.output;
+      drawn =
+          with_item old.drawn (c.from-index.result - 1) c.ticks.new.out;
+      filled = c.after-self.result;
+      text = c.enter_ticks.new.text;
+    } in
     let drawn = old.drawn.items in
     let i = c.from-index.result - 1 in
     let who = c.args.who in
@@ -90,16 +107,32 @@ pub returns-in-Ok-clause-shape : goal.returns-in-Ok-clause-shape
 returns-in-Ok-clause-shape c =
     let old = c.args.self.now in
     let i = c.from-index.result - 1 in
-    let new : MidLine = record { server = c.ticks.new.self; output = old.output; drawn = with_item old.drawn i c.ticks.new.out; filled = c.after-self.result; text = c.enter_ticks.new.text } in
-    let within : i < length old.drawn.items = omega (arith, c.from-index.ensures, c.place.ensures.same, c.place.ensures.fits.0, c.requires.in_setup, c.requires.lists) in
+    let new : MidLine = record {
+      server = c.ticks.new.self;
+      output = old.output;
+      drawn = with_item old.drawn i c.ticks.new.out;
+      filled =
+          c.after-self.result;
+      text = c.enter_ticks.new.text;
+    } in
+    let within : i < length old.drawn.items =
+    omega (arith, c.from-index.ensures, c.place.ensures.same, c.place.ensures.fits.0, c.requires.in_setup, c.requires.lists) in
     let grew = c.in-Ok.ensures.ok in
     shape_after old new i c.ticks.new.out c.is_empty.result
-    (links_moved old.server c.ticks.new.self c.args.who (Ticks c.args.count) (Some (entry_of_ticks c.args.who c.args.count)) grew.more grew.holds) within refl refl c.after-self.ensures c.is_empty.ensures
+    (links_moved old.server c.ticks.new.self c.args.who (Ticks c.args.count) (Some (entry_of_ticks c.args.who c.args.count)) grew.more grew.holds)
+    within refl refl c.after-self.ensures c.is_empty.ensures
 
 pub returns-in-Err-Memory-clause-shape : goal.returns-in-Err-Memory-clause-shape
 returns-in-Err-Memory-clause-shape c =
     let old = c.args.self.now in
     let i = c.from-index.result - 1 in
-    let new : MidLine = record { server = c.ticks.new.self; output = old.output; drawn = with_item old.drawn i c.ticks.new.out; filled = old.filled; text = old.text } in
+    let new : MidLine = record {
+      server = c.ticks.new.self;
+      output = old.output;
+      drawn = with_item old.drawn i c.ticks.new.out;
+      filled =
+          old.filled;
+      text = old.text;
+    } in
     shape_same old new i c.ticks.new.out c.index_mut-out.result.now
     (links_same old.server c.ticks.new.self c.in-Err-Memory.ensures.err.0) refl c.index_mut-out.ensures.value c.in-Err-Memory.ensures.err.1 refl refl

@@ -30,12 +30,14 @@ parts_fit part ms less = omega arith
 pub give_each-requires-clause-early : goal.give_each-requires-clause-early
 give_each-requires-clause-early c =
     let fits = parts_fit c.loop-part.part c.args.ms (omega (arith, c.loop-part-test.true)) in
-    has_left c.args.self.now.server c.loop-part.self.server c.args.ms (60000 * c.loop-part.part) c.longest.result (omega (arith, c.longest.ensures, fits)) c.requires.early c.loop-part.invariant.pace
+    has_left c.args.self.now.server c.loop-part.self.server c.args.ms (60000 * c.loop-part.part) c.longest.result
+    (omega (arith, c.longest.ensures, fits)) c.requires.early c.loop-part.invariant.pace
 
 pub returns-in_err-give_each-clause-pace : goal.returns-in_err-give_each-clause-pace
 returns-in_err-give_each-clause-pace c =
     let fits = parts_fit c.loop-part.part c.args.ms (omega (arith, c.loop-part-test.true)) in
-    took_more c.args.self.now.server c.loop-part.self.server c.give_each.new.self.server (60000 * c.loop-part.part) c.longest.result c.args.ms (omega (arith, c.longest.ensures, fits)) c.loop-part.invariant.pace c.give_each.ensures.pace
+    took_more c.args.self.now.server c.loop-part.self.server c.give_each.new.self.server (60000 * c.loop-part.part) c.longest.result c.args.ms
+    (omega (arith, c.longest.ensures, fits)) c.loop-part.invariant.pace c.give_each.ensures.pace
 
 -- what is left behind the parts
 rest_fits : (part ms : ℕ) → part ≡ ms / 60000 → 60000 * part + ms % 60000 ≤ ms
@@ -45,19 +47,22 @@ pub give_each-requires-in-Some-clause-early : goal.give_each-requires-in-Some-cl
 give_each-requires-in-Some-clause-early c =
     let ended : c.loop-part.part ≡ c.args.ms / 60000 = omega (arith, c.loop-part.auto.part-end, c.loop-part-test.false) in
     let fits = rest_fits c.loop-part.part c.args.ms ended in
-    has_left c.args.self.now.server c.loop-part.self.server c.args.ms (60000 * c.loop-part.part) c.in-Some.rest (omega (arith, c.in-Some.ensures.value, fits)) c.requires.early c.loop-part.invariant.pace
+    has_left c.args.self.now.server c.loop-part.self.server c.args.ms (60000 * c.loop-part.part) c.in-Some.rest
+    (omega (arith, c.in-Some.ensures.value, fits)) c.requires.early c.loop-part.invariant.pace
 
 pub returns-in-None-clause-pace : goal.returns-in-None-clause-pace
 returns-in-None-clause-pace c =
     let ended : c.loop-part.part ≡ c.args.ms / 60000 = omega (arith, c.loop-part.auto.part-end, c.loop-part-test.false) in
     let fits = rest_fits c.loop-part.part c.args.ms ended in
-    took_more c.args.self.now.server c.loop-part.self.server c.loop-part.self.server (60000 * c.loop-part.part) 0 c.args.ms (omega (arith, fits)) c.loop-part.invariant.pace (took_none c.loop-part.self.server 0)
+    took_more c.args.self.now.server c.loop-part.self.server c.loop-part.self.server (60000 * c.loop-part.part) 0 c.args.ms (omega (arith, fits))
+    c.loop-part.invariant.pace (took_none c.loop-part.self.server 0)
 
 pub returns-in-Some-clause-pace : goal.returns-in-Some-clause-pace
 returns-in-Some-clause-pace c =
     let ended : c.loop-part.part ≡ c.args.ms / 60000 = omega (arith, c.loop-part.auto.part-end, c.loop-part-test.false) in
     let fits = rest_fits c.loop-part.part c.args.ms ended in
-    took_more c.args.self.now.server c.loop-part.self.server c.give_each-in-Some.new.self.server (60000 * c.loop-part.part) c.in-Some.rest c.args.ms (omega (arith, c.in-Some.ensures.value, fits)) c.loop-part.invariant.pace c.give_each-in-Some.ensures.pace
+    took_more c.args.self.now.server c.loop-part.self.server c.give_each-in-Some.new.self.server (60000 * c.loop-part.part) c.in-Some.rest c.args.ms
+    (omega (arith, c.in-Some.ensures.value, fits)) c.loop-part.invariant.pace c.give_each-in-Some.ensures.pace
 
 pub loop-part-preserved : goal.loop-part-preserved
 loop-part-preserved c =
@@ -69,8 +74,10 @@ loop-part-preserved c =
       gave = subst (λ L. Gave c.args.self.now c.give_each.new.self L)
           (ap (λ w. flat_map (to_each n) (replicate c.loop-part.part (Ticks 60000)) ++ w) long ∙ sym (parts_more n c.loop-part.part (Ticks 60000)))
           (gave_more c.args.self.now c.loop-part.self c.give_each.new.self _ _ inv.gave c.in_ok-give_each.ensures.ok);
-      pace = took_more c.args.self.now.server c.loop-part.self.server c.give_each.new.self.server (60000 * c.loop-part.part) c.longest.result (60000 * (c.loop-part.part + 1)) (omega (arith, c.longest.ensures)) inv.pace c.give_each.ensures.pace;
-      sent = sent_more c.args.self.now c.loop-part.self c.give_each.new.self (60000 * c.loop-part.part) c.longest.result (60000 * (c.loop-part.part + 1)) (omega (arith, c.longest.ensures)) inv.pace inv.sent c.in_ok-give_each.ensures.sent;
+      pace = took_more c.args.self.now.server c.loop-part.self.server c.give_each.new.self.server (60000 * c.loop-part.part) c.longest.result
+          (60000 * (c.loop-part.part + 1)) (omega (arith, c.longest.ensures)) inv.pace c.give_each.ensures.pace;
+      sent = sent_more c.args.self.now c.loop-part.self c.give_each.new.self (60000 * c.loop-part.part) c.longest.result
+          (60000 * (c.loop-part.part + 1)) (omega (arith, c.longest.ensures)) inv.pace inv.sent c.in_ok-give_each.ensures.sent;
     }
 
 clash : false ≡ true → ⊥
@@ -83,7 +90,8 @@ returns-in-None-clause-ok c =
     let no : 1 ≤ c.args.ms % 60000 → ⊥ = λ some. clash (c.in-None.ensures.found.1 (some, omega arith)) in
     let none : c.args.ms % 60000 ≡ 0 = omega (arith, no) in
     subst (λ L. Gave c.args.self.now c.loop-part.self L)
-    (ap (λ k. flat_map (to_each n) (replicate k (Ticks 60000))) ended ∙ ap (flat_map (to_each n)) (sym (waited_whole c.args.ms none))) c.loop-part.invariant.gave
+    (ap (λ k. flat_map (to_each n) (replicate k (Ticks 60000))) ended ∙ ap (flat_map (to_each n)) (sym (waited_whole c.args.ms none)))
+    c.loop-part.invariant.gave
 
 pub returns-in-Some-clause-ok : goal.returns-in-Some-clause-ok
 returns-in-Some-clause-ok c =
@@ -104,12 +112,14 @@ pub returns-in-None-clause-sent : goal.returns-in-None-clause-sent
 returns-in-None-clause-sent c =
     let ended : c.loop-part.part ≡ c.args.ms / 60000 = omega (arith, c.loop-part.auto.part-end, c.loop-part-test.false) in
     let fits = rest_fits c.loop-part.part c.args.ms ended in
-    sent_more c.args.self.now c.loop-part.self c.loop-part.self (60000 * c.loop-part.part) 0 c.args.ms (omega (arith, fits)) c.loop-part.invariant.pace c.loop-part.invariant.sent (sent_none c.loop-part.self 0)
+    sent_more c.args.self.now c.loop-part.self c.loop-part.self (60000 * c.loop-part.part) 0 c.args.ms (omega (arith, fits))
+    c.loop-part.invariant.pace c.loop-part.invariant.sent (sent_none c.loop-part.self 0)
 
 pub returns-in-Some-clause-sent : goal.returns-in-Some-clause-sent
 returns-in-Some-clause-sent c =
     let ended : c.loop-part.part ≡ c.args.ms / 60000 = omega (arith, c.loop-part.auto.part-end, c.loop-part-test.false) in
     let fits = rest_fits c.loop-part.part c.args.ms ended in
     on_ok _ _ c.give_each-in-Some.result (λ sent.
-    sent_more c.args.self.now c.loop-part.self c.give_each-in-Some.new.self (60000 * c.loop-part.part) c.in-Some.rest c.args.ms (omega (arith, c.in-Some.ensures.value, fits)) c.loop-part.invariant.pace c.loop-part.invariant.sent sent)
+    sent_more c.args.self.now c.loop-part.self c.give_each-in-Some.new.self (60000 * c.loop-part.part) c.in-Some.rest c.args.ms
+    (omega (arith, c.in-Some.ensures.value, fits)) c.loop-part.invariant.pace c.loop-part.invariant.sent sent)
     c.give_each-in-Some.ensures.sent

@@ -26,7 +26,8 @@ returns-in-None-clause-ok c =
     let n = length c.args.setup.now.testers in
     let timed = ap (λ ms. flat_map (to_each n) (waited ms)) c.silence.ensures in
     subst (λ L. Gave c.args.self.now c.pass.new.self L)
-    (timed ∙ said_quiet c.args.setup.now c.args.reference c.args.said.now c.in-Stamped.moment c.in-Stamped.frame c.in-Stamped.is c.in-None.is) c.in_ok-pass-in-Stamped.ensures.ok
+    (timed ∙ said_quiet c.args.setup.now c.args.reference c.args.said.now c.in-Stamped.moment c.in-Stamped.frame c.in-Stamped.is c.in-None.is)
+    c.in_ok-pass-in-Stamped.ensures.ok
 
 pub returns-in-Some-clause-ok : goal.returns-in-Some-clause-ok
 returns-in-Some-clause-ok c =
@@ -74,7 +75,8 @@ pub returns-in-Some-clause-pace : goal.returns-in-Some-clause-pace
 returns-in-Some-clause-pace c =
     let span = ap (λ s. span_said c.args.reference (Ok s)) c.in-Stamped.is ∙ sym c.silence.ensures in
     subst (TookTime c.args.self.now.server c.give_frame.new.self.server) (sym span)
-    (took_more c.args.self.now.server c.pass.new.self.server c.give_frame.new.self.server c.silence.result 0 c.silence.result (omega arith) c.pass.ensures.pace c.give_frame.ensures.pace)
+    (took_more c.args.self.now.server c.pass.new.self.server c.give_frame.new.self.server c.silence.result 0 c.silence.result (omega arith)
+    c.pass.ensures.pace c.give_frame.ensures.pace)
 
 pub returns-in_err-pass-in-Stamped-clause-pace : goal.returns-in_err-pass-in-Stamped-clause-pace
 returns-in_err-pass-in-Stamped-clause-pace c =
@@ -98,5 +100,6 @@ pub returns-in-Some-clause-sent : goal.returns-in-Some-clause-sent
 returns-in-Some-clause-sent c =
     let span = ap (λ s. span_said c.args.reference (Ok s)) c.in-Stamped.is ∙ sym c.silence.ensures in
     on_ok _ _ c.give_frame.result (λ sent. subst (SentIn c.args.self.now c.give_frame.new.self) (sym span)
-    (sent_more c.args.self.now c.pass.new.self c.give_frame.new.self c.silence.result 0 c.silence.result (omega arith) c.pass.ensures.pace c.in_ok-pass-in-Stamped.ensures.sent sent))
+    (sent_more c.args.self.now c.pass.new.self c.give_frame.new.self c.silence.result 0 c.silence.result (omega arith) c.pass.ensures.pace
+    c.in_ok-pass-in-Stamped.ensures.sent sent))
     c.give_frame.ensures.sent

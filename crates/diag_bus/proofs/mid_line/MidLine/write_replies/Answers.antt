@@ -17,7 +17,8 @@ pub returns-in-Nowhere-clause-ok : goal.returns-in-Nowhere-clause-ok
 returns-in-Nowhere-clause-ok c =
     let text = c.args.text.now.items in
     let lists = lists_of c.args.self.now in
-    sym (append-nil text) ∙ ap (λ w. text ++ w) (none_written c.args.setup.now c.args.start lists (subst (λ (f : Filled). AreFilled f lists) c.in-Nowhere.is c.requires.filled))
+    sym (append-nil text) ∙ ap (λ w. text ++ w)
+    (none_written c.args.setup.now c.args.start lists (subst (λ (f : Filled). AreFilled f lists) c.in-Nowhere.is c.requires.filled))
 
 filled : (c : goal.After-write_one-arg-1) → AreFilled (At c.in-At.place) (lists_of c.args.self.now)
 filled c = subst (λ (f : Filled). AreFilled f (lists_of c.args.self.now)) c.in-At.is c.requires.filled
@@ -47,12 +48,14 @@ write_one-requires-clause-sent c =
     let items = λ (f : Vec Sent Global). f.items in
     let list = c.index-in-At.result.now in
     let sent = c.index-in-At-2.result.now in
-    let found : slice_get (lists_of c.args.self.now) c.in-At.place ≡ Some list.items = slice_get-map items c.args.self.now.drawn.items c.in-At.place ∙ ap (option_map items) (there c) in
+    let found : slice_get (lists_of c.args.self.now) c.in-At.place ≡ Some list.items =
+    slice_get-map items c.args.self.now.drawn.items c.in-At.place ∙ ap (option_map items) (there c) in
     subst (λ (f : Sent). f.at ≤ closing_time) (sym c.index-in-At-2.ensures) (c.requires.sent c.in-At.place list.items found 0 sent (omega (arith, one c)))
 
 pub returns-in-At-clause-ok : goal.returns-in-At-clause-ok
 returns-in-At-clause-ok c =
     let text = c.args.text.now.items in
     on_ok _ _ c.write_one.result (λ wrote.
-    wrote ∙ ap (λ w. text ++ w) (list_written c.args.setup.now c.args.start c.in-At.place c.args.self.now.drawn.items c.index-in-At.result.now c.index-in-At-2.result.now (there c.before.before) (one c.before.before) c.index-in-At-2.ensures (filled c.before.before)))
+    wrote ∙ ap (λ w. text ++ w) (list_written c.args.setup.now c.args.start c.in-At.place c.args.self.now.drawn.items c.index-in-At.result.now
+    c.index-in-At-2.result.now (there c.before.before) (one c.before.before) c.index-in-At-2.ensures (filled c.before.before)))
     c.write_one.ensures.ok

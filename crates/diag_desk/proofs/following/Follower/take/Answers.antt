@@ -15,7 +15,8 @@ returns-clause-ok c = λ past f.
       line = c.in-Some.ensures.some past f.clocks;
       follows = record {
         journal = journal_more past (past ++ entry ∷ []) entry f.journal c.in-Some.ensures.entry (λ full. absurd (omega arith)) refl;
-        clocks = clocks_more past (past ++ entry ∷ []) entry c.args.self.now.clocks.ticks c.set.new.self.ticks c.clock_with-clock.result c.in-Some.ensures.entry f.clocks refl (c.clock_with-clock.ensures past f.clocks) c.set.ensures;
+        clocks = clocks_more past (past ++ entry ∷ []) entry c.args.self.now.clocks.ticks c.set.new.self.ticks c.clock_with-clock.result
+            c.in-Some.ensures.entry f.clocks refl (c.clock_with-clock.ensures past f.clocks) c.set.ensures;
         count = omega (arith, length-append past (entry ∷ []));
         play = c.in-Ok.ensures past number f.play;
       };

@@ -26,11 +26,14 @@ returns-clause-some c = λ past f.
     let told = f.clocks.each who (omega (arith, place)) in
     record {
       entry = e;
-      line = usual_line functional who answered.message said _ c.args.text.now rest refl answered.is ∙ ap (λ b. line_after b past e ++ 10 ∷ rest) (sym c.requires.usual.stamped);
+      line = usual_line functional who answered.message said _ c.args.text.now rest refl answered.is
+          ∙ ap (λ b. line_after b past e ++ 10 ∷ rest) (sym c.requires.usual.stamped);
       follows = record {
         journal = journal_more past (past ++ e ∷ []) e f.journal is (λ full. absurd (omega arith)) refl;
-        clocks = clocks_more past (past ++ e ∷ []) e old.clocks.ticks c.set.new.self.ticks c.at.result is f.clocks refl (omega (arith, c.at.ensures.same, told)) c.set.ensures;
+        clocks = clocks_more past (past ++ e ∷ []) e old.clocks.ticks c.set.new.self.ticks c.at.result is f.clocks refl
+            (omega (arith, c.at.ensures.same, told)) c.set.ensures;
         count = omega (arith, length-append past (e ∷ []));
-        play = plays_same c.args.setup.now old.play c.answers_front.new.self past e c.requires.usual.differs c.in-Some.ensures.differs c.requires.usual.tester refl answered.state f.play;
+        play = plays_same c.args.setup.now old.play c.answers_front.new.self past e c.requires.usual.differs c.in-Some.ensures.differs
+            c.requires.usual.tester refl answered.state f.play;
       };
     }

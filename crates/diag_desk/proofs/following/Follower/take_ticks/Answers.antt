@@ -37,7 +37,8 @@ returns-clause-some c = λ past f.
       line = ticks_line who count _ c.args.text.now rest refl c.in-Some.ensures.is ∙ ap (λ b. line_after b past e ++ 10 ∷ rest) (sym c.requires.usual.stamped);
       follows = record {
         journal = journal_more past (past ++ e ∷ []) e f.journal is (λ full. absurd (omega arith)) refl;
-        clocks = clocks_more past (past ++ e ∷ []) e old.clocks.ticks c.set.new.self.ticks _ is f.clocks refl (omega (arith, c.at.ensures.same, told, c.from.ensures)) c.set.ensures;
+        clocks = clocks_more past (past ++ e ∷ []) e old.clocks.ticks c.set.new.self.ticks _ is f.clocks refl
+            (omega (arith, c.at.ensures.same, told, c.from.ensures)) c.set.ensures;
         count = omega (arith, length-append past (e ∷ []));
         play = plays_same c.args.setup.now old.play _ past e c.requires.usual.differs refl c.requires.usual.tester refl c.ticks.ensures f.play;
       };

@@ -10,7 +10,8 @@ returns-then-is_some c = λ past at h.
 pub returns-then-branch : goal.returns-then-branch
 returns-then-branch c = λ past at h.
     let yes = rw c.if-branch.true at c.in_ok-plays.ensures.yes in
-    plays_same c.args.setup.now c.args.self.now c.plays.new.self past (line_entry c.args.line.now) (search rules) c.in_ok-plays.ensures.differs yes.0 yes.1 yes.2 h
+    plays_same c.args.setup.now c.args.self.now c.plays.new.self past (line_entry c.args.line.now) (search rules) c.in_ok-plays.ensures.differs yes.0
+    yes.1 yes.2 h
 
 pub returns : goal.returns
 returns c = λ past at h.

@@ -10,7 +10,8 @@ pub returns-then-status-mask-ne0-clause-text : goal.returns-then-status-mask-ne0
 returns-then-status-mask-ne0-clause-text c =
     let found : option_map row_pair (slice_get c.args.self.now.dtcs c.args.i) ≡ Some (c.in-Some.code, c.in-Some.status) = cc in
     let some : (bit_and c.in-Some.status c.args.mask == 0) ≡ false = ne_eqb (bit_and c.in-Some.status c.args.mask) 0 c.if-status-mask-ne0.true in
-    on_ok_weaker c.append_report.result (counted_joins c.args.self.now.values.availability c.args.mask c.args.self.now.dtcs c.args.i c.in-Some.code c.in-Some.status found some _ _) c.append_report.ensures.text
+    on_ok_weaker c.append_report.result (counted_joins c.args.self.now.values.availability c.args.mask c.args.self.now.dtcs c.args.i c.in-Some.code
+    c.in-Some.status found some _ _) c.append_report.ensures.text
 
 pub returns-else-status-mask-ne0-clause-text : goal.returns-else-status-mask-ne0-clause-text
 returns-else-status-mask-ne0-clause-text c =

@@ -16,4 +16,5 @@ some_same : (a b : Run) → ◌≡◌ {A = Option Run} (Some a) (Some b) → a �
 some_same a b e = cc
 
 pub returns : goal.returns
-returns c = let l = left (goal.at.returns c).After-take-desk in let same : l.run_is ≡ c.unwrap.result = some_same _ _ (sym l.there ∙ c.unwrap.ensures) in subst (Closed c.args.host) (same ∙ sym c.into_desk.ensures) l.closed
+returns c = let l = left (goal.at.returns c).After-take-desk in let same : l.run_is ≡ c.unwrap.result =
+    some_same _ _ (sym l.there ∙ c.unwrap.ensures) in subst (Closed c.args.host) (same ∙ sym c.into_desk.ensures) l.closed

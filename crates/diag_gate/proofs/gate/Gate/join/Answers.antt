@@ -13,7 +13,8 @@ join_seat-requires c =
       same_seat,
       ap (λ (m : Sat). m.1) seat,
       (let w = c.self.invariant.0 in omega arith),
-      takes_seat_in _ _ _ _ (ap (λ (m : Sat). m.0.is_seat) is) (ap (λ (m : Sat). m.0.holds) is) (ap (λ (m : Sat). m.0.is_seat) seat) (ap (λ (m : Sat). m.0.holds) seat)
+      takes_seat_in _ _ _ _ (ap (λ (m : Sat). m.0.is_seat) is) (ap (λ (m : Sat). m.0.holds) is) (ap (λ (m : Sat). m.0.is_seat) seat)
+          (ap (λ (m : Sat). m.0.holds) seat)
           (let who = ap (λ (m : Sat). m.0.who) seat in let place = c.seat.invariant.place in let wide = c.host.invariant.wide.0 in omega arith),
     )
 

@@ -8,5 +8,7 @@ use Rattle.diag_gate.proofs.gate.Gate.new.Goals as goal
 
 pub new-requires-2 : goal.new-requires-2
 new-requires-2 c =
-    let items : c.push_reserved.new.self.items ≡ Some c.in_ok-desk.desk ∷ [] = c.push_reserved.ensures.items ∙ ap (λ (l : List (Option Run)). l ++ Some c.in_ok-desk.desk ∷ []) c.in_ok-slots.ensures.items in
-    subst (λ (x : List (Option Run) × Run). Kept (opening (0 ∷ []) x.0 (starting x.1))) (λ i. (sym items i, sym c.of-key.ensures i)) (begins c.in_ok-desk.desk c.lawful.ensures.legal)
+    let items : c.push_reserved.new.self.items ≡ Some c.in_ok-desk.desk ∷ [] =
+    c.push_reserved.ensures.items ∙ ap (λ (l : List (Option Run)). l ++ Some c.in_ok-desk.desk ∷ []) c.in_ok-slots.ensures.items in
+    subst (λ (x : List (Option Run) × Run). Kept (opening (0 ∷ []) x.0 (starting x.1))) (λ i. (sym items i, sym c.of-key.ensures i))
+    (begins c.in_ok-desk.desk c.lawful.ensures.legal)

@@ -17,10 +17,12 @@ split_seat-place-requires c =
     let at_is = c.from-at.ensures ∙ c.place.ensures.same in
     let named_is = c.from-named.ensures ∙ c.place-2.ensures.same in
     let low : c.args.who < 9 = let p = c.place.ensures in omega arith in
-    let has = host_has c.host.inside.place.me c.host.inside.given c.host.inside.home c.host.invariant c.args.who low (sym (ap (λ t. Rattle.std.proofs.Common.get_or c.host.inside.given t Rattle.std.proofs.Common.false) at_is) ∙ c.if-host-at.false) in (
+    let has = host_has c.host.inside.place.me c.host.inside.given c.host.inside.home c.host.invariant c.args.who low
+    (sym (ap (λ t. Rattle.std.proofs.Common.get_or c.host.inside.given t Rattle.std.proofs.Common.false) at_is) ∙ c.if-host-at.false) in (
       c.compare_exchange.ensures.0 ∙ same,
       (let w = c.self.invariant.0 in omega arith),
-      gives_seat _ _ has.0 (ap (λ (m : Sat). m.0.is_seat) after ∙ ap (λ (m : Sat). m.0.is_seat) is) (ap (λ (m : Sat). m.0.holds) after ∙ ap (λ (m : Sat). m.0.holds) is) (ap (λ (m : Sat). m.0.live) after ∙ ap (λ (m : Sat). m.0.live) is)
+      gives_seat _ _ has.0 (ap (λ (m : Sat). m.0.is_seat) after ∙ ap (λ (m : Sat). m.0.is_seat) is)
+          (ap (λ (m : Sat). m.0.holds) after ∙ ap (λ (m : Sat). m.0.holds) is) (ap (λ (m : Sat). m.0.live) after ∙ ap (λ (m : Sat). m.0.live) is)
           (named_has _ _ _ c.host.invariant _ _ _ low named_is at_is _ _ after Rattle.std.proofs.Common.refl has.0 has.1),
     )
 
@@ -30,5 +32,6 @@ returns-clause-some c =
     let at_is = c.from-at.ensures ∙ c.place.ensures.same in
     let named_is = c.from-named.ensures ∙ c.place-2.ensures.same in
     let low : c.args.who < 9 = let p = c.place.ensures in omega arith in
-    gave_is c.host.inside.place.me c.host.inside.given c.host.inside.home c.host.invariant c.args.who _ _ low named_is at_is _ _ c.compare_exchange.ensures.2 s.2
+    gave_is c.host.inside.place.me c.host.inside.given c.host.inside.home c.host.invariant c.args.who _ _ low named_is at_is _ _
+    c.compare_exchange.ensures.2 s.2
     c.args.host.now _ _ _ _ c.host.view_is c.if-host-at.false s.4 (s.0 ∙ c.compare_exchange.ensures.0) (s.3 ∙ c.compare_exchange.ensures.0)

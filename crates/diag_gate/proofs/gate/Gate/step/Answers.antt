@@ -14,6 +14,7 @@ returns-in-Some-take-clause-made g c =
     let waits = ◌∙◌ {b = waited held m} c.loop.invariant.waits.1 (ap (λ (s : SeatView). waited s m) c.seat.view_is) in
     let finds = subst (λ (s : SeatView). Finds s found) waits c.in-Some-take.ensures.taken.1 in (
       m,
-      subst (λ (w : ℕ). MatchResult c.work.result (λ r. Answered start (after w) c.args.step.now r) (λ e. Refused start (after w) e)) (sym c.loop.invariant.same.0)
+      subst (λ (w : ℕ). MatchResult c.work.result (λ r. Answered start (after w) c.args.step.now r) (λ e. Refused start (after w) e))
+          (sym c.loop.invariant.same.0)
           (made_of start found (after who) c.args.step.now c.work.result finds c.work.ensures.answer),
     )

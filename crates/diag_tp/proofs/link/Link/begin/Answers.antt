@@ -15,7 +15,8 @@ returns c =
     record {
       same = done.same;
       reply_room = on-ok c.take_up.result _ _ (λ h. reply-room-made new h.1) done.room;
-      request = if-ok c.take_up.result (λ b. asked_of b.request ≡ step_after old.state.setup old.state.partial x) (λ b. EachHistory old.state (λ s E A Q. asked_of b.request ≡ gives s E x))
+      request = if-ok c.take_up.result (λ b. asked_of b.request ≡ step_after old.state.setup old.state.partial x)
+          (λ b. EachHistory old.state (λ s E A Q. asked_of b.request ≡ gives s E x))
           (λ b e s E A Q h. e ∙ sym (gives_event s old.state E A Q x h)) done.request;
       taken = done.taken;
       fits = done.fits;

@@ -24,7 +24,8 @@ returns-clause-took c = λ s who E K h few quiet.
     let took = grew.holds.1 s who E K port in_time quiet in
     let all = grew.grown ∙ (ap (λ w. w ++ grew.more) h.all_sent ∙ sym took.grown) in
     record {
-      stands = subst (λ (Q : List Sent). StandsFor s c.settle.new.link.state (E ++ e ∷ []) (placed s (E ++ e ∷ []) (replies (K ++ entries_of who (gives s E e) c.args.reply))) Q) (sym all) took.stands.stands;
+      stands = subst (λ (Q : List Sent). StandsFor s c.settle.new.link.state (E ++ e ∷ [])
+          (placed s (E ++ e ∷ []) (replies (K ++ entries_of who (gives s E e) c.args.reply))) Q) (sym all) took.stands.stands;
       all_sent = all;
       asks = took.stands.asks;
       time = time_goes_on s who E K e c.args.reply (gives s E e) c.time_law.ensures (c.gives_law.ensures s E) refl h.time short;

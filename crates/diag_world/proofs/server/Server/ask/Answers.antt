@@ -17,7 +17,15 @@ use Rattle.diag_world.proofs.server.Server.ask.Goals as goal
 found : (c : goal.After-self-1) → slice_get c.self.inside.links.items (c.from-index.result - 1) ≡ Some c.index_mut-link.result.now
 found c =
     let links = c.self.inside.links.items in
-    let within : (c.from-index.result - 1) < length links = omega (arith, c.requires.in_setup, ap (λ (v : ServerView). length v.links) c.self.view_is, c.from-index.ensures, c.place.ensures.same, c.place.ensures.fits.0) in
+    let within : (c.from-index.result - 1) < length links =
+    omega (
+      arith,
+      c.requires.in_setup,
+      ap (λ (v : ServerView). length v.links) c.self.view_is,
+      c.from-index.ensures,
+      c.place.ensures.same,
+      c.place.ensures.fits.0,
+    ) in
     slice_get_read links (length links) (c.from-index.result - 1) c.index_mut-link.result.now refl within c.index_mut-link.ensures.value
 
 place : (c : goal.After-self-1) → c.args.who ≡ (c.from-index.result - 1) + 1
@@ -27,7 +35,8 @@ pub returns-clause-same : goal.returns-clause-same
 returns-clause-same c =
     let links = c.self.inside.links.items in
     let state = λ (l : LinkView). l.state in
-    let same = map-set_same state links (c.from-index.result - 1) c.ask_at.new.link c.index_mut-link.result.now (c.ask_at.ensures.same ∙ ap state c.index_mut-link.ensures.value) in
+    let same = map-set_same state links (c.from-index.result - 1) c.ask_at.new.link c.index_mut-link.result.now
+    (c.ask_at.ensures.same ∙ ap state c.index_mut-link.ensures.value) in
     ap (λ (ls : List LinkState). (let s : ServerState = record { ecu = c.self.inside.ecu; links = ls } in s)) same ∙ ap server_of c.self.view_is
 
 pub returns-clause-asked : goal.returns-clause-asked
@@ -35,7 +44,8 @@ returns-clause-asked c =
     let links = c.self.inside.links.items in
     if_ok _ _ c.ask_at.result (λ asked h. λ link at.
     let here = set_here links (c.from-index.result - 1) (c.args.who - 1) c.ask_at.new.link link (omega (arith, place c)) at in
-    subst (λ (l : LinkView). PortAsked c.self.inside.ecu l c.args.who c.args.event.now asked.entry asked.taken (vec_len c.ask_at.new.out) (vec_capacity c.ask_at.new.out)) (sym here) h)
+    subst (λ (l : LinkView). PortAsked c.self.inside.ecu l c.args.who c.args.event.now asked.entry asked.taken (vec_len c.ask_at.new.out)
+    (vec_capacity c.ask_at.new.out)) (sym here) h)
     c.ask_at.ensures.asked
 
 pub returns-clause-clock : goal.returns-clause-clock
@@ -67,7 +77,8 @@ returns-clause-step c =
     if_ok _ _ c.ask_at.result (λ asked h. λ setup M K run.
     let run0 : Serves setup (server_of before) M K = subst (λ v. Serves setup (server_of v) M K) (sym c.self.view_is) run in
     let port = port_at setup before M K c.args.who (c.from-index.result - 1) c.index_mut-link.result.now run0 (place c) (found c) in
-    let port' = subst (λ (l : LinkState). PortStands (link_of setup c.args.who) l (items_of M c.args.who) (own K c.args.who)) (sym c.ask_at.ensures.same) port in
+    let port' = subst (λ (l : LinkState). PortStands (link_of setup c.args.who) l (items_of M c.args.who) (own K c.args.who))
+    (sym c.ask_at.ensures.same) port in
     h.step (link_of setup c.args.who) (items_of M c.args.who) _ _ port'.stands)
     c.ask_at.ensures.asked
 

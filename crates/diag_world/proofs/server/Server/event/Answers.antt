@@ -10,6 +10,7 @@ returns-clause-ok c =
       record {
         more = took.more;
         grown = took.grown ∙ ap (λ w. w ++ took.more) c.in_ok-asked.ensures.out;
-        holds = subst (λ (s : ServerState). Settled s (server_of c.settle.new.self) c.args.who c.args.event.now asked took.more) c.in_ok-asked.ensures.same took.holds;
+        holds = subst (λ (s : ServerState). Settled s (server_of c.settle.new.self) c.args.who c.args.event.now asked took.more)
+            c.in_ok-asked.ensures.same took.holds;
       },
     )

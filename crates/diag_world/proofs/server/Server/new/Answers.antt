@@ -22,7 +22,8 @@ loop-index-preserved c =
         | inl p ↦ (
             let place : c.in-Some.who ≡ i + 1 = omega (arith, p.0, inv.count, who_found c.args.setup.now c.loop-index.index c.in-Some.who c.in-Some.ensures) in
             subst (λ (x : LinkView). PortStands (link_of c.args.setup.now (i + 1)) x.state [] []) (sym p.1)
-            (subst (λ s. PortStands s one.state [] []) (c.link.ensures ∙ ap (link_of c.args.setup.now) place) (fresh_port c.link.result one.state fresh.stands fresh.drained)))
+            (subst (λ s. PortStands s one.state [] []) (c.link.ensures ∙ ap (link_of c.args.setup.now) place)
+            (fresh_port c.link.result one.state fresh.stands fresh.drained)))
         | inr p ↦ inv.stand i link p
       ];
       drained = λ i link at. elim (push_cases before i one link (rw grown at at)) [

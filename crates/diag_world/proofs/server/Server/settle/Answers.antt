@@ -12,19 +12,35 @@ pub settle_at-requires-clause-drained : goal.settle_at-requires-clause-drained
 settle_at-requires-clause-drained c =
     let links = c.self.inside.links.items in
     let i = c.from-index.result - 1 in
-    let within : i < length links = omega (arith, c.requires.in_setup, ap (λ (v : ServerView). length v.links) c.self.view_is, c.from-index.ensures, c.place.ensures.same, c.place.ensures.fits.0) in
+    let within : i < length links = omega (
+      arith,
+      c.requires.in_setup,
+      ap (λ (v : ServerView). length v.links) c.self.view_is,
+      c.from-index.ensures,
+      c.place.ensures.same,
+      c.place.ensures.fits.0,
+    ) in
     c.self.invariant i _ (slice_get_read links (length links) i c.index_mut-link.result.now refl within c.index_mut-link.ensures.value)
 
 pub settle_at-requires-clause-asked : goal.settle_at-requires-clause-asked
 settle_at-requires-clause-asked c =
     let links = c.self.inside.links.items in
     let i = c.from-index.result - 1 in
-    let within : i < length links = omega (arith, c.requires.in_setup, ap (λ (v : ServerView). length v.links) c.self.view_is, c.from-index.ensures, c.place.ensures.same, c.place.ensures.fits.0) in
+    let within : i < length links = omega (
+      arith,
+      c.requires.in_setup,
+      ap (λ (v : ServerView). length v.links) c.self.view_is,
+      c.from-index.ensures,
+      c.place.ensures.same,
+      c.place.ensures.fits.0,
+    ) in
     let place : i ≡ c.args.who - 1 = omega (arith, c.from-index.ensures, c.place.ensures.same) in
-    let found : slice_get links i ≡ Some c.index_mut-link.result.now = slice_get_read links (length links) i c.index_mut-link.result.now refl within c.index_mut-link.ensures.value in
+    let found : slice_get links i ≡ Some c.index_mut-link.result.now =
+    slice_get_read links (length links) i c.index_mut-link.result.now refl within c.index_mut-link.ensures.value in
     let before : ServerView = record { ecu = c.self.inside.ecu; links = links } in
     let asked : IsAsked before c.args.who c.args.event.now c.args.asked.entry c.args.asked.taken (vec_len c.args.out.now) (vec_capacity c.args.out.now) =
-    subst (λ (v : ServerView). IsAsked v c.args.who c.args.event.now c.args.asked.entry c.args.asked.taken (vec_len c.args.out.now) (vec_capacity c.args.out.now)) (sym c.self.view_is) c.requires.asked in
+    subst (λ (v : ServerView). IsAsked v c.args.who c.args.event.now c.args.asked.entry c.args.asked.taken (vec_len c.args.out.now)
+    (vec_capacity c.args.out.now)) (sym c.self.view_is) c.requires.asked in
     asked c.index_mut-link.result.now (subst (λ k. slice_get links k ≡ Some c.index_mut-link.result.now) place found)
 
 pub invariant_of-self : goal.invariant_of-self
@@ -39,7 +55,14 @@ returns c =
     let i = c.from-index.result - 1 in
     let who = c.args.who in
     let e = c.args.event.now in
-    let within : i < length links = omega (arith, c.requires.in_setup, ap (λ (v : ServerView). length v.links) c.self.view_is, c.from-index.ensures, c.place.ensures.same, c.place.ensures.fits.0) in
+    let within : i < length links = omega (
+      arith,
+      c.requires.in_setup,
+      ap (λ (v : ServerView). length v.links) c.self.view_is,
+      c.from-index.ensures,
+      c.place.ensures.same,
+      c.place.ensures.fits.0,
+    ) in
     let place : i ≡ who - 1 = omega (arith, c.from-index.ensures, c.place.ensures.same) in
     let is : who ≡ i + 1 = omega (arith, c.from-index.ensures, c.place.ensures.same, c.place.ensures.fits.0) in
     let link = c.index_mut-link.result.now in
@@ -49,10 +72,12 @@ returns c =
     let after : ServerView = record { ecu = c.settle_at.new.ecu; links = slice_set links i link' } in
     let took = c.settle_at.ensures.took in
     let given : IsAsked before who e c.args.asked.entry c.args.asked.taken (vec_len c.args.out.now) (vec_capacity c.args.out.now) =
-    subst (λ (v : ServerView). IsAsked v who e c.args.asked.entry c.args.asked.taken (vec_len c.args.out.now) (vec_capacity c.args.out.now)) (sym c.self.view_is) c.requires.asked in
+    subst (λ (v : ServerView). IsAsked v who e c.args.asked.entry c.args.asked.taken (vec_len c.args.out.now) (vec_capacity c.args.out.now))
+    (sym c.self.view_is) c.requires.asked in
     let asked = given link (subst (λ k. slice_get links k ≡ Some link) place found) in
     let settled : Settled (server_of before) (server_of after) who e c.args.asked.entry took.more =
-    server_settles before after who i e c.args.asked.entry link link' took.more is found refl c.settle_at.ensures.ecu asked.ticks asked.step asked.by asked.answer took.holds in
+    server_settles before after who i e c.args.asked.entry link link' took.more is found refl c.settle_at.ensures.ecu asked.ticks asked.step asked.by
+    asked.answer took.holds in
     record {
       took = record {
         more = took.more;

@@ -16,7 +16,15 @@ use Rattle.diag_world.proofs.server.Server.ticks.Goals as goal
 found : (c : goal.After-self-1) → slice_get c.self.inside.links.items (c.from-index.result - 1) ≡ Some c.index_mut-link.result.now
 found c =
     let links = c.self.inside.links.items in
-    let within : (c.from-index.result - 1) < length links = omega (arith, c.requires.in_setup, ap (λ (v : ServerView). length v.links) c.self.view_is, c.from-index.ensures, c.place.ensures.same, c.place.ensures.fits.0) in
+    let within : (c.from-index.result - 1) < length links =
+    omega (
+      arith,
+      c.requires.in_setup,
+      ap (λ (v : ServerView). length v.links) c.self.view_is,
+      c.from-index.ensures,
+      c.place.ensures.same,
+      c.place.ensures.fits.0,
+    ) in
     slice_get_read links (length links) (c.from-index.result - 1) c.index_mut-link.result.now refl within c.index_mut-link.ensures.value
 
 place : (c : goal.After-self-1) → c.args.who ≡ (c.from-index.result - 1) + 1
@@ -26,7 +34,15 @@ pub ticks_at-requires : goal.ticks_at-requires
 ticks_at-requires c = record {
   drained = c.self.invariant (c.from-index.result - 1) c.index_mut-link.result.now
       (let links = c.self.inside.links.items in
-      let within : (c.from-index.result - 1) < length links = omega (arith, c.requires.in_setup, ap (λ (v : ServerView). length v.links) c.self.view_is, c.from-index.ensures, c.place.ensures.same, c.place.ensures.fits.0) in
+      let within : (c.from-index.result - 1) < length links =
+      omega (
+        arith,
+        c.requires.in_setup,
+        ap (λ (v : ServerView). length v.links) c.self.view_is,
+        c.from-index.ensures,
+        c.place.ensures.same,
+        c.place.ensures.fits.0,
+      ) in
       slice_get_read links (length links) (c.from-index.result - 1) c.index_mut-link.result.now refl within c.index_mut-link.ensures.value);
 }
 
@@ -69,7 +85,8 @@ returns-clause-err c =
     let links = c.self.inside.links.items in
     let state = λ (l : LinkView). l.state in
     on_err _ _ c.ticks_at.result (λ err.
-    let same = map-set_same state links (c.from-index.result - 1) c.ticks_at.new.link c.index_mut-link.result.now (err.0 ∙ ap state c.index_mut-link.ensures.value) in
+    let same = map-set_same state links (c.from-index.result - 1) c.ticks_at.new.link c.index_mut-link.result.now
+    (err.0 ∙ ap state c.index_mut-link.ensures.value) in
     (ap₂ (λ ecu (ls : List LinkState). (let s : ServerState = record { ecu = ecu; links = ls } in s)) err.1 same ∙ ap server_of c.self.view_is, err.2))
     c.ticks_at.ensures.err
 

@@ -7,7 +7,8 @@ use Rattle.diag_world.proofs.world.World.event.Goals as goal
 
 pub take-requires : goal.take-requires
 take-requires c = record {
-  drained = c.self.invariant _ _ (found c.self.inside.desk c.self.inside.channels.items c.index_of-index.result c.self.view_is c.requires.in_setup c.index_of-index.ensures
+  drained = c.self.invariant _ _ (found c.self.inside.desk c.self.inside.channels.items c.index_of-index.result c.self.view_is c.requires.in_setup
+      c.index_of-index.ensures
       c.index_mut.ensures.value);
 }
 
@@ -15,7 +16,8 @@ pub invariant_of-self : goal.invariant_of-self
 invariant_of-self c =
     let items = c.self.inside.channels.items in
     let i = c.index_of-index.result in
-    λ j channel at. elim (set_cases (map channel_of items) i j (channel_of c.take.new.channel) channel (rw (map-set channel_of items i c.take.new.channel) at at)) [
+    λ j channel at. elim (set_cases (map channel_of items) i j (channel_of c.take.new.channel) channel
+    (rw (map-set channel_of items i c.take.new.channel) at at)) [
       | inl p ↦ rw p.1 c.take.ensures.drained
       | inr p ↦ c.self.invariant j channel p.1
     ]
@@ -36,7 +38,8 @@ pub returns-clause-full : goal.returns-clause-full
 returns-clause-full c is =
     let full = c.take.ensures.full is in (
       ap (λ w. length w.desk.journal) (sym c.self.view_is) ∙ full.0,
-      λ setup M h. full.1 _ _ _ (channel_stands c.self.inside.desk c.self.inside.channels.items c.index_of-index.result c.self.view_is c.requires.in_setup c.index_of-index.ensures
+      λ setup M h. full.1 _ _ _ (channel_stands c.self.inside.desk c.self.inside.channels.items c.index_of-index.result c.self.view_is
+          c.requires.in_setup c.index_of-index.ensures
           c.index_mut.ensures.value setup M
           c.take.ensures.journal h),
     )
