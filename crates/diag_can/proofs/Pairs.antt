@@ -34,12 +34,17 @@ value-lt c byte v is =
     agree_below_at (λ c. nat_le (unwrap_or (hex_digit_value c) 0) 15) (λ c. true) 256 c refl byte in
     let low : nat_le v 15 ≡ true = ap (λ (o : Option ℕ). nat_le (unwrap_or o 0) 15) (sym is) ∙ tested in
     grind (arith, nat_tests)
+
 -- ---- a pair
 
+pub pair-length : (text : List ℕ) (b : ℕ) → pair text ≡ Some b → 2 ≤ length text
 pair-length [] b is = cc is
 pair-length (c ∷ []) b is = cc is
 pair-length (c ∷ d ∷ text) b is = omega arith
 
+-- ---- pairs
+
+-- the first pairs of a text write these bytes
 pub record IsPairs (text bytes : List ℕ) (count : ℕ) : Type 0 where
   pub counted : length bytes ≡ count
   pub few : 2 * count ≤ length text

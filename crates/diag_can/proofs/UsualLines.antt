@@ -198,6 +198,19 @@ module _ (line : List ℕ) (id at : ℕ) (u : IsUsual line id at) where
   moment-event : (ids : Ids) → frame_moment ids line ≡ event_moment (usual_moment line) (event_of ids id (frame_data (drop at line)))
   moment-event ids = let plain = u.framed.is_frame in let is = u.framed.stamped in let event = u.event ids in rw (plain, is, event) refl
 
+  -- of what stands behind the `#`
+  pub is-physical : (ids : Ids) (bytes : List ℕ) → decode_of (drop at line) ≡ Ok bytes → (id == ids.request) ≡ true
+      → (line_event line ids ≡ Ok (Some (Physical bytes))) × (Some (usual_moment line) ≡ frame_moment ids line)
+  is-physical ids bytes is own =
+      let all = u.decoded bytes is in
+      (says-event ids ∙ rw (all, own) refl, sym (moment-event ids ∙ rw (all, own) refl))
+
+  pub is-functional : (ids : Ids) (bytes : List ℕ) → decode_of (drop at line) ≡ Ok bytes → (id == ids.request) ≡ false → (id == ids.functional) ≡ true
+      → (line_event line ids ≡ Ok (Some (Functional bytes))) × (Some (usual_moment line) ≡ frame_moment ids line)
+  is-functional ids bytes is other own =
+      let all = u.decoded bytes is in
+      (says-event ids ∙ rw (all, other, own) refl, sym (moment-event ids ∙ rw (all, other, own) refl))
+
   pub is-foreign : (ids : Ids) → (id == ids.request) ≡ false → (id == ids.functional) ≡ false
       → (line_event line ids ≡ Ok None) × (None ≡ frame_moment ids line)
   is-foreign ids other another =
