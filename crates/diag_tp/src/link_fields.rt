@@ -12,6 +12,7 @@ ghost use Rattle.std.specs.Prelude.{
   max,
   None,
   option_and_then,
+  option_copied,
   IfSome,
   IsNone,
   IfNone,
@@ -37,6 +38,7 @@ ghost use Rattle.diag_tp.specs.State.{due};
 ghost use Rattle.diag_tp.specs.Taken.{
   IsTaken,
   FitsIn,
+  asked_in,
   left_of_kind,
   reception_after,
   granted_after,
@@ -59,8 +61,8 @@ ghost use Rattle.diag_tp.specs.Link.{
 use crate::link::Link;
 use crate::message::Message;
 use crate::pci::Pci;
-use crate::step::Request;
-use crate::taken::{Begun, Taken};
+use crate::step::{Request, Step};
+use crate::taken::Taken;
 use diag_can::{Event, Frame, FrameBytes};
 use std::alloc::AllocError;
 
@@ -172,16 +174,15 @@ impl Link {
     }
 
     /// Reads a frame and makes room for it, from the fields.
-    pub(crate) fn take_up(&mut self, event: &Event) -> Result<Begun, AllocError>
+    pub(crate) fn take_up(&mut self, event: &Event) -> Result<Taken, AllocError>
         requires frame { IsTrue (is_frame event.now) }
         ensures same { self.new.state ≡ self.old.state }
         ensures room { OnOk result ((needed self.new.state.setup event.now ≤ self.new.room)
             × (0 < self.new.reply_room)) }
-        ensures request { IfOk result (λ begun. asked_of begun.request
+        ensures request { IfOk result (λ taken. asked_in self.new taken
             ≡ step_after self.old.state.setup self.old.state.partial event.now) }
-        ensures taken { IfOk result (λ begun.
-            IsTaken self.old.state.setup event.now begun.taken) }
-        ensures fits { IfOk result (λ begun. FitsIn self.new begun.taken) }
+        ensures taken { IfOk result (λ taken. IsTaken self.old.state event.now taken) }
+        ensures fits { IfOk result (λ taken. FitsIn self.new taken) }
         ensures kept { self.old.room ≤ self.new.room }
         ensures reply_kept { self.old.reply_room ≤ self.new.reply_room }
     {
@@ -190,61 +191,82 @@ impl Link {
                 let kind = self.kind(bytes);
                 self.receiver.make_room(&kind)?;
                 self.sender.make_room()?;
-                self.physical_begun(kind)
+                Ok(self.left_of(kind))
             }
             Event::Functional(bytes) => {
                 let kind = self.kind(bytes);
                 self.sender.make_room()?;
-                Ok(Begun {
-                    request: asked(true, single_of(kind)),
-                    taken: Taken::Read(Pci::Ignored),
-                })
+                Ok(Taken::Functional(step_of(true, single_of(kind))))
             }
             Event::Ticks(_) => unreachable!(),
         }
     }
 
-    /// What a frame of this kind asks that has the tester's own identifier, and what is left of it.
-    fn physical_begun(&self, kind: Pci) -> Result<Begun, AllocError>
-        requires read { IsRead self.now.state.setup.max_request kind }
-        ensures request { IfOk result (λ begun. asked_of begun.request
-            ≡ ask_of false (completed_by self.now.state.partial kind)) }
-        ensures taken { IfOk result (λ begun. begun.taken ≡ left_of_kind kind) }
+    /// What is left of a frame of this kind that has the tester's own identifier. The request that it completes is made.
+    fn left_of(&mut self, kind: Pci) -> Taken
+        requires read { IsRead self.old.state.setup.max_request kind }
+        ensures same { self.new.state ≡ self.old.state }
+        ensures room { self.new.room ≡ self.old.room }
+        ensures reply_room { self.new.reply_room ≡ self.old.reply_room }
+        ensures request { asked_in self.new result
+            ≡ ask_of false (completed_by self.old.state.partial kind) }
+        ensures is { result ≡ left_of_kind self.old.state.partial kind }
     {
         match kind {
-            Pci::Single(payload) => Ok(Begun {
-                request: asked(false, Some(Message::in_place(payload))),
-                taken: Taken::Whole,
+            Pci::Single(payload) => Taken::Single(Step::Request {
+                functional: false,
+                message: Message::in_place(payload),
             }),
-            kind => {
-                let request = self.peek_kind(&kind)?;
-                Ok(Begun {
-                    request,
-                    taken: Taken::Read(kind),
-                })
+            Pci::Consecutive {
+                sequence_number,
+                part,
+            } => {
+                if self.receiver.stage(sequence_number, part.as_slice()) {
+                    Taken::Last
+                } else {
+                    Taken::Read(Pci::Consecutive {
+                        sequence_number,
+                        part,
+                    })
+                }
             }
+            kind => Taken::Read(kind),
+        }
+    }
+
+    /// The request that a frame completes: with what is left of it, or staged.
+    pub(crate) fn lent<'a>(&'a self, taken: &'a Taken) -> Option<&'a Step>
+        ensures { option_copied result ≡ asked_in self.now taken.now }
+    {
+        match taken {
+            Taken::Functional(request) => request.as_ref(),
+            Taken::Single(request) => Some(request),
+            Taken::Last => self.receiver.staged(),
+            Taken::Read(_) => None,
         }
     }
 
     /// Takes what is left of a frame, field by field.
-    pub(crate) fn finish(&mut self, taken: Taken)
+    pub(crate) fn finish(&mut self, taken: &Taken)
         requires drained { self.old.state.sender.due ≡ [] }
-        requires fits { FitsIn self.old taken }
-        ensures partial { self.new.state.partial ≡ reception_after self.old.state.partial taken }
+        requires fits { FitsIn self.old taken.now }
+        ensures partial { self.new.state.partial
+            ≡ reception_after self.old.state.partial taken.now }
         ensures grant { self.new.state.grant
-            ≡ granted_after self.old.state.setup self.old.state.partial taken }
+            ≡ granted_after self.old.state.setup self.old.state.partial taken.now }
         ensures reply_room { self.new.reply_room ≡ self.old.reply_room }
         ensures setup { self.new.state.setup ≡ self.old.state.setup }
         ensures now { self.new.state.now ≡ self.old.state.now }
         ensures sender { self.new.state.sender ≡ sender_after self.old.state.setup
-            taken self.old.state.sender.current self.old.state.sender.waiting }
+            taken.now self.old.state.sender.current self.old.state.sender.waiting }
     {
         match taken {
-            Taken::Whole => {
+            Taken::Functional(_) => self.grant = None,
+            Taken::Single(_) | Taken::Last => {
                 self.receiver.end();
                 self.grant = None;
             }
-            Taken::Read(kind) => self.take_kind(&kind),
+            Taken::Read(kind) => self.take_kind(kind),
         }
     }
 
@@ -347,6 +369,19 @@ fn single_of(kind: Pci) -> Option<Message>
     match kind {
         Pci::Single(payload) => Some(Message::in_place(payload)),
         _ => None,
+    }
+}
+
+/// The step of this message, if there is one.
+fn step_of(functional: bool, message: Option<Message>) -> Option<Step>
+    ensures { result ≡ ask_of functional message }
+{
+    match message {
+        Some(message) => Some(Step::Request {
+            functional,
+            message,
+        }),
+        None => None,
     }
 }
 

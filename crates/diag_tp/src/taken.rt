@@ -1,22 +1,17 @@
 //! A frame between the two halves in which a link takes it.
 
 use crate::pci::Pci;
-use crate::step::Request;
-
-/// What a link has still to do with a frame that it has read.
-#[derive(Debug, Drop)]
-pub enum Taken {
-    /// It ends the reception that is open: a SingleFrame with the tester's own identifier, whose request was handed over.
-    Whole,
-    /// It is one of this kind.
-    Read(Pci),
-}
+use crate::step::Step;
 
 /// A frame that a link has read and made room for: what it asks, and what the link has still to do with it.
 #[derive(Debug, Drop)]
-pub struct Begun {
-    /// The request that the frame completes, if any.
-    pub request: Option<Request>,
-    /// What `Link::settle` is to be given.
-    pub taken: Taken,
+pub enum Taken {
+    /// A functional frame, and its request where it is a SingleFrame. Nothing is left to do.
+    Functional(Option<Step>),
+    /// A SingleFrame with the tester's own identifier, and its request. It ends the reception that is open.
+    Single(Step),
+    /// The ConsecutiveFrame that completes a message, which its link has staged. It ends the reception.
+    Last,
+    /// Any other frame with the tester's own identifier: one of this kind.
+    Read(Pci),
 }

@@ -1,6 +1,7 @@
 use Rattle.std.proofs.Common.{◌≡◌, ◌∙◌, ap, sym}
 use Rattle.diag_tp.specs.Gives.{gives}
-use Rattle.diag_tp.specs.Link.{asked_of, step_after, EachHistory}
+use Rattle.diag_tp.specs.Link.{step_after, EachHistory}
+use Rattle.diag_tp.specs.Taken.{asked_in}
 use Rattle.diag_tp.proofs.History.{gives_event}
 use Rattle.diag_tp.proofs.Settled.{if-ok, on-ok}
 use Rattle.diag_tp.proofs.Views.{reply-room-made, keeps-room, keeps-reply-room}
@@ -15,9 +16,9 @@ returns c =
     record {
       same = done.same;
       reply_room = on-ok c.take_up.result _ _ (λ h. reply-room-made new h.1) done.room;
-      request = if-ok c.take_up.result (λ b. asked_of b.request ≡ step_after old.state.setup old.state.partial x)
-          (λ b. EachHistory old.state (λ s E A Q. asked_of b.request ≡ gives s E x))
-          (λ b e s E A Q h. e ∙ sym (gives_event s old.state E A Q x h)) done.request;
+      request = if-ok c.take_up.result (λ t. asked_in new t ≡ step_after old.state.setup old.state.partial x)
+          (λ t. EachHistory old.state (λ s E A Q. asked_in new t ≡ gives s E x))
+          (λ t e s E A Q h. e ∙ sym (gives_event s old.state E A Q x h)) done.request;
       taken = done.taken;
       fits = done.fits;
       kept = keeps-room old new (ap (λ l. l.setup) done.same) done.kept;

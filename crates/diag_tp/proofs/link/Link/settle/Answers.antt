@@ -14,7 +14,7 @@ returns c =
     let done = c.finish.ensures in
     let old = c.args.self.now.state in
     let new = c.finish.new.self.state in
-    let taken = c.args.taken in
+    let taken = c.args.taken.now in
     let numbers = settled-numbers old new taken done.setup done.sender in
     record {
       stands = λ s E A Q h event is.
