@@ -1,21 +1,21 @@
 -- How a server goes on with one event more.
-use Rattle.std.proofs.Common.{◌≡◌, ◌≤◌, ℕ, ◌+◌, ◌-◌, ◌*◌, false, Option, Some, None, List, [], ◌∷◌, ◌++◌, length, map, refl, ap, ap₂, subst, sym, ◌∙◌, arith, inl, inr}
+use Rattle.std.proofs.Common.{◌≡◌, ◌≤◌, ℕ, zero, suc, ◌+◌, ◌-◌, ◌*◌, false, Option, Some, None, List, [], ◌∷◌, ◌++◌, length, map, refl, ap, ap₂, subst, sym, ◌∙◌, arith, inl, inr}
 use Rattle.std.proofs.lemmas.List.{map-append, append-nil, length-set, map-set}
 use Rattle.std.specs.Prelude.{◌==◌, slice_get, slice_set, IfSome, IsSome, IsTrue, Result, Ok, Err, IfOk}
 use Rattle.std.proofs.lemmas.Option.{slice_get-map}
-use Rattle.std.specs.Option.{option_map, option_to_list}
+use Rattle.std.specs.Option.{option_and_then, option_map, option_to_list}
 use Rattle.diag_can.specs.declared.frame.Event.{Event}
 use Rattle.diag_can.specs.declared.frame.Event.TheVariants.{Physical, Functional, Ticks}
 use Rattle.diag_tp.specs.declared.setup.LinkSetup.{LinkSetup}
 use Rattle.diag_tp.specs.declared.sent.Sent.{Sent}
 use Rattle.diag_tp.specs.declared.step.Step.{Step}
-use Rattle.diag_tp.specs.Moments.{is_tick}
+use Rattle.diag_tp.specs.Moments.{is_tick, last_time}
 use Rattle.diag_tp.specs.Wire.{stamped}
 use Rattle.diag_tp.proofs.Lists.{length-zero}
 use Rattle.diag_tp.specs.Gives.{gives}
 use Rattle.diag_tp.specs.Placing.{drawn}
 use Rattle.diag_tp.specs.State.{LinkState, LinkView, due}
-use Rattle.diag_tp.specs.Link.{EachHistory, StandsFor, pending}
+use Rattle.diag_tp.specs.Link.{EachHistory, StandsFor, last_tick, pending}
 use Rattle.diag_setup.specs.Setup.{link_of}
 use Rattle.diag_setup.specs.declared.raw.RawSetup.{RawSetup}
 use Rattle.diag_ecu.specs.State.{State, opening}
@@ -23,8 +23,9 @@ use Rattle.diag_desk.specs.declared.entry.Entry.{Entry}
 use Rattle.diag_desk.specs.Entries.{asked_by, own, replies}
 use Rattle.diag_desk.specs.Legal.{Legal, after, reply_to}
 use Rattle.diag_desk.proofs.Runs.{legal_more, after_more}
-use Rattle.diag_world.specs.Port.{PortStands, entries_of, time_after}
-use Rattle.diag_world.specs.Server.{PortSettled, ServerState, ServerView, server_of, sent_to, Serves, Served, Settled}
+use Rattle.diag_world.specs.declared.server.Asked.{Asked}
+use Rattle.diag_world.specs.Port.{AreWithin, PortStands, PortTook, entries_of, time_after}
+use Rattle.diag_world.specs.Server.{PortSettled, PortWent, ServerState, ServerView, answer_to, closing_time, entry_asked, entry_in, entry_of, server_of, sent_to, went_to, Serves, Served, Settled}
 use Rattle.diag_world.specs.Weaving.{items_of, all_by}
 use Rattle.diag_world.proofs.Weaves.{steps_of_after-append}
 use Rattle.diag_world.proofs.Worlds.{set_cases, own-append, own_mine, own_none, items_mine, items_other, other_place}
@@ -182,3 +183,109 @@ server_settles old new who i e asked link link' more is found links ecu ticks st
           (step (link_of setup who) (items_of M who) _ _ port.stands) by reply
           (took.stands (link_of setup who) (items_of M who) (own K who) port);
     }
+
+-- what was written at a place stands there
+pub get_set_here : {X : Type 0} (xs : List X) (i : ℕ) (v x : X) → slice_get xs i ≡ Some x → slice_get (slice_set xs i v) i ≡ Some v
+get_set_here [] i v x h = absurd (clash h)
+  where
+    clash : None ≡ Some x → ⊥
+    clash h = cc
+get_set_here (y ∷ xs) zero v x h = refl
+get_set_here (y ∷ xs) (suc i) v x h = get_set_here xs i v x h
+
+-- ---- what a link has read: its step, and the entry of that
+
+pub entry_step : (who : ℕ) (o : Option Step) (reply : Option (List ℕ)) → option_map (λ k. k.step) (entry_of who o reply) ≡ o
+entry_step who None reply = refl
+entry_step who (Some x) reply = refl
+
+entry_list : (who : ℕ) (o : Option Step) (reply : Option (List ℕ)) → entries_of who o reply ≡ option_to_list (entry_of who o reply)
+entry_list who None reply = refl
+entry_list who (Some x) reply = refl
+
+entry_by : (who : ℕ) (o : Option Step) (reply : Option (List ℕ)) → IfSome (entry_of who o reply) (λ k. k.who ≡ who)
+entry_by who None reply = tt
+entry_by who (Some x) reply = refl
+
+entry_answer : (ecu : State) (who : ℕ) (o : Option Step) (reply : Option (List ℕ)) → reply ≡ answer_to ecu who o
+    → IfSome (entry_of who o reply) (λ k. k.reply ≡ reply_to ecu k.who k.step)
+entry_answer ecu who None reply h = tt
+entry_answer ecu who (Some x) reply h = h
+
+entry_some : (who : ℕ) (o : Option Step) (reply : Option (List ℕ)) → IsSome o → IsSome (entry_of who o reply)
+entry_some who None reply h = cc
+entry_some who (Some x) reply h = refl
+
+pub step_some : (who : ℕ) (o : Option Step) (reply : Option (List ℕ)) → IsSome (entry_of who o reply) → IsSome o
+step_some who None reply h = cc
+step_some who (Some x) reply h = refl
+
+entry_after : (ecu : State) (who : ℕ) (o : Option Step) (reply : Option (List ℕ)) → went_to ecu who o ≡ after ecu (option_to_list (entry_of who o reply))
+entry_after ecu who None reply = refl
+entry_after ecu who (Some x) reply = refl
+
+no_answer : (ecu : State) (who : ℕ) (o : Option Step) (reply : Option (List ℕ)) → reply ≡ answer_to ecu who o → o ≡ None → reply ≡ None
+no_answer ecu who o reply h none = h ∙ ap (answer_to ecu who) none
+
+-- a link took an event that it had read, with the ECU's answer to its step
+pub port_went : (ecu ecu' : State) (old new : LinkView) (who : ℕ) (e : Event) (o : Option Step) (reply : Option (List ℕ)) (more : List Sent)
+    → EachHistory old.state (λ s E A Q. o ≡ gives s E e) → (IsTrue (is_tick e) → IsSome o) → old.state.now ≤ closing_time
+    → reply ≡ answer_to ecu who o → ecu' ≡ went_to ecu who o
+    → new.state.now ≡ time_after old.state.now e → new.state.now ≤ old.state.now + 60000 → AreWithin old.state.now new.state.now more
+    → ((E : List Event) → last_time (E ++ e ∷ []) ≤ last_time E + 60000)
+    → ((s : LinkSetup) (who : ℕ) (E : List Event) (K : List Entry) → PortStands s old.state E K → last_time (E ++ e ∷ []) ≤ last_tick
+    → (gives s E e ≡ None → reply ≡ None) → PortTook s who E K e reply new.state more)
+    → PortWent ecu ecu' old new who e (entry_of who o reply) more
+port_went ecu ecu' old new who e o reply more step ticks early answer went time most within short took = record {
+  early = early;
+  ticks = λ h. entry_some who o reply (ticks h);
+  step = λ s E A Q h. entry_step who o reply ∙ step s E A Q h;
+  by = entry_by who o reply;
+  answer = entry_answer ecu who o reply answer;
+  goes_on = went ∙ entry_after ecu who o reply;
+  settled = record {
+    time = time;
+    most = most;
+    within = within;
+    stands = λ s E K h.
+        let in_time : last_time (E ++ e ∷ []) ≤ last_tick = omega (arith, short E, h.stands.now, early) in
+        let same = step s E _ _ h.stands in
+        let done = took s who E K h in_time (λ none. no_answer ecu who o reply answer (same ∙ none)) in
+        let list : entries_of who (gives s E e) reply ≡ option_to_list (entry_of who o reply) =
+        ap (λ x. entries_of who x reply) (sym same) ∙ entry_list who o reply in
+        subst (λ L. PortStands s new.state (E ++ e ∷ []) (K ++ L) × (drawn s (E ++ e ∷ []) (replies (K ++ L)) ≡ drawn s E (replies K) ++ more)) list
+        (done.stands, done.grown);
+  };
+}
+
+-- the same from a link that stands for the same, whatever room it has
+pub went_from : (ecu ecu' : State) (start old new : LinkView) (who : ℕ) (e : Event) (asked : Option Entry) (more : List Sent) → old.state ≡ start.state
+    → PortWent ecu ecu' old new who e asked more → PortWent ecu ecu' start new who e asked more
+went_from ecu ecu' start old new who e asked more same h = record {
+  early = subst (λ (S : LinkState). S.now ≤ closing_time) same h.early;
+  ticks = h.ticks;
+  step = subst (λ S. EachHistory S (λ s E A Q. option_map (λ k. k.step) asked ≡ gives s E e)) same h.step;
+  by = h.by;
+  answer = h.answer;
+  goes_on = h.goes_on;
+  settled = record {
+    time = subst (λ (S : LinkState). new.state.now ≡ time_after S.now e) same h.settled.time;
+    most = subst (λ (S : LinkState). new.state.now ≤ S.now + 60000) same h.settled.most;
+    within = subst (λ (S : LinkState). AreWithin S.now new.state.now more) same h.settled.within;
+    stands = subst (λ S. (s : LinkSetup) (E : List Event) (K : List Entry) → PortStands s S E K → PortStands s new.state (E ++ e ∷ []) (K ++ option_to_list asked)
+        × (drawn s (E ++ e ∷ []) (replies (K ++ option_to_list asked)) ≡ drawn s E (replies K) ++ more)) same h.settled.stands;
+  };
+}
+
+-- a server goes on as the link of the tester did
+pub server_went : (old new : ServerView) (who i : ℕ) (e : Event) (asked : Option Entry) (link link' : LinkView) (more : List Sent)
+    → who ≡ i + 1 → slice_get old.links i ≡ Some link → new.links ≡ slice_set old.links i link'
+    → PortWent old.ecu new.ecu link link' who e asked more
+    → Settled (server_of old) (server_of new) who e asked more
+server_went old new who i e asked link link' more is found links h =
+    server_settles old new who i e asked link link' more is found links h.goes_on h.ticks h.step h.by h.answer h.settled
+
+-- the entry that the tester's link has read
+pub entry_found : (server : ServerView) (who : ℕ) (asked : Asked) (link : LinkView) → slice_get server.links (who - 1) ≡ Some link
+    → entry_asked server who asked ≡ entry_in link who asked
+entry_found server who asked link found = ap (option_and_then (λ (l : LinkView). entry_in l who asked)) found

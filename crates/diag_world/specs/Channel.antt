@@ -5,7 +5,7 @@ use Rattle.diag_can.specs.declared.frame.Event.{Event}
 use Rattle.diag_tp.specs.declared.setup.LinkSetup.{LinkSetup}
 use Rattle.diag_tp.specs.declared.sent.Sent.{Sent}
 use Rattle.diag_tp.specs.declared.step.Step.{Step}
-use Rattle.diag_tp.specs.declared.taken.Taken.{Taken}
+use Rattle.diag_world.specs.declared.port.Prepared.{Prepared}
 use Rattle.diag_tp.specs.Gives.{gives, steps}
 use Rattle.diag_tp.specs.Moments.{last_time}
 use Rattle.diag_tp.specs.Placing.{placed, drawn}
@@ -14,7 +14,7 @@ use Rattle.diag_tp.specs.Link.{StandsFor, is_frame, pending, waiting_count}
 use Rattle.diag_desk.specs.declared.entry.Entry.{Entry}
 use Rattle.diag_desk.specs.Entry.{HasNoReply}
 use Rattle.diag_desk.specs.Entries.{asked, asked_by, replies}
-use Rattle.diag_world.specs.Port.{HasRoomFor}
+use Rattle.diag_world.specs.Port.{HasRoomFor, step_in}
 use Rattle.diag_world.specs.Weaving.{all_by}
 use Rattle.diag_world.specs.declared.channel.Channel.{Channel}
 
@@ -35,9 +35,13 @@ abbrev pub waiting : ChannelState → ℕ
 waiting channel = waiting_count channel.link
 
 -- room was made for the event: in the link, and for the frames that may fall due
-abbrev pub HasRoom : Channel → Event → Taken → Type 0
-HasRoom channel e taken =
-    HasRoomFor channel.link e taken (vec_len channel.sent) (vec_capacity channel.sent)
+abbrev pub HasRoom : Channel → Event → Prepared → Type 0
+HasRoom channel e prepared =
+    HasRoomFor channel.link e prepared (vec_len channel.sent) (vec_capacity channel.sent)
+
+-- the step that an event gives that was read
+abbrev pub step_of : Channel → Prepared → Option Step
+step_of channel prepared = step_in channel.link prepared
 
 -- a step that can have a reply is that of a frame
 abbrev pub RepliesToFrame : Event → Step → Type 0

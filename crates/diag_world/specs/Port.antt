@@ -6,16 +6,23 @@ use Rattle.diag_can.specs.declared.frame.Event.TheVariants.{Physical, Functional
 use Rattle.diag_tp.specs.declared.setup.LinkSetup.{LinkSetup}
 use Rattle.diag_tp.specs.declared.sent.Sent.{Sent}
 use Rattle.diag_tp.specs.Gives.{gives, steps}
-use Rattle.diag_tp.specs.Moments.{last_time}
+use Rattle.diag_tp.specs.Moments.{is_tick, last_time}
 use Rattle.diag_tp.specs.Placing.{placed, drawn}
 use Rattle.diag_tp.specs.Wire.{Placed, wire}
 use Rattle.diag_tp.specs.State.{LinkState, LinkView}
 use Rattle.diag_tp.specs.declared.taken.Taken.{Taken}
-use Rattle.diag_tp.specs.Taken.{IsTaken, FitsIn}
+use Rattle.diag_tp.specs.Taken.{IsTaken, FitsIn, asked_in}
 use Rattle.diag_tp.specs.Link.{StandsFor, has_reply_room, last_tick, unsent}
 use Rattle.diag_desk.specs.declared.entry.Entry.{Entry}
 use Rattle.diag_desk.specs.Entries.{asked, entry, replies}
 use Rattle.diag_tp.specs.declared.step.Step.{Step}
+use Rattle.diag_world.specs.declared.port.Prepared.{Prepared}
+use Rattle.diag_world.specs.declared.port.Prepared.TheVariants as prepared
+
+-- the step that an event gives that was read: that of a frame is with what is left of it, or staged in the link
+abbrev pub step_in : LinkView → Prepared → Option Step
+step_in link (prepared.Frame taken) = asked_in link taken
+step_in link (prepared.Ticks step) = Some step
 
 -- the entry of a step with its reply, where an event gives one
 abbrev pub entries_of : ℕ → Option Step → Option (List ℕ) → List Entry
@@ -32,18 +39,16 @@ pub record Grew {X : Type 0} (old new : List X) (P : List X → Type 0) : Type 0
 -- may fall due in a list of this length and capacity
 pub record HasFrameRoom (link : LinkView) (e : Event) (taken : Taken) (len capacity : ℕ)
     : Type 0 where
-  pub is : IsTaken link.state.setup e taken
+  pub is : IsTaken link.state e taken
   pub fits : FitsIn link taken
   pub reply_room : IsTrue (has_reply_room link)
   pub room : len + unsent link.state + 2 ≤ capacity
 
--- room was made for the event; of ticks nothing is left, and they need none but that for the frames
-abbrev pub HasRoomFor : LinkView → Event → Taken → ℕ → ℕ → Type 0
-HasRoomFor link (Ticks n) taken len capacity = len + unsent link.state ≤ capacity
-HasRoomFor link (Physical bytes) taken len capacity =
-    HasFrameRoom link (Physical bytes) taken len capacity
-HasRoomFor link (Functional bytes) taken len capacity =
-    HasFrameRoom link (Functional bytes) taken len capacity
+-- room was made for the event, which was read; of ticks nothing is left, and they need none but that for the frames
+abbrev pub HasRoomFor : LinkView → Event → Prepared → ℕ → ℕ → Type 0
+HasRoomFor link e (prepared.Frame taken) len capacity = HasFrameRoom link e taken len capacity
+HasRoomFor link e (prepared.Ticks step) len capacity =
+    IsTrue (is_tick e) × (len + unsent link.state ≤ capacity)
 
 -- the time that a link tells after an event, where it told this time before
 abbrev pub time_after : ℕ → Event → ℕ

@@ -1,12 +1,12 @@
 -- What a server stands for: an interleaving of the testers' events, and the journal of its run. It keeps neither.
 use Rattle.std.specs.Prelude.{◌≡◌, ◌<◌, ◌≤◌, ◌-◌, ◌^◌, ℕ, ◌+◌, ◌*◌, ◌==◌, false, min, List, [], ◌∷◌, ◌++◌, length, map, Option, Some, None, IfSome, IsSome, IsTrue, slice_get, slice_set}
-use Rattle.std.specs.Option.{option_map, option_to_list}
+use Rattle.std.specs.Option.{option_and_then, option_map, option_to_list}
 use Rattle.diag_can.specs.declared.frame.Event.{Event}
 use Rattle.diag_can.specs.declared.frame.Event.TheVariants.{Ticks}
 use Rattle.diag_tp.specs.declared.setup.LinkSetup.{LinkSetup}
 use Rattle.diag_tp.specs.declared.sent.Sent.{Sent}
 use Rattle.diag_tp.specs.declared.step.Step.TheVariants as step
-use Rattle.diag_tp.specs.declared.taken.Taken.{Taken}
+use Rattle.diag_tp.specs.declared.step.Step.{Step}
 use Rattle.diag_tp.specs.Gives.{gives}
 use Rattle.diag_tp.specs.Moments.{counted_from, is_tick}
 use Rattle.diag_tp.specs.Placing.{drawn}
@@ -18,8 +18,9 @@ use Rattle.diag_setup.specs.Setup.{link_of}
 use Rattle.diag_ecu.specs.State.{State, opening}
 use Rattle.diag_desk.specs.declared.entry.Entry.{Entry}
 use Rattle.diag_desk.specs.Entries.{asked_by, entry, own, replies}
-use Rattle.diag_desk.specs.Legal.{Legal, after, reply_to}
-use Rattle.diag_world.specs.Port.{AreWithin, HasRoomFor, PortStands, time_after}
+use Rattle.diag_desk.specs.Legal.{Legal, after, after_step, reply_to}
+use Rattle.diag_world.specs.declared.server.Asked.{Asked}
+use Rattle.diag_world.specs.Port.{AreWithin, HasRoomFor, PortStands, step_in, time_after}
 use Rattle.diag_world.specs.Weaving.{items_of, steps_of}
 
 -- what a contract sees of a server: the ECU, and the testers' links in order, with the room that was made in them
@@ -72,17 +73,42 @@ pub record Served (setup : RawSetup) (server : ServerState) (M : List (ℕ × Ev
 abbrev pub closing_time : ℕ
 closing_time = 2 ^ 63
 
--- At this link the tester's event asks this entry, its reply being what the ECU answers, and this is left of it; all
--- room for it is made.
-pub record PortAsked (ecu : State) (link : LinkView) (who : ℕ) (e : Event) (asked : Option Entry)
-    (taken : Taken) (len capacity : ℕ) : Type 0 where
-  pub room : HasRoomFor link e taken len capacity
+-- the entry of a step, where there is one
+abbrev pub entry_of : ℕ → Option Step → Option (List ℕ) → Option Entry
+entry_of who None reply = None
+entry_of who (Some step) reply = Some (entry who step reply)
+
+-- the entry that an event gives which a tester's link has read
+abbrev pub entry_in : LinkView → ℕ → Asked → Option Entry
+entry_in link who asked = entry_of who (step_in link asked.prepared) asked.reply
+
+-- the same of the tester, in a server
+abbrev pub entry_asked : ServerView → ℕ → Asked → Option Entry
+entry_asked server who asked =
+    option_and_then (λ link. entry_in link who asked) (slice_get server.links (who - 1))
+
+-- what the ECU answers to a step, and the state after it, where there is one
+abbrev pub answer_to : State → ℕ → Option Step → Option (List ℕ)
+answer_to ecu who None = None
+answer_to ecu who (Some step) = reply_to ecu who step
+
+abbrev pub went_to : State → ℕ → Option Step → State
+went_to ecu who None = ecu
+went_to ecu who (Some step) = after_step ecu who step
+
+-- At this link the tester's event asks this entry, its reply being what the ECU answers; all room for it is made.
+pub record PortAsked (ecu : State) (link : LinkView) (who : ℕ) (e : Event) (asked : Asked)
+    (len capacity : ℕ) : Type 0 where
+  pub room : HasRoomFor link e asked.prepared len capacity
   pub early : link.state.now ≤ closing_time
-  pub ticks : IsTrue (is_tick e) → IsSome asked
-  pub step : EachHistory link.state (λ s E A Q. option_map (λ k. k.step) asked ≡ gives s E e)
-  pub by : IfSome asked (λ k. k.who ≡ who)
-  pub answer : IfSome asked (λ k. k.reply ≡ reply_to ecu k.who k.step)
-  pub framed : IfSome asked (λ k. IsSome k.reply → IsTrue (is_frame e))
+  pub ticks : IsTrue (is_tick e) → IsSome (entry_in link who asked)
+  pub step : EachHistory link.state (λ s E A Q.
+      option_map (λ k. k.step) (entry_in link who asked) ≡ gives s E e)
+  pub by : IfSome (entry_in link who asked) (λ k. k.who ≡ who)
+  pub answer : IfSome (entry_in link who asked) (λ k. k.reply ≡ reply_to ecu k.who k.step)
+  pub framed : IfSome (entry_in link who asked) (λ k. IsSome k.reply → IsTrue (is_frame e))
+  -- and there is no reply but that to its step
+  pub reply : asked.reply ≡ answer_to ecu who (step_in link asked.prepared)
 
 -- the entry of so many ticks, which have no reply
 abbrev pub entry_of_ticks : ℕ → ℕ → Entry
@@ -100,10 +126,21 @@ pub record PortSettled (old new : LinkView) (who : ℕ) (e : Event) (asked : Opt
       ≡ drawn s E (replies K) ++ more)
 
 -- the same at the link of the tester, in a server
-abbrev pub IsAsked : ServerView → ℕ → Event → Option Entry → Taken → ℕ → ℕ → Type 0
-IsAsked server who e asked taken len capacity = (link : LinkView)
+abbrev pub IsAsked : ServerView → ℕ → Event → Asked → ℕ → ℕ → Type 0
+IsAsked server who e asked len capacity = (link : LinkView)
     → slice_get server.links (who - 1) ≡ Some link
-    → PortAsked server.ecu link who e asked taken len capacity
+    → PortAsked server.ecu link who e asked len capacity
+
+-- a link took a tester's event with this entry, which it gives, and the ECU answered it
+pub record PortWent (ecu ecu' : State) (old new : LinkView) (who : ℕ) (e : Event)
+    (asked : Option Entry) (more : List Sent) : Type 0 where
+  pub early : old.state.now ≤ closing_time
+  pub ticks : IsTrue (is_tick e) → IsSome asked
+  pub step : EachHistory old.state (λ s E A Q. option_map (λ k. k.step) asked ≡ gives s E e)
+  pub by : IfSome asked (λ k. k.who ≡ who)
+  pub answer : IfSome asked (λ k. k.reply ≡ reply_to ecu k.who k.step)
+  pub goes_on : ecu' ≡ after ecu (option_to_list asked)
+  pub settled : PortSettled old new who e asked more
 
 -- The link at this place took the event, by which it moved on in time, and sent these frames; the others are as before.
 -- A clock goes on by at most 60000 with an entry, and without one not at all: ticks always ask an entry.

@@ -16,6 +16,7 @@ ghost use Rattle.std.specs.Prelude.{
   IsTrue,
   IsSome,
   None,
+  option_copied,
   ◌↔◌,
 };
 ghost use Rattle.diag_can.specs.declared.frame.Event.{Event as AnEvent};
@@ -24,17 +25,17 @@ ghost use Rattle.diag_tp.specs.Gives.{gives};
 ghost use Rattle.diag_tp.specs.Link.{is_frame};
 ghost use Rattle.diag_desk.specs.declared.entry.Entry.{Entry as AnEntry};
 ghost use Rattle.diag_world.specs.Port.{entries_of};
-ghost use Rattle.diag_world.specs.Channel.{due, channel_of, waiting, EachChannelRun, HasRoom, ChannelStands, RepliesToFrame};
+ghost use Rattle.diag_world.specs.Channel.{due, channel_of, step_of, waiting, EachChannelRun, HasRoom, ChannelStands, RepliesToFrame};
 
-use crate::port::{Prepared, gives_step, prepare, settle};
+use crate::port::{Prepared, gives_step, prepare, settle, step};
 use diag_can::Event;
-use diag_tp::{Link, LinkSetup, Message, Sent, Taken, gives_law, time_law};
+use diag_tp::{Link, LinkSetup, Message, Sent, Step, gives_law, time_law};
 use std::alloc::{AllocError, Global};
 
 /// One tester's link, and the frames that the tester was sent.
 ///
-/// An event goes through in two halves. `prepare` makes all growths and answers the step that the event gives; then
-/// that step is taken; `settle` takes the event with the reply, and can't fail. So a refusal leaves the channel as it was.
+/// An event goes through in two halves. `prepare` makes all growths; `step` lends the step that the event gives, which
+/// is taken; `settle` takes the event with the reply, and can't fail. So a refusal leaves the channel as it was.
 #[derive(Drop)]
 pub struct Channel {
     link: Link,
@@ -65,24 +66,32 @@ impl Channel {
         gives_step(&self.link, event)
     }
 
-    /// Reads the event, makes room for it, and answers the step that it gives. Nothing else changes, whatever the answer.
+    /// Reads the event and makes room for it; `step` lends the step that it gives. Nothing else changes, whatever the
+    /// answer, and an event that was read needn't be settled.
     pub fn prepare(&mut self, event: &Event) -> Result<Prepared, AllocError>
         requires drained { due (channel_of self.old) ≡ 0 }
         ensures same { channel_of self.new ≡ channel_of self.old }
-        ensures room { IfOk result (λ p. HasRoom self.new event.now p.taken) }
+        ensures room { IfOk result (λ p. HasRoom self.new event.now p) }
         ensures step { IfOk result (λ p. (s : ALinkSetup) (E : List AnEvent) (K : List AnEntry)
             → ChannelStands s (channel_of self.old) E K
-            → p.step ≡ gives s E event.now) }
+            → step_of self.new p ≡ gives s E event.now) }
         ensures replies { IfOk result (λ p.
-            IfSome p.step (λ step. RepliesToFrame event.now step)) }
+            IfSome (step_of self.new p) (λ step. RepliesToFrame event.now step)) }
     {
         prepare(&mut self.link, event, &mut self.sent)
     }
 
+    /// The step that an event gives, if any, after it was read; it is lent.
+    pub fn step<'a>(&'a self, prepared: &'a Prepared) -> Option<&'a Step>
+        ensures { option_copied result ≡ step_of self.now prepared.now }
+    {
+        step(&self.link, prepared)
+    }
+
     /// Takes an event that was read and has room, with the reply to the step that it gives, and sends what is due.
-    pub fn settle(&mut self, event: &Event, taken: Taken, reply: Option<Message>)
+    pub fn settle(&mut self, event: &Event, prepared: &Prepared, reply: Option<Message>)
         requires drained { due (channel_of self.old) ≡ 0 }
-        requires room { HasRoom self.old event.now taken }
+        requires room { HasRoom self.old event.now prepared.now }
         requires frame { IsSome reply → IsTrue (is_frame event.now) }
         ensures took { (s : ALinkSetup) (who : ℕ) (E : List AnEvent) (K : List AnEntry)
             → ChannelStands s (channel_of self.old) E K
@@ -97,7 +106,7 @@ impl Channel {
     {
         gives_law();
         time_law();
-        settle(&mut self.link, event, taken, reply, &mut self.sent);
+        settle(&mut self.link, event, prepared, reply, &mut self.sent);
     }
 
     /// The frames that were sent, in order.

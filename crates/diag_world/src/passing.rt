@@ -124,13 +124,13 @@ fn pass_in_moves(link: &mut Link, count: TickCount, out: &mut Vec<Sent>)
 pub(crate) fn receive(
     link: &mut Link,
     event: &Event,
-    taken: Taken,
+    taken: &Taken,
     reply: Option<Message>,
     out: &mut Vec<Sent>,
 )
-    requires taken { IsTaken link.old.state.setup event.now taken }
+    requires taken { IsTaken link.old.state event.now taken.now }
     requires drained { pending link.old.state ≡ 0 }
-    requires fits { FitsIn link.old taken }
+    requires fits { FitsIn link.old taken.now }
     requires reply_room { IsTrue (has_reply_room link.old) }
     requires room { vec_len out.old + unsent link.old.state + 2 ≤ vec_capacity out.old }
     ensures received { Grew out.old.items out.new.items (λ more. AreWithin link.old.state.now link.new.state.now more

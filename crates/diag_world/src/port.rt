@@ -17,6 +17,7 @@ ghost use Rattle.std.specs.Prelude.{
   IsTrue,
   IsSome,
   None,
+  option_copied,
   vec_len,
   vec_capacity,
 };
@@ -24,14 +25,14 @@ ghost use Rattle.diag_can.specs.declared.frame.Event.{Event as AnEvent};
 ghost use Rattle.diag_tp.specs.declared.setup.LinkSetup.{LinkSetup as ALinkSetup};
 ghost use Rattle.diag_tp.specs.Gives.{gives};
 ghost use Rattle.diag_tp.specs.Moments.{is_tick, last_time};
-ghost use Rattle.diag_tp.specs.Link.{EachHistory, asked_of, is_frame, last_tick, pending, waiting_count};
+ghost use Rattle.diag_tp.specs.Link.{EachHistory, is_frame, last_tick, pending, waiting_count};
 ghost use Rattle.diag_desk.specs.declared.entry.Entry.{Entry as AnEntry};
 ghost use Rattle.diag_world.specs.Channel.{RepliesToFrame};
-ghost use Rattle.diag_world.specs.Port.{AreWithin, Grew, HasRoomFor, PortStands, PortTook, time_after};
+ghost use Rattle.diag_world.specs.Port.{AreWithin, Grew, HasRoomFor, PortStands, PortTook, step_in, time_after};
 
 use crate::passing::{pass, receive};
 use diag_can::Event;
-use diag_tp::{Begun, Link, Message, Pci, Request, Sent, Step, Taken, gives_law, time_law};
+use diag_tp::{Link, Message, Sent, Step, Taken, gives_law, time_law};
 use std::alloc::AllocError;
 
 /// Whether the event gives a step.
@@ -46,16 +47,16 @@ pub(crate) fn gives_step(link: &Link, event: &Event) -> bool
     }
 }
 
-/// An event that was read and has room: the step that it gives, and what is left of it for its link.
+/// An event that was read and has room. The step that it gives is lent.
 #[derive(Debug, Drop)]
-pub struct Prepared {
-    /// The step that it gives, if any.
-    pub step: Option<Step>,
-    /// What is left of a frame once its step is taken; of ticks nothing is.
-    pub taken: Taken,
+pub enum Prepared {
+    /// A frame, as its link read it.
+    Frame(Taken),
+    /// Ticks, as the step that they are.
+    Ticks(Step),
 }
 
-/// Reads the event, makes room for it, and answers the step that it gives. Nothing else changes, whatever the answer.
+/// Reads the event and makes room for it; `step` lends the step that it gives. Nothing else changes, whatever the answer.
 pub(crate) fn prepare(
     link: &mut Link,
     event: &Event,
@@ -65,44 +66,35 @@ pub(crate) fn prepare(
     ensures same { link.new.state ≡ link.old.state }
     ensures out { out.new.items ≡ out.old.items }
     ensures room { IfOk result (λ p. HasRoomFor
-        link.new event.now p.taken (vec_len out.new) (vec_capacity out.new)) }
+        link.new event.now p (vec_len out.new) (vec_capacity out.new)) }
     ensures step { IfOk result (λ p. EachHistory link.old.state (λ s E A Q.
-        p.step ≡ gives s E event.now)) }
+        step_in link.new p ≡ gives s E event.now)) }
     ensures replies { IfOk result (λ p.
-        IfSome p.step (λ step. RepliesToFrame event.now step)) }
-    ensures ticks { IfOk result (λ p. IsTrue (is_tick event.now) → IsSome p.step) }
+        IfSome (step_in link.new p) (λ step. RepliesToFrame event.now step)) }
+    ensures ticks { IfOk result (λ p. IsTrue (is_tick event.now) → IsSome (step_in link.new p)) }
 {
     gives_law();
     match event {
         Event::Ticks(count) => {
             out.reserve(link.backlog() as usize)?;
-            Ok(Prepared {
-                step: Some(Step::Ticks(*count)),
-                taken: Taken::Read(Pci::Ignored),
-            })
+            Ok(Prepared::Ticks(Step::Ticks(*count)))
         }
         Event::Physical(_) | Event::Functional(_) => {
-            let Begun { request, taken } = link.begin(event)?;
+            let taken = link.begin(event)?;
             let most = link.backlog().saturating_add(2) as usize;
             out.reserve(most)?;
-            Ok(Prepared {
-                step: step_of(request),
-                taken,
-            })
+            Ok(Prepared::Frame(taken))
         }
     }
 }
 
-/// The step of a request.
-fn step_of(request: Option<Request>) -> Option<Step>
-    ensures { result ≡ asked_of request }
+/// The step that an event gives, if any, after it was read; it is lent.
+pub(crate) fn step<'a>(link: &'a Link, prepared: &'a Prepared) -> Option<&'a Step>
+    ensures { option_copied result ≡ step_in link.now prepared.now }
 {
-    match request {
-        Some(request) => Some(Step::Request {
-            functional: request.functional,
-            message: request.message,
-        }),
-        None => None,
+    match prepared {
+        Prepared::Frame(taken) => link.request(taken),
+        Prepared::Ticks(step) => Some(step),
     }
 }
 
@@ -110,13 +102,13 @@ fn step_of(request: Option<Request>) -> Option<Step>
 pub(crate) fn settle(
     link: &mut Link,
     event: &Event,
-    taken: Taken,
+    prepared: &Prepared,
     reply: Option<Message>,
     out: &mut Vec<Sent>,
 )
     requires drained { pending link.old.state ≡ 0 }
     requires room { HasRoomFor
-        link.old event.now taken (vec_len out.old) (vec_capacity out.old) }
+        link.old event.now prepared.now (vec_len out.old) (vec_capacity out.old) }
     requires frame { IsSome reply → IsTrue (is_frame event.now) }
     ensures took { Grew out.old.items out.new.items (λ more.
         AreWithin link.old.state.now link.new.state.now more
@@ -136,8 +128,9 @@ pub(crate) fn settle(
 {
     gives_law();
     time_law();
-    match event {
-        Event::Ticks(count) => pass(link, *count, out),
-        Event::Physical(_) | Event::Functional(_) => receive(link, event, taken, reply, out),
+    match (prepared, event) {
+        (Prepared::Frame(taken), _) => receive(link, event, taken, reply, out),
+        (Prepared::Ticks(_), Event::Ticks(count)) => pass(link, *count, out),
+        (Prepared::Ticks(_), _) => unreachable!(),
     }
 }

@@ -21,7 +21,6 @@ ghost use Rattle.std.specs.Prelude.{
   vec_capacity,
   slice_get,
 };
-ghost use Rattle.std.specs.Option.{option_to_list};
 ghost use Rattle.diag_can.specs.declared.frame.Event.{Event as AnEvent};
 ghost use Rattle.diag_tp.specs.Gives.{gives};
 ghost use Rattle.diag_tp.specs.Link.{pending, quiet};
@@ -31,15 +30,17 @@ ghost use Rattle.diag_desk.specs.declared.entry.Entry.{Entry as AnEntry};
 ghost use Rattle.diag_desk.specs.Legal.{after, reply_to};
 ghost use Rattle.diag_world.specs.Weaving.{items_of};
 ghost use Rattle.diag_world.specs.Port.{Grew};
-ghost use Rattle.diag_world.specs.Server.{closing_time, entry_of_ticks, quiet_of, server_of, state_at, AllDrained, AreEarly, EachRun, IsAsked, IsClosed, PortAsked, PortSettled, Serves, Settled, Waited};
+ghost use Rattle.diag_desk.specs.Entry.{entry_seen, step_seen};
+ghost use Rattle.diag_world.specs.Port.{step_in};
+ghost use Rattle.diag_world.specs.Server.{answer_to, closing_time, entry_asked, entry_in, entry_of_ticks, quiet_of, server_of, state_at, went_to, AllDrained, AreEarly, EachRun, IsAsked, IsClosed, PortAsked, PortSettled, PortWent, Serves, Settled, Waited};
 
 use crate::passing::{let_pass, pass_quiet};
-use crate::port::{Prepared, prepare, settle};
+use crate::port::{Prepared, prepare, settle, step};
 use diag_can::{Event, TickCount};
-use diag_desk::{Entry, reply_of, settle_step};
+use diag_desk::{EntryRef, StepRef, reply_of, settle_step};
 use diag_ecu::Ecu;
 use diag_store::{Setup, TesterId};
-use diag_tp::{Link, Sent, Taken};
+use diag_tp::{Link, Message, Sent, Step};
 use std::alloc::{AllocError, Global};
 use std::marker::Model;
 use thiserror::Error;
@@ -68,20 +69,21 @@ impl From<AllocError> for ServerFault {
 /// The last time of a link, in ticks, at which an event is taken.
 const CLOSING_TIME: u64 = 1 << 63;
 
-/// What an event asks: its entry, and what is left of it for its tester's link.
+/// What an event asks that a tester's link has read, and the reply to it. `Server::entry` lends the entry.
 #[derive(Drop)]
 pub struct Asked {
-    /// The entry that it gives, if any.
-    pub entry: Option<Entry>,
-    /// What is left of it once the entry is taken.
-    pub taken: Taken,
+    /// The event; the step that it gives is lent.
+    pub prepared: Prepared,
+    /// What the ECU answers to that step, if there is a reply.
+    pub reply: Option<Message>,
 }
 
 /// The ECU and each tester's link.
 ///
 /// It keeps no history: its contract is the relation `Serves`, from each interleaving and journal that it stands for to
-/// those with one event more. An event goes through in two halves. `ask` makes all growths and answers the entry that the
-/// event gives; whoever keeps a journal enters it; `settle` takes the event, and can't fail.
+/// those with one event more. An event goes through in two halves. `ask` makes all growths and has the event answered;
+/// whoever keeps a journal enters the entry that `entry` lends; `settle` takes the event, and can't fail. `event` does
+/// both for who keeps none.
 #[derive(Drop)]
 pub struct Server {
     ecu: Ecu,
@@ -114,7 +116,8 @@ impl Server {
         Ok(Server { ecu, links })
     }
 
-    /// Makes room for an event of a tester, and answers the entry that it gives. Nothing else changes.
+    /// Reads an event of a tester, makes room for it, and has the step that it gives answered. Nothing else changes, and
+    /// what was asked needn't be settled.
     pub fn ask(
         &mut self,
         who: TesterId,
@@ -125,13 +128,12 @@ impl Server {
         ensures same { server_of self.new ≡ server_of self.old }
         ensures out { out.new.items ≡ out.old.items }
         ensures asked { IfOk result (λ asked.
-            IsAsked self.new who event.now asked.entry asked.taken
-            (vec_len out.new) (vec_capacity out.new)) }
+            IsAsked self.new who event.now asked (vec_len out.new) (vec_capacity out.new)) }
         ensures step { IfOk result (λ asked. EachRun (server_of self.old) (λ setup M K.
-            option_map (λ k. k.step) asked.entry
+            option_map (λ k. k.step) (entry_asked self.new who asked)
             ≡ gives (link_of setup who) (items_of M who) event.now)) }
-        ensures answer { IfOk result (λ asked.
-            IfSome asked.entry (λ k. k.reply ≡ reply_to self.old.ecu k.who k.step)) }
+        ensures answer { IfOk result (λ asked. IfSome (entry_asked self.new who asked) (λ k.
+            k.reply ≡ reply_to self.old.ecu k.who k.step)) }
         ensures clock { result ≡ Err ServerFault.Clock
             → EachRun (server_of self.old) (λ setup M K.
             closing_time < last_time (items_of M who)) }
@@ -143,13 +145,28 @@ impl Server {
         ask_at(link, &self.ecu, who, event, out)
     }
 
+    /// The entry that an event of a tester gives, if any, after it was asked; it is lent.
+    pub fn entry<'a>(&'a self, who: TesterId, asked: &'a Asked) -> Option<EntryRef<'a>>
+        requires in_setup { who ≤ length self.now.links }
+        ensures { option_map entry_seen result ≡ entry_asked self.now who asked.now }
+    {
+        let index = usize::from(who.place()) - 1;
+        let step = step(&self.links[index], &asked.prepared)?;
+        Some(EntryRef {
+            who,
+            step: shown(step),
+            reply: asked.reply.as_ref().map(Message::bytes),
+        })
+    }
+
     /// Takes an event of a tester with the entry that it gives, and hands out the frames that it draws.
     pub fn settle(&mut self, who: TesterId, event: &Event, asked: Asked, out: &mut Vec<Sent>)
         requires in_setup { who ≤ length self.old.links }
-        requires asked { IsAsked self.old who event.now asked.entry asked.taken
+        requires asked { IsAsked self.old who event.now asked
             (vec_len out.old) (vec_capacity out.old) }
         ensures took { Grew out.old.items out.new.items (λ more.
-            Settled (server_of self.old) (server_of self.new) who event.now asked.entry more) }
+            Settled (server_of self.old) (server_of self.new) who event.now
+            (entry_asked self.old who asked) more) }
     {
         let index = usize::from(who.place()) - 1;
         let link = &mut self.links[index];
@@ -203,8 +220,11 @@ impl Server {
     ) -> Result<(), ServerFault>
         requires in_setup { who ≤ length self.old.links }
         ensures ok { OnOk result ((asked : Option AnEntry)
+            × IfSome asked (λ k. k.who ≡ who)
             × Grew out.old.items out.new.items (λ more.
             Settled (server_of self.old) (server_of self.new) who event.now asked more)) }
+        ensures early { OnOk result (IfSome (slice_get self.old.links (who - 1)) (λ link.
+            link.state.now ≤ closing_time)) }
         ensures err { OnErr result
             ((server_of self.new ≡ server_of self.old) × (out.new.items ≡ out.old.items)) }
         ensures clock { result ≡ Err ServerFault.Clock
@@ -213,9 +233,9 @@ impl Server {
         ensures closed { result ≡ Err ServerFault.Clock
             → IsClosed (server_of self.old).links (who - 1) }
     {
-        let asked = self.ask(who, event, out)?;
-        self.settle(who, event, asked, out);
-        Ok(())
+        let index = usize::from(who.place()) - 1;
+        let link = &mut self.links[index];
+        event_at(link, &mut self.ecu, who, event, out)
     }
 
     /// What a tester's clock tells, in ticks of its link.
@@ -267,7 +287,23 @@ fn look_at_clock(link: &Link) -> Result<(), ServerFault>
     Ok(())
 }
 
-/// Makes room for an event at a link, and answers the entry that it gives.
+/// A step as the journal shows one; a message is the step's own bytes.
+fn shown(step: &Step) -> StepRef<'_>
+    ensures { step_seen result ≡ step.now }
+{
+    match step {
+        Step::Request {
+            functional,
+            message,
+        } => StepRef::Request {
+            functional: *functional,
+            bytes: message.bytes(),
+        },
+        Step::Ticks(count) => StepRef::Ticks(*count),
+    }
+}
+
+/// Reads an event at a link, makes room for it, and has the step that it gives answered.
 fn ask_at(
     link: &mut Link,
     ecu: &Ecu,
@@ -279,20 +315,62 @@ fn ask_at(
     ensures same { link.new.state ≡ link.old.state }
     ensures out { out.new.items ≡ out.old.items }
     ensures asked { IfOk result (λ asked.
-        PortAsked ecu.now link.new who event.now asked.entry asked.taken
-        (vec_len out.new) (vec_capacity out.new)) }
+        PortAsked ecu.now link.new who event.now asked (vec_len out.new) (vec_capacity out.new)) }
     ensures clock { result ≡ Err ServerFault.Clock → closing_time < link.old.state.now }
 {
     look_at_clock(link)?;
-    let Prepared { step, taken } = prepare(link, event, out)?;
-    match step {
-        Some(step) => {
-            let reply = reply_of(ecu, who, &step)?;
-            let entry = Some(Entry { who, step, reply });
-            Ok(Asked { entry, taken })
-        }
-        None => Ok(Asked { entry: None, taken }),
+    let prepared = prepare(link, event, out)?;
+    let reply = reply_at(link, ecu, who, &prepared)?;
+    Ok(Asked { prepared, reply })
+}
+
+/// What the ECU answers to the step that an event gives.
+fn reply_at(
+    link: &Link,
+    ecu: &Ecu,
+    who: TesterId,
+    prepared: &Prepared,
+) -> Result<Option<Message>, AllocError>
+    ensures { IfOk result (λ reply. reply ≡ answer_to ecu.now who (step_in link.now prepared.now)) }
+{
+    match step(link, prepared) {
+        Some(step) => reply_of(ecu, who, step),
+        None => Ok(None),
     }
+}
+
+/// Brings the ECU to the state after the step that an event gives.
+fn step_at(link: &Link, ecu: &mut Ecu, who: TesterId, prepared: &Prepared)
+    ensures { ecu.new ≡ went_to ecu.old who (step_in link.now prepared.now) }
+{
+    if let Some(step) = step(link, prepared) {
+        settle_step(ecu, who, step);
+    }
+}
+
+/// Takes an event at a link. Refused, nothing has changed.
+fn event_at(
+    link: &mut Link,
+    ecu: &mut Ecu,
+    who: TesterId,
+    event: &Event,
+    out: &mut Vec<Sent>,
+) -> Result<(), ServerFault>
+    requires drained { pending link.old.state ≡ 0 }
+    ensures went { OnOk result ((asked : Option AnEntry) × Grew out.old.items out.new.items (λ more.
+        PortWent ecu.old ecu.new link.old link.new who event.now asked more)) }
+    ensures drained { pending link.new.state ≡ 0 }
+    ensures err { OnErr result ((link.new.state ≡ link.old.state)
+        × (ecu.new ≡ ecu.old)
+        × (out.new.items ≡ out.old.items)) }
+    ensures clock { result ≡ Err ServerFault.Clock → closing_time < link.old.state.now }
+{
+    look_at_clock(link)?;
+    let prepared = prepare(link, event, out)?;
+    let reply = reply_at(link, ecu, who, &prepared)?;
+    step_at(link, ecu, who, &prepared);
+    settle(link, event, &prepared, reply, out);
+    Ok(())
 }
 
 /// Takes ticks at a link. Refused, nothing has changed.
@@ -363,25 +441,13 @@ fn settle_at(
     out: &mut Vec<Sent>,
 )
     requires drained { pending link.old.state ≡ 0 }
-    requires asked { PortAsked ecu.old link.old who event.now asked.entry asked.taken
+    requires asked { PortAsked ecu.old link.old who event.now asked
         (vec_len out.old) (vec_capacity out.old) }
-    ensures took { Grew out.old.items out.new.items (λ more.
-        PortSettled link.old link.new who event.now asked.entry more) }
+    ensures went { Grew out.old.items out.new.items (λ more. PortWent
+        ecu.old ecu.new link.old link.new who event.now (entry_in link.old who asked) more) }
     ensures drained { pending link.new.state ≡ 0 }
-    ensures ecu { ecu.new ≡ after ecu.old (option_to_list asked.entry) }
 {
-    let Asked { entry, taken } = asked;
-    match entry {
-        Some(
-            Entry {
-                who: _,
-                step,
-                reply,
-            },
-        ) => {
-            settle_step(ecu, who, &step);
-            settle(link, event, taken, reply, out);
-        }
-        None => settle(link, event, taken, None, out),
-    }
+    let Asked { prepared, reply } = asked;
+    step_at(link, ecu, who, &prepared);
+    settle(link, event, &prepared, reply, out);
 }

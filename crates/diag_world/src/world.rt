@@ -25,7 +25,6 @@ ghost use Rattle.diag_world.specs.Weaving.{items_of};
 ghost use Rattle.diag_world.specs.World.{EachInterleaving, Stands, Took};
 
 use crate::channel::Channel;
-use crate::port::Prepared;
 use crate::serial_play::Played;
 use diag_can::Event;
 use diag_desk::{Desk, Journal, StepFault};
@@ -176,17 +175,17 @@ fn take(
     if desk.journal().is_full() && channel.gives_step(event) {
         return Err(StepFault::JournalFull);
     }
-    let Prepared { step, taken } = channel.prepare(event)?;
-    match step {
+    let prepared = channel.prepare(event)?;
+    match channel.step(&prepared) {
         Some(step) => {
-            let reply = desk.step(who, &step)?;
+            let reply = desk.step(who, step)?;
             // (for its contract: a desk's journal is legal)
             let _journal = desk.journal();
-            channel.settle(event, taken, reply);
+            channel.settle(event, &prepared, reply);
             Ok(())
         }
         None => {
-            channel.settle(event, taken, None);
+            channel.settle(event, &prepared, None);
             Ok(())
         }
     }

@@ -5,7 +5,6 @@ use Rattle.diag_tp.specs.State.{LinkView}
 use Rattle.diag_world.specs.Port.{AreWithin}
 use Rattle.diag_tp.specs.Moments.{last_moment}
 use Rattle.diag_tp.specs.Placing.{placed_at}
-use Rattle.diag_tp.specs.Taken.{IsTaken}
 use Rattle.diag_world.proofs.Channels.{none_of}
 use Rattle.diag_world.proofs.passing.receive.Goals.{in-Some, in_default}
 use Rattle.diag_world.proofs.passing.receive.Goals as goal
@@ -25,7 +24,7 @@ returns-clause-received c =
         subst (λ from. AreWithin from c.send_due.new.link.state.now sent.more) same sent.holds.0,
         λ s E A Q h time.
             let m = last_moment (E ++ e ∷ []) in
-            let fed = c.settle.ensures.stands s E A Q h e (subst (λ t. IsTaken t e c.args.taken) h.set c.requires.taken) in
+            let fed = c.settle.ensures.stands s E A Q h e c.requires.taken in
             let answered : StandsFor s c.match-reply.link.state (E ++ e ∷ []) (A ++ placed_at m c.args.reply) Q =
             elim c.match-reply.branch [
               | in-Some w ↦ subst (λ (l : LinkView). StandsFor s l.state (E ++ e ∷ []) (A ++ placed_at m c.args.reply) Q) (sym w.link-is)

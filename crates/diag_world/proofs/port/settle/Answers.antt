@@ -1,4 +1,4 @@
-use Rattle.std.proofs.Common.{◌+◌, ◌≤◌, ℕ, [], ◌∷◌, ◌++◌, refl, ap, subst, sym, ◌∙◌, arith, inl, inr}
+use Rattle.std.proofs.Common.{◌+◌, ◌≤◌, ℕ, [], ◌∷◌, ◌++◌, ap, subst, sym, ◌∙◌, arith}
 use Rattle.std.proofs.lemmas.List.{append-nil}
 use Rattle.std.specs.Prelude.{IsTrue}
 use Rattle.diag_can.specs.declared.frame.Event.TheVariants.{Ticks}
@@ -13,9 +13,9 @@ use Rattle.diag_world.proofs.port.settle.Goals as goal
 no_frame : (n : ℕ) → IsTrue (is_frame (Ticks n)) → ⊥
 no_frame n h = cc
 
-pub returns-in-Ticks-clause-took : goal.returns-in-Ticks-clause-took
-returns-in-Ticks-clause-took c =
-    let n = c.in-Ticks.count in
+pub returns-in-Ticks-Ticks-clause-took : goal.returns-in-Ticks-Ticks-clause-took
+returns-in-Ticks-Ticks-clause-took c =
+    let n = c.in-Ticks-Ticks.count in
     let passed = c.pass.ensures.passed in
     record {
       more = passed.more;
@@ -24,20 +24,20 @@ returns-in-Ticks-clause-took c =
         passed.holds.0,
         λ s who E K h time quiet.
             let A = placed s E (replies K) in
-            let none = none_of_some c.args.reply (λ some. no_frame n (rw c.in-Ticks.is at (c.requires.frame some))) in
-            let in_time : last_time E + n ≤ last_tick = omega (arith, c.time_law.ensures.ticks E n, rw c.in-Ticks.is at time) in
+            let none = none_of_some c.args.reply (λ some. no_frame n (rw c.in-Ticks-Ticks.is-1 at (c.requires.frame some))) in
+            let in_time : last_time E + n ≤ last_tick = omega (arith, c.time_law.ensures.ticks E n, rw c.in-Ticks-Ticks.is-1 at time) in
             let out = passed.holds.1 s E A (drawn s E (replies K)) h.stands in_time in
             let sent : HandedOut s c.pass.new.link.state (E ++ Ticks n ∷ []) (A ++ placed_at (last_moment (E ++ Ticks n ∷ [])) c.args.reply)
             (drawn s E (replies K) ++ passed.more) =
             subst (λ A'. HandedOut s c.pass.new.link.state (E ++ Ticks n ∷ []) A' (drawn s E (replies K) ++ passed.more))
             (sym (ap (λ r. A ++ placed_at (last_moment (E ++ Ticks n ∷ [])) r) none ∙ append-nil A)) out in
-            rw c.in-Ticks.is (port_took s who E K (Ticks n) c.args.reply c.args.link.now.state c.pass.new.link.state passed.more h
-            (rw c.in-Ticks.is at quiet) sent),
+            rw c.in-Ticks-Ticks.is-1 (port_took s who E K (Ticks n) c.args.reply c.args.link.now.state c.pass.new.link.state passed.more h
+            (rw c.in-Ticks-Ticks.is-1 at quiet) sent),
       );
     }
 
-pub returns-in-Physical-clause-took : goal.returns-in-Physical-clause-took
-returns-in-Physical-clause-took c =
+pub returns-in-Frame-default-clause-took : goal.returns-in-Frame-default-clause-took
+returns-in-Frame-default-clause-took c =
     let e = c.args.event.now in
     let received = c.receive.ensures.received in
     record {
@@ -50,11 +50,3 @@ returns-in-Physical-clause-took c =
             (received.holds.1 s E (placed s E (replies K)) (drawn s E (replies K)) h.stands time),
       );
     }
-
-pub returns-in-Ticks-clause-short : goal.returns-in-Ticks-clause-short
-returns-in-Ticks-clause-short c = λ E. rw c.in-Ticks.is (omega (arith, c.time_law.ensures.ticks E c.in-Ticks.count, c.pass.ensures.most))
-
-pub returns-in-Physical-clause-short : goal.returns-in-Physical-clause-short
-returns-in-Physical-clause-short c = λ E.
-    let frame : IsTrue (is_frame c.args.event.now) = elim c.in-Physical.is [ inl e ↦ rw e.1 refl | inr e ↦ rw e.1 refl ] in
-    omega (arith, c.time_law.ensures.frame E c.args.event.now frame)

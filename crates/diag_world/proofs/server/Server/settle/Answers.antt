@@ -1,10 +1,11 @@
 use Rattle.std.proofs.Common.{◌≡◌, ◌<◌, ◌+◌, ◌-◌, Some, length, refl, ap, subst, sym, arith, inl, inr, vec_len, vec_capacity}
 use Rattle.std.proofs.lemmas.Option.{slice_get_read}
-use Rattle.std.specs.Prelude.{slice_get, slice_set}
+use Rattle.std.specs.Prelude.{Option, slice_get, slice_set}
 use Rattle.diag_tp.specs.State.{LinkView}
 use Rattle.diag_tp.specs.Link.{pending}
-use Rattle.diag_world.specs.Server.{ServerView, IsAsked, Settled, server_of}
-use Rattle.diag_world.proofs.Serving.{server_settles}
+use Rattle.diag_desk.specs.declared.entry.Entry.{Entry}
+use Rattle.diag_world.specs.Server.{ServerView, IsAsked, Settled, entry_asked, entry_in, server_of}
+use Rattle.diag_world.proofs.Serving.{entry_found, server_went}
 use Rattle.diag_world.proofs.Worlds.{set_cases}
 use Rattle.diag_world.proofs.server.Server.settle.Goals as goal
 
@@ -38,9 +39,9 @@ settle_at-requires-clause-asked c =
     let found : slice_get links i ≡ Some c.index_mut-link.result.now =
     slice_get_read links (length links) i c.index_mut-link.result.now refl within c.index_mut-link.ensures.value in
     let before : ServerView = record { ecu = c.self.inside.ecu; links = links } in
-    let asked : IsAsked before c.args.who c.args.event.now c.args.asked.entry c.args.asked.taken (vec_len c.args.out.now) (vec_capacity c.args.out.now) =
-    subst (λ (v : ServerView). IsAsked v c.args.who c.args.event.now c.args.asked.entry c.args.asked.taken (vec_len c.args.out.now)
-    (vec_capacity c.args.out.now)) (sym c.self.view_is) c.requires.asked in
+    let asked : IsAsked before c.args.who c.args.event.now c.args.asked (vec_len c.args.out.now) (vec_capacity c.args.out.now) =
+    subst (λ (v : ServerView). IsAsked v c.args.who c.args.event.now c.args.asked (vec_len c.args.out.now) (vec_capacity c.args.out.now))
+    (sym c.self.view_is) c.requires.asked in
     asked c.index_mut-link.result.now (subst (λ k. slice_get links k ≡ Some c.index_mut-link.result.now) place found)
 
 pub invariant_of-self : goal.invariant_of-self
@@ -70,18 +71,16 @@ returns c =
     let found : slice_get links i ≡ Some link = slice_get_read links (length links) i link refl within c.index_mut-link.ensures.value in
     let before : ServerView = record { ecu = c.self.inside.ecu; links = links } in
     let after : ServerView = record { ecu = c.settle_at.new.ecu; links = slice_set links i link' } in
-    let took = c.settle_at.ensures.took in
-    let given : IsAsked before who e c.args.asked.entry c.args.asked.taken (vec_len c.args.out.now) (vec_capacity c.args.out.now) =
-    subst (λ (v : ServerView). IsAsked v who e c.args.asked.entry c.args.asked.taken (vec_len c.args.out.now) (vec_capacity c.args.out.now))
-    (sym c.self.view_is) c.requires.asked in
-    let asked = given link (subst (λ k. slice_get links k ≡ Some link) place found) in
-    let settled : Settled (server_of before) (server_of after) who e c.args.asked.entry took.more =
-    server_settles before after who i e c.args.asked.entry link link' took.more is found refl c.settle_at.ensures.ecu asked.ticks asked.step asked.by
-    asked.answer took.holds in
+    let went = c.settle_at.ensures.went in
+    let asked = c.args.asked in
+    let here = entry_found before who asked link (subst (λ k. slice_get links k ≡ Some link) place found) in
+    let settled : Settled (server_of before) (server_of after) who e (entry_asked before who asked) went.more =
+    subst (λ (o : Option Entry). Settled (server_of before) (server_of after) who e o went.more) (sym here)
+    (server_went before after who i e (entry_in link who asked) link link' went.more is found refl went.holds) in
     record {
       took = record {
-        more = took.more;
-        grown = took.grown;
-        holds = subst (λ (v : ServerView). Settled (server_of v) (server_of after) who e c.args.asked.entry took.more) c.self.view_is settled;
+        more = went.more;
+        grown = went.grown;
+        holds = subst (λ (v : ServerView). Settled (server_of v) (server_of after) who e (entry_asked v who asked) went.more) c.self.view_is settled;
       };
     }
