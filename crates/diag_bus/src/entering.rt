@@ -1,13 +1,14 @@
 //! The entries of the run's journal, as they are written.
 
-ghost use Rattle.std.specs.Prelude.{◌≡◌, ◌≤◌, ◌++◌, Some, option_copied, OnOk};
+ghost use Rattle.std.specs.Prelude.{◌≡◌, ◌≤◌, ◌++◌, Some, option_copied, option_map, OnOk};
+ghost use Rattle.diag_desk.specs.Entry.{entry_seen, step_seen};
 ghost use Rattle.diag_desk.specs.Text.{ticks_in};
 ghost use Rattle.diag_world.specs.Server.{closing_time, entry_of_ticks};
 ghost use Rattle.diag_bus.specs.Batch.{entry_added};
 
 use crate::bus::Output;
 use diag_can::TickCount;
-use diag_desk::{Entry, Step, write_entry_at};
+use diag_desk::{EntryRef, StepRef, write_entry_at};
 use diag_setup::TesterId;
 use std::alloc::AllocError;
 
@@ -15,12 +16,12 @@ use std::alloc::AllocError;
 pub(crate) fn enter(
     output: Output,
     now: u64,
-    asked: Option<&Entry>,
+    asked: Option<&EntryRef<'_>>,
     text: &mut Vec<u8>,
 ) -> Result<(), AllocError>
     requires { now ≤ closing_time }
-    ensures { OnOk result
-        (text.new.items ≡ text.old.items ++ entry_added output now (option_copied asked.entry)) }
+    ensures { OnOk result (text.new.items ≡ text.old.items
+        ++ entry_added output now (option_map entry_seen (option_copied asked.entry))) }
 {
     match (output, asked) {
         (Output::Journal, Some(entry)) => {
@@ -44,9 +45,9 @@ pub(crate) fn enter_ticks(
 {
     match output {
         Output::Journal => {
-            let entry = Entry {
+            let entry = EntryRef {
                 who,
-                step: Step::Ticks(count),
+                step: StepRef::Ticks(count),
                 reply: None,
             };
             enter(output, now, Some(&entry), text)
@@ -56,12 +57,12 @@ pub(crate) fn enter_ticks(
 }
 
 /// The ticks of a step.
-fn ticks_in(step: &Step) -> u64
-    ensures same { result ≡ ticks_in step.now }
+fn ticks_in(step: &StepRef<'_>) -> u64
+    ensures same { result ≡ ticks_in (step_seen step.now) }
     ensures bound { result ≤ 60000 }
 {
     match step {
-        Step::Request { .. } => 0,
-        Step::Ticks(count) => u64::from(count.get()),
+        StepRef::Request { .. } => 0,
+        StepRef::Ticks(count) => u64::from(count.get()),
     }
 }

@@ -143,6 +143,47 @@ impl MidLine {
         ensures pace { OneWentOn self.old.server self.new.server (who - 1) 0 }
         ensures sent { OnOk result (OneSentIn self.old self.new (who - 1) 0) }
     {
+        match self.output {
+            Output::Journal => self.give_entered(who, event),
+            Output::Replies | Output::End | Output::Verdict => self.give_straight(who, event),
+        }
+    }
+
+    /// The same where no entry is wanted.
+    fn give_straight(&mut self, who: TesterId, event: &Event) -> Result<(), AllocError>
+        requires in_setup { who ≤ length self.old.server.links }
+        requires lists { length self.old.drawn.items ≡ length self.old.server.links }
+        requires frame { IsTrue (is_frame event.now) }
+        requires early { IsEarly self.old.server (who - 1) }
+        requires silent { self.old.output ≢ Output.Journal }
+        ensures ok { OnOk result (Gave self.old self.new ((who, event.now) ∷ [])) }
+        ensures shape { SameShape self.old self.new }
+        ensures pace { OneWentOn self.old.server self.new.server (who - 1) 0 }
+        ensures sent { OnOk result (OneSentIn self.old self.new (who - 1) 0) }
+    {
+        let index = usize::from(who.place()) - 1;
+        let out = &mut self.drawn[index];
+        match self.server.event(who, event, out) {
+            Ok(()) => {
+                self.filled = self.filled.after(index, out.is_empty());
+                Ok(())
+            }
+            Err(ServerFault::Memory) => Err(AllocError),
+            Err(ServerFault::Clock) => unreachable!(),
+        }
+    }
+
+    /// The same with the entry that the frame gives.
+    fn give_entered(&mut self, who: TesterId, event: &Event) -> Result<(), AllocError>
+        requires in_setup { who ≤ length self.old.server.links }
+        requires lists { length self.old.drawn.items ≡ length self.old.server.links }
+        requires frame { IsTrue (is_frame event.now) }
+        requires early { IsEarly self.old.server (who - 1) }
+        ensures ok { OnOk result (Gave self.old self.new ((who, event.now) ∷ [])) }
+        ensures shape { SameShape self.old self.new }
+        ensures pace { OneWentOn self.old.server self.new.server (who - 1) 0 }
+        ensures sent { OnOk result (OneSentIn self.old self.new (who - 1) 0) }
+    {
         let index = usize::from(who.place()) - 1;
         let out = &mut self.drawn[index];
         let asked = match self.server.ask(who, event, out) {
@@ -150,12 +191,9 @@ impl MidLine {
             Err(ServerFault::Memory) => return Err(AllocError),
             Err(ServerFault::Clock) => unreachable!(),
         };
-        enter(
-            self.output,
-            self.server.now(who),
-            asked.entry.as_ref(),
-            &mut self.text,
-        )?;
+        let now = self.server.now(who);
+        let entry = self.server.entry(who, &asked);
+        enter(self.output, now, entry.as_ref(), &mut self.text)?;
         self.server.settle(who, event, asked, out);
         self.filled = self.filled.after(index, out.is_empty());
         Ok(())

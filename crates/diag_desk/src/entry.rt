@@ -37,28 +37,3 @@ pub struct EntryRef<'a> {
     /// What it was answered.
     pub reply: Option<&'a [u8]>,
 }
-
-impl Entry {
-    ghost use Rattle.std.specs.Prelude.{◌≡◌};
-    ghost use Rattle.diag_desk.specs.Entry.{entry_seen};
-
-    /// The entry as the journal shows one; its messages are the entry's own bytes.
-    pub fn as_ref(&self) -> EntryRef<'_>
-        ensures { entry_seen result ≡ self.now }
-    {
-        EntryRef {
-            who: self.who,
-            step: match &self.step {
-                Step::Request {
-                    functional,
-                    message,
-                } => StepRef::Request {
-                    functional: *functional,
-                    bytes: message.bytes(),
-                },
-                Step::Ticks(count) => StepRef::Ticks(*count),
-            },
-            reply: self.reply.as_ref().map(Message::bytes),
-        }
-    }
-}

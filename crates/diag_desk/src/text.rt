@@ -6,7 +6,7 @@ ghost use Rattle.diag_desk.specs.Entry.{entry_seen, step_seen};
 ghost use Rattle.diag_desk.specs.Text.{ended, entry_line, header, journal_text, journal_text_at, kind_text, reply_text, stamped_line, step_text, text_of, ticks_in};
 
 use crate::clocks::Clocks;
-use crate::entry::{Entry, EntryRef, StepRef};
+use crate::entry::{EntryRef, StepRef};
 use crate::journal::Journal;
 use diag_can::write_hex;
 use diag_store::TesterId;
@@ -43,13 +43,12 @@ pub fn write_header_at(text: &mut Vec<u8>) -> Result<(), AllocError>
 /// Appends the line of an entry in version 2; `at` is the ticks of its tester up to and with it.
 ///
 /// After an error the text may have a front of the line behind what stood there.
-pub fn write_entry_at(text: &mut Vec<u8>, at: u64, entry: &Entry) -> Result<(), AllocError>
-    ensures { OnOk result (text.new.items
-        ≡ text.old.items ++ ended (stamped_line true at (entry_line entry.now))) }
+pub fn write_entry_at(text: &mut Vec<u8>, at: u64, entry: &EntryRef<'_>) -> Result<(), AllocError>
+    ensures { OnOk result (text.new.items ≡ text.old.items
+        ++ ended (stamped_line true at (entry_line (entry_seen entry.now)))) }
 {
-    let shown = entry.as_ref();
     write_stamp(text, at)?;
-    write_entry(text, shown.who, &shown.step, shown.reply)
+    write_entry(text, entry.who, &entry.step, entry.reply)
 }
 
 fn write_all(alloc: Global, journal: &Journal, stamped: bool) -> Result<Vec<u8>, AllocError>

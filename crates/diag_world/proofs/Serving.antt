@@ -30,27 +30,6 @@ use Rattle.diag_world.specs.Weaving.{items_of, all_by}
 use Rattle.diag_world.proofs.Weaves.{steps_of_after-append}
 use Rattle.diag_world.proofs.Worlds.{set_cases, own-append, own_mine, own_none, items_mine, items_other, other_place}
 
--- the entry that an event gives, as the list of it
-pub entries_asked : (who : ℕ) (o : Option Step) (asked : Option Entry) (reply : Option (List ℕ)) → option_map (λ k. k.step) asked ≡ o
-    → IfSome asked (λ k. (k.who ≡ who) × (k.reply ≡ reply)) → entries_of who o reply ≡ option_to_list asked
-entries_asked who None None reply h k = refl
-entries_asked who None (Some k) reply h same = absurd (clash h)
-  where
-    clash : Some k.step ≡ None → ⊥
-    clash h = cc
-entries_asked who (Some x) None reply h same = absurd (clash h)
-  where
-    clash : None ≡ Some x → ⊥
-    clash h = cc
-entries_asked who (Some x) (Some k) reply h same =
-    let step : k.step ≡ x = cc in
-    ap₂ (λ (e : Entry) (rest : List Entry). e ∷ rest) (entry_is k who x reply same.0 step same.1) refl
-  where
-    entry_is : (k : Entry) (who : ℕ) (x : Step) (reply : Option (List ℕ)) → k.who ≡ who → k.step ≡ x → k.reply ≡ reply
-        → record { who = who; step = x; reply = reply } ≡ k
-    entry_is k who x reply a b r = sym (ap₂ (λ w s. (let e : Entry = record { who = w; step = s; reply = k.reply } in e)) a b
-        ∙ ap (λ r'. (let e : Entry = record { who = who; step = x; reply = r' } in e)) r)
-
 -- what the entry asks is what the event gives
 pub asked_gives : (who : ℕ) (o : Option Step) (asked : Option Entry) → option_map (λ k. k.step) asked ≡ o → IfSome asked (λ k. k.who ≡ who)
     → asked_by (option_to_list asked) ≡ all_by who (option_to_list o)

@@ -1,19 +1,22 @@
 use Rattle.std.proofs.Common.{Err, ◌≡◌, ◌<◌, ◌+◌, ◌-◌, ◌++◌, Some, List, length, map, refl, ap, subst, sym, ◌∙◌, arith}
 use Rattle.std.proofs.lemmas.List.{length-map, map-set}
 use Rattle.std.proofs.lemmas.Option.{slice_get_read, slice_get-map}
-use Rattle.std.specs.Prelude.{slice_get, slice_set}
+use Rattle.std.specs.Prelude.{IfSome, Option, slice_get, slice_set}
+use Rattle.diag_desk.specs.Entry.{entry_seen}
+use Rattle.diag_desk.specs.declared.entry.Entry.{Entry}
 use Rattle.std.specs.Option.{option_map}
 use Rattle.diag_tp.specs.State.{LinkView}
 use Rattle.diag_tp.specs.declared.sent.Sent.{Sent}
 use Rattle.diag_world.specs.declared.server.ServerFault.TheVariants as fault
-use Rattle.diag_world.specs.Server.{ServerState, Serves, Settled, server_of}
+use Rattle.diag_world.specs.Server.{ServerState, Serves, Settled, entry_asked, server_of}
+use Rattle.diag_world.proofs.Serving.{entry_found}
 use Rattle.std.specs.Vec.{with_item}
 use Rattle.diag_bus.specs.Batch.{entry_added}
 use Rattle.diag_bus.specs.declared.mid_line.MidLine.{MidLine}
 use Rattle.diag_bus.proofs.Batches.{clock_told, drew_more, early_now, found_at}
 use Rattle.diag_bus.proofs.Filling.{links_moved, links_same, shape_after, shape_same}
 use Rattle.diag_bus.proofs.Paces.{frame_time, sent_one, stays, went_on}
-use Rattle.diag_bus.proofs.mid_line.MidLine.give.Goals as goal
+use Rattle.diag_bus.proofs.mid_line.MidLine.give_entered.Goals as goal
 
 pub enter-requires : goal.enter-requires
 enter-requires c =
@@ -22,7 +25,7 @@ enter-requires c =
     let many : length links ≡ length c.args.self.now.server.links =
     sym (length-map links state) ∙ (ap (λ (s : ServerState). length s.links) c.in-Ok.ensures.same ∙ length-map c.args.self.now.server.links state) in
     let within : c.args.who - 1 < length links = omega (arith, many, c.requires.in_setup, c.place.ensures.same, c.place.ensures.fits.0) in
-    early_now links (c.args.who - 1) c.now.result within c.now.ensures (λ link at. (c.in-Ok.ensures.asked link at).early)
+    early_now links (c.args.who - 1) c.now-now.result within c.now-now.ensures (λ link at. (c.in-Ok.ensures.asked link at).early)
 
 pub returns-clause-ok : goal.returns-clause-ok
 returns-clause-ok c = λ setup base before M h.
@@ -38,7 +41,7 @@ returns-clause-ok c = λ setup base before M h.
     let drawn = old.drawn.items in
     let i = c.from-index.result - 1 in
     let who = c.args.who in
-    let asked = c.in-Ok.asked.entry in
+    let asked = entry_asked c.ask.new.self who c.in-Ok.asked in
     let is : who ≡ i + 1 = omega (arith, c.from-index.ensures, c.place.ensures.same, c.place.ensures.fits.0) in
     let within : i < length drawn = omega (arith, is, c.requires.in_setup, c.requires.lists) in
     let list = c.index_mut-out.result.now in
@@ -49,7 +52,8 @@ returns-clause-ok c = λ setup base before M h.
     let settled = subst (λ (s : ServerState). Settled s (server_of c.settle.new.self) who c.args.event.now asked grew.more) same grew.holds in
     let lists = map-set (λ f. f.items) drawn i c.settle.new.out
     ∙ ap (λ (w : List Sent). slice_set (map (λ f. f.items) drawn) i w) (grew.grown ∙ ap (λ w. w ++ grew.more) c.in-Ok.ensures.out) in
-    let text = c.in_ok-enter.ensures ∙ ap (λ a. old.text.items ++ entry_added old.output c.now.result a) c.as_ref.ensures.value in
+    let lent = ap (option_map entry_seen) c.as_ref.ensures.value ∙ c.entry-entry.ensures in
+    let text = c.in_ok-enter.ensures ∙ ap (λ a. old.text.items ++ entry_added old.output c.now-now.result a) lent in
     let links = c.ask.new.self.links in
     let state = λ (l : LinkView). l.state in
     let many : length links ≡ length old.server.links =
@@ -57,12 +61,13 @@ returns-clause-ok c = λ setup base before M h.
     let place : who ≡ (who - 1) + 1 = omega (arith, is) in
     let there : who - 1 < length links = omega (arith, many, is, c.requires.in_setup) in
     let link = found_at links (who - 1) there in
-    let early = early_now links (who - 1) c.now.result there c.now.ensures (λ l at. (c.in-Ok.ensures.asked l at).early) in
-    let by = (c.in-Ok.ensures.asked link.0 link.1).by in
-    drew_more setup old new base before M who i c.now.result c.args.event.now asked list.items grew.more
+    let early = early_now links (who - 1) c.now-now.result there c.now-now.ensures (λ l at. (c.in-Ok.ensures.asked l at).early) in
+    let by = subst (λ (o : Option Entry). IfSome o (λ k. k.who ≡ who)) (sym (entry_found c.ask.new.self who c.in-Ok.asked link.0 link.1))
+    (c.in-Ok.ensures.asked link.0 link.1).by in
+    drew_more setup old new base before M who i c.now-now.result c.args.event.now asked list.items grew.more
     settled is found lists refl text
-    (λ K served. clock_told setup c.ask.new.self M K who (who - 1) c.now.result asked
-    (subst (λ (s : ServerState). Serves setup s M K) (sym same) served) place there c.now.ensures early by)
+    (λ K served. clock_told setup c.ask.new.self M K who (who - 1) c.now-now.result asked
+    (subst (λ (s : ServerState). Serves setup s M K) (sym same) served) place there c.now-now.ensures early by)
     h
 
 pub unreachable-requires : goal.unreachable-requires
@@ -75,9 +80,9 @@ unreachable-requires c =
 pub returns-clause-pace : goal.returns-clause-pace
 returns-clause-pace c =
     let grew = c.settle.ensures.took in
-    let settled = subst (λ (s : ServerState). Settled s (server_of c.settle.new.self) c.args.who c.args.event.now c.in-Ok.asked.entry grew.more)
+    let settled = subst (λ (s : ServerState). Settled s (server_of c.settle.new.self) c.args.who c.args.event.now (entry_asked c.ask.new.self c.args.who c.in-Ok.asked) grew.more)
     c.in-Ok.ensures.same grew.holds in
-    went_on c.args.self.now.server c.settle.new.self (c.args.who - 1) 0 c.args.event.now c.in-Ok.asked.entry grew.more settled.moved
+    went_on c.args.self.now.server c.settle.new.self (c.args.who - 1) 0 c.args.event.now (entry_asked c.ask.new.self c.args.who c.in-Ok.asked) grew.more settled.moved
     (frame_time c.args.event.now c.requires.frame)
 
 pub returns-in-Err-Memory-clause-pace : goal.returns-in-Err-Memory-clause-pace
@@ -103,10 +108,10 @@ returns-clause-shape c =
     let within : i < length old.drawn.items =
     omega (arith, c.from-index.ensures, c.place.ensures.same, c.place.ensures.fits.0, c.requires.in_setup, c.requires.lists) in
     let grew = c.settle.ensures.took in
-    let settled = subst (λ (s : ServerState). Settled s (server_of c.settle.new.self) c.args.who c.args.event.now c.in-Ok.asked.entry grew.more)
+    let settled = subst (λ (s : ServerState). Settled s (server_of c.settle.new.self) c.args.who c.args.event.now (entry_asked c.ask.new.self c.args.who c.in-Ok.asked) grew.more)
     c.in-Ok.ensures.same grew.holds in
     shape_after old new i c.settle.new.out c.is_empty.result
-    (links_moved old.server c.settle.new.self c.args.who c.args.event.now c.in-Ok.asked.entry grew.more settled) within refl refl c.after-self.ensures
+    (links_moved old.server c.settle.new.self c.args.who c.args.event.now (entry_asked c.ask.new.self c.args.who c.in-Ok.asked) grew.more settled) within refl refl c.after-self.ensures
     c.is_empty.ensures
 
 pub returns-in-Err-Memory-clause-shape : goal.returns-in-Err-Memory-clause-shape
@@ -153,7 +158,7 @@ returns-clause-sent c =
     let drawn = old.drawn.items in
     let i = c.from-index.result - 1 in
     let who = c.args.who in
-    let asked = c.in-Ok.asked.entry in
+    let asked = entry_asked c.ask.new.self who c.in-Ok.asked in
     let is : who ≡ i + 1 = omega (arith, c.from-index.ensures, c.place.ensures.same, c.place.ensures.fits.0) in
     let within : i < length drawn = omega (arith, is, c.requires.in_setup, c.requires.lists) in
     let list = c.index_mut-out.result.now in
