@@ -14,7 +14,7 @@ use diag_desk::{Journal, StepFault};
 use diag_gate::Door;
 use diag_store::{Setup, TesterId};
 use diag_tp::{LinkSetup, Sent};
-use diag_world::{Channel, Prepared};
+use diag_world::Channel;
 use std::alloc::Global;
 
 /// What one worker did: what it keeps of what it asked, and the frames that it sent.
@@ -117,18 +117,18 @@ impl<K: Keep> Worker<K> {
         ensures tester { D.tester door.new ≡ D.tester door.old }
         ensures home { D.home door.new ≡ D.home door.old }
     {
-        let Prepared { step, taken } = self.channel.prepare(event)?;
-        match step {
+        let prepared = self.channel.prepare(event)?;
+        match self.channel.step(&prepared) {
             Some(step) => {
-                self.entries.prepare(&step)?;
+                self.entries.prepare(step)?;
                 let who = door.who();
-                let reply = door.step(&step)?;
-                self.entries.enter(who, &step, reply.as_ref());
-                self.channel.settle(event, taken, reply);
+                let reply = door.step(step)?;
+                self.entries.enter(who, step, reply.as_ref());
+                self.channel.settle(event, &prepared, reply);
                 Ok(())
             }
             None => {
-                self.channel.settle(event, taken, None);
+                self.channel.settle(event, &prepared, None);
                 Ok(())
             }
         }
