@@ -1,4 +1,4 @@
-//! Links, move by move: what each frame asks and what goes then, by `peek`, `prepare` and `feed` alike, and with ticks
+//! Links, move by move: what each frame asks and what goes then, by `peek`, `begin` and `feed` alike, and with ticks
 //! one by one and in as few moves as may be.
 
 ghost use Rattle.std.specs.Prelude.{IsTrue};
@@ -6,7 +6,7 @@ ghost use Rattle.diag_tp.specs.Link.{is_frame};
 
 use crate::logs::ids;
 use diag_can::{Event, FrameBytes, TickCount, write_hex, write_line};
-use diag_tp::{Link, LinkSetup, Message, Request};
+use diag_tp::{Link, LinkSetup, Message, Request, Step};
 use std::alloc::{AllocError, Global};
 use std::test::Fail;
 
@@ -59,13 +59,31 @@ fn send(link: &mut Link, text: &mut Vec<u8>) -> Result<(), AllocError> {
 
 /// Adds the line of a request: `P 3E00`, and none where there is none.
 fn ask(request: &Option<Request>, text: &mut Vec<u8>) -> Result<(), AllocError> {
-    if let Some(request) = request {
-        let way = if request.functional { b'F' } else { b'P' };
-        text.extend_from_slice(&[way, b' '])?;
-        write_hex(text, request.message.bytes())?;
-        text.extend_from_slice(b"\n")?;
+    match request {
+        Some(request) => tell(request.functional, &request.message, text),
+        None => Ok(()),
     }
-    Ok(())
+}
+
+/// The same of a request that is lent.
+fn ask_lent(step: Option<&Step>, text: &mut Vec<u8>) -> Result<(), AllocError> {
+    match step {
+        Some(
+            Step::Request {
+                functional,
+                message,
+            },
+        ) => tell(*functional, message, text),
+        _ => Ok(()),
+    }
+}
+
+/// Adds the line of a request.
+fn tell(functional: bool, message: &Message, text: &mut Vec<u8>) -> Result<(), AllocError> {
+    let way = if functional { b'F' } else { b'P' };
+    text.extend_from_slice(&[way, b' '])?;
+    write_hex(text, message.bytes())?;
+    text.extend_from_slice(b"\n")
 }
 
 /// Takes a frame, with the reply to what it asks, and adds that: as it was told before and as it comes, each a line.
@@ -80,7 +98,10 @@ fn take(
     if link.completes(event) {
         ask(&link.peek(event)?, text)?;
     }
-    ask(&link.prepare(event)?, text)?;
+    // (a frame that was begun needn't be settled, and is asked about again)
+    let _first = link.begin(event)?;
+    let taken = link.begin(event)?;
+    ask_lent(link.request(&taken), text)?;
     if !link.is_drained() {
         return Err("a frame is due".into());
     }
@@ -153,7 +174,7 @@ fn go(
 }
 
 /// A play on a link of its own, with this block size and this receive limit, and all that it brings about: each request
-/// as it is peeked at, prepared and given, each frame, and the figures at the end.
+/// as it is peeked at, begun and given, each frame, and the figures at the end.
 struct Play {
     block_size: u8,
     max_request: u16,
