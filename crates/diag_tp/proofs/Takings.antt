@@ -110,8 +110,8 @@ settles s link link' E A Q e taken here drained grant partial same now sender h 
 
 within-taken : (s : LinkSetup) (taken : Taken) (current : Option Sending) (W : List (List ℕ)) →
     IsWithin s (sender_after s taken current W) (current_left s current + sum_by (frame_count s) W) (length W)
-within-taken s (left.Functional request) current W = no-flow-within s current W
-within-taken s (left.Single request) current W = no-flow-within s current W
+within-taken s (left.Functional asks) current W = no-flow-within s current W
+within-taken s left.Single current W = no-flow-within s current W
 within-taken s left.Last current W = no-flow-within s current W
 within-taken s (left.Read k) current W = frame-within s k current W
 

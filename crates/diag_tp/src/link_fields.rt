@@ -8,6 +8,9 @@ ghost use Rattle.std.specs.Prelude.{
   [],
   ◌∷◌,
   length,
+  if◌then◌else◌,
+  is_some,
+  Some,
   min,
   max,
   None,
@@ -23,6 +26,7 @@ ghost use Rattle.std.specs.Prelude.{
   true,
   false,
 };
+ghost use Rattle.diag_tp.specs.declared.step.Step.{Step as AStep};
 ghost use Rattle.diag_tp.specs.Kind.{kind};
 ghost use Rattle.diag_tp.specs.Gives.{is_request};
 ghost use Rattle.diag_tp.specs.Sender.{frames_of, sender_event, sender_frame, sender_ticks};
@@ -196,7 +200,7 @@ impl Link {
             Event::Functional(bytes) => {
                 let kind = self.kind(bytes);
                 self.sender.make_room()?;
-                Ok(Taken::Functional(step_of(true, single_of(kind))))
+                Ok(Taken::Functional(self.notes(kind)))
             }
             Event::Ticks(_) => unreachable!(),
         }
@@ -213,10 +217,10 @@ impl Link {
         ensures is { result ≡ left_of_kind self.old.state.partial kind }
     {
         match kind {
-            Pci::Single(payload) => Taken::Single(Step::Request {
-                functional: false,
-                message: Message::in_place(payload),
-            }),
+            Pci::Single(payload) => {
+                self.note(false, payload);
+                Taken::Single
+            }
             Pci::Consecutive {
                 sequence_number,
                 part,
@@ -234,15 +238,58 @@ impl Link {
         }
     }
 
-    /// The request that a frame completes: with what is left of it, or staged.
+    /// Notes the request of a functional SingleFrame; whether this is one.
+    fn notes(&mut self, kind: Pci) -> bool
+        requires read { IsRead 65535 kind }
+        ensures is { result ≡ is_some (completed_by None (single_only kind)) }
+        ensures noted { (if result then Some self.new.noted else None)
+            ≡ ask_of true (completed_by None (single_only kind)) }
+        ensures same { self.new.state ≡ self.old.state }
+        ensures room { self.new.room ≡ self.old.room }
+        ensures reply_room { self.new.reply_room ≡ self.old.reply_room }
+    {
+        match kind {
+            Pci::Single(payload) => {
+                self.note(true, payload);
+                true
+            }
+            _ => false,
+        }
+    }
+
+    /// Notes the request of one frame, in the place of the one before.
+    fn note(&mut self, functional: bool, payload: FrameBytes)
+        requires { 1 ≤ length payload }
+        ensures noted { self.new.noted ≡ AStep.Request functional payload }
+        ensures same { self.new.state ≡ self.old.state }
+        ensures room { self.new.room ≡ self.old.room }
+        ensures reply_room { self.new.reply_room ≡ self.old.reply_room }
+    {
+        match &mut self.noted {
+            Step::Request {
+                functional: way,
+                message,
+            } => {
+                *way = functional;
+                message.set_in_place(payload);
+            }
+            Step::Ticks(_) => {
+                self.noted = Step::Request {
+                    functional,
+                    message: Message::in_place(payload),
+                };
+            }
+        }
+    }
+
+    /// The request that a frame completes: noted, or staged.
     pub(crate) fn lent<'a>(&'a self, taken: &'a Taken) -> Option<&'a Step>
         ensures { option_copied result ≡ asked_in self.now taken.now }
     {
         match taken {
-            Taken::Functional(request) => request.as_ref(),
-            Taken::Single(request) => Some(request),
+            Taken::Functional(false) | Taken::Read(_) => None,
+            Taken::Functional(true) | Taken::Single => Some(&self.noted),
             Taken::Last => self.receiver.staged(),
-            Taken::Read(_) => None,
         }
     }
 
@@ -262,7 +309,7 @@ impl Link {
     {
         match taken {
             Taken::Functional(_) => self.grant = None,
-            Taken::Single(_) | Taken::Last => {
+            Taken::Single | Taken::Last => {
                 self.receiver.end();
                 self.grant = None;
             }
@@ -369,19 +416,6 @@ fn single_of(kind: Pci) -> Option<Message>
     match kind {
         Pci::Single(payload) => Some(Message::in_place(payload)),
         _ => None,
-    }
-}
-
-/// The step of this message, if there is one.
-fn step_of(functional: bool, message: Option<Message>) -> Option<Step>
-    ensures { result ≡ ask_of functional message }
-{
-    match message {
-        Some(message) => Some(Step::Request {
-            functional,
-            message,
-        }),
-        None => None,
     }
 }
 

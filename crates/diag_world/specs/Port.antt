@@ -19,10 +19,10 @@ use Rattle.diag_tp.specs.declared.step.Step.{Step}
 use Rattle.diag_world.specs.declared.port.Prepared.{Prepared}
 use Rattle.diag_world.specs.declared.port.Prepared.TheVariants as prepared
 
--- the step that an event gives that was read: that of a frame is with what is left of it, or staged in the link
+-- the step that an event gives that was read: it stands with the link
 abbrev pub step_in : LinkView → Prepared → Option Step
 step_in link (prepared.Frame taken) = asked_in link taken
-step_in link (prepared.Ticks step) = Some step
+step_in link prepared.Ticks = Some link.noted
 
 -- the entry of a step with its reply, where an event gives one
 abbrev pub entries_of : ℕ → Option Step → Option (List ℕ) → List Entry
@@ -47,7 +47,7 @@ pub record HasFrameRoom (link : LinkView) (e : Event) (taken : Taken) (len capac
 -- room was made for the event, which was read; of ticks nothing is left, and they need none but that for the frames
 abbrev pub HasRoomFor : LinkView → Event → Prepared → ℕ → ℕ → Type 0
 HasRoomFor link e (prepared.Frame taken) len capacity = HasFrameRoom link e taken len capacity
-HasRoomFor link e (prepared.Ticks step) len capacity =
+HasRoomFor link e prepared.Ticks len capacity =
     IsTrue (is_tick e) × (len + unsent link.state ≤ capacity)
 
 -- the time that a link tells after an event, where it told this time before

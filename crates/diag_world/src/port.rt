@@ -52,8 +52,8 @@ pub(crate) fn gives_step(link: &Link, event: &Event) -> bool
 pub enum Prepared {
     /// A frame, as its link read it.
     Frame(Taken),
-    /// Ticks, as the step that they are.
-    Ticks(Step),
+    /// Ticks, which its link has noted as the step that they are.
+    Ticks,
 }
 
 /// Reads the event and makes room for it; `step` lends the step that it gives. Nothing else changes, whatever the answer.
@@ -77,7 +77,8 @@ pub(crate) fn prepare(
     match event {
         Event::Ticks(count) => {
             out.reserve(link.backlog() as usize)?;
-            Ok(Prepared::Ticks(Step::Ticks(*count)))
+            link.note_ticks(*count);
+            Ok(Prepared::Ticks)
         }
         Event::Physical(_) | Event::Functional(_) => {
             let taken = link.begin(event)?;
@@ -94,7 +95,7 @@ pub(crate) fn step<'a>(link: &'a Link, prepared: &'a Prepared) -> Option<&'a Ste
 {
     match prepared {
         Prepared::Frame(taken) => link.request(taken),
-        Prepared::Ticks(step) => Some(step),
+        Prepared::Ticks => Some(link.noted()),
     }
 }
 
@@ -130,7 +131,7 @@ pub(crate) fn settle(
     time_law();
     match (prepared, event) {
         (Prepared::Frame(taken), _) => receive(link, event, taken, reply, out),
-        (Prepared::Ticks(_), Event::Ticks(count)) => pass(link, *count, out),
-        (Prepared::Ticks(_), _) => unreachable!(),
+        (Prepared::Ticks, Event::Ticks(count)) => pass(link, *count, out),
+        (Prepared::Ticks, _) => unreachable!(),
     }
 }
