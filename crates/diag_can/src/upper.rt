@@ -21,7 +21,8 @@ pub fn write_hex(text: &mut Vec<u8>, bytes: &[u8]) -> Result<(), AllocError>
 }
 
 /// Appends bytes in upper-case hex, where there is room for them.
-fn add_hex(text: &mut Vec<u8>, bytes: &[u8])
+#[inline(always)]
+pub fn add_hex(text: &mut Vec<u8>, bytes: &[u8])
     requires { vec_len text.old + 2 * length bytes.now ≤ vec_capacity text.old }
     ensures items { text.new.items ≡ text.old.items ++ encode_upper bytes.now }
     ensures len { vec_len text.new ≡ vec_len text.old + 2 * length bytes.now }

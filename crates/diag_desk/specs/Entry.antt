@@ -32,6 +32,11 @@ abbrev pub entry_bytes : Step → Option (List ℕ) → List ℕ
 entry_bytes (Request functional message) reply = message ++ unwrap_or reply []
 entry_bytes (Ticks count) reply = []
 
+-- how many bytes those are
+abbrev pub messages_len : Step → Option (List ℕ) → ℕ
+messages_len (Request functional message) reply = length message + length (unwrap_or reply [])
+messages_len (Ticks count) reply = 0
+
 -- an entry of this step with any reply has room
 abbrev pub HasRoom : Kept → Step → Type 0
 HasRoom journal step = (1 ≤ journal.entry_room) × (step_len step + 65535 ≤ journal.byte_room)

@@ -1,5 +1,5 @@
 //! How the journal keeps its entries: a small head for each, and the bytes of all messages in one list.
-ghost use Rattle.std.specs.Prelude.{◌≡◌, ◌≤◌, ◌+◌, ◌++◌, ◌∷◌, [], length, OnErr, IfOk, ◌/◌, None, option_map, option_copied, unwrap_or, vec_len, vec_capacity};
+ghost use Rattle.std.specs.Prelude.{◌≡◌, ◌≤◌, ◌+◌, ◌++◌, ◌∷◌, [], length, max, OnErr, IfOk, ◌/◌, None, option_map, option_copied, unwrap_or, vec_len, vec_capacity};
 ghost use Rattle.diag_desk.specs.Entries.{entry};
 ghost use Rattle.diag_desk.specs.Entry.{entry_seen, HasNoReply, step_len, entry_bytes, IsEntry, IsMessage, IsReply};
 ghost use Rattle.hex.specs.Hex.{IsBytes};
@@ -77,59 +77,29 @@ pub(crate) fn bytes_of(reply: Option<&Message>) -> Option<&[u8]>
     }
 }
 
-/// The length of a reply, if there is one.
-pub(crate) fn len_of(reply: Option<&[u8]>) -> usize
-    requires { length (unwrap_or (option_copied reply) []) ≤ 65535 }
-    ensures { result ≡ length (unwrap_or (option_copied reply.entry) []) }
+/// No fewer bytes than a reply has, and eight at least.
+#[inline(always)]
+pub(crate) fn reply_room(reply: Option<&Message>) -> usize
+    ensures same { result ≡ max (length (unwrap_or (option_copied reply.entry) [])) 8 }
+    ensures bound { result ≤ 65535 }
 {
     match reply {
-        Some(bytes) => bytes.len(),
-        None => 0,
+        Some(message) => message.bytes().len().max(8),
+        None => 8,
     }
-}
-
-/// The most bytes that are appended one by one, for which a call that copies them costs more.
-const FEW: usize = 8;
-
-/// Appends bytes where there is room.
-fn append(bytes: &mut Vec<u8>, more: &[u8])
-    requires { vec_len bytes.old + length more.now ≤ vec_capacity bytes.old }
-    ensures items { bytes.new.items ≡ bytes.old.items ++ more.now }
-    ensures room { vec_capacity bytes.old ≤ vec_capacity bytes.new }
-{
-    if more.len() <= FEW {
-        append_few(bytes, more);
-        return;
-    }
-    let _ = bytes.extend_from_slice(more);
-}
-
-/// Appends bytes one by one where there is room.
-fn append_few(bytes: &mut Vec<u8>, more: &[u8])
-    requires { vec_len bytes.old + length more.now ≤ vec_capacity bytes.old }
-    ensures items { bytes.new.items ≡ bytes.old.items ++ more.now }
-    ensures room { vec_capacity bytes.old ≤ vec_capacity bytes.new }
-{
-    for byte in more {
-        bytes.push_reserved(*byte);
-    }
-}
-
-/// Adds a head where there is room.
-pub(crate) fn add_head(heads: &mut Vec<Head>, head: Head)
-    requires { vec_len heads.old + 1 ≤ vec_capacity heads.old }
-    ensures { heads.new.items ≡ heads.old.items ++ head ∷ [] }
-{
-    let _ = heads.push(head);
 }
 
 /// Appends the bytes of an entry, and gives its head.
-pub(crate) fn head_of(bytes: &mut Vec<u8>, who: TesterId, step: &Step, reply: Option<&[u8]>) -> Head
+#[inline(always)]
+pub(crate) fn head_of(
+    bytes: &mut Vec<u8>,
+    who: TesterId,
+    step: &Step,
+    reply: Option<&Message>,
+) -> Head
     requires room { vec_len bytes.old
-        + (step_len step.now + length (unwrap_or (option_copied reply) []))
+        + (step_len step.now + max (length (unwrap_or (option_copied reply) [])) 8)
         ≤ vec_capacity bytes.old }
-    requires reply { IsReply (option_copied reply) }
-    requires fits { length (unwrap_or (option_copied reply) []) ≤ 65535 }
     requires no_reply { HasNoReply step.now (option_copied reply) }
     ensures items { bytes.new.items
         ≡ bytes.old.items ++ entry_bytes step.now (option_copied reply.entry) }
@@ -151,23 +121,24 @@ pub(crate) fn head_of(bytes: &mut Vec<u8>, who: TesterId, step: &Step, reply: Op
             message,
         } => {
             let start = bytes.len();
-            let request = message_bytes(message);
-            append(bytes, request);
+            let request_len = message_bytes(message).len() as u16;
+            message.append_to(bytes);
             match reply {
                 Some(reply) => {
-                    append(bytes, reply);
+                    let reply_len = message_bytes(reply).len() as u16;
+                    reply.append_to(bytes);
                     Head::Answered {
                         who,
                         functional: *functional,
-                        request_len: request.len() as u16,
-                        reply_len: reply.len() as u16,
+                        request_len,
+                        reply_len,
                         start,
                     }
                 }
                 None => Head::Silent {
                     who,
                     functional: *functional,
-                    request_len: request.len() as u16,
+                    request_len,
                     start,
                 },
             }

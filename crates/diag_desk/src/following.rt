@@ -1,6 +1,7 @@
 //! Replaying a journal's text as it is read, entry by entry; none is kept.
 ghost use Rattle.std.specs.Prelude.{◌≡◌, ◌+◌, ◌++◌, ◌∷◌, ◌≤◌, ◌↔◌, [], false, true, ℕ, List, length, IfOk, IfErr, IfSome, IfNone, OnOk, IsTrue, option_copied, option_map};
 ghost use Rattle.std.specs.Bool.{OnTrue, OnFalse};
+ghost use Rattle.hex.specs.Hex.{encode_upper};
 ghost use Rattle.diag_setup.specs.declared.raw.RawSetup.{RawSetup};
 ghost use Rattle.diag_ecu.specs.State.{opening};
 ghost use Rattle.diag_ecu.specs.Respond as ecu;
@@ -19,7 +20,9 @@ use crate::flat::{append_hex, decoded_len, message_bytes};
 use crate::line::{Line, LineStep, cut};
 use crate::next::{LineFault, clock_with, next_line};
 use crate::read::{JournalFault, is_stamped};
-use crate::usual::{behind, behind_reply, count_front, is_functional, line_front, read_front};
+use crate::usual::{
+    behind, behind_reply, count_front, is_functional, line_front, read_front, short_front,
+};
 use diag_ecu::Ecu;
 use diag_store::{Setup, TesterId};
 use diag_tp::Message;
@@ -168,6 +171,10 @@ impl Play {
             Answered self.old.ecu self.new.ecu who functional text.now rest.now) }
         ensures none { IfNone result (self.new.ecu ≡ self.old.ecu) }
     {
+        if let Some(front) = short_front(text) {
+            let message = Message::in_place(front.bytes);
+            return self.answers_message(who, functional, &message, front.rest);
+        }
         let Ok(text) = read_front(&mut self.bytes, text) else {
             return None;
         };
@@ -177,8 +184,27 @@ impl Play {
         let Ok(message) = Message::new(alloc, self.bytes.as_slice()) else {
             return None;
         };
-        let _is_message = message_bytes(&message);
-        let Ok(said) = self.ecu.reply(who, functional, &message) else {
+        self.answers_message(who, functional, &message, text)
+    }
+
+    /// Plays a request where the reply at the front of a text is the ECU's; what follows the line.
+    ///
+    /// None where it isn't, and where memory is refused: then the ECU is as before.
+    #[inline]
+    fn answers_message<'a>(
+        &mut self,
+        who: TesterId,
+        functional: bool,
+        message: &Message,
+        text: &'a [u8],
+    ) -> Option<&'a [u8]>
+        ensures differs { self.new.differs ≡ self.old.differs }
+        ensures some { IfSome result (λ rest. Answered self.old.ecu self.new.ecu who functional
+            (encode_upper message.now ++ 32 ∷ text.now) rest.now) }
+        ensures none { IfNone result (self.new.ecu ≡ self.old.ecu) }
+    {
+        let _is_message = message_bytes(message);
+        let Ok(said) = self.ecu.reply(who, functional, message) else {
             return None;
         };
         let Some(text) = behind_reply(said.as_ref(), text) else {
@@ -187,7 +213,7 @@ impl Play {
         let Some(rest) = behind(b'\n', text) else {
             return None;
         };
-        self.ecu.settle(who, functional, &message);
+        self.ecu.settle(who, functional, message);
         Some(rest)
     }
 }

@@ -1,16 +1,16 @@
 //! Writing the text of a journal, in one buffer.
-ghost use Rattle.std.specs.Prelude.{◌≡◌, ◌≤◌, ◌<◌, ◌++◌, [], true, OnOk, OnErr, IfOk, codes, decimal, option_copied};
-ghost use Rattle.hex.specs.Hex.{encode_upper};
+ghost use Rattle.std.specs.Prelude.{◌≡◌, ◌≤◌, ◌+◌, ◌*◌, ◌++◌, [], true, length, OnOk, OnErr, IfOk, IfSome, codes, decimal, option_copied, unwrap_or, vec_len, vec_capacity};
 ghost use Rattle.diag_desk.specs.Entries.{entry};
-ghost use Rattle.diag_desk.specs.Entry.{entry_seen, step_seen};
-ghost use Rattle.diag_desk.specs.Text.{ended, entry_line, header, journal_text, journal_text_at, kind_text, reply_text, stamped_line, step_text, text_of, ticks_in};
+ghost use Rattle.diag_desk.specs.Entry.{entry_seen, messages_len, step_seen};
+ghost use Rattle.diag_desk.specs.Text.{ended, entry_line, header, journal_text, journal_text_at, reply_text, stamped_line, text_of, ticks_in};
 
 use crate::clocks::Clocks;
 use crate::entry::{EntryRef, StepRef};
 use crate::journal::Journal;
-use diag_can::write_hex;
+use diag_can::add_hex;
 use diag_store::TesterId;
 use std::alloc::{AllocError, Global};
+use std::mem;
 
 /// The text of version 1: the line `diag-journal 1`, then a line for each entry, each ended by LF.
 ///
@@ -47,8 +47,7 @@ pub fn write_entry_at(text: &mut Vec<u8>, at: u64, entry: &EntryRef<'_>) -> Resu
     ensures { OnOk result (text.new.items ≡ text.old.items
         ++ ended (stamped_line true at (entry_line (entry_seen entry.now)))) }
 {
-    write_stamp(text, at)?;
-    write_entry(text, entry.who, &entry.step, entry.reply)
+    write_line(text, true, at, entry.who, &entry.step, entry.reply)
 }
 
 fn write_all(alloc: Global, journal: &Journal, stamped: bool) -> Result<Vec<u8>, AllocError>
@@ -62,7 +61,14 @@ fn write_all(alloc: Global, journal: &Journal, stamped: bool) -> Result<Vec<u8>,
             unreachable!();
         };
         let clock = clocks.at(entry.who) + ticks_in(&entry.step);
-        write_line(&mut text, stamped, clock, &entry)?;
+        write_line(
+            &mut text,
+            stamped,
+            clock,
+            entry.who,
+            &entry.step,
+            entry.reply,
+        )?;
         clocks.set(entry.who, clock);
     }
     Ok(text)
@@ -91,98 +97,129 @@ fn ticks_in(step: &StepRef<'_>) -> u64
     }
 }
 
-/// Appends the line of an entry, where it is stamped with its stamp first.
+/// Appends the line of an entry, where it is stamped with its stamp first; room for the whole line is made first.
+#[inline]
 fn write_line(
     text: &mut Vec<u8>,
     stamped: bool,
     clock: u64,
-    entry: &EntryRef<'_>,
-) -> Result<(), AllocError>
-    ensures { OnOk result (text.new.items ≡ text.old.items
-        ++ ended (stamped_line stamped clock (entry_line (entry_seen entry.now)))) }
-{
-    if stamped {
-        write_stamp(text, clock)?;
-    }
-    write_entry(text, entry.who, &entry.step, entry.reply)
-}
-
-/// Appends a stamp and its space.
-fn write_stamp(text: &mut Vec<u8>, clock: u64) -> Result<(), AllocError>
-    ensures { OnOk result (text.new.items ≡ text.old.items ++ (decimal clock ++ codes " ")) }
-{
-    write_decimal(text, clock)?;
-    text.push(b' ')?;
-    Ok(())
-}
-
-/// Appends a number in decimal.
-fn write_decimal(text: &mut Vec<u8>, number: u64) -> Result<(), AllocError>
-    ensures { OnOk result (text.new.items ≡ text.old.items ++ decimal number) }
-{
-    let mut buffer = itoa::Buffer::new();
-    text.extend_from_slice(buffer.format(number).as_bytes())
-}
-
-/// Appends the line of an entry.
-fn write_entry(
-    text: &mut Vec<u8>,
     who: TesterId,
     step: &StepRef<'_>,
     reply: Option<&[u8]>,
 ) -> Result<(), AllocError>
-    ensures { OnOk result (text.new.items ≡ text.old.items
-        ++ ended (entry_line (entry who (step_seen step.now) (option_copied reply.entry)))) }
+    ensures ok { OnOk result (text.new.items ≡ text.old.items
+        ++ ended (stamped_line stamped clock (entry_line (entry who (step_seen step.now) (option_copied reply.entry))))) }
+    ensures err { OnErr result (text.new.items ≡ text.old.items) }
 {
-    text.push(b'0' + who.place())?;
-    write_step(text, step, reply)?;
-    text.push(b'\n')?;
+    let Some(room) = line_room(step, reply) else {
+        return Err(AllocError);
+    };
+    text.reserve(room)?;
+    let alloc = *text.allocator();
+    // (in a variable of its own, so that the text's place and length stay in registers)
+    let mut line = mem::replace(text, Vec::new(alloc));
+    if stamped {
+        add_stamp(&mut line, clock);
+    }
+    add_entry(&mut line, who, step, reply);
+    *text = line;
     Ok(())
 }
 
-/// Appends what follows a tester's place.
-fn write_step(
-    text: &mut Vec<u8>,
-    step: &StepRef<'_>,
-    reply: Option<&[u8]>,
-) -> Result<(), AllocError>
-    ensures { OnOk result (text.new.items
-        ≡ text.old.items ++ step_text (step_seen step.now) (option_copied reply.entry)) }
+/// More bytes than a line has beside the hex of its messages.
+const LINE_ROOM: usize = 64;
+
+/// No fewer bytes than a line has.
+#[inline(always)]
+fn line_room(step: &StepRef<'_>, reply: Option<&[u8]>) -> Option<usize>
+    ensures { IfSome result (λ room. room ≡ 64 + 2 * messages_len (step_seen step.now) (option_copied reply.entry)) }
+{
+    let bytes = match *step {
+        StepRef::Request { bytes, .. } => bytes.len().checked_add(reply_len(reply))?,
+        StepRef::Ticks(_) => 0,
+    };
+    bytes.checked_mul(2)?.checked_add(LINE_ROOM)
+}
+
+#[inline(always)]
+fn reply_len(reply: Option<&[u8]>) -> usize
+    ensures { result ≡ length (unwrap_or (option_copied reply.entry) []) }
+{
+    match reply {
+        Some(bytes) => bytes.len(),
+        None => 0,
+    }
+}
+
+/// Appends bytes for which there is room.
+#[inline(always)]
+fn add(text: &mut Vec<u8>, bytes: &[u8])
+    requires { vec_len text.old + length bytes.now ≤ vec_capacity text.old }
+    ensures items { text.new.items ≡ text.old.items ++ bytes.now }
+    ensures len { vec_len text.new ≡ vec_len text.old + length bytes.now }
+    ensures capacity { vec_capacity text.new ≡ vec_capacity text.old }
+{
+    for byte in bytes {
+        text.push_reserved(*byte);
+    }
+}
+
+/// Appends a number in decimal, where there is room.
+#[inline(always)]
+fn add_decimal(text: &mut Vec<u8>, number: u64)
+    requires { vec_len text.old + 20 ≤ vec_capacity text.old }
+    ensures items { text.new.items ≡ text.old.items ++ decimal number }
+    ensures len { vec_len text.new ≤ vec_len text.old + 20 }
+    ensures capacity { vec_capacity text.new ≡ vec_capacity text.old }
+{
+    let mut buffer = itoa::Buffer::new();
+    add(text, buffer.format(number).as_bytes());
+}
+
+/// Appends a stamp and its space, where there is room.
+#[inline(always)]
+fn add_stamp(text: &mut Vec<u8>, clock: u64)
+    requires { vec_len text.old + 21 ≤ vec_capacity text.old }
+    ensures items { text.new.items ≡ text.old.items ++ (decimal clock ++ codes " ") }
+    ensures len { vec_len text.new ≤ vec_len text.old + 21 }
+    ensures capacity { vec_capacity text.new ≡ vec_capacity text.old }
+{
+    add_decimal(text, clock);
+    text.push_reserved(b' ');
+}
+
+/// Appends the line of an entry, where there is room.
+#[inline(always)]
+fn add_entry(text: &mut Vec<u8>, who: TesterId, step: &StepRef<'_>, reply: Option<&[u8]>)
+    requires { vec_len text.old + (32 + 2 * messages_len (step_seen step.now) (option_copied reply)) ≤ vec_capacity text.old }
+    ensures { text.new.items ≡ text.old.items ++ ended (entry_line (entry who (step_seen step.now) (option_copied reply.entry))) }
 {
     match *step {
         StepRef::Request { functional, bytes } => {
-            write_request(text, functional, bytes)?;
-            write_reply(text, reply)
+            let kind = if functional { b'F' } else { b'P' };
+            add(text, &[b'0' + who.place(), b' ', kind, b' ']);
+            add_hex(text, bytes);
+            text.push_reserved(b' ');
+            add_reply(text, reply);
         }
         StepRef::Ticks(count) => {
-            text.extend_from_slice(b" T ")?;
-            write_decimal(text, u64::from(count.get()))
+            add(text, &[b'0' + who.place(), b' ', b'T', b' ']);
+            add_decimal(text, u64::from(count.get()));
         }
     }
+    text.push_reserved(b'\n');
 }
 
-fn write_request(text: &mut Vec<u8>, functional: bool, bytes: &[u8]) -> Result<(), AllocError>
-    ensures { OnOk result
-        (text.new.items ≡ text.old.items ++ (kind_text functional ++ encode_upper bytes.now)) }
+/// Appends the text of a reply, where there is room.
+#[inline(always)]
+fn add_reply(text: &mut Vec<u8>, reply: Option<&[u8]>)
+    requires { vec_len text.old + (1 + 2 * length (unwrap_or (option_copied reply) [])) ≤ vec_capacity text.old }
+    ensures items { text.new.items ≡ text.old.items ++ reply_text (option_copied reply.entry) }
+    ensures len { vec_len text.new ≤ vec_len text.old + (1 + 2 * length (unwrap_or (option_copied reply.entry) [])) }
+    ensures capacity { vec_capacity text.new ≡ vec_capacity text.old }
 {
-    if functional {
-        text.extend_from_slice(b" F ")?;
-    } else {
-        text.extend_from_slice(b" P ")?;
-    }
-    write_hex(text, bytes)
-}
-
-fn write_reply(text: &mut Vec<u8>, reply: Option<&[u8]>) -> Result<(), AllocError>
-    ensures { OnOk result
-        (text.new.items ≡ text.old.items ++ (codes " " ++ reply_text (option_copied reply.entry))) }
-{
-    text.push(b' ')?;
     match reply {
-        Some(bytes) => write_hex(text, bytes),
-        None => {
-            text.push(b'-')?;
-            Ok(())
-        }
+        Some(bytes) => add_hex(text, bytes),
+        None => text.push_reserved(b'-'),
     }
 }

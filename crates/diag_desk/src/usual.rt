@@ -1,5 +1,5 @@
 //! Reading entries of the usual form, whose reply is the ECU's: their text is gone through once.
-ghost use Rattle.std.specs.Prelude.{◌≡◌, ◌≤◌, ◌+◌, ◌++◌, ◌∷◌, IfOk, IfNone, IfSome, IsTrue, ◌↔◌, decimal, option_copied};
+ghost use Rattle.std.specs.Prelude.{◌≡◌, ◌≤◌, ◌+◌, ◌++◌, ◌∷◌, IfOk, IfNone, IfSome, IsTrue, ◌↔◌, decimal, length, option_copied};
 ghost use Rattle.hex.specs.Hex.{encode_upper};
 ghost use Rattle.diag_desk.specs.Entry.{IsReply};
 ghost use Rattle.diag_desk.specs.Line.{fronted, kind_code, request_kind};
@@ -8,7 +8,7 @@ ghost use Rattle.diag_desk.specs.Text.{reply_text};
 use crate::flat::bytes_of;
 use crate::line::{Kind, front_of, kind_in, place_in};
 use crate::table::pair_value;
-use diag_can::TickCount;
+use diag_can::{FrameBytes, TickCount, hex_digits};
 use diag_store::TesterId;
 use diag_tp::Message;
 use std::alloc::AllocError;
@@ -26,6 +26,13 @@ pub(crate) struct LineFront<'a> {
 struct NumberFront<'a> {
     number: u32,
     rest: &'a [u8],
+}
+
+/// A message that a frame could carry, and what follows its hex and a space.
+#[derive(Drop)]
+pub(crate) struct ShortFront<'a> {
+    pub bytes: FrameBytes,
+    pub rest: &'a [u8],
 }
 
 /// A count of ticks, and what follows its line.
@@ -130,6 +137,32 @@ pub(crate) fn read_front<'a>(bytes: &mut Vec<u8>, text: &'a [u8]) -> Result<&'a 
     Ok(rest)
 }
 
+/// Reads the upper-case hex of a message that a frame could carry, and the space behind it, at the front of a text.
+#[inline(always)]
+pub(crate) fn short_front(text: &[u8]) -> Option<ShortFront<'_>>
+    ensures some { IfSome result (λ front. 1 ≤ length front.bytes) }
+    ensures is { IfSome result (λ front.
+        text.now ≡ encode_upper front.bytes ++ 32 ∷ front.rest.now) }
+{
+    let mut bytes = FrameBytes::new();
+    let mut rest = text;
+    while let [high, low, tail @ ..] = rest {
+        let value = pair_value(*high, *low);
+        if 255 < value || bytes.len() == 8 {
+            break;
+        }
+        bytes.push(value as u8);
+        rest = tail;
+    }
+    if bytes.len() == 0 {
+        return None;
+    }
+    let Some(rest) = behind(b' ', rest) else {
+        return None;
+    };
+    Some(ShortFront { bytes, rest })
+}
+
 /// What follows a byte at the front of a text, where it stands there.
 pub(crate) fn behind(byte: u8, text: &[u8]) -> Option<&[u8]>
     ensures { IfSome result (λ rest. text.now ≡ byte ∷ rest.now) }
@@ -149,7 +182,7 @@ fn behind_hex<'a>(bytes: &[u8], text: &'a [u8]) -> Option<&'a [u8]>
         let [high, low, tail @ ..] = rest else {
             return None;
         };
-        if pair_value(*high, *low) != u32::from(*byte) {
+        if [*high, *low] != hex_digits(*byte) {
             return None;
         }
         rest = tail;

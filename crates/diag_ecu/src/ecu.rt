@@ -6,7 +6,7 @@ ghost use Rattle.diag_ecu.specs.Respond.{common_checks, own_checks, checks, afte
 ghost use Rattle.diag_ecu.specs.Service.{row as row_of};
 
 use crate::bytes::sub_of;
-use crate::service::{Nrc, Service};
+use crate::service::{Nrc, Service, ServiceRow};
 use crate::trouble_codes::setting_refusal;
 use crate::write_data::write_reply;
 use diag_can::FrameBytes;
@@ -104,9 +104,10 @@ impl Ecu {
         let Some(service) = Service::of(p[0]) else {
             return Ok(negative_reply(functional, p[0], Nrc::ServiceNotSupported));
         };
-        match self.refusal(who, service, p) {
+        let row = service.row();
+        match self.refusal(who, service, row, p) {
             Some(nrc) => Ok(negative_reply(functional, p[0], nrc)),
-            None if service.row().asks_for_silence(p) => Ok(None),
+            None if row.asks_for_silence(p) => Ok(None),
             None => {
                 let reply = self.positive_reply(who, service, p)?;
                 Ok(Some(reply))
@@ -143,14 +144,15 @@ impl Ecu {
 
 impl Ecu {
     /// The code of the first check of the service that holds.
-    fn refusal(&self, who: TesterId, service: Service, p: &[u8]) -> Option<Nrc>
-        requires { 1 ≤ length p.now }
+    fn refusal(&self, who: TesterId, service: Service, row: &ServiceRow, p: &[u8]) -> Option<Nrc>
+        requires some { 1 ≤ length p.now }
+        requires row { row.now ≡ row_of service }
         ensures first { result ≡ first_holding (checks self.now who service p.now) }
         ensures common { IfNone result
             (first_holding (common_checks self.now who (row_of service) p.now) ≡ None) }
         ensures own { IfNone result (first_holding (own_checks self.now who service p.now) ≡ None) }
     {
-        match self.common_refusal(who, &service.row(), p) {
+        match self.common_refusal(who, row, p) {
             Some(nrc) => Some(nrc),
             None => self.own_refusal(who, service, p),
         }
@@ -219,7 +221,7 @@ impl Ecu {
         if changes_nothing(service) {
             return;
         }
-        match self.refusal(who, service, p) {
+        match self.refusal(who, service, service.row(), p) {
             None => self.take_effect(who, service, p),
             // It counts, though it is refused.
             Some(nrc) if nrc.is_of_wrong_key() => self.access_security(who, p),

@@ -1,6 +1,5 @@
-use Rattle.std.proofs.Common.{◌≡◌, ◌<◌, ◌∷◌, [], ◌∙◌, sym, ap, get_or, arith}
+use Rattle.std.proofs.Common.{get_or, rules}
 use Rattle.std.proofs.lemmas.Option.{slice_get-get_or}
-use Rattle.hex.specs.Hex.{encode_upper}
 use Rattle.diag_desk.proofs.UsualLemmas.{front-more, front-none, front_two, taken_more}
 use Rattle.diag_desk.proofs.usual.behind_hex.Goals as goal
 
@@ -12,8 +11,6 @@ loop-byte-preserved c =
     let rest = c.loop-byte.rest.now in
     let i = c.loop-byte.byte-index in
     let byte = get_or c.args.bytes.now i 0 in
-    let same : c.pair_value.result ≡ byte = c.if-pair_value-from.false ∙ c.from.ensures in
-    let small : byte < 256 = (c.type_inv.bytes i).fits in
     front-more c.args.text.now _ _ rest _ byte (get_or rest 0 0) (get_or rest 1 0) c.loop-byte.invariant (front_two rest c.in-len2-up.len_at_least)
-    (ap (λ b. encode_upper (b ∷ [])) (sym same) ∙ c.pair_value.ensures (omega (arith, same, small)))
+    (search rules)
     (taken_more c.args.bytes.now i byte (slice_get-get_or c.args.bytes.now i 0 c.loop-byte-test.true))
