@@ -89,9 +89,7 @@ pub fn bytes_at(line: &[u8], at: usize) -> FrameBytes
     requires hex { IsOk (decode_of (drop at line.now)) }
     ensures { decode_of (drop at line.now) ≡ Ok result }
 {
-    let count = (line.len() - at) / 2;
-    let bytes = last_eight(line);
-    FrameBytes::from_slice(&bytes[8 - count..])
+    FrameBytes::last_of(last_eight(line), (line.len() - at) / 2)
 }
 
 /// The bytes that the last sixteen bytes of a line write, looked at together; as far as these are hex digits from the end.
