@@ -274,6 +274,9 @@ impl MidLine {
         ensures sent { OnOk result (SentIn self.old self.new 0) }
     {
         for index in 0..setup.testers() {
+            if !ids.is_for(index, frame.id) {
+                continue;
+            }
             let Some(event) = ids.event_at(index, frame) else {
                 continue;
             };

@@ -1,13 +1,13 @@
 //! The identifiers by which it is told for whom a frame of the bus is.
 
-ghost use Rattle.std.specs.Prelude.{◌≡◌, ◌<◌, ◌+◌, Some, length, IfOk, IfSome, IsTrue};
+ghost use Rattle.std.specs.Prelude.{◌≡◌, ◌<◌, ◌+◌, ℕ, List, false, Some, None, length, IfOk, IfSome, IsTrue};
 ghost use Rattle.diag_can.specs.Bus.{frame_for};
 ghost use Rattle.diag_setup.specs.Setup.{ids_of};
 ghost use Rattle.diag_setup.specs.declared.raw.RawSetup.{RawSetup};
 ghost use Rattle.diag_tp.specs.Link.{is_frame};
 ghost use Rattle.diag_bus.specs.Requests.{AreRequestsOf};
 
-use diag_can::{CanId, Event, Frame, FrameBytes};
+use diag_can::{CanId, Event, Frame};
 use diag_setup::Setup;
 use std::alloc::{AllocError, Global};
 
@@ -38,7 +38,18 @@ impl RequestIds {
         })
     }
 
+    /// Whether a frame with this identifier is for the tester at this place, from 0.
+    #[inline(always)]
+    pub fn is_for(&self, place: usize, id: CanId) -> bool
+        requires { place < length self.now.physical.items }
+        ensures { (setup : RawSetup) (bytes : List ℕ) → AreRequestsOf setup self.now → result ≡ false
+            → frame_for (ids_of setup (place + 1)) (Some (record { id = id; bytes = bytes })) ≡ None }
+    {
+        id == self.physical[place] || id == self.functional
+    }
+
     /// What a frame is to the tester at this place, from 0.
+    #[inline]
     pub fn event_at(&self, place: usize, frame: &Frame) -> Option<Event>
         requires { place < length self.now.physical.items }
         ensures is { (setup : RawSetup) → AreRequestsOf setup self.now
@@ -46,18 +57,11 @@ impl RequestIds {
         ensures frame { IfSome result (λ event. IsTrue (is_frame event)) }
     {
         if frame.id == self.physical[place] {
-            Some(Event::Physical(copy_of(&frame.bytes)))
+            Some(Event::Physical(frame.bytes.copy()))
         } else if frame.id == self.functional {
-            Some(Event::Functional(copy_of(&frame.bytes)))
+            Some(Event::Functional(frame.bytes.copy()))
         } else {
             None
         }
     }
-}
-
-/// The same bytes.
-fn copy_of(bytes: &FrameBytes) -> FrameBytes
-    ensures { result ≡ bytes.now }
-{
-    FrameBytes::from_slice(bytes.as_slice())
 }

@@ -92,23 +92,23 @@ impl KeptStamp {
         if at == self.at {
             return;
         }
-        self.seconds = self.seconds_at(at / 1000);
+        if at / 1000 != self.at / 1000 {
+            return self.set_all(at);
+        }
         self.thousandths = thousandths_text(at % 1000);
         self.at = at;
     }
 
-    /// The first part of another second's stamp.
-    #[inline(always)]
-    fn seconds_at(&self, seconds: u64) -> [u8; 12]
-        requires early { seconds < 10 ^ 10 }
-        requires is { IsStamp self.now }
-        ensures { result ≡ seconds_text seconds }
+    /// Goes to a time in another second. (Not inlined, so that the first part stays in one piece of memory.)
+    #[inline(never)]
+    fn set_all(&mut self, at: u64)
+        requires early { at / 1000 < 10 ^ 10 }
+        ensures is { IsStamp self.new }
+        ensures at { self.new.at ≡ at }
     {
-        if seconds == self.at / 1000 {
-            self.seconds
-        } else {
-            seconds_text(seconds)
-        }
+        self.seconds = seconds_text(at / 1000);
+        self.thousandths = thousandths_text(at % 1000);
+        self.at = at;
     }
 
     /// Appends it and a space, where there is room.
