@@ -1,6 +1,6 @@
 //! The identifiers by which it is told for whom a frame of the bus is.
 
-ghost use Rattle.std.specs.Prelude.{◌≡◌, ◌<◌, ◌+◌, ℕ, List, false, Some, None, length, IfOk, IfSome, IsTrue};
+ghost use Rattle.std.specs.Prelude.{◌≡◌, ◌<◌, ◌+◌, Some, length, IfOk, IfSome, IsTrue};
 ghost use Rattle.diag_can.specs.Bus.{frame_for};
 ghost use Rattle.diag_setup.specs.Setup.{ids_of};
 ghost use Rattle.diag_setup.specs.declared.raw.RawSetup.{RawSetup};
@@ -36,16 +36,6 @@ impl RequestIds {
             physical,
             functional: setup.functional(),
         })
-    }
-
-    /// Whether a frame with this identifier is for the tester at this place, from 0.
-    #[inline(always)]
-    pub fn is_for(&self, place: usize, id: CanId) -> bool
-        requires { place < length self.now.physical.items }
-        ensures { (setup : RawSetup) (bytes : List ℕ) → AreRequestsOf setup self.now → result ≡ false
-            → frame_for (ids_of setup (place + 1)) (Some (record { id = id; bytes = bytes })) ≡ None }
-    {
-        id == self.physical[place] || id == self.functional
     }
 
     /// What a frame is to the tester at this place, from 0.

@@ -4,6 +4,7 @@ use Rattle.diag_world.specs.Server.{ServerView, closing_time}
 use Rattle.diag_bus.specs.Batch.{IsBy, added, lists_of, moment_end}
 use Rattle.diag_bus.specs.Comparing.{TakesLine}
 use Rattle.diag_bus.specs.Bus.{BusState, TookLines}
+use Rattle.diag_bus.specs.Requests.{AreNamesOf}
 use Rattle.diag_bus.specs.Text.{written}
 use Rattle.diag_bus.proofs.Taking.{sound_taken, sound_written, took_line}
 use Rattle.diag_bus.proofs.Paces.{sent_nothing}
@@ -50,6 +51,7 @@ invariant_of-self c = (
       c.self.invariant.0 c.in_ok-said.ensures.said c.clock_after-clock.ensures.on c.clock_after-clock.ensures.start c.begin.ensures.server
       c.begin.ensures.shape c.take_said.ensures.shape c.take_said.ensures.pace refl,
   c.self.invariant.1,
+  c.self.invariant.2,
 )
 
 pub invariant_of-self-in_err-take_line : goal.invariant_of-self-in_err-take_line
@@ -59,6 +61,7 @@ invariant_of-self-in_err-take_line c = (
       c.self.invariant.0 c.in_ok-said.ensures.said c.clock_after-clock.ensures.on c.clock_after-clock.ensures.start c.begin.ensures.server
       c.begin.ensures.shape c.take_said.ensures.shape c.take_said.ensures.pace c.take_line.ensures.shape,
   c.self.invariant.1,
+  c.self.invariant.2,
 )
 
 pub invariant_of-self-in_err-write : goal.invariant_of-self-in_err-write
@@ -70,6 +73,7 @@ invariant_of-self-in_err-write c = (
       c.begin.ensures.shape c.take_said.ensures.shape c.take_said.ensures.pace c.take_line.ensures.shape)
       c.write.ensures.server c.write.ensures.shape,
   c.self.invariant.1,
+  subst (AreNamesOf c.self.inside.setup) (sym c.write.ensures.names) c.self.invariant.2,
 )
 
 pub invariant_of-self-2 : goal.invariant_of-self-2
@@ -81,6 +85,7 @@ invariant_of-self-2 c = (
       c.begin.ensures.shape c.take_said.ensures.shape c.take_said.ensures.pace c.take_line.ensures.shape)
       c.write.ensures.server c.write.ensures.shape,
   c.self.invariant.1,
+  subst (AreNamesOf c.self.inside.setup) (sym c.write.ensures.names) c.self.invariant.2,
 )
 
 -- ---- where the lists have frames
