@@ -9,7 +9,7 @@ ghost use Rattle.diag_bus.specs.Text.{ecu_after, written};
 ghost use Rattle.diag_bus.specs.Verdict.{recorded, verdict};
 ghost use Rattle.diag_bus.specs.declared.fault.BusFault.{BusFault as ABusFault};
 
-use crate::clock::{Clock, clock_after, next_said};
+use crate::clock::{Clock, next_said};
 use crate::comparing::Comparisons;
 use crate::fault::BusFault;
 use crate::filled::Filled;
@@ -138,18 +138,18 @@ impl Bus {
     {
         let (said, time) = next_said(&self.clock, line)?;
         let reference = self.clock.reference;
-        let clock = clock_after(self.clock, &said, time);
         // (first: no link's clock is ahead of the bus's, also where the line is refused)
-        self.clock = clock;
+        self.clock.go_on(&said, time);
         self.line.begin();
         self.line
             .take_said(&self.setup, &self.ids, reference, &said)?;
         self.compared
             .take_line(&self.setup, &said, self.line.drawn.as_slice())?;
+        let start = self.clock.start;
         let writers = &mut self.writers;
         let batch = &mut self.batch;
         self.line
-            .write(&self.setup, clock.start, writers, batch, text)?;
+            .write(&self.setup, start, writers, batch, text)?;
         Ok(())
     }
 

@@ -14,7 +14,7 @@ use Rattle.diag_can.specs.declared.frame.Event.{Event}
 use Rattle.diag_can.specs.declared.log.Reading.{Reading}
 use Rattle.diag_can.specs.declared.log.Timing.{Timing}
 use Rattle.diag_can.specs.declared.log.Timing.TheVariants.{Lines, Stamps}
-use Rattle.diag_can.specs.Took.{Grown, Took}
+use Rattle.diag_can.specs.Took.{Took}
 
 -- ---- the reference
 

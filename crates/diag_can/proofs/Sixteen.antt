@@ -1,5 +1,5 @@
 -- The bytes of hex digits that are looked at together.
-use Rattle.std.proofs.Common.{◌≡◌, ℕ, zero, suc, ◌+◌, ◌-◌, ◌*◌, ◌/◌, ◌%◌, ◌<◌, ◌≤◌, eqb, leb, true, cond, List, [], ◌∷◌, ◌++◌, map, length, take, drop, get_or, replicate, Fits, w8, length-drop, drop-drop, unwrap_or, is_some, Option, Some, None, Ok, refl, sym, ap, subst, ◌∙◌, arith}
+use Rattle.std.proofs.Common.{◌≡◌, ℕ, zero, suc, ◌+◌, ◌-◌, ◌*◌, ◌/◌, ◌%◌, ◌<◌, ◌≤◌, eqb, leb, true, cond, List, [], ◌∷◌, ◌++◌, map, length, drop, get_or, replicate, Fits, w8, length-drop, drop-drop, unwrap_or, is_some, Option, Some, None, Ok, refl, sym, ap, subst, ◌∙◌, arith}
 use Rattle.std.specs.Prelude.{IsOk}
 use Rattle.std.specs.List.{AllPass}
 use Rattle.std.proofs.lemmas.Bool.{agree_below_at, eqb-true}

@@ -106,7 +106,7 @@ pub fn without_return(line: &[u8]) -> &[u8]
 
 /// The place of the first LF. Most lines are short, and are looked at in one step.
 #[inline(always)]
-fn line_end(text: &[u8]) -> Option<usize>
+pub fn line_end(text: &[u8]) -> Option<usize>
     ensures { IsFirstByte is_feed text.now result }
 {
     if text.len() >= 64 {
