@@ -148,8 +148,7 @@ impl Bus {
         let start = self.clock.start;
         let writers = &mut self.writers;
         let batch = &mut self.batch;
-        self.line
-            .write(&self.setup, start, writers, batch, text)?;
+        self.line.write(&self.setup, start, writers, batch, text)?;
         Ok(())
     }
 

@@ -82,10 +82,12 @@ impl Clock {
         ensures start { self.new.start ≡ started_at self.old.start moment self.old.time }
     {
         self.reference = later(self.reference, moment);
-        self.start = Some(self.start.unwrap_or(Start {
-            moment,
-            before: self.time,
-        }));
+        self.start = Some(
+            self.start.unwrap_or(Start {
+                moment,
+                before: self.time,
+            }),
+        );
         self.time = time;
     }
 }

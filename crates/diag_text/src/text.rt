@@ -286,11 +286,7 @@ fn lines_in_turn(
 }
 
 /// Adds the lines of the frames that one tester was sent.
-fn add_lines(
-    text: &mut Vec<u8>,
-    writer: &mut LineWriter,
-    sent: &[Sent],
-) -> Result<(), AllocError>
+fn add_lines(text: &mut Vec<u8>, writer: &mut LineWriter, sent: &[Sent]) -> Result<(), AllocError>
     ensures { OnOk result (text.new.items ≡ text.old.items ++ lines_of writer.old sent.now) }
 {
     for frame in sent {
