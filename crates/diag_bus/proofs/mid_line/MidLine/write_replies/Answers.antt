@@ -56,6 +56,7 @@ pub returns-in-At-clause-ok : goal.returns-in-At-clause-ok
 returns-in-At-clause-ok c =
     let text = c.args.text.now.items in
     on_ok _ _ c.write_one.result (λ wrote.
-    wrote c.args.setup.now c.requires.names ∙ ap (λ w. text ++ w) (list_written c.args.setup.now c.args.start c.in-At.place c.args.self.now.drawn.items c.index-in-At.result.now
+    wrote c.args.setup.now c.requires.names
+    ∙ ap (λ w. text ++ w) (list_written c.args.setup.now c.args.start c.in-At.place c.args.self.now.drawn.items c.index-in-At.result.now
     c.index-in-At-2.result.now (there c.before.before) (one c.before.before) c.index-in-At-2.ensures (filled c.before.before)))
     c.write_one.ensures.ok
