@@ -151,6 +151,11 @@ abbrev pub resumed_by : Option Start → ℕ → BusLine → List (List ℕ) →
 resumed_by (Some start) before said next = Some start
 resumed_by None before said next = start_said before (Ok said) (λ sum. start_after sum next)
 
+-- where the bus's time begins, once a line of this moment came
+abbrev pub started_at : Option Start → ℕ → ℕ → Option Start
+started_at None moment before = Some (record { moment = moment; before = before })
+started_at (Some start) moment before = Some start
+
 -- the clock after a line that says this
 pub record GoesOn (old : Clock) (said : BusLine) (new : Clock) : Type 0 where
   pub reference : new.reference ≡ later old.reference (moment_said (Ok said))

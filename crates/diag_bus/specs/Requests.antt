@@ -1,7 +1,7 @@
 -- The identifiers by which it is told for whom a frame is, and where the testers' lists have frames.
 use Rattle.std.specs.Prelude.{◌≡◌, ◌≢◌, ◌<◌, ◌==◌, if◌then◌else◌, ℕ, ◌+◌, List, [], length, Some, slice_get}
 use Rattle.diag_setup.specs.declared.raw.RawSetup.{RawSetup}
-use Rattle.diag_setup.specs.Setup.{ids_of}
+use Rattle.diag_setup.specs.Setup.{ids_of, name_of}
 use Rattle.diag_tp.specs.declared.sent.Sent.{Sent}
 use Rattle.diag_bus.specs.declared.filled.Filled.{Filled}
 use Rattle.diag_bus.specs.declared.filled.Filled.TheVariants.{Nowhere, At, Anywhere}
@@ -13,6 +13,11 @@ pub record AreRequestsOf (setup : RawSetup) (ids : RequestIds) : Type 0 where
   pub each : (i id : ℕ) → slice_get ids.physical.items i ≡ Some id
       → id ≡ (ids_of setup (i + 1)).request
   pub functional : ids.functional ≡ setup.functional
+
+-- these are the testers' names
+pub record AreNamesOf (setup : RawSetup) (names : List (List ℕ)) : Type 0 where
+  pub many : length names ≡ length setup.testers
+  pub each : (i : ℕ) (name : List ℕ) → slice_get names i ≡ Some name → name ≡ name_of setup (i + 1)
 
 -- the lists have frames at no other place than this says
 abbrev pub AreFilled : Filled → List (List Sent) → Type 0

@@ -9,14 +9,15 @@ ghost use Rattle.diag_bus.specs.Text.{ecu_after, written};
 ghost use Rattle.diag_bus.specs.Verdict.{recorded, verdict};
 ghost use Rattle.diag_bus.specs.declared.fault.BusFault.{BusFault as ABusFault};
 
-use crate::clock::{Clock, clock_after, next_said};
+use crate::clock::{Clock, next_said};
 use crate::comparing::Comparisons;
 use crate::fault::BusFault;
 use crate::filled::Filled;
 use crate::mid_line::MidLine;
 use crate::request_ids::RequestIds;
 use crate::verdict::Verdict;
-use crate::writing::Drawn;
+use crate::writing::{Drawn, writers_of};
+use diag_can::LineWriter;
 use diag_desk::write_header_at;
 use diag_ecu::Ecu;
 use diag_setup::{Setup, TesterId};
@@ -49,13 +50,14 @@ pub struct Bus {
     line: MidLine,
     clock: Clock,
     batch: Vec<Drawn>,
+    writers: Vec<LineWriter>,
     compared: Comparisons,
 }
 
 impl Model for Bus {
     ghost use Rattle.diag_world.specs.Server.{server_of};
     ghost use Rattle.diag_bus.specs.Bus.{AreSound, BusState};
-    ghost use Rattle.diag_bus.specs.Requests.{AreRequestsOf};
+    ghost use Rattle.diag_bus.specs.Requests.{AreNamesOf, AreRequestsOf};
 
     ghost Value = { BusState };
 
@@ -68,7 +70,8 @@ impl Model for Bus {
     } };
 
     ghost invariant = { λ b.
-        AreSound b.setup b.line b.compared b.clock × AreRequestsOf b.setup b.ids };
+        AreSound b.setup b.line b.compared b.clock × AreRequestsOf b.setup b.ids
+        × AreNamesOf b.setup b.writers.items };
 }
 
 impl Bus {
@@ -82,6 +85,7 @@ impl Bus {
         let drawn = empty_lists(alloc, setup.testers())?;
         let compared = nothing_compared(alloc, &setup, output)?;
         let ids = RequestIds::new(alloc, &setup)?;
+        let writers = writers_of(alloc, &setup)?;
         Ok(Bus {
             line: MidLine {
                 server,
@@ -94,6 +98,7 @@ impl Bus {
             ids,
             clock: Clock::new(),
             batch: Vec::new(alloc),
+            writers,
             compared,
         })
     }
@@ -133,16 +138,17 @@ impl Bus {
     {
         let (said, time) = next_said(&self.clock, line)?;
         let reference = self.clock.reference;
-        let clock = clock_after(self.clock, &said, time);
         // (first: no link's clock is ahead of the bus's, also where the line is refused)
-        self.clock = clock;
+        self.clock.go_on(&said, time);
         self.line.begin();
         self.line
             .take_said(&self.setup, &self.ids, reference, &said)?;
         self.compared
             .take_line(&self.setup, &said, self.line.drawn.as_slice())?;
-        self.line
-            .write(&self.setup, clock.start, &mut self.batch, text)?;
+        let start = self.clock.start;
+        let writers = &mut self.writers;
+        let batch = &mut self.batch;
+        self.line.write(&self.setup, start, writers, batch, text)?;
         Ok(())
     }
 

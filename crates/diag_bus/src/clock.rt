@@ -4,7 +4,7 @@ ghost use Rattle.std.specs.Prelude.{◌≡◌, ◌+◌, ◌≤◌, ℕ, Some, No
 ghost use Rattle.diag_can.specs.Bus.{bus_line};
 ghost use Rattle.diag_world.specs.Server.{closing_time};
 ghost use Rattle.diag_can.specs.Reading.{later};
-ghost use Rattle.diag_bus.specs.Batch.{GoesOn, SaidBelow, StartsBelow};
+ghost use Rattle.diag_bus.specs.Batch.{GoesOn, SaidBelow, StartsBelow, started_at};
 ghost use Rattle.diag_bus.specs.Events.{fault_said, span_said};
 ghost use Rattle.diag_can.specs.Log.{silence};
 ghost use Rattle.diag_can.specs.declared.log.Timing.TheVariants.{Stamps};
@@ -42,6 +42,53 @@ impl Clock {
             start: None,
             time: 0,
         }
+    }
+
+    /// Goes on by a line, behind which each tester's clock tells this time.
+    #[inline(always)]
+    pub(crate) fn go_on(&mut self, said: &BusLine, time: u64)
+        requires { time ≡ self.old.time + span_said self.old.reference (Ok said.now) }
+        ensures on { GoesOn self.old said.now self.new }
+        ensures start { (most : ℕ) → StartsBelow self.old.start most → SaidBelow said.now most
+            → StartsBelow self.new.start most }
+    {
+        match said {
+            BusLine::Empty | BusLine::Ticks(_) => self.time = time,
+            BusLine::Stamped { moment, frame: _ } => self.go_on_to(*moment, time),
+        }
+    }
+
+    /// The same by a line of this moment.
+    #[inline(always)]
+    fn go_on_to(&mut self, moment: u64, time: u64)
+        ensures reference { self.new.reference ≡ later self.old.reference (Some moment) }
+        ensures time { self.new.time ≡ time }
+        ensures start { self.new.start ≡ started_at self.old.start moment self.old.time }
+    {
+        match (self.start, self.reference) {
+            (Some(_), Some(reference)) => {
+                self.reference = Some(reference.max(moment));
+                self.time = time;
+            }
+            _ => self.go_on_from(moment, time),
+        }
+    }
+
+    /// The same where there may be no moment before.
+    #[inline(never)]
+    fn go_on_from(&mut self, moment: u64, time: u64)
+        ensures reference { self.new.reference ≡ later self.old.reference (Some moment) }
+        ensures time { self.new.time ≡ time }
+        ensures start { self.new.start ≡ started_at self.old.start moment self.old.time }
+    {
+        self.reference = later(self.reference, moment);
+        self.start = Some(
+            self.start.unwrap_or(Start {
+                moment,
+                before: self.time,
+            }),
+        );
+        self.time = time;
     }
 }
 
@@ -96,31 +143,5 @@ fn later(reference: Option<u64>, moment: u64) -> Option<u64>
     match reference {
         Some(reference) => Some(reference.max(moment)),
         None => Some(moment),
-    }
-}
-
-/// The clock behind a line, by which each tester's clock tells this time.
-pub(crate) fn clock_after(clock: Clock, said: &BusLine, time: u64) -> Clock
-    requires { time ≡ clock.time + span_said clock.reference (Ok said.now) }
-    ensures on { GoesOn clock said.now result }
-    ensures start { (most : ℕ) → StartsBelow clock.start most → SaidBelow said.now most
-        → StartsBelow result.start most }
-{
-    match said {
-        BusLine::Empty | BusLine::Ticks(_) => Clock {
-            reference: clock.reference,
-            start: clock.start,
-            time,
-        },
-        BusLine::Stamped { moment, frame: _ } => Clock {
-            reference: later(clock.reference, *moment),
-            start: Some(
-                clock.start.unwrap_or(Start {
-                    moment: *moment,
-                    before: clock.time,
-                }),
-            ),
-            time,
-        },
     }
 }

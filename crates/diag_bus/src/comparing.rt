@@ -98,7 +98,7 @@ impl Comparison {
             (Takes self.old self.new (option_to_list frame) (map sent_bytes sent.now)) }
     {
         for next in sent {
-            self.expect(FrameBytes::from_slice(next.frame.bytes.as_slice()))?;
+            self.expect(next.frame.bytes.copy())?;
         }
         match frame {
             Some(frame) => self.record(frame),
@@ -273,7 +273,7 @@ fn reply_in(response: CanId, line: u64, said: &BusLine) -> Option<Recorded>
     }
     Some(Recorded {
         line,
-        bytes: FrameBytes::from_slice(bytes),
+        bytes: frame.bytes.copy(),
     })
 }
 

@@ -9,7 +9,7 @@ ghost use Rattle.diag_tp.specs.Moments.{counted_from};
 ghost use Rattle.diag_tp.specs.declared.sent.Sent.{Sent as ASent};
 ghost use Rattle.diag_world.specs.Server.{closing_time, quiet_of, server_of};
 ghost use Rattle.diag_bus.specs.Events.{frame_to, said_gives, span_said, to_each};
-ghost use Rattle.diag_bus.specs.Requests.{AreFilled, AreRequestsOf};
+ghost use Rattle.diag_bus.specs.Requests.{AreFilled, AreNamesOf, AreRequestsOf};
 ghost use Rattle.diag_bus.specs.Text.{drawn_text};
 
 use crate::bus::Output;
@@ -18,7 +18,7 @@ use crate::entering::{enter, enter_ticks};
 use crate::filled::Filled;
 use crate::request_ids::RequestIds;
 use crate::writing::{Drawn, write_drawn, write_one};
-use diag_can::{BusLine, Event, Frame, TickCount};
+use diag_can::{BusLine, Event, Frame, LineWriter, TickCount};
 use diag_setup::{Setup, TesterId};
 use diag_tp::Sent;
 use diag_world::{Server, ServerFault};
@@ -56,19 +56,22 @@ impl MidLine {
         self.text.clear();
     }
 
-    /// Adds what the line writes: its entries, or the reply lines of what it drew. The batch is room to work in. Refused,
-    /// the text is as it was.
+    /// Adds what the line writes: its entries, or the reply lines of what it drew. The batch is room to work in, the
+    /// writers are those of the testers' lines. Refused, the text is as it was.
     pub fn write(
         &mut self,
         setup: &Setup,
         start: Option<Start>,
+        writers: &mut Vec<LineWriter>,
         batch: &mut Vec<Drawn>,
         text: &mut Vec<u8>,
     ) -> Result<(), AllocError>
         requires lists { length self.old.drawn.items ≡ length setup.now.testers }
+        requires names { AreNamesOf setup.now writers.old.items }
         requires start { StartsBelow start moment_end }
         requires sent { AreSentBy (lists_of self.old) closing_time }
         requires filled { AreFilled self.old.filled (lists_of self.old) }
+        ensures names { writers.new.items ≡ writers.old.items }
         ensures ok { OnOk result (text.new.items ≡ text.old.items
             ++ added self.old.output self.old.text.items setup.now start (lists_of self.old)) }
         ensures err { OnErr result (text.new.items ≡ text.old.items) }
@@ -76,7 +79,7 @@ impl MidLine {
         ensures shape { SameShape self.old self.new }
     {
         match self.output {
-            Output::Replies => self.write_replies(setup, start, batch, text),
+            Output::Replies => self.write_replies(setup, start, writers, batch, text),
             Output::Journal => text.extend_from_slice(self.text.as_slice()),
             Output::End | Output::Verdict => Ok(()),
         }
@@ -87,13 +90,16 @@ impl MidLine {
         &mut self,
         setup: &Setup,
         start: Option<Start>,
+        writers: &mut Vec<LineWriter>,
         batch: &mut Vec<Drawn>,
         text: &mut Vec<u8>,
     ) -> Result<(), AllocError>
         requires lists { length self.old.drawn.items ≡ length setup.now.testers }
+        requires names { AreNamesOf setup.now writers.old.items }
         requires start { StartsBelow start moment_end }
         requires sent { AreSentBy (lists_of self.old) closing_time }
         requires filled { AreFilled self.old.filled (lists_of self.old) }
+        ensures names { writers.new.items ≡ writers.old.items }
         ensures ok { OnOk result (text.new.items ≡ text.old.items
             ++ drawn_text setup.now start (lists_of self.old)) }
         ensures err { OnErr result (text.new.items ≡ text.old.items) }
@@ -103,7 +109,7 @@ impl MidLine {
         match self.filled {
             Filled::Nowhere => Ok(()),
             Filled::At(place) if self.drawn[place].len() == 1 => {
-                write_one(setup, start, place, &self.drawn[place][0], text)
+                write_one(writers, start, place, &self.drawn[place][0], text)
             }
             Filled::At(_) | Filled::Anywhere => self.write_sorted(setup, start, batch, text),
         }

@@ -7,7 +7,7 @@ ghost use Rattle.diag_setup.specs.declared.raw.RawSetup.{RawSetup};
 ghost use Rattle.diag_tp.specs.Link.{is_frame};
 ghost use Rattle.diag_bus.specs.Requests.{AreRequestsOf};
 
-use diag_can::{CanId, Event, Frame, FrameBytes};
+use diag_can::{CanId, Event, Frame};
 use diag_setup::Setup;
 use std::alloc::{AllocError, Global};
 
@@ -39,6 +39,7 @@ impl RequestIds {
     }
 
     /// What a frame is to the tester at this place, from 0.
+    #[inline]
     pub fn event_at(&self, place: usize, frame: &Frame) -> Option<Event>
         requires { place < length self.now.physical.items }
         ensures is { (setup : RawSetup) → AreRequestsOf setup self.now
@@ -46,18 +47,11 @@ impl RequestIds {
         ensures frame { IfSome result (λ event. IsTrue (is_frame event)) }
     {
         if frame.id == self.physical[place] {
-            Some(Event::Physical(copy_of(&frame.bytes)))
+            Some(Event::Physical(frame.bytes.copy()))
         } else if frame.id == self.functional {
-            Some(Event::Functional(copy_of(&frame.bytes)))
+            Some(Event::Functional(frame.bytes.copy()))
         } else {
             None
         }
     }
-}
-
-/// The same bytes.
-fn copy_of(bytes: &FrameBytes) -> FrameBytes
-    ensures { result ≡ bytes.now }
-{
-    FrameBytes::from_slice(bytes.as_slice())
 }

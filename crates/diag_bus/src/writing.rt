@@ -1,18 +1,20 @@
 //! The frames that a line draws, as lines of their own, in the order of the bus.
 
-ghost use Rattle.std.specs.Prelude.{◌≡◌, ◌≤◌, ◌<◌, ◌+◌, ◌++◌, length, map, OnOk, OnErr};
+ghost use Rattle.std.specs.Prelude.{◌≡◌, ◌≤◌, ◌<◌, ◌+◌, ◌++◌, length, map, IfOk, OnOk, OnErr};
 ghost use Rattle.std.specs.List.{All, flat_map};
 ghost use Rattle.std.specs.List.Sorted.{IsPermutation};
 ghost use Rattle.diag_setup.specs.Rows.{in_order};
+ghost use Rattle.diag_setup.specs.declared.raw.RawSetup.{RawSetup};
 ghost use Rattle.diag_world.specs.Server.{closing_time};
 ghost use Rattle.diag_bus.specs.Batch.{AreSentBy, StartsBelow, moment_end};
+ghost use Rattle.diag_bus.specs.Requests.{AreNamesOf};
 ghost use Rattle.diag_bus.specs.Text.{bus_moment, drawn_for, drawn_text, gathered, line_of, time_of};
 
 use crate::clock::Start;
-use diag_can::write_line;
+use diag_can::{LineWriter, write_line};
 use diag_setup::{Setup, TesterId};
 use diag_tp::Sent;
-use std::alloc::AllocError;
+use std::alloc::{AllocError, Global};
 
 /// A frame that a tester is sent.
 #[derive(Debug, Drop)]
@@ -103,26 +105,39 @@ fn write_batch(
     Ok(())
 }
 
+/// A writer of reply lines for each tester of a setup.
+pub(crate) fn writers_of(alloc: Global, setup: &Setup) -> Result<Vec<LineWriter>, AllocError>
+    ensures { IfOk result (λ writers. AreNamesOf setup.now writers.items) }
+{
+    let mut writers = Vec::new(alloc);
+    for index in 0..setup.testers() {
+        let Some(who) = setup.who(index) else {
+            unreachable!()
+        };
+        let writer = LineWriter::new(alloc, setup.name(who), setup.ids(who).response)?;
+        writers.push(writer)?;
+    }
+    Ok(writers)
+}
+
 /// Adds the reply line of a frame that the tester at this place, from 0, is sent. Refused, the text is as it was.
 pub(crate) fn write_one(
-    setup: &Setup,
+    writers: &mut Vec<LineWriter>,
     start: Option<Start>,
     place: usize,
     sent: &Sent,
     text: &mut Vec<u8>,
 ) -> Result<(), AllocError>
-    requires tester { place < length setup.now.testers }
+    requires tester { place < length writers.old.items }
     requires start { StartsBelow start moment_end }
     requires sent { sent.now.at ≤ closing_time }
-    ensures ok { OnOk result (text.new.items ≡ text.old.items
-        ++ line_of setup.now start (drawn_for (place + 1) sent.now)) }
+    ensures ok { OnOk result ((setup : RawSetup) → AreNamesOf setup writers.old.items
+        → text.new.items ≡ text.old.items ++ line_of setup start (drawn_for (place + 1) sent.now)) }
     ensures err { OnErr result (text.new.items ≡ text.old.items) }
+    ensures names { writers.new.items ≡ writers.old.items }
 {
-    let Some(who) = setup.who(place) else {
-        unreachable!()
-    };
     let moment = bus_moment(start, sent.at);
-    write_line(text, setup.name(who), moment, &sent.frame)
+    writers[place].write(text, moment, &sent.frame)
 }
 
 /// Adds the reply lines of the frames in the testers' lists, in the order of the bus. The batch is room to work in, and

@@ -1,6 +1,6 @@
 -- What is written in upper-case hex.
-use Rattle.std.proofs.Common.{◌≡◌, ℕ, zero, suc, ◌+◌, ◌*◌, ◌/◌, ◌%◌, ◌<◌, true, cond, eqb, List, [], ◌∷◌, ◌++◌, map, length, take, get_or, slice_get, slice_index, Some, refl, sym, ap, subst, ◌∙◌, append_assoc, append-nil, arith}
-use Rattle.std.proofs.lemmas.List.{take_all, take_more}
+use Rattle.std.proofs.Common.{◌≡◌, ℕ, zero, suc, ◌+◌, ◌*◌, ◌/◌, ◌%◌, ◌<◌, true, cond, eqb, List, [], ◌∷◌, ◌++◌, map, length, take, get_or, slice_get, slice_index, Some, refl, sym, ap, subst, ◌∙◌, append_assoc, append-nil, length-append, arith}
+use Rattle.std.proofs.lemmas.List.{take_all, take_at, take_more}
 use Rattle.std.proofs.lemmas.Option.{slice_get_within, get_or_from_slice_get}
 use Rattle.std.proofs.lemmas.Bool.{agree_below_at, eqb-true}
 use Rattle.std.proofs.lemmas.Simd.{swz_l, SwzOk, SwzOk-from_below, pick_l_whole}
@@ -10,9 +10,12 @@ use mir.Syntax.{w8}
 use mir.Val.{Fits, zeroes}
 use Rattle.std.proofs.lemmas.Slice.Eq.{bytes_eq-Decides}
 use Rattle.std.specs.Fmt.{digits}
+use Rattle.std.specs.Prelude.{codes}
 use Rattle.std.specs.Str.{bytes_eq}
 use Rattle.hex.specs.Hex.{encode_upper, encode_with, upper_digits}
-use Rattle.diag_can.specs.Reply.{zero_filled}
+use Rattle.diag_can.specs.Reply.{zero_filled, name_text}
+use Rattle.std.proofs.lemmas.Slice.{take-put_mid}
+use borrow.Rule.Slice.PartMut.{put_mid}
 use Rattle.diag_can.specs.declared.table.TheConstants.{DIGITS}
 
 upper-append : (bytes : List ℕ) (b : ℕ) → encode_upper (bytes ++ b ∷ []) ≡ encode_upper bytes ++ encode_upper (b ∷ [])
@@ -124,3 +127,23 @@ pub taken_back : (a b digits places bytes : List ℕ) (end : ℕ) → b ≡ a ++
 taken_back a b digits places bytes end p q r s =
     rw (s, p, q) (take-append-add a (encode_upper places) (2 * length bytes)
     ∙ ap (λ (t : List ℕ). a ++ t) (upper-take (length bytes) places ∙ ap encode_upper r))
+
+-- ---- the front of a reply line behind its stamp
+
+-- a name, and behind it a space, the digits of an identifier and a mark, written over some bytes
+pub front_is : (name copied rest five id : List ℕ) (k n : ℕ) → copied ≡ name → five ≡ 32 ∷ get_or id 0 0 ∷ get_or id 1 0 ∷ get_or id 2 0 ∷ 35 ∷ []
+    → n < 2048 → id ≡ zero_filled 3 (digits 16 true n)
+    → take (length name + 5) (put_mid (length name) k (copied ++ rest) five) ≡ name_text name n
+front_is name copied rest five id k n same written below is =
+    let text : List ℕ = 32 ∷ get_or id 0 0 ∷ get_or id 1 0 ∷ get_or id 2 0 ∷ 35 ∷ [] in
+    let digits_are : List ℕ = zero_filled 3 (digits 16 true n) in
+    let count = ap length same in
+    rw written (take-put_mid (length name) k (copied ++ rest) text (length name + 5) refl (omega (arith, count, length-append copied rest)))
+    ∙ ap (λ (t : List ℕ). t ++ text) (take_at copied rest (length name) count ∙ same)
+    ∙ ap (λ (t : List ℕ). name ++ 32 ∷ t) (three_parts id (35 ∷ []) n below is)
+    ∙ sym (append_assoc (name ++ 32 ∷ []) digits_are (35 ∷ []) ∙ append_assoc name (32 ∷ []) (digits_are ++ 35 ∷ []))
+
+-- a line is put together from its parts
+pub line_parts : (old stamped name id hex a b c d : List ℕ) → a ≡ old → b ≡ a ++ (stamped ++ codes " ") → c ≡ b ++ (name ++ codes " " ++ id ++ codes "#")
+    → d ≡ c ++ (hex ++ codes "\n") → d ≡ old ++ (stamped ++ codes " " ++ name ++ codes " " ++ (id ++ codes "#" ++ hex) ++ codes "\n")
+line_parts old stamped name id hex a b c d p q r s = rw (s, r, q, p) (simp append_assoc)

@@ -1,5 +1,5 @@
 -- Hex digits that are read by a table, and pairs of them.
-use Rattle.std.proofs.Common.{◌≡◌, ℕ, ◌+◌, ◌*◌, ◌%◌, ◌<◌, ◌≤◌, eqb, nat_le, true, false, cond, List, [], ◌∷◌, ◌++◌, length, take, drop, get_or, slice_index, append_assoc, append-nil, length-append, length-drop, unwrap_or, is_some, Option, Some, None, Result, Ok, Err, refl, sym, ap, ◌∙◌, arith}
+use Rattle.std.proofs.Common.{◌≡◌, ℕ, ◌+◌, ◌*◌, ◌%◌, ◌<◌, ◌≤◌, eqb, nat_le, true, List, [], ◌∷◌, ◌++◌, length, take, drop, get_or, slice_index, append_assoc, append-nil, length-append, length-drop, unwrap_or, is_some, Option, Some, None, Result, Ok, Err, refl, sym, ap, ◌∙◌, arith}
 use Rattle.std.specs.Prelude.{IsOk, IsSome}
 use Rattle.std.specs.List.{prefix_len}
 use Rattle.std.proofs.lemmas.Bool.{agree_below_at, eqb-true}

@@ -1,5 +1,5 @@
 -- The bytes of hex digits that are looked at together.
-use Rattle.std.proofs.Common.{◌≡◌, ℕ, zero, suc, ◌+◌, ◌-◌, ◌*◌, ◌/◌, ◌%◌, ◌<◌, ◌≤◌, eqb, leb, true, cond, List, [], ◌∷◌, ◌++◌, map, length, take, drop, get_or, replicate, Fits, w8, length-drop, drop-drop, unwrap_or, is_some, Option, Some, None, Ok, refl, sym, ap, subst, ◌∙◌, arith}
+use Rattle.std.proofs.Common.{◌≡◌, ℕ, zero, suc, ◌+◌, ◌-◌, ◌*◌, ◌/◌, ◌%◌, ◌<◌, ◌≤◌, eqb, leb, true, cond, List, [], ◌∷◌, ◌++◌, map, length, drop, get_or, replicate, Fits, w8, length-drop, drop-drop, unwrap_or, is_some, Option, Some, None, Ok, refl, sym, ap, subst, ◌∙◌, arith}
 use Rattle.std.specs.Prelude.{IsOk}
 use Rattle.std.specs.List.{AllPass}
 use Rattle.std.proofs.lemmas.Bool.{agree_below_at, eqb-true}
@@ -88,13 +88,12 @@ digits_read line long fits n few ok =
 -- the same, from a place on
 pub digits_from : (line eight bytes : List ℕ) (at : ℕ) → length eight ≡ 8 → at ≤ length line → length (drop at line) ≤ 16 → IsOk (decode_of (drop at line))
     → ((n : ℕ) → n ≤ 8 → IsOk (decode_of (drop (length line - 2 * n) line)) → decode_of (drop (length line - 2 * n) line) ≡ Ok (drop (8 - n) eight))
-    → bytes ≡ take (8 - (8 - (length line - at) / 2)) (drop (8 - (length line - at) / 2) eight) → decode_of (drop at line) ≡ Ok bytes
+    → bytes ≡ drop (8 - (length line - at) / 2) eight → decode_of (drop at line) ≡ Ok bytes
 digits_from line eight bytes at full inside few ok read is =
     let value = is_ok-value (decode_of (drop at line)) ok in
     let even = (decode_of-ok (drop at line) value.0 value.1).0 in
     let count = length-drop at line in
     let n : ℕ = (length line - at) / 2 in
     let same : length line - 2 * n ≡ at = omega (arith, even, count) in
-    let all = take_all (8 - (8 - n)) (drop (8 - n) eight) (omega (arith, length-drop (8 - n) eight, full)) in
     let decoded = rw same at (read n (omega (arith, count, few))) in
-    decoded ok ∙ ap Ok (sym (is ∙ all))
+    decoded ok ∙ ap Ok (sym is)

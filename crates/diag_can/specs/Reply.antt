@@ -13,6 +13,13 @@ abbrev pub stamp : ℕ → List ℕ
 stamp at = codes "(" ++ zero_filled 10 (decimal (at / 1000)) ++ codes "."
     ++ zero_filled 3 (decimal (at % 1000)) ++ codes "000)"
 
+-- the same in two parts, and a space
+abbrev pub seconds_text : ℕ → List ℕ
+seconds_text seconds = codes "(" ++ zero_filled 10 (decimal seconds) ++ codes "."
+
+abbrev pub thousandths_text : ℕ → List ℕ
+thousandths_text thousandths = zero_filled 3 (decimal thousandths) ++ codes "000) "
+
 -- the identifier in three hex digits, and the bytes
 abbrev pub frame_text : Frame → List ℕ
 frame_text frame = zero_filled 3 (digits 16 true frame.id) ++ codes "#" ++ encode_upper frame.bytes
@@ -21,3 +28,7 @@ frame_text frame = zero_filled 3 (digits 16 true frame.id) ++ codes "#" ++ encod
 abbrev pub reply_line : List ℕ → ℕ → Frame → List ℕ
 reply_line name at frame =
     stamp at ++ codes " " ++ name ++ codes " " ++ frame_text frame ++ codes "\n"
+
+-- what stands between a line's stamp and its bytes
+abbrev pub name_text : List ℕ → ℕ → List ℕ
+name_text name id = name ++ codes " " ++ zero_filled 3 (digits 16 true id) ++ codes "#"

@@ -1,5 +1,5 @@
 -- Lines of the usual form: ten digits of seconds and six of the fraction, and nothing but the frame's digits behind its `#`.
-use Rattle.std.specs.Prelude.{◌≡◌, ℕ, ◌≤◌, ◌<◌, IsOk, List, length, take, drop, Some, Ok, false}
+use Rattle.std.specs.Prelude.{◌≡◌, ℕ, ◌+◌, ◌*◌, ◌≤◌, ◌<◌, IsOk, List, length, take, drop, slice_index, Some, Ok, false}
 use Rattle.hex.specs.Hex.{decode_of}
 use Rattle.diag_can.specs.Stamp.{is_digit, moment_of}
 use Rattle.diag_can.specs.Line.{event_of, frame_data, frame_event, is_time, stamped_frame}
@@ -10,6 +10,10 @@ use Rattle.diag_can.specs.declared.frame.Ids.{Ids}
 -- the moment of a stamp of that form
 abbrev pub usual_moment : List ℕ → ℕ
 usual_moment line = moment_of (take 10 (drop 1 line)) (take 6 (drop 12 line))
+
+-- three bytes from a place on, weighed as digits are
+abbrev pub three_at : List ℕ → ℕ → ℕ
+three_at line i = slice_index line i * 100 + slice_index line (i + 1) * 10 + slice_index line (i + 2)
 
 -- the line has a stamp of that form and a name, and there the frame's text
 pub record IsFramed (line : List ℕ) (place : ℕ) : Type 0 where

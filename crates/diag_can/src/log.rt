@@ -1,15 +1,18 @@
 //! The log of a tester's link.
 
-ghost use Rattle.std.specs.Prelude.{◌≡◌, ◌≢◌, ◌<◌, ◌≤◌, ◌⊎◌, [], ◌∷◌, ◌++◌, length, MatchOption, IfOk, IfErr, OnOk};
-ghost use Rattle.diag_can.specs.Line.{frame_moment};
+ghost use Rattle.std.specs.Prelude.{◌≡◌, ◌≢◌, ◌<◌, ◌≤◌, ◌⊎◌, [], ◌∷◌, ◌++◌, length, Some, MatchOption, IfOk, IfErr, OnOk};
 ghost use Rattle.memchr.specs.Find.{IsFirstByte};
-ghost use Rattle.diag_can.specs.Log.{is_feed, without_return, lines_of, silence, waited, line_gives, events};
-ghost use Rattle.diag_can.specs.Reading.{later, fault_with};
+ghost use Rattle.diag_can.specs.Lanes.{IsRunIn};
+ghost use Rattle.diag_can.specs.Log.{is_feed, without_return, lines_of, waited, events};
+ghost use Rattle.diag_can.specs.Reading.{fault_with, given_at};
+ghost use Rattle.diag_can.specs.Stamp.{is_digit};
+ghost use Rattle.diag_can.specs.Usual.{usual_moment};
 
 use crate::fault::LogFault;
 use crate::frame::{Event, Ids, TickCount};
 use crate::lanes::line_run;
-use crate::read::timed_event;
+use crate::read::other_line_event;
+use crate::usual::{bytes_at, usual_frame, usual_moment};
 use memchr::memchr;
 use std::alloc::Global;
 
@@ -56,7 +59,7 @@ pub fn read_log(
     ensures few { IfOk result (λ log. length log.items ≤ 1000000) }
 {
     let mut reading = Reading {
-        events: Vec::new(alloc),
+        events: with_room(alloc, text)?,
         reference: None,
     };
     let mut rest = text;
@@ -75,6 +78,21 @@ pub fn read_log(
     }
 }
 
+/// A usual line has more bytes than this.
+const SHORT_LINE: usize = 32;
+
+/// No events, and room for those of a text of usual lines: where there are more, the list grows.
+fn with_room(alloc: Global, text: &[u8]) -> Result<Vec<Event>, LogFault>
+    ensures ok { IfOk result (λ events. events.items ≡ []) }
+    ensures err { IfErr result (λ fault. fault ≡ LogFault.Memory) }
+{
+    let room = (text.len() / SHORT_LINE).min(MAX_EVENTS);
+    match Vec::with_capacity(alloc, room) {
+        Ok(events) => Ok(events),
+        Err(_) => Err(LogFault::Memory),
+    }
+}
+
 /// The line without one CR at its end.
 pub fn without_return(line: &[u8]) -> &[u8]
     ensures { result.now ≡ without_return line.now }
@@ -88,7 +106,7 @@ pub fn without_return(line: &[u8]) -> &[u8]
 
 /// The place of the first LF. Most lines are short, and are looked at in one step.
 #[inline(always)]
-fn line_end(text: &[u8]) -> Option<usize>
+pub fn line_end(text: &[u8]) -> Option<usize>
     ensures { IsFirstByte is_feed text.now result }
 {
     if text.len() >= 64 {
@@ -112,27 +130,6 @@ fn next_line(text: &[u8]) -> Option<(&[u8], &[u8])>
     match line_end(text) {
         None => Some((without_return(text), &[])),
         Some(end) => Some((without_return(&text[..end]), &text[end + 1..])),
-    }
-}
-
-/// The milliseconds before an event of this moment.
-fn silence(timing: Timing, reference: Option<u64>, moment: Option<u64>) -> u64
-    ensures { result ≡ silence timing reference moment }
-{
-    match (timing, reference, moment) {
-        (Timing::Stamps, Some(reference), Some(moment)) => moment.saturating_sub(reference),
-        _ => 0,
-    }
-}
-
-/// The greater of two moments, as far as there are any.
-fn later(reference: Option<u64>, moment: Option<u64>) -> Option<u64>
-    ensures { result ≡ later reference moment }
-{
-    match (reference, moment) {
-        (Some(reference), Some(moment)) => Some(reference.max(moment)),
-        (Some(reference), None) => Some(reference),
-        (None, moment) => moment,
     }
 }
 
@@ -175,7 +172,11 @@ fn push_time(events: &mut Vec<Event>, ms: u64) -> Result<(), LogFault>
 }
 
 impl Reading {
-    /// Takes what the line of this number gives.
+    ghost use Rattle.diag_can.specs.Took.{Grown, Took};
+
+    /// Takes what the line of this number gives. A line of the usual form is looked at here, and what it gives is kept
+    /// where it goes.
+    #[inline(always)]
     fn take_line(
         &mut self,
         timing: Timing,
@@ -184,27 +185,111 @@ impl Reading {
         line: &[u8],
     ) -> Result<(), LogFault>
         requires { length self.old.events.items ≤ 1000000 }
-        ensures events { OnOk result (self.new.events.items
-            ≡ self.old.events.items ++ line_gives timing self.old.reference ids.now line.now) }
-        ensures reference { OnOk result
-            (self.new.reference ≡ later self.old.reference (frame_moment ids.now line.now)) }
-        ensures few { OnOk result (length self.new.events.items ≤ 1000000) }
-        ensures well { OnOk result
-            (fault_with timing ids.now self.old.events.items self.old.reference number line.now
-            ≡ None) }
+        ensures took { OnOk result (Took timing ids.now self.old self.new line.now) }
         ensures fault { IfErr result (λ fault. fault ≢ LogFault.Memory
             → fault_with timing ids.now self.old.events.items self.old.reference number line.now
             ≡ Some fault) }
     {
-        let timed = match timed_event(line, ids) {
+        let Some((id, at)) = usual_frame(line) else {
+            return self.take_other(timing, ids, number, line);
+        };
+        if id == ids.request {
+            self.take_frame(timing, line, Event::Physical(bytes_at(line, at)))
+        } else if id == ids.functional {
+            self.take_frame(timing, line, Event::Functional(bytes_at(line, at)))
+        } else {
+            Ok(())
+        }
+    }
+
+    /// Takes a frame that a line of the usual form gives, with the time before it.
+    #[inline(always)]
+    fn take_frame(&mut self, timing: Timing, line: &[u8], event: Event) -> Result<(), LogFault>
+        requires few { length self.old.events.items ≤ 1000000 }
+        requires long { 28 ≤ length line.now }
+        requires seconds { IsRunIn is_digit line.now 1 16 10 }
+        requires fraction { IsRunIn is_digit line.now 12 8 6 }
+        ensures took { OnOk result
+            (Grown timing self.old self.new (Some (usual_moment line.now)) (event ∷ [])) }
+        ensures err { IfErr result (λ fault.
+            ((fault ≡ LogFault.TooManyEvents) × (1000000 < length (self.old.events.items
+            ++ given_at timing self.old.reference (Some (usual_moment line.now)) (event ∷ []))))
+            ⊎ (fault ≡ LogFault.Memory)) }
+    {
+        self.pass_to_stamp(timing, line)?;
+        push_event(&mut self.events, event)
+    }
+
+    /// Lets the time pass up to the stamp of a line of the usual form, where stamps carry time.
+    #[inline(always)]
+    fn pass_to_stamp(&mut self, timing: Timing, line: &[u8]) -> Result<(), LogFault>
+        requires few { length self.old.events.items ≤ 1000000 }
+        requires long { 28 ≤ length line.now }
+        requires seconds { IsRunIn is_digit line.now 1 16 10 }
+        requires fraction { IsRunIn is_digit line.now 12 8 6 }
+        ensures ok { OnOk result
+            (Grown timing self.old self.new (Some (usual_moment line.now)) []) }
+        ensures err { IfErr result (λ fault.
+            ((fault ≡ LogFault.TooManyEvents) × (1000000 < length (self.old.events.items
+            ++ given_at timing self.old.reference (Some (usual_moment line.now)) [])))
+            ⊎ (fault ≡ LogFault.Memory)) }
+    {
+        match timing {
+            Timing::Lines => Ok(()),
+            Timing::Stamps => self.pass_to(usual_moment(line)),
+        }
+    }
+
+    /// The same up to a moment, where there is one.
+    fn pass_on(&mut self, timing: Timing, moment: Option<u64>) -> Result<(), LogFault>
+        requires { length self.old.events.items ≤ 1000000 }
+        ensures ok { OnOk result (Grown timing self.old self.new moment []) }
+        ensures err { IfErr result (λ fault.
+            ((fault ≡ LogFault.TooManyEvents) × (1000000 < length (self.old.events.items
+            ++ given_at timing self.old.reference moment [])))
+            ⊎ (fault ≡ LogFault.Memory)) }
+    {
+        match (timing, moment) {
+            (Timing::Stamps, Some(moment)) => self.pass_to(moment),
+            _ => Ok(()),
+        }
+    }
+
+    /// Lets the time pass from the reference to a later moment, which is the reference then.
+    fn pass_to(&mut self, moment: u64) -> Result<(), LogFault>
+        requires { length self.old.events.items ≤ 1000000 }
+        ensures ok { OnOk result (Grown Timing.Stamps self.old self.new (Some moment) []) }
+        ensures err { IfErr result (λ fault.
+            ((fault ≡ LogFault.TooManyEvents) × (1000000 < length (self.old.events.items
+            ++ given_at Timing.Stamps self.old.reference (Some moment) [])))
+            ⊎ (fault ≡ LogFault.Memory)) }
+    {
+        let reference = self.reference.unwrap_or(moment);
+        push_time(&mut self.events, moment.saturating_sub(reference))?;
+        self.reference = Some(reference.max(moment));
+        Ok(())
+    }
+
+    /// Takes what the line of this number gives, whatever its form is.
+    #[inline(never)]
+    fn take_other(
+        &mut self,
+        timing: Timing,
+        ids: &Ids,
+        number: u32,
+        line: &[u8],
+    ) -> Result<(), LogFault>
+        requires { length self.old.events.items ≤ 1000000 }
+        ensures took { OnOk result (Took timing ids.now self.old self.new line.now) }
+        ensures fault { IfErr result (λ fault. fault ≢ LogFault.Memory
+            → fault_with timing ids.now self.old.events.items self.old.reference number line.now
+            ≡ Some fault) }
+    {
+        let timed = match other_line_event(line, ids) {
             Ok(timed) => timed,
             Err(fault) => return Err(LogFault::Line(number, fault)),
         };
-        push_time(
-            &mut self.events,
-            silence(timing, self.reference, timed.moment),
-        )?;
-        self.reference = later(self.reference, timed.moment);
+        self.pass_on(timing, timed.moment)?;
         match timed.event {
             None => Ok(()),
             Some(event) => push_event(&mut self.events, event),

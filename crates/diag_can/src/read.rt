@@ -116,7 +116,7 @@ pub fn timed_event(line: &[u8], ids: &Ids) -> Result<Timed, LineFault>
 
 /// The same, whatever the form of the line is.
 #[inline(never)]
-fn other_line_event(line: &[u8], ids: &Ids) -> Result<Timed, LineFault>
+pub fn other_line_event(line: &[u8], ids: &Ids) -> Result<Timed, LineFault>
     ensures event { IsGiven result (line_event line.now ids.now) }
     ensures moment { IfOk result (λ timed. timed.moment ≡ frame_moment ids.now line.now) }
 {

@@ -3,9 +3,9 @@
 ghost use Rattle.std.specs.Prelude.{◌≡◌, ◌<◌, ◌≤◌, ◌+◌, ◌/◌, ◌^◌, ◌++◌, [], ◌∷◌, true, length, codes, decimal, replicate, OnOk, OnErr, vec_len, vec_capacity};
 ghost use Rattle.std.specs.Fmt.{digits};
 ghost use Rattle.hex.specs.Hex.{encode_upper};
-ghost use Rattle.diag_can.specs.Reply.{zero_filled, stamp, frame_text, reply_line};
+ghost use Rattle.diag_can.specs.Reply.{zero_filled, seconds_text, thousandths_text, stamp, frame_text, reply_line};
 
-use crate::frame::{CanId, Frame};
+use crate::frame::{CanId, Frame, FrameBytes};
 use crate::table::{decimals, digits};
 use crate::upper::digits_of_eight;
 use itoa::Buffer;
@@ -44,7 +44,7 @@ pub fn write_line(text: &mut Vec<u8>, name: &[u8], at: u64, frame: &Frame) -> Re
 
 /// Appends bytes for which there is room.
 #[inline(always)]
-fn add(text: &mut Vec<u8>, bytes: &[u8])
+pub(crate) fn add(text: &mut Vec<u8>, bytes: &[u8])
     requires { vec_len text.old + length bytes.now ≤ vec_capacity text.old }
     ensures items { text.new.items ≡ text.old.items ++ bytes.now }
     ensures len { vec_len text.new ≡ vec_len text.old + length bytes.now }
@@ -64,22 +64,43 @@ fn add_stamp(text: &mut Vec<u8>, at: u64)
     ensures capacity { vec_capacity text.new ≡ vec_capacity text.old }
 {
     if at / 1000 < TEN_DIGITS {
-        add(text, &short_stamp(at));
+        add_short_stamp(text, at);
     } else {
         add_long_stamp(text, at);
     }
 }
 
-/// The stamp of a time with ten digits of seconds, and a space.
-fn short_stamp(at: u64) -> [u8; 20]
-    requires { at / 1000 < 10 ^ 10 }
-    ensures { result ≡ stamp at ++ codes " " }
+/// The stamp of a time with ten digits of seconds, and a space, where there is room.
+#[inline(always)]
+fn add_short_stamp(text: &mut Vec<u8>, at: u64)
+    requires early { at / 1000 < 10 ^ 10 }
+    requires room { vec_len text.old + 32 ≤ vec_capacity text.old }
+    ensures items { text.new.items ≡ text.old.items ++ (stamp at ++ codes " ") }
+    ensures len { vec_len text.new ≤ vec_len text.old + 32 }
+    ensures capacity { vec_capacity text.new ≡ vec_capacity text.old }
 {
-    let [a, b, c, d, e, f, g, h, i, j] = ten_digits(at / 1000);
-    let [k, l, m] = three_digits(at % 1000);
-    [
-        b'(', a, b, c, d, e, f, g, h, i, j, b'.', k, l, m, b'0', b'0', b'0', b')', b' ',
-    ]
+    add(text, &seconds_text(at / 1000));
+    add(text, &thousandths_text(at % 1000));
+}
+
+/// `(SECONDS.` of ten digits.
+#[inline(always)]
+pub(crate) fn seconds_text(seconds: u64) -> [u8; 12]
+    requires { seconds < 10 ^ 10 }
+    ensures { result ≡ seconds_text seconds }
+{
+    let [a, b, c, d, e, f, g, h, i, j] = ten_digits(seconds);
+    [b'(', a, b, c, d, e, f, g, h, i, j, b'.']
+}
+
+/// `MILLISECONDS000) `.
+#[inline(always)]
+pub(crate) fn thousandths_text(thousandths: u64) -> [u8; 8]
+    requires { thousandths < 1000 }
+    ensures { result ≡ thousandths_text thousandths }
+{
+    let [k, l, m] = three_digits(thousandths);
+    [k, l, m, b'0', b'0', b'0', b')', b' ']
 }
 
 /// The stamp of a time with more digits of seconds, and a space, where there is room.
@@ -130,8 +151,7 @@ fn three_digits(number: u64) -> [u8; 3]
     [b'0' + (number / 100) as u8, b, c]
 }
 
-/// A space, the identifier, `#`, the bytes and LF, where there is room. The digits of all eight places are written, and
-/// those behind the frame's length taken back.
+/// A space, the identifier, `#`, the bytes and LF, where there is room.
 #[inline(always)]
 fn add_frame(text: &mut Vec<u8>, frame: &Frame)
     requires { vec_len text.old + 22 ≤ vec_capacity text.old }
@@ -140,14 +160,24 @@ fn add_frame(text: &mut Vec<u8>, frame: &Frame)
 {
     let [x, y, z] = identifier(frame.id);
     add(text, &[b' ', x, y, z, b'#']);
-    let end = text.len() + 2 * frame.bytes.len();
-    add(text, &digits_of_eight(&frame.bytes.places()));
+    add_data(text, &frame.bytes);
+}
+
+/// The bytes of a frame and LF, where there is room. The digits of all eight places are written, and those behind the
+/// frame's length taken back.
+#[inline(always)]
+pub(crate) fn add_data(text: &mut Vec<u8>, bytes: &FrameBytes)
+    requires { vec_len text.old + 17 ≤ vec_capacity text.old }
+    ensures { text.new.items ≡ text.old.items ++ (encode_upper bytes.now ++ codes "\n") }
+{
+    let end = text.len() + 2 * bytes.len();
+    add(text, &digits_of_eight(&bytes.places()));
     text.truncate(end);
     text.push_reserved(b'\n');
 }
 
 /// The three digits of an identifier.
-fn identifier(id: CanId) -> [u8; 3]
+pub(crate) fn identifier(id: CanId) -> [u8; 3]
     ensures digits { result ≡ zero_filled 3 (digits 16 true id) }
     ensures in_range { id < 2048 }
 {

@@ -1,17 +1,15 @@
 //! A line of the usual form, of which many bytes are read at once: a stamp of ten digits and six, one space, a short name, one
 //! space, an identifier of three digits, and behind its `#` nothing but pairs of hex digits. Other lines are read part by part.
 
-ghost use Rattle.std.specs.Prelude.{◌≡◌, ℕ, ◌<◌, ◌≤◌, ◌-◌, ◌*◌, ◌^◌, drop, length, IfSome, IsOk};
-ghost use Rattle.std.specs.List.{AllPass};
+ghost use Rattle.std.specs.Prelude.{◌≡◌, ℕ, ◌<◌, ◌≤◌, ◌-◌, ◌*◌, drop, length, IfSome, IsOk};
 ghost use Rattle.hex.specs.Hex.{decode_of};
 ghost use Rattle.diag_can.specs.Lanes.{IsRunIn};
-ghost use Rattle.diag_can.specs.Stamp.{decimal_value, is_digit};
-ghost use Rattle.diag_can.specs.Usual.{IsFramed, IsUsual, usual_moment};
+ghost use Rattle.diag_can.specs.Stamp.{is_digit};
+ghost use Rattle.diag_can.specs.Usual.{IsFramed, IsUsual, three_at, usual_moment};
 
 use crate::frame::{CanId, FrameBytes};
 use crate::lanes::{eight_digits, eight_of_word, ends_in_hex, sixteen_digits};
 use crate::line::short_id;
-use crate::stamp::thousandths;
 use std::simd::prelude::*;
 
 /// The shortest line that is looked at.
@@ -54,20 +52,24 @@ pub fn usual_frame(line: &[u8]) -> Option<(CanId, usize)>
     Some((id, at))
 }
 
-/// The number that decimal digits write, of at most 12.
+/// Four times three bytes of the stamp, weighed as digits are: nine of the seconds, without the first, and the milliseconds.
+/// They are looked at together.
 #[inline(always)]
-fn digits_value(digits: &[u8]) -> u64
-    requires digits { AllPass is_digit digits.now }
-    requires few { length digits.now ≤ 12 }
-    ensures value { result ≡ decimal_value digits.now }
-    ensures few { result < 10 ^ 12 }
+fn threes(line: &[u8]) -> (u64, u64, u64, u64)
+    requires long { 28 ≤ length line.now }
+    ensures value { result
+        ≡ (three_at line.now 2, three_at line.now 5, three_at line.now 8, three_at line.now 12) }
+    ensures few { (result.0 < 28306) × (result.1 < 28306) × (result.2 < 28306) × (result.3 < 28306) }
 {
-    let mut value: u64 = 0;
-    for c in digits {
-        value = value * 10 + u64::from(*c - b'0');
-    }
-    value
+    let stamp = u8x16::from_slice(&line[1..]);
+    let threes = stamp.swizzle([1, 2, 3, 0, 4, 5, 6, 0, 7, 8, 9, 0, 11, 12, 13, 0]);
+    let weights = [100, 10, 1, 0, 100, 10, 1, 0, 100, 10, 1, 0, 100, 10, 1, 0];
+    let [a, b, c, d] = threes.dot4(u8x16::from_array(weights)).to_array();
+    (u64::from(a), u64::from(b), u64::from(c), u64::from(d))
 }
+
+/// What thirteen zeros, in place of the stamp's digits, are weighed.
+const ZEROS: u64 = 53_333_333_333_328;
 
 /// The moment of the stamp in milliseconds.
 #[inline(always)]
@@ -77,7 +79,9 @@ pub fn usual_moment(line: &[u8]) -> u64
     requires fraction { IsRunIn is_digit line.now 12 8 6 }
     ensures { result ≡ usual_moment line.now }
 {
-    digits_value(&line[1..11]) * 1000 + thousandths(&line[12..18])
+    let (a, b, c, d) = threes(line);
+    let first = u64::from(line[1]);
+    (((first * 1000 + a) * 1000 + b) * 1000 + c) * 1000 + d - ZEROS
 }
 
 /// The bytes that the hex digits from a place on write.
@@ -89,9 +93,7 @@ pub fn bytes_at(line: &[u8], at: usize) -> FrameBytes
     requires hex { IsOk (decode_of (drop at line.now)) }
     ensures { decode_of (drop at line.now) ≡ Ok result }
 {
-    let count = (line.len() - at) / 2;
-    let bytes = last_eight(line);
-    FrameBytes::from_slice(&bytes[8 - count..])
+    FrameBytes::last_of(last_eight(line), (line.len() - at) / 2)
 }
 
 /// The bytes that the last sixteen bytes of a line write, looked at together; as far as these are hex digits from the end.

@@ -14,9 +14,8 @@ ghost use Rattle.diag_run.specs.Capture.{IsBorneOut, IsFront, StopsOn, capture_t
 
 use crate::ending::add_end;
 use diag_bus::{Bus, BusFault};
-use diag_can::LineFault;
+use diag_can::{LineFault, line_end};
 use diag_text::write_text;
-use memchr::memchr;
 use std::alloc::{AllocError, Global};
 use std::io::Write;
 
@@ -110,7 +109,7 @@ impl Capture {
             (HaltsIn self.old fault piece.now)) }
     {
         let mut rest = piece;
-        while let Some(end) = memchr(b'\n', rest) {
+        while let Some(end) = line_end(rest) {
             if let Err(fault) = self.take_line(&rest[..end], out) {
                 return Err(fault);
             }
@@ -120,6 +119,7 @@ impl Capture {
     }
 
     /// Takes the line that these bytes and an LF end. What is to be written is written where it is much.
+    #[inline(always)]
     fn take_line<W: Write>(&mut self, bytes: &[u8], out: &mut W) -> Result<(), CaptureFault>
         requires room { self.old.lines + 1 < 2 ^ 64 }
         requires line { HasNoFeed bytes.now }
@@ -158,6 +158,7 @@ impl Capture {
     }
 
     /// Gives the bus the line that these bytes and an LF end, behind what is kept of it.
+    #[inline(always)]
     fn end_line(&mut self, bytes: &[u8]) -> Result<(), CaptureFault>
         requires room { self.old.lines + 1 < 2 ^ 64 }
         requires line { HasNoFeed bytes.now }
@@ -175,6 +176,7 @@ impl Capture {
     }
 
     /// Gives the bus a line of which nothing is kept.
+    #[inline(always)]
     fn take_whole(&mut self, line: &[u8]) -> Result<(), CaptureFault>
         requires room { self.old.lines + 1 < 2 ^ 64 }
         requires line { HasNoFeed line.now }
@@ -194,6 +196,7 @@ impl Capture {
     }
 
     /// Gives the bus the line that is kept and that these bytes end.
+    #[inline(never)]
     fn take_kept(&mut self, bytes: &[u8]) -> Result<(), CaptureFault>
         requires room { self.old.lines + 1 < 2 ^ 64 }
         requires line { HasNoFeed bytes.now }
@@ -268,6 +271,7 @@ fn keep(kept: &mut Vec<u8>, bytes: &[u8], number: u64) -> Result<(), CaptureFaul
 }
 
 /// Gives the bus a line, whose number this is.
+#[inline(always)]
 fn give(bus: &mut Bus, line: &[u8], number: u64, text: &mut Vec<u8>) -> Result<(), CaptureFault>
     ensures ok { OnOk result (Grew text.old.items text.new.items (λ more.
         (lines : List (List ℕ)) → TookLines bus.old lines

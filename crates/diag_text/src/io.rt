@@ -1,6 +1,6 @@
 //! Reading a whole file and writing a whole text, by loops of their own.
 
-ghost use Rattle.std.specs.Prelude.{◌≡◌, ◌+◌, ◌<◌, ◌^◌, ◌≤◌, ℕ, List, length, map, take, IfOk, IfSome, OnOk, OnErr, IsOk, IsErr, Err, Some};
+ghost use Rattle.std.specs.Prelude.{◌≡◌, ◌+◌, ◌++◌, ◌<◌, ◌^◌, ◌≤◌, ℕ, List, length, map, take, IfOk, IfSome, OnOk, OnErr, IsOk, IsErr, Err, Some};
 ghost use Rattle.std.specs.Io.KnownBytes.{Appends, Consumes, IsAtEnd, Keeps};
 ghost use Rattle.std.specs.List.{concat};
 ghost use Rattle.diag_text.specs.Bytes.{AppendsFront, Takes};
@@ -65,11 +65,27 @@ pub fn read_whole<R: Read>(
         if count > limit - bytes.len() {
             return Err(ReadFault::Long);
         }
-        if bytes.extend_from_slice(&buffer[..count]).is_err() {
+        if append(&mut bytes, &buffer[..count]).is_err() {
             return Err(ReadFault::Memory);
         }
     }
     Err(ReadFault::Long)
+}
+
+/// The bytes that are copied at once: so few that a copy moves vectors, and not byte by byte.
+const COPIED: usize = 2048;
+
+/// Appends bytes, part by part.
+fn append(bytes: &mut Vec<u8>, piece: &[u8]) -> Result<(), AllocError>
+    ensures { OnOk result (bytes.new.items ≡ bytes.old.items ++ piece.now) }
+{
+    let mut done = 0;
+    while done < piece.len() {
+        let end = done + COPIED.min(piece.len() - done);
+        bytes.extend_from_slice(&piece[done..end])?;
+        done = end;
+    }
+    Ok(())
 }
 
 /// Writes the parts of a text, one behind the other, and flushes. After a fault a front of the text went out.

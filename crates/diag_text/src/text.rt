@@ -7,7 +7,7 @@ ghost use Rattle.hex.specs.Hex.{encode_upper};
 ghost use Rattle.diag_store.specs.Dtcs.{row_pair};
 ghost use Rattle.diag_text.specs.Text.{lines_of, lines_from, journal_part, holder_name, extended_session, extended_lines, holder_lines, code_line, code_lines, end_text, whole_text, replay_text};
 
-use diag_can::{Timing, write_hex, write_line};
+use diag_can::{LineWriter, Timing, write_hex};
 use diag_desk::{Desk, Journal, journal_text, journal_text_at};
 use diag_ecu::Ecu;
 use diag_setup::{Setup, TesterId};
@@ -254,7 +254,10 @@ fn tester_lines(alloc: Global, name: &[u8], sent: &[Sent]) -> Result<Vec<u8>, Al
         .len()
         .saturating_mul(name.len().saturating_add(USUAL_LINE));
     let mut text = Vec::with_capacity(alloc, room)?;
-    add_lines(&mut text, name, sent)?;
+    if let Some(first) = sent.first() {
+        let mut writer = LineWriter::new(alloc, name, first.frame.id)?;
+        add_lines(&mut text, &mut writer, sent)?;
+    }
     Ok(text)
 }
 
@@ -283,11 +286,11 @@ fn lines_in_turn(
 }
 
 /// Adds the lines of the frames that one tester was sent.
-fn add_lines(text: &mut Vec<u8>, name: &[u8], sent: &[Sent]) -> Result<(), AllocError>
-    ensures { OnOk result (text.new.items ≡ text.old.items ++ lines_of name.now sent.now) }
+fn add_lines(text: &mut Vec<u8>, writer: &mut LineWriter, sent: &[Sent]) -> Result<(), AllocError>
+    ensures { OnOk result (text.new.items ≡ text.old.items ++ lines_of writer.old sent.now) }
 {
     for frame in sent {
-        write_line(text, name, frame.at, &frame.frame)?;
+        writer.write(text, frame.at, &frame.frame)?;
     }
     Ok(())
 }

@@ -139,7 +139,7 @@ impl Link {
         ensures kind { result ≡ kind bytes.now self.now.state.setup.max_request }
         ensures read { IsRead self.now.state.setup.max_request result }
     {
-        Pci::read(bytes.as_slice(), self.setup.max_request)
+        Pci::of_frame(bytes, self.setup.max_request)
     }
 
     /// Whether the event completes a request, from the fields.

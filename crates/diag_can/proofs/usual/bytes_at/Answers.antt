@@ -5,5 +5,5 @@ use Rattle.diag_can.proofs.usual.bytes_at.Goals as goal
 pub returns : goal.returns
 returns c =
     let required = c.requires in
-    digits_from c.args.line.now c.last_eight-bytes.result c.from_slice.result c.args.at (search rules) required.inside required.few required.hex
-    c.last_eight-bytes.ensures c.from_slice.ensures
+    digits_from c.args.line.now c.last_eight.result c.last_of.result c.args.at (search rules) required.inside required.few required.hex
+    c.last_eight.ensures c.last_of.ensures

@@ -1,10 +1,11 @@
-use Rattle.std.proofs.Common.{arith}
-use Rattle.diag_can.specs.Stamp.{is_digit}
-use Rattle.diag_can.proofs.UsualLines.{passes-run}
+use Rattle.std.proofs.Common.{◌+◌, ◌-◌, ◌*◌, ◌∙◌}
+use Rattle.diag_can.proofs.Weighing.{moment_weighed}
 use Rattle.diag_can.proofs.usual.usual_moment.Goals as goal
 
-pub digits_value-requires-clause-digits : goal.digits_value-requires-clause-digits
-digits_value-requires-clause-digits c = passes-run is_digit c.args.line.now 1 16 10 (omega (arith, c.requires.long)) c.requires.seconds
-
-pub thousandths-requires-clause-digits : goal.thousandths-requires-clause-digits
-thousandths-requires-clause-digits c = passes-run is_digit c.args.line.now 12 8 6 (omega (arith, c.requires.long)) c.requires.fraction
+pub returns : goal.returns
+returns c =
+    let required = c.requires in
+    let threes = c.threes-a.ensures.value in
+    let first = c.from-first.ensures in
+    (λ j. (((first j * 1000 + (threes j).0) * 1000 + (threes j).1) * 1000 + (threes j).2) * 1000 + (threes j).3 - 53333333333328)
+    ∙ moment_weighed c.args.line.now required.long required.seconds required.fraction

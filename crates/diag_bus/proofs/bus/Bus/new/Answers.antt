@@ -15,4 +15,5 @@ invariant_of-result c = (
     tt,
   ),
   c.in_ok-ids.ensures,
+  c.in_ok-writers.ensures,
 )

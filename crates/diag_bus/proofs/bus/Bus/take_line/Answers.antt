@@ -4,6 +4,7 @@ use Rattle.diag_world.specs.Server.{ServerView, closing_time}
 use Rattle.diag_bus.specs.Batch.{IsBy, added, lists_of, moment_end}
 use Rattle.diag_bus.specs.Comparing.{TakesLine}
 use Rattle.diag_bus.specs.Bus.{BusState, TookLines}
+use Rattle.diag_bus.specs.Requests.{AreNamesOf}
 use Rattle.diag_bus.specs.Text.{written}
 use Rattle.diag_bus.proofs.Taking.{sound_taken, sound_written, took_line}
 use Rattle.diag_bus.proofs.Paces.{sent_nothing}
@@ -16,14 +17,14 @@ returns-clause-took c =
     let done = c.write.new.self in
     let taken = c.take_said.new.self in
     let line = c.args.line.now in
-    let more = added taken.output taken.text.items inside.setup c.clock_after-clock.result.start (lists_of taken) in
+    let more = added taken.output taken.text.items inside.setup c.go_on.new.self.start (lists_of taken) in
     record {
       more = more;
       grown = c.in_ok-write.ensures.ok;
       holds = λ lines h.
           let took = took_line inside.setup lines line c.in_ok-said.said inside.line c.begin.new.self taken done inside.clock
-          c.clock_after-clock.result inside.compared c.take_line.new.self
-          c.in_ok-said.ensures.said c.in_ok-said.ensures.well c.clock_after-clock.ensures.on
+          c.go_on.new.self inside.compared c.take_line.new.self
+          c.in_ok-said.ensures.said c.in_ok-said.ensures.well c.go_on.ensures.on
           c.self.invariant.0.1
           c.begin.ensures.empty c.begin.ensures.text c.begin.ensures.server c.begin.ensures.shape
           c.in_ok-take_said.ensures.ok c.take_said.ensures.shape
@@ -46,41 +47,45 @@ take_said-requires-clause-early c = record {
 pub invariant_of-self : goal.invariant_of-self
 invariant_of-self c = (
   sound_taken c.self.inside.setup c.args.line.now c.in_ok-said.said c.self.inside.line c.begin.new.self c.take_said.new.self c.self.inside.clock
-      c.clock_after-clock.result c.self.inside.compared c.self.inside.compared
-      c.self.invariant.0 c.in_ok-said.ensures.said c.clock_after-clock.ensures.on c.clock_after-clock.ensures.start c.begin.ensures.server
+      c.go_on.new.self c.self.inside.compared c.self.inside.compared
+      c.self.invariant.0 c.in_ok-said.ensures.said c.go_on.ensures.on c.go_on.ensures.start c.begin.ensures.server
       c.begin.ensures.shape c.take_said.ensures.shape c.take_said.ensures.pace refl,
   c.self.invariant.1,
+  c.self.invariant.2,
 )
 
 pub invariant_of-self-in_err-take_line : goal.invariant_of-self-in_err-take_line
 invariant_of-self-in_err-take_line c = (
   sound_taken c.self.inside.setup c.args.line.now c.in_ok-said.said c.self.inside.line c.begin.new.self c.take_said.new.self c.self.inside.clock
-      c.clock_after-clock.result c.self.inside.compared c.take_line.new.self
-      c.self.invariant.0 c.in_ok-said.ensures.said c.clock_after-clock.ensures.on c.clock_after-clock.ensures.start c.begin.ensures.server
+      c.go_on.new.self c.self.inside.compared c.take_line.new.self
+      c.self.invariant.0 c.in_ok-said.ensures.said c.go_on.ensures.on c.go_on.ensures.start c.begin.ensures.server
       c.begin.ensures.shape c.take_said.ensures.shape c.take_said.ensures.pace c.take_line.ensures.shape,
   c.self.invariant.1,
+  c.self.invariant.2,
 )
 
 pub invariant_of-self-in_err-write : goal.invariant_of-self-in_err-write
 invariant_of-self-in_err-write c = (
-  sound_written c.self.inside.setup c.take_said.new.self c.write.new.self c.clock_after-clock.result c.take_line.new.self
+  sound_written c.self.inside.setup c.take_said.new.self c.write.new.self c.go_on.new.self c.take_line.new.self
       (sound_taken c.self.inside.setup c.args.line.now c.in_ok-said.said c.self.inside.line c.begin.new.self c.take_said.new.self c.self.inside.clock
-      c.clock_after-clock.result c.self.inside.compared c.take_line.new.self
-      c.self.invariant.0 c.in_ok-said.ensures.said c.clock_after-clock.ensures.on c.clock_after-clock.ensures.start c.begin.ensures.server
+      c.go_on.new.self c.self.inside.compared c.take_line.new.self
+      c.self.invariant.0 c.in_ok-said.ensures.said c.go_on.ensures.on c.go_on.ensures.start c.begin.ensures.server
       c.begin.ensures.shape c.take_said.ensures.shape c.take_said.ensures.pace c.take_line.ensures.shape)
       c.write.ensures.server c.write.ensures.shape,
   c.self.invariant.1,
+  subst (AreNamesOf c.self.inside.setup) (sym c.write.ensures.names) c.self.invariant.2,
 )
 
 pub invariant_of-self-2 : goal.invariant_of-self-2
 invariant_of-self-2 c = (
-  sound_written c.self.inside.setup c.take_said.new.self c.write.new.self c.clock_after-clock.result c.take_line.new.self
+  sound_written c.self.inside.setup c.take_said.new.self c.write.new.self c.go_on.new.self c.take_line.new.self
       (sound_taken c.self.inside.setup c.args.line.now c.in_ok-said.said c.self.inside.line c.begin.new.self c.take_said.new.self c.self.inside.clock
-      c.clock_after-clock.result c.self.inside.compared c.take_line.new.self
-      c.self.invariant.0 c.in_ok-said.ensures.said c.clock_after-clock.ensures.on c.clock_after-clock.ensures.start c.begin.ensures.server
+      c.go_on.new.self c.self.inside.compared c.take_line.new.self
+      c.self.invariant.0 c.in_ok-said.ensures.said c.go_on.ensures.on c.go_on.ensures.start c.begin.ensures.server
       c.begin.ensures.shape c.take_said.ensures.shape c.take_said.ensures.pace c.take_line.ensures.shape)
       c.write.ensures.server c.write.ensures.shape,
   c.self.invariant.1,
+  subst (AreNamesOf c.self.inside.setup) (sym c.write.ensures.names) c.self.invariant.2,
 )
 
 -- ---- where the lists have frames
@@ -94,7 +99,7 @@ write-requires-clause-filled c = c.take_said.ensures.shape.filled (c.begin.ensur
 -- ---- what is written
 
 pub write-requires-clause-start : goal.write-requires-clause-start
-write-requires-clause-start c = c.clock_after-clock.ensures.start moment_end c.self.invariant.0.4
+write-requires-clause-start c = c.go_on.ensures.start moment_end c.self.invariant.0.4
     (bus_line_low c.args.line.now c.in_ok-said.said c.in_ok-said.ensures.said)
 
 pub write-requires-clause-sent : goal.write-requires-clause-sent

@@ -20,20 +20,20 @@ returns-in-Nowhere-clause-ok c =
     sym (append-nil text) ∙ ap (λ w. text ++ w)
     (none_written c.args.setup.now c.args.start lists (subst (λ (f : Filled). AreFilled f lists) c.in-Nowhere.is c.requires.filled))
 
-filled : (c : goal.After-write_one-arg-1) → AreFilled (At c.in-At.place) (lists_of c.args.self.now)
+filled : (c : goal.After-write_one-arg-in-At-1) → AreFilled (At c.in-At.place) (lists_of c.args.self.now)
 filled c = subst (λ (f : Filled). AreFilled f (lists_of c.args.self.now)) c.in-At.is c.requires.filled
 
-within : (c : goal.After-write_one-arg-1) → c.in-At.place < length c.args.self.now.drawn.items
+within : (c : goal.After-write_one-arg-in-At-1) → c.in-At.place < length c.args.self.now.drawn.items
 within c = omega (arith, (filled c).0, length-map c.args.self.now.drawn.items (λ (f : Vec Sent Global). f.items))
 
 -- the list with the frame
-there : (c : goal.After-write_one-arg-1) → slice_get c.args.self.now.drawn.items c.in-At.place ≡ Some c.index-in-At.result.now
+there : (c : goal.After-write_one-arg-in-At-1) → slice_get c.args.self.now.drawn.items c.in-At.place ≡ Some c.index-in-At.result.now
 there c =
     let drawn = c.args.self.now.drawn.items in
     slice_get_read drawn (length drawn) c.in-At.place c.index-in-At.result.now refl (within c) c.index-in-At.ensures
 
 -- which has one
-one : (c : goal.After-write_one-arg-1) → length c.index-in-At.result.now.items ≡ 1
+one : (c : goal.After-write_one-arg-in-At-1) → length c.index-in-At.result.now.items ≡ 1
 one c =
     let drawn = c.args.self.now.drawn.items in
     let list = c.index.result.now in
@@ -56,6 +56,7 @@ pub returns-in-At-clause-ok : goal.returns-in-At-clause-ok
 returns-in-At-clause-ok c =
     let text = c.args.text.now.items in
     on_ok _ _ c.write_one.result (λ wrote.
-    wrote ∙ ap (λ w. text ++ w) (list_written c.args.setup.now c.args.start c.in-At.place c.args.self.now.drawn.items c.index-in-At.result.now
+    wrote c.args.setup.now c.requires.names
+    ∙ ap (λ w. text ++ w) (list_written c.args.setup.now c.args.start c.in-At.place c.args.self.now.drawn.items c.index-in-At.result.now
     c.index-in-At-2.result.now (there c.before.before) (one c.before.before) c.index-in-At-2.ensures (filled c.before.before)))
     c.write_one.ensures.ok

@@ -1,0 +1,27 @@
+use Rattle.std.proofs.Common.{◌≡◌, ◌+◌, ◌∷◌, ◌++◌, [], length, ap, ◌∙◌, arith, inl, inr, length-append}
+use Rattle.diag_setup.specs.Setup.{name_of}
+use Rattle.diag_world.proofs.Worlds.{push_cases, who_found}
+use Rattle.diag_bus.proofs.writing.writers_of.Goals as goal
+
+pub loop-index-preserved : goal.loop-index-preserved
+loop-index-preserved c =
+    let inv = c.loop-index.invariant in
+    let before = c.loop-index.writers.items in
+    let setup = c.args.setup.now in
+    let grown : c.push.new.self.items ≡ before ++ c.in_ok-writer.writer ∷ [] = c.in_ok-push.ensures.items in
+    let who = who_found setup c.loop-index.index c.in-Some.who c.in-Some.ensures in
+    record {
+      many = ap length grown ∙ omega (arith, length-append before (c.in_ok-writer.writer ∷ []), inv.many);
+      each = λ i name at. elim (push_cases before i c.in_ok-writer.writer name (rw grown at at)) [
+        | inl p ↦ (
+            let place : c.in-Some.who ≡ i + 1 = omega (arith, p.0, inv.many, who) in
+            p.1 ∙ (c.in_ok-writer.ensures ∙ c.name.ensures ∙ ap (name_of setup) place))
+        | inr p ↦ inv.each i name p
+      ];
+    }
+
+pub returns : goal.returns
+returns c = record {
+  many = omega (arith, c.loop-index.invariant.many, c.loop-index-test.false, c.loop-index.auto.index-end, c.testers-index-end.ensures.same);
+  each = c.loop-index.invariant.each;
+}
