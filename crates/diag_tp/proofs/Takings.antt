@@ -72,8 +72,8 @@ within-taken : (s : LinkSetup) (taken : Taken) (current : Option Sending) (W : L
 within-taken s Whole current W = no-flow-within s current W
 within-taken s (Read k) current W = frame-within s k current W
 
-pub settled-numbers : (link link' : LinkState) (taken : Taken) → link'.setup ≡ link.setup →
+pub settled-numbers : (link link' : LinkState) (taken : Taken) → pending link ≡ 0 → link'.setup ≡ link.setup →
     link'.sender ≡ sender_after link.setup taken link.sender.current link.sender.waiting → Numbers link link' 1
-settled-numbers link link' taken same sender =
-    within-numbers link link' (sender_after link.setup taken link.sender.current link.sender.waiting) 1 (grant-few link'.grant) same sender
+settled-numbers link link' taken drained same sender =
+    within-numbers link link' (sender_after link.setup taken link.sender.current link.sender.waiting) 1 drained (grant-few link'.grant) same sender
     (within-taken link.setup taken link.sender.current link.sender.waiting)

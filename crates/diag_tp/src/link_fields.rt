@@ -24,7 +24,7 @@ ghost use Rattle.std.specs.Prelude.{
 };
 ghost use Rattle.diag_tp.specs.Kind.{kind};
 ghost use Rattle.diag_tp.specs.Gives.{is_request};
-ghost use Rattle.diag_tp.specs.Sender.{frames_of, sender_event, sender_frame, sender_ticks};
+ghost use Rattle.diag_tp.specs.Sender.{settled, sender_event, sender_frame, sender_ticks};
 ghost use Rattle.diag_tp.specs.Receiver.{
   open_after,
   completed_by,
@@ -87,8 +87,8 @@ impl Link {
             × (frame.id ≡ self.old.state.setup.ids.response)) }
         ensures none { IsNone result ↔ (due self.old.state ≡ []) }
         ensures same { IfNone result (self.new ≡ self.old) }
-        ensures current { self.new.state.sender.current ≡ self.old.state.sender.current }
-        ensures waiting { self.new.state.sender.waiting ≡ self.old.state.sender.waiting }
+        ensures left { (settled self.new.state.setup self.new.state.sender).left
+            ≡ (settled self.old.state.setup self.old.state.sender).left }
         ensures partial { self.new.state.partial ≡ self.old.state.partial }
         ensures room { self.new.room ≡ self.old.room }
         ensures reply_room { self.old.reply_room ≤ self.new.reply_room }
@@ -107,8 +107,8 @@ impl Link {
         ensures some { IfSome result (λ bytes. due self.old.state ≡ bytes ∷ due self.new.state) }
         ensures none { IsNone result ↔ (due self.old.state ≡ []) }
         ensures same { IfNone result (self.new ≡ self.old) }
-        ensures current { self.new.state.sender.current ≡ self.old.state.sender.current }
-        ensures waiting { self.new.state.sender.waiting ≡ self.old.state.sender.waiting }
+        ensures left { (settled self.new.state.setup self.new.state.sender).left
+            ≡ (settled self.old.state.setup self.old.state.sender).left }
         ensures partial { self.new.state.partial ≡ self.old.state.partial }
         ensures room { self.new.room ≡ self.old.room }
         ensures reply_room { self.old.reply_room ≤ self.new.reply_room }
@@ -228,7 +228,6 @@ impl Link {
 
     /// Takes what is left of a frame, field by field.
     pub(crate) fn finish(&mut self, taken: Taken)
-        requires drained { self.old.state.sender.due ≡ [] }
         requires fits { FitsIn self.old taken }
         ensures partial { self.new.state.partial ≡ reception_after self.old.state.partial taken }
         ensures grant { self.new.state.grant
@@ -251,7 +250,6 @@ impl Link {
     /// Takes a frame, field by field.
     pub(crate) fn receive(&mut self, event: &Event) -> Option<Request>
         requires frame { IsTrue (is_frame event.now) }
-        requires drained { self.old.state.sender.due ≡ [] }
         requires room { needed self.old.state.setup event.now ≤ self.old.room }
         ensures answer { asked_of result
             ≡ step_after self.old.state.setup self.old.state.partial event.now }
@@ -281,7 +279,6 @@ impl Link {
 
     /// Takes a frame of this kind with the tester's own identifier, whose message, if any, was handed over.
     fn take_kind(&mut self, kind: &Pci)
-        requires drained { self.old.state.sender.due ≡ [] }
         requires read { IsRead self.old.state.setup.max_request kind.now }
         requires room { needed_for kind.now ≤ self.old.room }
         ensures partial { self.new.state.partial ≡ open_after self.old.state.partial kind.now }
@@ -307,11 +304,8 @@ impl Link {
 
     /// So many ticks, before the last of which nothing falls due.
     pub(crate) fn pass(&mut self, count: u16)
-        requires drained { self.old.state.sender.due ≡ [] }
         ensures partial { self.new.state.partial
             ≡ option_and_then (ticks_later self.old.state.setup.n_cr count) self.old.state.partial }
-        ensures still { IfSome self.old.state.sender.current (λ c.
-            (c.next < frames_of c.message) × (c.due ≡ 0)) }
         ensures grant { self.new.state.grant ≡ self.old.state.grant }
         ensures sender { self.new.state.sender
             ≡ sender_ticks self.old.state.setup count
@@ -329,7 +323,6 @@ impl Link {
 
     /// For how many ticks nothing falls due and nothing ends, from the fields.
     pub(crate) fn quiet_ticks(&self) -> u64
-        requires drained { self.now.state.sender.due ≡ [] }
         ensures { result
             ≡ max (min (reception_quiet self.now.state.setup.n_cr self.now.state.partial)
             (sender_quiet self.now.state.sender.current)) 1 }

@@ -10,10 +10,6 @@ use Rattle.diag_tp.proofs.Silence.{stands_ticks, silent}
 use Rattle.diag_tp.proofs.Views.{ticks-numbers, keeps-room, keeps-reply-room}
 use Rattle.diag_tp.proofs.link.Link.advance.Goals as goal
 
-pub pass-requires : goal.pass-requires
-unfolding pending
-pass-requires c = record { drained = (drained-parts c.args.self.now.state.grant c.args.self.now.state.sender.due c.requires.drained).1 }
-
 pub returns : goal.returns
 unfolding pending
 returns c =
@@ -23,16 +19,16 @@ returns c =
     let same : c.get.result ≡ n = c.get.ensures.value in
     let some = c.get.ensures.in_range.0 in
     let none = length-zero (due old) c.requires.drained in
-    let idle = (drained-parts old.grant old.sender.due c.requires.drained).0 in
+    let idle = (drained-parts old.grant _ c.requires.drained).0 in
     let done = c.pass.ensures in
     let grant = done.grant ∙ idle in
     let sender = done.sender ∙ ap (λ k. sender_ticks old.setup k old.sender.current old.sender.waiting) same in
     let partial = done.partial ∙ ap (λ k. option_and_then (ticks_later old.setup.n_cr k) old.partial) same in
     let now = done.now ∙ ap (λ k. min (old.now + k) last_tick) same in
-    let numbers = ticks-numbers old new n grant done.setup sender in
+    let numbers = ticks-numbers old new n c.requires.drained grant done.setup sender in
     record {
-      stands = λ s E A Q h. stands_ticks s old new E A Q n done.still (omega arith) c.requires.quiet none grant sender partial done.setup now h;
-      silent = λ h. silent old.setup n old new done.still (omega arith) none h grant sender;
+      stands = λ s E A Q h. stands_ticks s old new E A Q n (omega arith) c.requires.quiet none grant sender partial done.setup now h;
+      silent = λ h. silent n old new (omega arith) none h grant done.setup sender;
       room = keeps-room c.args.self.now c.pass.new.self done.setup (let same = done.room in omega arith);
       reply_room = keeps-reply-room c.args.self.now c.pass.new.self (let same = done.reply_room in omega arith);
       unsent = let fewer = numbers.frames in omega arith;

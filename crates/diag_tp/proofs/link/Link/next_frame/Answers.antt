@@ -9,12 +9,12 @@ returns c =
     let old = c.args.self.now.state in
     let new = c.next_due.new.self.state in
     record {
-      next = handed old new c.next_due.result done.some done.current done.waiting done.partial done.setup done.now;
-      fewer = handed-fewer old new c.next_due.result done.some done.current done.waiting done.setup;
+      next = handed old new c.next_due.result done.some done.left done.partial done.setup done.now;
+      fewer = handed-fewer old new c.next_due.result done.some done.left done.setup;
       none = none_pending old c.next_due.result done.none.0 done.none.1;
       all = λ s E A Q h. all_none s old E A Q c.next_due.result done.none.0 done.none.1 h;
       same = done.same;
-      waiting = waiting-same old new done.waiting;
+      waiting = waiting-same old new done.left;
       room = keeps-room view c.next_due.new.self done.setup (let same = done.room in omega arith);
       reply_room = keeps-reply-room view c.next_due.new.self done.reply_room;
       time = done.now;

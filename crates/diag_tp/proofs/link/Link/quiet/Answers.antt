@@ -3,13 +3,7 @@ use Rattle.std.specs.Prelude.{◌==◌}
 use Rattle.std.proofs.lemmas.Bool.Decides.{nat_tests}
 use Rattle.diag_tp.specs.State.{due}
 use Rattle.diag_tp.specs.Link.{quiet}
-use Rattle.diag_tp.proofs.History.{drained-parts}
 use Rattle.diag_tp.proofs.link.Link.quiet.Goals as goal
-
-pub quiet_ticks-requires : goal.quiet_ticks-requires
-quiet_ticks-requires c =
-    let now = c.args.self.now.state in
-    record { drained = (drained-parts now.grant now.sender.due (c.has_none_due.ensures.0 c.if-has_none_due.true)).1 }
 
 pub returns-then-has_none_due-clause-is : goal.returns-then-has_none_due-clause-is
 unfolding quiet

@@ -1,7 +1,7 @@
-use Rattle.std.proofs.Common.{◌≡◌, ◌∙◌, [], ap, sym, refl, rules}
+use Rattle.std.proofs.Common.{◌≡◌, ◌∙◌, [], ap, refl, rules}
 use Rattle.std.specs.Prelude.{None}
-use Rattle.diag_tp.specs.Sender.{settled, settled_in, replied}
-use Rattle.diag_tp.proofs.Settled.{begins-so, settled-reply}
+use Rattle.diag_tp.specs.Sender.{settled_in, replied}
+use Rattle.diag_tp.proofs.Settled.{settled-reply}
 use Rattle.diag_tp.proofs.sender.Sender.answer.Goals as goal
 
 pub returns-then-is_empty : goal.returns-then-is_empty
@@ -11,11 +11,11 @@ returns-then-is_empty c =
     let inside = c.self.inside in
     let free : inside.current ≡ None = search rules in
     let none : inside.waiting.replies ≡ [] = search rules in
-    rw (c.begun.ensures.fields, none) (sym (begins-so s P []) ∙ rw (← c.self.view_is, free, none) refl)
+    rw (c.begun.ensures.fields, none, ← c.self.view_is, free, none) refl
 
 pub returns-else-is_none : goal.returns-else-is_none
 returns-else-is_none c =
     let inside = c.self.inside in
     ap (λ l. settled_in c.args.setup.now inside.current l) c.push.ensures
     ∙ (settled-reply c.args.setup.now c.args.message inside.current inside.waiting.replies
-    ∙ ap (λ f. replied c.args.setup.now c.args.message (settled c.args.setup.now f)) c.self.view_is)
+    ∙ ap (λ f. replied c.args.setup.now c.args.message (settled_in c.args.setup.now f.current f.waiting)) c.self.view_is)
