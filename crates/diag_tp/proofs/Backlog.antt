@@ -2,6 +2,7 @@
 use Rattle.std.proofs.Common.{◌≡◌, ℕ, zero, suc, ◌+◌, ◌≤◌, ◌/◌, ◌%◌, Bool, true, false, cond, List, [], ◌∷◌, ◌++◌, length, take, drop, refl, sym, ◌∙◌, ap, arith}
 use Rattle.std.specs.Prelude.{Option, Some, None, map, sum_by, nat_le, ◌==◌, if◌then◌else◌, option_to_list, not}
 use Rattle.std.proofs.lemmas.List.Sums.{sum_by-cons}
+use Rattle.std.proofs.Math.Seq.{drop-append_seam}
 use Rattle.std.proofs.lemmas.Bool.Decides.{nat_tests}
 use Rattle.diag_can.specs.declared.frame.Event.{Event}
 use Rattle.diag_tp.specs.declared.setup.LinkSetup.{LinkSetup}
@@ -98,16 +99,12 @@ due-count s t (Some bytes) frames g h =
     let none : cond {A = ℕ} (not (is_flow (stamped s t bytes).frame.bytes)) 1 0 ≡ 0 = ap (λ (b : Bool). cond {A = ℕ} (not b) 1 0) g in
     omega arith
 
-drop-all : {X : Type 0} (xs ys : List X) → drop (length xs) (xs ++ ys) ≡ ys
-drop-all [] ys = refl
-drop-all (x ∷ xs) ys = drop-all xs ys
-
 -- what a link has left, by the definitions
 pub left-all : (s : LinkSetup) (link : LinkState) (E : List Event) (A : List Placed) (Q : List Sent) → IsFlow link.grant → StandsFor s link E A Q →
     left link.setup link.sender ≡ frames_left s E A Q
 left-all s link E A Q g h =
     let rest : drop (length Q) (wire s E A) ≡ map (stamped s (last_time E)) (due link) =
-    ap (λ l. drop (length Q) l) (sym h.out) ∙ drop-all Q (map (stamped s (last_time E)) (due link)) in
+    ap (λ l. drop (length Q) l) (sym h.out) ∙ drop-append_seam Q (map (stamped s (last_time E)) (due link)) in
     let same = ap (λ t. length (settled t link.sender).due) h.set in
     let count = ap message_frames rest ∙ due-count s (last_time E) link.grant _ g (settled-message link.setup link.sender) in
     let others = frames-left s link E A Q h in

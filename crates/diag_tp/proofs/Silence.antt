@@ -1,6 +1,6 @@
 -- Ticks before which nothing falls due and nothing ends.
-use Rattle.std.proofs.Common.{◌≡◌, ℕ, zero, suc, ◌+◌, ◌-◌, ◌<◌, ◌≤◌, true, false, List, [], ◌∷◌, ◌++◌, length, drop, refl, sym, ◌∙◌, ap, subst, arith, min}
-use Rattle.std.specs.Prelude.{Option, Some, None, max, nat_le, nat_lt, ◌==◌, if◌then◌else◌, option_map, option_and_then, option_to_list}
+use Rattle.std.proofs.Common.{◌≡◌, ℕ, zero, suc, ◌+◌, ◌-◌, ◌<◌, ◌≤◌, true, false, List, [], ◌∷◌, ◌++◌, length, drop, refl, ◌∙◌, ap, arith, min}
+use Rattle.std.specs.Prelude.{Option, Some, None, max, nat_le, nat_lt, ◌==◌, if◌then◌else◌, option_and_then, option_to_list}
 use Rattle.std.proofs.lemmas.Bool.Decides.{nat_tests}
 use Rattle.diag_can.specs.declared.frame.Event.{Event}
 use Rattle.diag_can.specs.declared.frame.Event.TheVariants.{Ticks}
@@ -20,14 +20,6 @@ use Rattle.diag_tp.specs.Link.{StandsFor, last_tick, quiet}
 use Rattle.diag_tp.proofs.Moments.{moments-sum}
 use Rattle.diag_tp.proofs.History.{none-granted, stands_more, stands_moments}
 
--- the same with n ticks fewer to go
-abbrev pub phase_later : ℕ → Phase → Phase
-phase_later n (AwaitsFlow ticks) = AwaitsFlow (ticks - n)
-phase_later n (InBlock rest gap ticks) = InBlock rest gap (ticks - n)
-
-abbrev pub current_later : ℕ → Current → Current
-current_later n c = in_phase c (phase_later n c.phase)
-
 -- one tick more of a reception
 partial-more : (n_cr k : ℕ) (o : Option Partial)
     → option_and_then (ticks_later n_cr (suc k)) o ≡ option_and_then (one_tick_later n_cr) (option_and_then (ticks_later n_cr k) o)
@@ -43,49 +35,38 @@ partial-more n_cr k (Some p) =
       | false ↦ λ f. let over : nat_lt (p.silence + k + 1) n_cr ≡ false = grind (arith, nat_tests) in rw over refl
     ] refl)
 
--- ticks in which nothing happens to a message
-phase-still : (s : LinkSetup) (k : ℕ) (c : Current) (p : Phase) → k < phase_quiet p → tick_fields s k c p ≡ Some (in_phase c (phase_later k p))
-phase-still s k c (AwaitsFlow ticks) h = let later : nat_le ticks k ≡ false = grind (arith, nat_tests) in rw later refl
-phase-still s k c (InBlock rest gap ticks) h = let later : nat_le ticks k ≡ false = grind (arith, nat_tests) in rw later refl
-
-sender-still : (s : LinkSetup) (k : ℕ) (cur : Option Current) → k < sender_quiet cur → ticked_fields s k cur ≡ option_map (current_later k) cur
-sender-still s k None h = refl
-sender-still s k (Some c) h = phase-still s k c c.phase h
-
 -- what is due doesn't depend on the phase
-due-later : (s : LinkSetup) (k : ℕ) (cur : Option Current) (W : List (List ℕ)) → (settled_in s cur W).due ≡ []
-    → (settled_in s (option_map (current_later k) cur) W).due ≡ []
-due-later s k None W h = h
-due-later s k (Some c) W h = go c.due (drop c.next (cut c.message s.pad)) h
+due-phase : (s : LinkSetup) (c : Current) (p : Phase) (W : List (List ℕ)) → (settled_in s (Some c) W).due ≡ [] → (settled_in s (Some (in_phase c p)) W).due ≡ []
+due-phase s c p W h = go c.due (drop c.next (cut c.message s.pad)) h
   where
-    go : (n : ℕ) (frames : List (List ℕ)) → (once_gone n frames c W (started s W)).due ≡ [] → (once_gone n frames (current_later k c) W (started s W)).due ≡ []
+    go : (n : ℕ) (frames : List (List ℕ)) → (once_gone n frames c W (started s W)).due ≡ [] → (once_gone n frames (in_phase c p) W (started s W)).due ≡ []
     go zero frames h = refl
     go (suc n) [] h = refl
     go (suc n) (f ∷ []) h = cc
     go (suc n) (f ∷ g ∷ frames) h = cc
 
-ticks-due : (s : LinkSetup) (k : ℕ) (r : SenderState) → k < sender_quiet r.current → (settled s r).due ≡ []
-    → (settled s (sender_ticks s k r.current r.waiting)).due ≡ []
-ticks-due s k r few none = rw (sender-still s k r.current few) (due-later s k r.current r.waiting none)
-
--- and one tick more
-phase-more : (s : LinkSetup) (k : ℕ) (c : Current) (p : Phase) → tick_fields s (suc k) c p ≡ tick_fields s 1 (in_phase c (phase_later k p)) (phase_later k p)
-phase-more s k c (AwaitsFlow ticks) =
+-- ticks in which nothing happens to a message, and one tick more
+phase-still : (s : LinkSetup) (k : ℕ) (c : Current) (p : Phase) (W : List (List ℕ)) → k < phase_quiet p → (settled_in s (Some c) W).due ≡ []
+    → ((settled_in s (tick_fields s k c p) W).due ≡ []) × (tick_fields s (suc k) c p ≡ ticked_fields s 1 (tick_fields s k c p))
+phase-still s k c (AwaitsFlow ticks) W h none =
+    let later : nat_le ticks k ≡ false = grind (arith, nat_tests) in
     let same : nat_le ticks (suc k) ≡ nat_le (ticks - k) 1 = grind (arith, nat_tests) in
     let e : ticks - suc k ≡ ticks - k - 1 = omega arith in
-    rw (same, e) refl
-phase-more s k c (InBlock rest gap ticks) =
+    rw (later, same, e) (due-phase s c (AwaitsFlow (ticks - k)) W none, refl)
+phase-still s k c (InBlock rest gap ticks) W h none =
+    let later : nat_le ticks k ≡ false = grind (arith, nat_tests) in
     let same : nat_le ticks (suc k) ≡ nat_le (ticks - k) 1 = grind (arith, nat_tests) in
     let e : ticks - suc k ≡ ticks - k - 1 = omega arith in
-    rw (same, e) refl
+    rw (later, same, e) (due-phase s c (InBlock rest gap (ticks - k)) W none, refl)
 
-sender-more : (s : LinkSetup) (k : ℕ) (cur : Option Current) (W : List (List ℕ)) → k < sender_quiet cur →
-    sender_ticks s (suc k) cur W ≡ sender_ticks s 1 (sender_ticks s k cur W).current (sender_ticks s k cur W).waiting
-sender-more s k cur W h = ap (λ o. kept_as o W) (one cur ∙ ap (ticked_fields s 1) (sym (sender-still s k cur h)))
+still : (s : LinkSetup) (k : ℕ) (r : SenderState) → k < sender_quiet r.current → (settled s r).due ≡ [] →
+    ((settled s (sender_ticks s k r.current r.waiting)).due ≡ []) × (ticked_fields s (suc k) r.current ≡ ticked_fields s 1 (ticked_fields s k r.current))
+still s k r few none = go r.current few none
   where
-    one : (cur : Option Current) → ticked_fields s (suc k) cur ≡ ticked_fields s 1 (option_map (current_later k) cur)
-    one None = refl
-    one (Some c) = phase-more s k c c.phase
+    go : (cur : Option Current) → k < sender_quiet cur → (settled_in s cur r.waiting).due ≡ []
+        → ((settled_in s (ticked_fields s k cur) r.waiting).due ≡ []) × (ticked_fields s (suc k) cur ≡ ticked_fields s 1 (ticked_fields s k cur))
+    go None few none = (none, refl)
+    go (Some c) few none = phase-still s k c c.phase r.waiting few none
 
 quiet-sender : (link : LinkState) (k : ℕ) → due link ≡ [] → 1 ≤ k → k < quiet link → k < sender_quiet link.sender.current
 unfolding quiet
@@ -105,32 +86,6 @@ link_later n link =
     }
 
 -- ticks, before the last of which nothing falls due
-stands_later :
-    (s : LinkSetup) (link : LinkState) (E : List Event) (A : List Placed) (Q : List Sent) (k : ℕ) → due link ≡ []
-    → suc k ≤ quiet link → StandsFor s link E A Q → StandsFor s (link_later (suc k) link) (E ++ Ticks (suc k) ∷ []) A Q
-stands_later s link E A Q zero none h stands = stands_more s link (link_later 1 link) E A Q (Ticks 1) refl tt none refl refl refl refl refl stands
-stands_later s link E A Q (suc k) none h stands =
-    let few = quiet-sender link (suc k) none (omega arith) (omega arith) in
-    let one : suc k + 1 ≡ suc (suc k) = omega arith in
-    stands_moments s (link_later (suc (suc k)) link) ((E ++ Ticks (suc k) ∷ []) ++ Ticks 1 ∷ []) (E ++ Ticks (suc (suc k)) ∷ []) A Q
-    (moments-sum E (suc k) 1 ∙ ap (λ (n : ℕ). moments (E ++ Ticks n ∷ [])) one)
-    (stands_more s (link_later (suc k) link) (link_later (suc (suc k)) link) (E ++ Ticks (suc k) ∷ []) A Q (Ticks 1) refl tt
-    (ticks-due link.setup (suc k) link.sender few (none-granted link.grant _ none)) refl
-    (sender-more link.setup (suc k) link.sender.current link.sender.waiting few)
-    (partial-more link.setup.n_cr (suc k) link.partial) refl (omega arith)
-    (stands_later s link E A Q k none (omega arith) stands))
-
--- a link is its fields
-link-is : (link link' : LinkState) → link'.grant ≡ link.grant → link'.sender ≡ link.sender → link'.partial ≡ link.partial → link'.setup ≡ link.setup
-    → link'.now ≡ link.now → link' ≡ link
-link-is link link' grant sender partial same now =
-    let made = λ (s : LinkSetup) (n : ℕ) (p : Option Partial) (g : Option (List ℕ)) (r : SenderState).
-    let l : LinkState = record { setup = s; now = n; partial = p; grant = g; sender = r } in l in
-    ap (λ s. made s link'.now link'.partial link'.grant link'.sender) same
-    ∙ (ap (λ n. made link.setup n link'.partial link'.grant link'.sender) now
-    ∙ (ap (λ p. made link.setup link.now p link'.grant link'.sender) partial
-    ∙ (ap (λ g. made link.setup link.now link.partial g link'.sender) grant ∙ ap (λ r. made link.setup link.now link.partial link.grant r) sender)))
-
 pub stands_ticks :
     (s : LinkSetup) (link link' : LinkState) (E : List Event) (A : List Placed) (Q : List Sent) (n : ℕ) → 1 ≤ n
     → n ≤ quiet link → due link ≡ [] → link'.grant ≡ None →
@@ -138,9 +93,18 @@ pub stands_ticks :
     → link'.partial ≡ option_and_then (ticks_later link.setup.n_cr n) link.partial →
     link'.setup ≡ link.setup → link'.now ≡ min (link.now + n) last_tick → StandsFor s link E A Q → StandsFor s link' (E ++ Ticks n ∷ []) A Q
 stands_ticks s link link' E A Q zero some h none grant sender partial same now stands = absurd (omega arith)
-stands_ticks s link link' E A Q (suc k) some h none grant sender partial same now stands =
-    subst (λ l. StandsFor s l (E ++ Ticks (suc k) ∷ []) A Q) (sym (link-is (link_later (suc k) link) link' grant sender partial same now))
-    (stands_later s link E A Q k none h stands)
+stands_ticks s link link' E A Q (suc zero) some h none grant sender partial same now stands =
+    stands_more s link link' E A Q (Ticks 1) refl tt none grant sender partial same now stands
+stands_ticks s link link' E A Q (suc (suc k)) some h none grant sender partial same now stands =
+    let few = quiet-sender link (suc k) none (omega arith) (omega arith) in
+    let moved = still link.setup (suc k) link.sender few (none-granted link.grant _ none) in
+    let one : suc k + 1 ≡ suc (suc k) = omega arith in
+    stands_moments s link' ((E ++ Ticks (suc k) ∷ []) ++ Ticks 1 ∷ []) (E ++ Ticks (suc (suc k)) ∷ []) A Q
+    (moments-sum E (suc k) 1 ∙ ap (λ (n : ℕ). moments (E ++ Ticks n ∷ [])) one)
+    (stands_more s (link_later (suc k) link) link' (E ++ Ticks (suc k) ∷ []) A Q (Ticks 1) refl tt
+    moved.0 grant (sender ∙ ap (λ o. kept_as o link.sender.waiting) moved.1)
+    (partial ∙ partial-more link.setup.n_cr (suc k) link.partial) same (now ∙ omega arith)
+    (stands_ticks s link (link_later (suc k) link) E A Q (suc k) (omega arith) (omega arith) none refl refl refl refl refl stands))
 
 -- before the last tick nothing falls due
 pub silent : (n : ℕ) (link link' : LinkState) → 1 ≤ n → due link ≡ [] → n < quiet link → link'.grant ≡ None → link'.setup ≡ link.setup
@@ -149,4 +113,4 @@ silent n link link' some none h grant same sender =
     ap (λ g. length (option_to_list g ++ (settled link'.setup link'.sender).due)) grant
     ∙ (ap (λ t. length (settled t link'.sender).due) same
     ∙ (ap (λ r. length (settled link.setup r).due) sender
-    ∙ ap length (ticks-due link.setup n link.sender (quiet-sender link n none some h) (none-granted link.grant _ none))))
+    ∙ ap length (still link.setup n link.sender (quiet-sender link n none some h) (none-granted link.grant _ none)).0))
