@@ -1,22 +1,17 @@
 -- What the words of a link's contract say of its fields.
-use Rattle.std.proofs.Common.{◌≡◌, ℕ, ◌+◌, ◌<◌, ◌≤◌, true, List, [], ◌∷◌, ◌++◌, length, refl, sym, ◌∙◌, ap, subst, arith, length-append}
-use Rattle.std.specs.Prelude.{Option, Some, None, IsSome, IsNone, IfSome, IsTrue, option_to_list, nat_le, nat_lt}
+use Rattle.std.proofs.Common.{◌≡◌, ℕ, ◌+◌, ◌<◌, ◌≤◌, true, List, ◌∷◌, length, refl, ◌∙◌, ap, arith, length-append}
+use Rattle.std.specs.Prelude.{Option, Some, None, IsTrue, option_to_list, nat_le, nat_lt}
 use Rattle.std.proofs.lemmas.Bool.Decides.{nat_tests}
 use Rattle.diag_can.specs.declared.frame.Event.{Event}
-use Rattle.diag_can.specs.declared.frame.Frame.{Frame}
-use Rattle.diag_tp.specs.Moments.{last_time}
 use Rattle.diag_tp.specs.declared.setup.LinkSetup.{LinkSetup}
-use Rattle.diag_tp.specs.declared.sent.Sent.{Sent}
 use Rattle.diag_tp.specs.declared.pci.Pci.{Pci}
 use Rattle.diag_tp.specs.declared.pci.Pci.TheVariants.{FlowControl}
 use Rattle.diag_tp.specs.State.{LinkState, LinkView, due}
-use Rattle.diag_tp.specs.Wire.{Placed, wire}
 use Rattle.diag_tp.specs.Sender.{SenderState, settled, sender_frame, sender_event, sender_ticks, replied}
-use Rattle.diag_tp.specs.Link.{StandsFor, EachHistory, pending, unsent, waiting_count, has_room, has_reply_room, KeepsRoom, KeepsReplyRoom, needed}
-use Rattle.diag_tp.proofs.Lists.{length-zero}
+use Rattle.diag_tp.specs.Link.{pending, unsent, waiting_count, has_room, has_reply_room, KeepsRoom, KeepsReplyRoom, needed}
 use Rattle.diag_tp.proofs.Numbers.{left, IsWithin, settled-total, settled-fewer, event-within, sender-ticks-within, replied-numbers}
 use Rattle.diag_tp.proofs.Settled.{none-due}
-use Rattle.diag_tp.proofs.History.{drained-parts, stands_all, stands_length, stands_next}
+use Rattle.diag_tp.proofs.History.{drained-parts}
 
 pub room : (v : LinkView) (x : Event) → IsTrue (has_room v x) → needed v.state.setup x ≤ v.room
 unfolding has_room
@@ -122,39 +117,6 @@ handed-numbers link link' bytes less kept same =
     let new = unsent-due link' in
     let rest = ap (λ r. left link'.setup r) kept ∙ ap (λ t. left t (settled link.setup link.sender).left) same in
     (omega arith, omega arith)
-
--- nothing is due exactly where all was handed out
-pub all_none : {X : Type 0} (s : LinkSetup) (link : LinkState) (E : List Event) (A : List Placed) (Q : List Sent) (o : Option X) →
-    (IsNone o → due link ≡ []) → (due link ≡ [] → IsNone o) → StandsFor s link E A Q → (IsNone o → Q ≡ wire s E A) × (Q ≡ wire s E A → IsNone o)
-unfolding pending
-all_none s link E A Q o f g h = (
-  λ t. stands_all s link E A Q h (ap length (f t)),
-  λ e. g (length-zero (due link) (let sizes = stands_length s link E A Q h in let same = ap length e in omega arith)),
-)
-
-pub none_pending : {X : Type 0} (link : LinkState) (o : Option X) → (IsNone o → due link ≡ []) → (due link ≡ [] → IsNone o)
-    → (IsNone o → pending link ≡ 0) × (pending link ≡ 0 → IsNone o)
-unfolding pending
-none_pending link o f g = (λ t. ap length (f t), λ e. g (length-zero (due link) e))
-
--- a frame that is handed out, in each history
-pub handed : (link link' : LinkState) (o : Option Frame) → IfSome o (λ frame. (due link ≡ frame.bytes ∷ due link') × (frame.id ≡ link.setup.ids.response)) →
-    (settled link'.setup link'.sender).left ≡ (settled link.setup link.sender).left → link'.partial ≡ link.partial → link'.setup ≡ link.setup
-    → link'.now ≡ link.now →
-    IfSome o (λ frame. EachHistory link (λ s E A Q. StandsFor s link' E A (Q ++ record { at = last_time E; frame = frame } ∷ [])))
-handed link link' None some left partial same now = tt
-handed link link' (Some frame) some left partial same now =
-    λ s E A Q h.
-    subst (λ (id : ℕ). StandsFor s link' E A
-    (Q ++ (let sent : Sent = record { at = last_time E; frame = record { id = id; bytes = frame.bytes } } in sent) ∷ [])) (sym some.1)
-    (stands_next s link link' E A Q frame.bytes some.0 left partial same now h)
-
-pub handed-fewer : (link link' : LinkState) (o : Option Frame)
-    → IfSome o (λ frame. (due link ≡ frame.bytes ∷ due link') × (frame.id ≡ link.setup.ids.response)) →
-    (settled link'.setup link'.sender).left ≡ (settled link.setup link.sender).left → link'.setup ≡ link.setup →
-    IsSome o → (pending link ≡ pending link' + 1) × (unsent link ≡ unsent link' + 1)
-handed-fewer link link' None some left same h = cc
-handed-fewer link link' (Some frame) some left same h = handed-numbers link link' frame.bytes some.0 left same
 
 pub waiting-same : (link link' : LinkState) → (settled link'.setup link'.sender).left ≡ (settled link.setup link.sender).left
     → waiting_count link' ≤ waiting_count link

@@ -61,7 +61,7 @@ use crate::message::Message;
 use crate::pci::Pci;
 use crate::step::Request;
 use crate::taken::{Begun, Taken};
-use diag_can::{Event, Frame, FrameBytes};
+use diag_can::{Event, FrameBytes};
 use std::alloc::AllocError;
 
 impl Link {
@@ -80,30 +80,8 @@ impl Link {
         self.sender.make_room()
     }
 
-    /// The next frame, field by field.
-    pub(crate) fn next_due(&mut self) -> Option<Frame>
-        ensures some { IfSome result (λ frame.
-            (due self.old.state ≡ frame.bytes ∷ due self.new.state)
-            × (frame.id ≡ self.old.state.setup.ids.response)) }
-        ensures none { IsNone result ↔ (due self.old.state ≡ []) }
-        ensures same { IfNone result (self.new ≡ self.old) }
-        ensures left { (settled self.new.state.setup self.new.state.sender).left
-            ≡ (settled self.old.state.setup self.old.state.sender).left }
-        ensures partial { self.new.state.partial ≡ self.old.state.partial }
-        ensures room { self.new.room ≡ self.old.room }
-        ensures reply_room { self.old.reply_room ≤ self.new.reply_room }
-        ensures setup { self.new.state.setup ≡ self.old.state.setup }
-        ensures now { self.new.state.now ≡ self.old.state.now }
-    {
-        let bytes = self.next_bytes()?;
-        Some(Frame {
-            id: self.setup.ids.response,
-            bytes,
-        })
-    }
-
     /// The bytes of the next frame: flow control goes first.
-    fn next_bytes(&mut self) -> Option<FrameBytes>
+    pub(crate) fn next_bytes(&mut self) -> Option<FrameBytes>
         ensures some { IfSome result (λ bytes. due self.old.state ≡ bytes ∷ due self.new.state) }
         ensures none { IsNone result ↔ (due self.old.state ≡ []) }
         ensures same { IfNone result (self.new ≡ self.old) }

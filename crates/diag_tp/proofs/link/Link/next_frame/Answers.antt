@@ -1,22 +1,32 @@
-use Rattle.std.proofs.Common.{arith}
-use Rattle.diag_tp.proofs.Views.{all_none, none_pending, handed, handed-fewer, keeps-room, keeps-reply-room, waiting-same}
+use Rattle.std.proofs.Common.{refl, ap, arith, length}
+use Rattle.diag_tp.specs.Link.{pending}
+use Rattle.diag_tp.proofs.Lists.{length-zero, iff-then}
+use Rattle.diag_tp.proofs.History.{all-out}
+use Rattle.diag_tp.proofs.Views.{handed-numbers, keeps-room, keeps-reply-room, waiting-same}
 use Rattle.diag_tp.proofs.link.Link.next_frame.Goals as goal
 
-pub returns : goal.returns
-returns c =
-    let done = c.next_due.ensures in
-    let view = c.args.self.now in
-    let old = c.args.self.now.state in
-    let new = c.next_due.new.self.state in
-    record {
-      next = handed old new c.next_due.result done.some done.left done.partial done.setup done.now;
-      fewer = handed-fewer old new c.next_due.result done.some done.left done.setup;
-      none = none_pending old c.next_due.result done.none.0 done.none.1;
-      all = λ s E A Q h. all_none s old E A Q c.next_due.result done.none.0 done.none.1 h;
-      same = done.same;
-      waiting = waiting-same old new done.left;
-      room = keeps-room view c.next_due.new.self done.setup (let same = done.room in omega arith);
-      reply_room = keeps-reply-room view c.next_due.new.self done.reply_room;
-      time = done.now;
-      setup = done.setup;
-    }
+pub returns-in_err-bytes-clause-none : goal.returns-in_err-bytes-clause-none
+unfolding pending
+returns-in_err-bytes-clause-none c = (λ e. ap length (c.in_err-bytes.ensures.none.0 refl), λ e. rw c.from_residual.ensures refl)
+
+pub returns-clause-none : goal.returns-clause-none
+unfolding pending
+returns-clause-none c = (λ e. cc, λ e. c.in_ok-bytes.ensures.none.1 (length-zero _ e))
+
+pub returns-clause-fewer : goal.returns-clause-fewer
+returns-clause-fewer c =
+    let done = c.in_ok-bytes.ensures in
+    λ e. handed-numbers c.args.self.now.state c.next_bytes.new.self.state c.in_ok-bytes.bytes done.some done.left done.setup
+
+pub returns-clause-all : goal.returns-clause-all
+returns-clause-all c = λ s E A Q h. iff-then (returns-clause-none c) (all-out s c.args.self.now.state E A Q h)
+
+pub returns-clause-waiting : goal.returns-clause-waiting
+returns-clause-waiting c = waiting-same c.args.self.now.state c.next_bytes.new.self.state c.in_ok-bytes.ensures.left
+
+pub returns-clause-room : goal.returns-clause-room
+returns-clause-room c =
+    let done = c.in_ok-bytes.ensures in keeps-room c.args.self.now c.next_bytes.new.self done.setup (let same = done.room in omega arith)
+
+pub returns-clause-reply_room : goal.returns-clause-reply_room
+returns-clause-reply_room c = keeps-reply-room c.args.self.now c.next_bytes.new.self c.in_ok-bytes.ensures.reply_room
