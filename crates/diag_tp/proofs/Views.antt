@@ -7,9 +7,9 @@ use Rattle.diag_tp.specs.declared.setup.LinkSetup.{LinkSetup}
 use Rattle.diag_tp.specs.declared.pci.Pci.{Pci}
 use Rattle.diag_tp.specs.declared.pci.Pci.TheVariants.{FlowControl}
 use Rattle.diag_tp.specs.State.{LinkState, LinkView, due}
-use Rattle.diag_tp.specs.Sender.{SenderState, settled, sender_frame, sender_event, sender_ticks, replied}
+use Rattle.diag_tp.specs.Sender.{SenderState, settled, sender_frame, replied}
 use Rattle.diag_tp.specs.Link.{pending, unsent, waiting_count, has_room, has_reply_room, KeepsRoom, KeepsReplyRoom, needed}
-use Rattle.diag_tp.proofs.Numbers.{left, IsWithin, settled-total, settled-fewer, event-within, sender-ticks-within, replied-numbers}
+use Rattle.diag_tp.proofs.Numbers.{left, IsWithin, settled-total, settled-fewer, replied-numbers}
 use Rattle.diag_tp.proofs.Settled.{none-due}
 use Rattle.diag_tp.proofs.History.{drained-parts}
 
@@ -74,20 +74,8 @@ pub grant-few : (g : Option (List ℕ)) → length (option_to_list g) ≤ 1
 grant-few None = omega arith
 grant-few (Some g) = omega arith
 
--- a frame
-pub fed-numbers : (link link' : LinkState) (x : Event) → pending link ≡ 0 → link'.setup ≡ link.setup
-    → link'.sender ≡ sender_event link.setup x link.sender.current link.sender.waiting → Numbers link link' 1
-fed-numbers link link' x drained same sender =
-    within-numbers link link' (sender_event link.setup x link.sender.current link.sender.waiting) 1 drained (grant-few link'.grant) same sender
-    (event-within link.setup x link.sender.current link.sender.waiting)
-
--- ticks
-pub ticks-numbers : (link link' : LinkState) (n : ℕ) → pending link ≡ 0 → link'.grant ≡ None → link'.setup ≡ link.setup
-    → link'.sender ≡ sender_ticks link.setup n link.sender.current link.sender.waiting → Numbers link link' 0
-ticks-numbers link link' n drained none same sender =
-    let few = ap (λ g. length (option_to_list g)) none in
-    within-numbers link link' (sender_ticks link.setup n link.sender.current link.sender.waiting) 0 drained (omega arith) same sender
-    (sender-ticks-within link.setup n link.sender.current link.sender.waiting)
+pub few : {g : Option (List ℕ)} → g ≡ None → length (option_to_list g) ≤ 0
+few none = let size = ap (λ g. length (option_to_list g)) none in omega arith
 
 -- a reply
 pub answered-numbers : (link link' : LinkState) (P : List ℕ) → link'.grant ≡ link.grant

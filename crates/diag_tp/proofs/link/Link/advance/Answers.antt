@@ -7,7 +7,8 @@ use Rattle.diag_tp.specs.Link.{pending, last_tick}
 use Rattle.diag_tp.proofs.Lists.{length-zero}
 use Rattle.diag_tp.proofs.History.{drained-parts}
 use Rattle.diag_tp.proofs.Silence.{stands_ticks, silent}
-use Rattle.diag_tp.proofs.Views.{ticks-numbers, keeps-room, keeps-reply-room}
+use Rattle.diag_tp.proofs.Numbers.{sender-ticks-within}
+use Rattle.diag_tp.proofs.Views.{within-numbers, few, keeps-room, keeps-reply-room}
 use Rattle.diag_tp.proofs.link.Link.advance.Goals as goal
 
 pub returns : goal.returns
@@ -25,7 +26,8 @@ returns c =
     let sender = done.sender ∙ ap (λ k. sender_ticks old.setup k old.sender.current old.sender.waiting) same in
     let partial = done.partial ∙ ap (λ k. option_and_then (ticks_later old.setup.n_cr k) old.partial) same in
     let now = done.now ∙ ap (λ k. min (old.now + k) last_tick) same in
-    let numbers = ticks-numbers old new n c.requires.drained grant done.setup sender in
+    let numbers = within-numbers old new _ 0 c.requires.drained (few grant) done.setup sender
+    (sender-ticks-within old.setup n old.sender.current old.sender.waiting) in
     record {
       stands = λ s E A Q h. stands_ticks s old new E A Q n (omega arith) c.requires.quiet none grant sender partial done.setup now h;
       silent = λ h. silent n old new (omega arith) none h grant done.setup sender;
