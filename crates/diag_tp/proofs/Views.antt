@@ -1,13 +1,10 @@
 -- What the words of a link's contract say of its fields.
-use Rattle.std.proofs.Common.{◌≡◌, ℕ, ◌+◌, ◌<◌, ◌≤◌, true, List, ◌∷◌, length, refl, ◌∙◌, ap, arith, length-append}
+use Rattle.std.proofs.Common.{◌≡◌, ℕ, ◌+◌, ◌<◌, ◌≤◌, true, List, ◌∷◌, length, ◌∙◌, ap, arith, length-append}
 use Rattle.std.specs.Prelude.{Option, Some, None, IsTrue, option_to_list, nat_le, nat_lt}
 use Rattle.std.proofs.lemmas.Bool.Decides.{nat_tests}
 use Rattle.diag_can.specs.declared.frame.Event.{Event}
-use Rattle.diag_tp.specs.declared.setup.LinkSetup.{LinkSetup}
-use Rattle.diag_tp.specs.declared.pci.Pci.{Pci}
-use Rattle.diag_tp.specs.declared.pci.Pci.TheVariants.{FlowControl}
 use Rattle.diag_tp.specs.State.{LinkState, LinkView, due}
-use Rattle.diag_tp.specs.Sender.{SenderState, settled, sender_frame, replied}
+use Rattle.diag_tp.specs.Sender.{SenderState, settled, replied}
 use Rattle.diag_tp.specs.Link.{pending, unsent, waiting_count, has_room, has_reply_room, KeepsRoom, KeepsReplyRoom, needed}
 use Rattle.diag_tp.proofs.Numbers.{left, IsWithin, settled-total, settled-fewer, replied-numbers}
 use Rattle.diag_tp.proofs.Settled.{none-due}
@@ -17,27 +14,27 @@ pub room : (v : LinkView) (x : Event) → IsTrue (has_room v x) → needed v.sta
 unfolding has_room
 room v x h = let t : nat_le (needed v.state.setup x) v.room ≡ true = h in grind (arith, nat_tests)
 
-pub room-made : (v : LinkView) (x : Event) → needed v.state.setup x ≤ v.room → IsTrue (has_room v x)
+pub room_made : (v : LinkView) (x : Event) → needed v.state.setup x ≤ v.room → IsTrue (has_room v x)
 unfolding has_room
-room-made v x h = let t : nat_le (needed v.state.setup x) v.room ≡ true = grind (arith, nat_tests) in t
+room_made v x h = let t : nat_le (needed v.state.setup x) v.room ≡ true = grind (arith, nat_tests) in t
 
-pub reply-room : (v : LinkView) → IsTrue (has_reply_room v) → 0 < v.reply_room
+pub reply_room : (v : LinkView) → IsTrue (has_reply_room v) → 0 < v.reply_room
 unfolding has_reply_room
-reply-room v h = let t : nat_lt 0 v.reply_room ≡ true = h in grind (arith, nat_tests)
+reply_room v h = let t : nat_lt 0 v.reply_room ≡ true = h in grind (arith, nat_tests)
 
-pub reply-room-made : (v : LinkView) → 0 < v.reply_room → IsTrue (has_reply_room v)
+pub reply_room_made : (v : LinkView) → 0 < v.reply_room → IsTrue (has_reply_room v)
 unfolding has_reply_room
-reply-room-made v h = let t : nat_lt 0 v.reply_room ≡ true = grind (arith, nat_tests) in t
+reply_room_made v h = let t : nat_lt 0 v.reply_room ≡ true = grind (arith, nat_tests) in t
 
 -- at the same settings no room is lost where it doesn't get less
-pub keeps-room : (old new : LinkView) → new.state.setup ≡ old.state.setup → old.room ≤ new.room → KeepsRoom old new
-keeps-room old new same more x h =
+pub keeps_room : (old new : LinkView) → new.state.setup ≡ old.state.setup → old.room ≤ new.room → KeepsRoom old new
+keeps_room old new same more x h =
     let had = room old x h in
     let needs = ap (λ s. needed s x) same in
-    room-made new x (omega arith)
+    room_made new x (omega arith)
 
-pub keeps-reply-room : (old new : LinkView) → old.reply_room ≤ new.reply_room → KeepsReplyRoom old new
-keeps-reply-room old new more h = let had = reply-room old h in reply-room-made new (omega arith)
+pub keeps_reply_room : (old new : LinkView) → old.reply_room ≤ new.reply_room → KeepsReplyRoom old new
+keeps_reply_room old new more h = let had = reply_room old h in reply_room_made new (omega arith)
 
 -- what is due, and what is left then
 pub unsent-due : (link : LinkState) → unsent link ≡ length (due link) + left link.setup (settled link.setup link.sender).left
@@ -110,9 +107,3 @@ pub waiting-same : (link link' : LinkState) → (settled link'.setup link'.sende
     → waiting_count link' ≤ waiting_count link
 unfolding waiting_count
 waiting-same link link' e = let same = ap (λ r. length r.waiting) e in omega arith
-
--- a frame that is no FlowControl changes nothing
-pub not_flow : (s : LinkSetup) (k : Pci) (r : SenderState) → ((status block gap : ℕ) → k ≡ FlowControl status block gap → ⊥)
-    → r ≡ sender_frame s k r.current r.waiting
-not_flow s (FlowControl status block gap) r other = absurd (other status block gap refl)
-not_flow s k r other = refl

@@ -8,7 +8,7 @@ use Rattle.diag_tp.proofs.Lists.{length-zero}
 use Rattle.diag_tp.proofs.History.{drained-parts}
 use Rattle.diag_tp.proofs.Silence.{stands_ticks, silent}
 use Rattle.diag_tp.proofs.Numbers.{sender-ticks-within}
-use Rattle.diag_tp.proofs.Views.{within-numbers, few, keeps-room, keeps-reply-room}
+use Rattle.diag_tp.proofs.Views.{within-numbers, few, keeps_room, keeps_reply_room}
 use Rattle.diag_tp.proofs.link.Link.advance.Goals as goal
 
 pub returns : goal.returns
@@ -31,8 +31,8 @@ returns c =
     record {
       stands = λ s E A Q h. stands_ticks s old new E A Q n (omega arith) c.requires.quiet none grant sender partial done.setup now h;
       silent = λ h. silent n old new (omega arith) none h grant done.setup sender;
-      room = keeps-room c.args.self.now c.pass.new.self done.setup (let same = done.room in omega arith);
-      reply_room = keeps-reply-room c.args.self.now c.pass.new.self (let same = done.reply_room in omega arith);
+      room = keeps_room c.args.self.now c.pass.new.self done.setup (let same = done.room in omega arith);
+      reply_room = keeps_reply_room c.args.self.now c.pass.new.self (let same = done.reply_room in omega arith);
       unsent = let fewer = numbers.frames in omega arith;
       due = numbers.now;
       waiting = numbers.replies;

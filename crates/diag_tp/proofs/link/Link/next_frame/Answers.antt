@@ -1,8 +1,8 @@
 use Rattle.std.proofs.Common.{refl, ap, arith, length}
 use Rattle.diag_tp.specs.Link.{pending}
-use Rattle.diag_tp.proofs.Lists.{length-zero, iff-then}
-use Rattle.diag_tp.proofs.History.{all-out}
-use Rattle.diag_tp.proofs.Views.{handed-numbers, keeps-room, keeps-reply-room, waiting-same}
+use Rattle.diag_tp.proofs.Lists.{length-zero, iff_then}
+use Rattle.diag_tp.proofs.History.{all_out}
+use Rattle.diag_tp.proofs.Views.{handed-numbers, keeps_room, keeps_reply_room, waiting-same}
 use Rattle.diag_tp.proofs.link.Link.next_frame.Goals as goal
 
 pub returns-in_err-bytes-clause-none : goal.returns-in_err-bytes-clause-none
@@ -19,14 +19,14 @@ returns-clause-fewer c =
     λ e. handed-numbers c.args.self.now.state c.next_bytes.new.self.state c.in_ok-bytes.bytes done.some done.left done.setup
 
 pub returns-clause-all : goal.returns-clause-all
-returns-clause-all c = λ s E A Q h. iff-then (returns-clause-none c) (all-out s c.args.self.now.state E A Q h)
+returns-clause-all c = λ s E A Q h. iff_then (returns-clause-none c) (all_out s c.args.self.now.state E A Q h)
 
 pub returns-clause-waiting : goal.returns-clause-waiting
 returns-clause-waiting c = waiting-same c.args.self.now.state c.next_bytes.new.self.state c.in_ok-bytes.ensures.left
 
 pub returns-clause-room : goal.returns-clause-room
 returns-clause-room c =
-    let done = c.in_ok-bytes.ensures in keeps-room c.args.self.now c.next_bytes.new.self done.setup (let same = done.room in omega arith)
+    let done = c.in_ok-bytes.ensures in keeps_room c.args.self.now c.next_bytes.new.self done.setup (let same = done.room in omega arith)
 
 pub returns-clause-reply_room : goal.returns-clause-reply_room
-returns-clause-reply_room c = keeps-reply-room c.args.self.now c.next_bytes.new.self c.in_ok-bytes.ensures.reply_room
+returns-clause-reply_room c = keeps_reply_room c.args.self.now c.next_bytes.new.self c.in_ok-bytes.ensures.reply_room

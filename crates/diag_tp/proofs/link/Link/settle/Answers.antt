@@ -1,5 +1,5 @@
 use Rattle.diag_tp.proofs.Takings.{settles, settled-numbers}
-use Rattle.diag_tp.proofs.Views.{reply-room, reply-room-made}
+use Rattle.diag_tp.proofs.Views.{reply_room, reply_room_made}
 use Rattle.diag_tp.proofs.link.Link.settle.Goals as goal
 
 pub returns : goal.returns
@@ -12,7 +12,7 @@ returns c =
     record {
       stands = λ s E A Q h event is.
           settles s old new E A Q event taken is c.requires.drained done.grant done.partial done.setup done.now done.sender h;
-      reply_room = λ h. reply-room-made c.finish.new.self (rw done.reply_room (reply-room c.args.self.now h));
+      reply_room = λ h. reply_room_made c.finish.new.self (rw done.reply_room (reply_room c.args.self.now h));
       unsent = numbers.frames;
       due = numbers.now;
       waiting = numbers.replies;
