@@ -100,9 +100,9 @@ due-count s t (Some bytes) frames g h =
     omega arith
 
 -- what a link has left, by the definitions
-pub left-all : (s : LinkSetup) (link : LinkState) (E : List Event) (A : List Placed) (Q : List Sent) → IsFlow link.grant → StandsFor s link E A Q →
+pub left_all : (s : LinkSetup) (link : LinkState) (E : List Event) (A : List Placed) (Q : List Sent) → IsFlow link.grant → StandsFor s link E A Q →
     left link.setup link.sender ≡ frames_left s E A Q
-left-all s link E A Q g h =
+left_all s link E A Q g h =
     let rest : drop (length Q) (wire s E A) ≡ map (stamped s (last_time E)) (due link) =
     ap (λ l. drop (length Q) l) (sym h.out) ∙ drop-append_seam Q (map (stamped s (last_time E)) (due link)) in
     let same = ap (λ t. length (settled t link.sender).due) h.set in
@@ -121,8 +121,8 @@ frames-same s (P ∷ W) =
     let one = frames-count P s.pad in
     let rest = frames-same s W in omega arith
 
-pub fields-left : (s : LinkSetup) (r : SenderState) → fields_left r.current + sum_by frames_of r.waiting ≡ left s r
-fields-left s r = go r.current
+pub fields_are_left : (s : LinkSetup) (r : SenderState) → fields_left r.current + sum_by frames_of r.waiting ≡ left s r
+fields_are_left s r = go r.current
   where
     go : (cur : Option Sending) → fields_left cur + sum_by frames_of r.waiting ≡ current_left s cur + sum_by (frame_count s) r.waiting
     go None = let same = frames-same s r.waiting in omega arith

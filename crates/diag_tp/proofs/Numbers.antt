@@ -91,10 +91,10 @@ flow-left s (AwaitsFlow ticks) (Go block gap) c =
     else record { message = c.message; next = c.next; due = n; phase = q })) ≤ current_left s (Some c))
     [ true ↦ λ m n p q. omega arith | false ↦ λ m n p q. omega arith ] _ _ _ _
 
-pub sender-ticks-within : (s : LinkSetup) (n : ℕ) (cur : Option Current) (W : List (List ℕ))
+pub sender_ticks_within : (s : LinkSetup) (n : ℕ) (cur : Option Current) (W : List (List ℕ))
     → IsWithin s (sender_ticks s n cur W) (current_left s cur + sum_by (frame_count s) W) (length W)
-sender-ticks-within s n None W = record { frames = omega arith; replies = omega arith }
-sender-ticks-within s n (Some c) W = let fewer = tick-left s n c.phase c in record { frames = omega arith; replies = omega arith }
+sender_ticks_within s n None W = record { frames = omega arith; replies = omega arith }
+sender_ticks_within s n (Some c) W = let fewer = tick-left s n c.phase c in record { frames = omega arith; replies = omega arith }
 
 pub no-flow-within : (s : LinkSetup) (cur : Option Current) (W : List (List ℕ))
     → IsWithin s (no_flow cur W) (current_left s cur + sum_by (frame_count s) W) (length W)
@@ -108,11 +108,11 @@ frame-within s (FlowControl status block st) (Some c) W =
 frame-within s k cur W = no-flow-within s cur W
 
 -- an event leaves no more frames and no more replies than there were
-pub event-within : (s : LinkSetup) (x : Event) (cur : Option Current) (W : List (List ℕ))
+pub event_within : (s : LinkSetup) (x : Event) (cur : Option Current) (W : List (List ℕ))
     → IsWithin s (sender_event s x cur W) (current_left s cur + sum_by (frame_count s) W) (length W)
-event-within s (Physical bytes) cur W = frame-within s (kind bytes s.max_request) cur W
-event-within s (Functional bytes) cur W = no-flow-within s cur W
-event-within s (Ticks n) cur W = sender-ticks-within s 1 cur W
+event_within s (Physical bytes) cur W = frame-within s (kind bytes s.max_request) cur W
+event_within s (Functional bytes) cur W = no-flow-within s cur W
+event_within s (Ticks n) cur W = sender_ticks_within s 1 cur W
 
 -- one more reply: at most one more frame is due, and one more waits
 pub replied-numbers : (s : LinkSetup) (P : List ℕ) (r : Settled)

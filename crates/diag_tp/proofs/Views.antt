@@ -8,7 +8,7 @@ use Rattle.diag_tp.specs.Sender.{SenderState, settled, replied}
 use Rattle.diag_tp.specs.Link.{pending, unsent, waiting_count, has_room, has_reply_room, KeepsRoom, KeepsReplyRoom, needed}
 use Rattle.diag_tp.proofs.Numbers.{left, IsWithin, settled-total, settled-fewer, replied-numbers}
 use Rattle.diag_tp.proofs.Settled.{none-due}
-use Rattle.diag_tp.proofs.History.{drained-parts}
+use Rattle.diag_tp.proofs.History.{drained_parts}
 
 pub room : (v : LinkView) (x : Event) → IsTrue (has_room v x) → needed v.state.setup x ≤ v.room
 unfolding has_room
@@ -43,9 +43,9 @@ unsent-due link =
     let sum = length-append (option_to_list link.grant) (settled link.setup link.sender).due in
     let all = settled-total link.setup link.sender in omega arith
 
-pub pending-unsent : (link : LinkState) → pending link ≤ unsent link
+pub pending_unsent : (link : LinkState) → pending link ≤ unsent link
 unfolding pending
-pending-unsent link = let all = unsent-due link in omega arith
+pending_unsent link = let all = unsent-due link in omega arith
 
 -- a move of the sender within what it had, and at most so many grants
 pub record Numbers (link link' : LinkState) (grants : ℕ) : Type 0 where
@@ -53,33 +53,41 @@ pub record Numbers (link link' : LinkState) (grants : ℕ) : Type 0 where
   pub now : pending link' ≤ unsent link'
   pub replies : waiting_count link' ≤ waiting_count link
 
-pub within-numbers :
+-- no more replies wait where no more are behind a sender of which nothing was due
+pub waits_fewer : (link link' : LinkState) → pending link ≡ 0 → length link'.sender.waiting ≤ length link.sender.waiting
+    → waiting_count link' ≤ waiting_count link
+unfolding pending waiting_count
+waits_fewer link link' drained h =
+    let still = none-due link.setup link.sender (drained_parts link.grant (settled link.setup link.sender).due drained).1 in
+    let had_waiting = ap (λ q. length q.left.waiting) still in
+    let fewer = settled-fewer link'.setup link'.sender in omega arith
+
+pub within_numbers :
     (link link' : LinkState) (r : SenderState) (grants : ℕ) → pending link ≡ 0 → length (option_to_list link'.grant) ≤ grants → link'.setup ≡ link.setup
     → link'.sender ≡ r → IsWithin link.setup r (left link.setup link.sender) (length link.sender.waiting) → Numbers link link' grants
-unfolding pending unsent waiting_count
-within-numbers link link' r grants drained few same sender h =
-    let still = none-due link.setup link.sender (drained-parts link.grant (settled link.setup link.sender).due drained).1 in
+unfolding unsent
+within_numbers link link' r grants drained few same sender h =
     let moved : left link'.setup link'.sender ≡ left link.setup r = ap (λ t. left t link'.sender) same ∙ ap (λ q. left link.setup q) sender in
-    let now_waiting = ap (λ q. length q.waiting) sender in
-    let had_waiting = ap (λ q. length q.left.waiting) still in
-    let fewer = settled-fewer link'.setup link'.sender in
     let frames = h.frames in
-    let replies = h.replies in
-    record { frames = omega arith; now = pending-unsent link'; replies = omega arith }
+    record {
+      frames = omega arith;
+      now = pending_unsent link';
+      replies = waits_fewer link link' drained (let n = ap (λ q. length q.waiting) sender in let replies = h.replies in omega arith);
+    }
 
-pub grant-few : (g : Option (List ℕ)) → length (option_to_list g) ≤ 1
-grant-few None = omega arith
-grant-few (Some g) = omega arith
+pub grant_few : (g : Option (List ℕ)) → length (option_to_list g) ≤ 1
+grant_few None = omega arith
+grant_few (Some g) = omega arith
 
 pub few : {g : Option (List ℕ)} → g ≡ None → length (option_to_list g) ≤ 0
 few none = let size = ap (λ g. length (option_to_list g)) none in omega arith
 
 -- a reply
-pub answered-numbers : (link link' : LinkState) (P : List ℕ) → link'.grant ≡ link.grant
+pub answered_numbers : (link link' : LinkState) (P : List ℕ) → link'.grant ≡ link.grant
     → settled link'.setup link'.sender ≡ replied link.setup P (settled link.setup link.sender)
     → (pending link' ≤ pending link + 1) × (waiting_count link' ≤ waiting_count link + 1)
 unfolding pending waiting_count
-answered-numbers link link' P grant sender =
+answered_numbers link link' P grant sender =
     let r = settled link.setup link.sender in
     let more = replied-numbers link.setup P r in
     let due = more.0 in
@@ -92,18 +100,18 @@ answered-numbers link link' P grant sender =
     (omega arith, omega arith)
 
 -- a frame that is handed out
-pub handed-numbers : (link link' : LinkState) (bytes : List ℕ) → due link ≡ bytes ∷ due link'
+pub handed_numbers : (link link' : LinkState) (bytes : List ℕ) → due link ≡ bytes ∷ due link'
     → (settled link'.setup link'.sender).left ≡ (settled link.setup link.sender).left → link'.setup ≡ link.setup →
     (pending link ≡ pending link' + 1) × (unsent link ≡ unsent link' + 1)
 unfolding pending
-handed-numbers link link' bytes less kept same =
+handed_numbers link link' bytes less kept same =
     let due_less = ap length less in
     let old = unsent-due link in
     let new = unsent-due link' in
     let rest = ap (λ r. left link'.setup r) kept ∙ ap (λ t. left t (settled link.setup link.sender).left) same in
     (omega arith, omega arith)
 
-pub waiting-same : (link link' : LinkState) → (settled link'.setup link'.sender).left ≡ (settled link.setup link.sender).left
+pub waiting_same : (link link' : LinkState) → (settled link'.setup link'.sender).left ≡ (settled link.setup link.sender).left
     → waiting_count link' ≤ waiting_count link
 unfolding waiting_count
-waiting-same link link' e = let same = ap (λ r. length r.waiting) e in omega arith
+waiting_same link link' e = let same = ap (λ r. length r.waiting) e in omega arith

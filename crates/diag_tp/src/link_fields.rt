@@ -100,6 +100,7 @@ impl Link {
     }
 
     /// Whether neither flow control nor a frame of a message is due.
+    #[tactic(auto, using(crate::proofs::Settled::drained_iff))]
     pub(crate) fn has_none_due(&self) -> bool
         ensures { IsTrue result ↔ (length (due self.now.state) ≡ 0) }
     {
