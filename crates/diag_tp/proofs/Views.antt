@@ -4,9 +4,9 @@ use Rattle.std.specs.Prelude.{Option, Some, None, IsTrue, option_to_list, nat_le
 use Rattle.std.proofs.lemmas.Bool.Decides.{nat_tests}
 use Rattle.diag_can.specs.declared.frame.Event.{Event}
 use Rattle.diag_tp.specs.State.{LinkState, LinkView, due}
-use Rattle.diag_tp.specs.Sender.{SenderState, settled, replied}
+use Rattle.diag_tp.specs.Sender.{SenderState, settled, sender_event, sender_ticks, replied}
 use Rattle.diag_tp.specs.Link.{pending, unsent, waiting_count, has_room, has_reply_room, KeepsRoom, KeepsReplyRoom, needed}
-use Rattle.diag_tp.proofs.Numbers.{left, IsWithin, settled-total, settled-fewer, replied-numbers}
+use Rattle.diag_tp.proofs.Numbers.{left, IsWithin, settled-total, settled-fewer, event_within, sender_ticks_within, replied-numbers}
 use Rattle.diag_tp.proofs.Settled.{none-due}
 use Rattle.diag_tp.proofs.History.{drained_parts}
 
@@ -79,8 +79,19 @@ pub grant_few : (g : Option (List ℕ)) → length (option_to_list g) ≤ 1
 grant_few None = omega arith
 grant_few (Some g) = omega arith
 
-pub few : {g : Option (List ℕ)} → g ≡ None → length (option_to_list g) ≤ 0
-few none = let size = ap (λ g. length (option_to_list g)) none in omega arith
+-- a frame, and ticks
+pub fed_unsent : (link link' : LinkState) (x : Event) → pending link ≡ 0 → link'.setup ≡ link.setup
+    → link'.sender ≡ sender_event link.setup x link.sender.current link.sender.waiting → unsent link' ≤ unsent link + 1
+fed_unsent link link' x drained same sender =
+    (within_numbers link link' _ 1 drained (grant_few link'.grant) same sender (event_within link.setup x link.sender.current link.sender.waiting)).frames
+
+pub passed_unsent : (link link' : LinkState) (n : ℕ) → pending link ≡ 0 → link'.grant ≡ link.grant → link'.setup ≡ link.setup
+    → link'.sender ≡ sender_ticks link.setup n link.sender.current link.sender.waiting → unsent link' ≤ unsent link
+unfolding pending
+passed_unsent link link' n drained grant same sender =
+    let few = ap (λ g. length (option_to_list g)) (grant ∙ (drained_parts link.grant _ drained).0) in
+    let fewer = (within_numbers link link' _ 0 drained (omega arith) same sender
+    (sender_ticks_within link.setup n link.sender.current link.sender.waiting)).frames in omega arith
 
 -- a reply
 pub answered_numbers : (link link' : LinkState) (P : List ℕ) → link'.grant ≡ link.grant
