@@ -65,21 +65,6 @@ use diag_can::{Event, FrameBytes};
 use std::alloc::AllocError;
 
 impl Link {
-    /// Makes room, field by field.
-    pub(crate) fn reserve(&mut self, event: &Event) -> Result<(), AllocError>
-        ensures same { self.new.state ≡ self.old.state }
-        ensures room { OnOk result ((needed self.new.state.setup event.now ≤ self.new.room)
-            × (0 < self.new.reply_room)) }
-        ensures kept { self.old.room ≤ self.new.room }
-        ensures reply_kept { self.old.reply_room ≤ self.new.reply_room }
-    {
-        if let Event::Physical(bytes) = event {
-            let kind = self.kind(bytes);
-            self.receiver.make_room(&kind)?;
-        }
-        self.sender.make_room()
-    }
-
     /// The bytes of the next frame: flow control goes first.
     pub(crate) fn next_bytes(&mut self) -> Option<FrameBytes>
         ensures some { IfSome result (λ bytes. due self.old.state ≡ bytes ∷ due self.new.state) }
