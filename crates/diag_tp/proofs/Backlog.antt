@@ -2,10 +2,10 @@
 use Rattle.std.proofs.Common.{◌≡◌, ℕ, zero, suc, ◌+◌, ◌≤◌, ◌/◌, ◌%◌, Bool, true, false, cond, List, [], ◌∷◌, ◌++◌, length, take, drop, refl, sym, ◌∙◌, ap, arith}
 use Rattle.std.specs.Prelude.{Option, Some, None, map, sum_by, nat_le, ◌==◌, if◌then◌else◌, option_to_list, not}
 use Rattle.std.proofs.lemmas.List.Sums.{sum_by-cons}
+use Rattle.std.proofs.Math.Seq.{drop-append_seam}
 use Rattle.std.proofs.lemmas.Bool.Decides.{nat_tests}
 use Rattle.diag_can.specs.declared.frame.Event.{Event}
 use Rattle.diag_tp.specs.declared.setup.LinkSetup.{LinkSetup}
-use Rattle.diag_tp.specs.declared.sending.Phase.TheVariants.{AwaitsFlow}
 use Rattle.diag_tp.specs.declared.sending.Sending.{Sending}
 use Rattle.diag_tp.specs.declared.sent.Sent.{Sent}
 use Rattle.diag_tp.specs.Moments.{counted_from, last_time}
@@ -13,18 +13,13 @@ use Rattle.diag_tp.specs.Reception.{head_size, consecutive_count}
 use Rattle.diag_tp.specs.Cut.{filled, single_bytes, first_bytes, consecutive_bytes, part_of, cut}
 use Rattle.diag_tp.specs.Wire.{Placed, stamped, wire}
 use Rattle.diag_tp.specs.State.{LinkState, due}
-use Rattle.diag_tp.specs.Sender.{frame_count, frames_of, fields_left, started, before_these, settled_in}
+use Rattle.diag_tp.specs.Sender.{SenderState, Settled, frame_count, frames_of, fields_left, current_left, one_on, once_gone, begun_sending, started, settled_in, settled}
 use Rattle.diag_tp.specs.Link.{StandsFor, is_flow, IsFlow, message_frames, frames_left}
-use Rattle.diag_tp.proofs.Lists.{Each, Each-append}
+use Rattle.diag_tp.proofs.Lists.{Each}
 use Rattle.diag_tp.proofs.CutFrames.{filled-cons}
 use Rattle.diag_tp.proofs.CutParts.{frames-count}
-use Rattle.diag_tp.proofs.Numbers.{total, started-total, advanced-total}
+use Rattle.diag_tp.proofs.Numbers.{left, settled-total}
 use Rattle.diag_tp.proofs.History.{frames-left}
-
-Each-take : {X : Type 0} (P : X → Type 0) (n : ℕ) (xs : List X) → Each P xs → Each P (take n xs)
-Each-take P zero xs h = tt
-Each-take P (suc n) [] h = tt
-Each-take P (suc n) (x ∷ xs) h = (h.0, Each-take P n xs h.1)
 
 Each-drop : {X : Type 0} (P : X → Type 0) (n : ℕ) (xs : List X) → Each P xs → Each P (drop n xs)
 Each-drop P zero xs h = h
@@ -66,29 +61,25 @@ cut-message P pad =
           | false ↦ λ f. rw f (by_control pad 16 _ refl)
         ] refl
 
+gone-message : (k : ℕ) (frames : List (List ℕ)) (c : Sending) (W : List (List ℕ)) (next : Settled) → Each IsOfMessage frames → Each IsOfMessage next.due
+    → Each IsOfMessage (once_gone k frames c W next).due
+gone-message zero frames c W next h n = tt
+gone-message (suc k) [] c W next h n = tt
+gone-message (suc k) (f ∷ []) c W next h n = (h.0, n)
+gone-message (suc k) (f ∷ g ∷ frames) c W next h n = (h.0, gone-message k (g ∷ frames) (one_on c) W next h.1 n)
+
 started-message : (s : LinkSetup) (W : List (List ℕ)) → Each IsOfMessage (started s W).due
 started-message s [] = tt
-started-message s (P ∷ W) =
-    let first = Each-take IsOfMessage 1 (cut P s.pad) (cut-message P s.pad) in
-    elim (nat_le (frame_count s P) 1) as (λ b. Each IsOfMessage
-    (if b then before_these (take 1 (cut P s.pad)) (started s W) else
-    record { due = take 1 (cut P s.pad); current = Some (record { message = P; next = 1; due = 0; phase = AwaitsFlow s.n_bs }); waiting = W }).due) [
-      | true ↦ Each-append IsOfMessage (take 1 (cut P s.pad)) (started s W).due first (started-message s W)
-      | false ↦ first
-    ]
+started-message s (P ∷ W) = gone-message 1 (cut P s.pad) (begun_sending s P) W (started s W) (cut-message P s.pad) (started-message s W)
 
-pub settled-message : (s : LinkSetup) (cur : Option Sending) (W : List (List ℕ)) → Each IsOfMessage (settled_in s cur W).due
-settled-message s None W = started-message s W
-settled-message s (Some c) W =
-    let all = cut c.message s.pad in
-    let frames = take c.due (drop c.next all) in
-    let these = Each-take IsOfMessage c.due (drop c.next all) (Each-drop IsOfMessage c.next all (cut-message c.message s.pad)) in
-    elim (c.next + c.due == frame_count s c.message)
-    as (λ b. Each IsOfMessage (if b then before_these frames (started s W) else
-    record { due = frames; current = Some (record { message = c.message; next = c.next + c.due; due = 0; phase = c.phase }); waiting = W }).due) [
-      | true ↦ Each-append IsOfMessage frames (started s W).due these (started-message s W)
-      | false ↦ these
-    ]
+settled-message : (s : LinkSetup) (r : SenderState) → Each IsOfMessage (settled s r).due
+settled-message s r = go r.current
+  where
+    go : (cur : Option Sending) → Each IsOfMessage (settled_in s cur r.waiting).due
+    go None = started-message s r.waiting
+    go (Some c) =
+        gone-message c.due (drop c.next (cut c.message s.pad)) c r.waiting (started s r.waiting)
+        (Each-drop IsOfMessage c.next (cut c.message s.pad) (cut-message c.message s.pad)) (started-message s r.waiting)
 
 -- how many of the frames that are due are of messages
 message-count : (s : LinkSetup) (t : ℕ) (frames : List (List ℕ)) → Each IsOfMessage frames → message_frames (map (stamped s t) frames) ≡ length frames
@@ -108,19 +99,17 @@ due-count s t (Some bytes) frames g h =
     let none : cond {A = ℕ} (not (is_flow (stamped s t bytes).frame.bytes)) 1 0 ≡ 0 = ap (λ (b : Bool). cond {A = ℕ} (not b) 1 0) g in
     omega arith
 
-drop-all : {X : Type 0} (xs ys : List X) → drop (length xs) (xs ++ ys) ≡ ys
-drop-all [] ys = refl
-drop-all (x ∷ xs) ys = drop-all xs ys
-
 -- what a link has left, by the definitions
-pub left-all : (s : LinkSetup) (link : LinkState) (E : List Event) (A : List Placed) (Q : List Sent) → IsFlow link.grant
-    → Each IsOfMessage link.sender.due → StandsFor s link E A Q →
-    total s link.sender ≡ frames_left s E A Q
-left-all s link E A Q g each h =
+pub left_all : (s : LinkSetup) (link : LinkState) (E : List Event) (A : List Placed) (Q : List Sent) → IsFlow link.grant → StandsFor s link E A Q →
+    left link.setup link.sender ≡ frames_left s E A Q
+left_all s link E A Q g h =
     let rest : drop (length Q) (wire s E A) ≡ map (stamped s (last_time E)) (due link) =
-    ap (λ l. drop (length Q) l) (sym h.out) ∙ drop-all Q (map (stamped s (last_time E)) (due link)) in
-    let count = ap message_frames rest ∙ due-count s (last_time E) link.grant link.sender.due g each in
+    ap (λ l. drop (length Q) l) (sym h.out) ∙ drop-append_seam Q (map (stamped s (last_time E)) (due link)) in
+    let same = ap (λ t. length (settled t link.sender).due) h.set in
+    let count = ap message_frames rest ∙ due-count s (last_time E) link.grant _ g (settled-message link.setup link.sender) in
     let others = frames-left s link E A Q h in
+    let all = settled-total link.setup link.sender in
+    let same = ap (λ t. left t (settled link.setup link.sender).left) h.set in
     omega arith
 
 -- what the fields of a sender have left
@@ -132,10 +121,9 @@ frames-same s (P ∷ W) =
     let one = frames-count P s.pad in
     let rest = frames-same s W in omega arith
 
-pub settled-total : (s : LinkSetup) (cur : Option Sending) (W : List (List ℕ)) → fields_left cur + sum_by frames_of W ≡ total s (settled_in s cur W)
-settled-total s None W = let same = frames-same s W in let all = started-total s W in omega arith
-settled-total s (Some c) W =
-    let same = frames-same s W in
-    let one = frames-count c.message s.pad in
-    let all = advanced-total s c.due c.phase c W in
-    omega arith
+pub fields_are_left : (s : LinkSetup) (r : SenderState) → fields_left r.current + sum_by frames_of r.waiting ≡ left s r
+fields_are_left s r = go r.current
+  where
+    go : (cur : Option Sending) → fields_left cur + sum_by frames_of r.waiting ≡ current_left s cur + sum_by (frame_count s) r.waiting
+    go None = let same = frames-same s r.waiting in omega arith
+    go (Some c) = let same = frames-same s r.waiting in let one = frames-count c.message s.pad in omega arith

@@ -1,6 +1,6 @@
 -- Ticks before which nothing falls due and nothing ends.
-use Rattle.std.proofs.Common.{◌≡◌, ℕ, zero, suc, ◌+◌, ◌-◌, ◌<◌, ◌≤◌, true, false, List, [], ◌∷◌, ◌++◌, length, refl, sym, ◌∙◌, ap, arith, min}
-use Rattle.std.specs.Prelude.{Option, Some, None, max, nat_le, nat_lt, ◌==◌, if◌then◌else◌, option_map, option_and_then, option_to_list}
+use Rattle.std.proofs.Common.{◌≡◌, ℕ, zero, suc, ◌+◌, ◌-◌, ◌<◌, ◌≤◌, true, false, List, [], ◌∷◌, ◌++◌, length, drop, refl, ◌∙◌, ap, arith, min}
+use Rattle.std.specs.Prelude.{Option, Some, None, max, nat_le, nat_lt, ◌==◌, if◌then◌else◌, option_and_then, option_to_list}
 use Rattle.std.proofs.lemmas.Bool.Decides.{nat_tests}
 use Rattle.diag_can.specs.declared.frame.Event.{Event}
 use Rattle.diag_can.specs.declared.frame.Event.TheVariants.{Ticks}
@@ -12,21 +12,13 @@ use Rattle.diag_tp.specs.Moments.{moments}
 use Rattle.diag_tp.specs.Wire.{Placed}
 use Rattle.diag_tp.specs.Receiver.{Partial, one_tick_later, ticks_later}
 use Rattle.diag_tp.specs.declared.sending.Sending.{Sending as Current}
-use Rattle.diag_tp.specs.Sender.{in_phase, resting, settled_in, tick_fields, sender_ticks}
-use Rattle.diag_tp.proofs.Settled.{IsStill, rests}
+use Rattle.diag_tp.specs.Sender.{SenderState, kept_as, in_phase, once_gone, started, settled_in, settled, tick_fields, ticked_fields, sender_ticks}
+use Rattle.diag_tp.specs.Cut.{cut}
 use Rattle.diag_tp.specs.State.{LinkState, due}
 use Rattle.diag_tp.specs.Quiet.{reception_quiet, phase_quiet, sender_quiet}
 use Rattle.diag_tp.specs.Link.{StandsFor, last_tick, quiet}
 use Rattle.diag_tp.proofs.Moments.{moments-sum}
-use Rattle.diag_tp.proofs.History.{stands_more, stands_moments, stands_same}
-
--- the same with n ticks fewer to go
-abbrev pub phase_later : ℕ → Phase → Phase
-phase_later n (AwaitsFlow ticks) = AwaitsFlow (ticks - n)
-phase_later n (InBlock rest gap ticks) = InBlock rest gap (ticks - n)
-
-abbrev pub current_later : ℕ → Current → Current
-current_later n c = in_phase c (phase_later n c.phase)
+use Rattle.diag_tp.proofs.History.{none-granted, stands_more, stands_moments}
 
 -- one tick more of a reception
 partial-more : (n_cr k : ℕ) (o : Option Partial)
@@ -43,37 +35,38 @@ partial-more n_cr k (Some p) =
       | false ↦ λ f. let over : nat_lt (p.silence + k + 1) n_cr ≡ false = grind (arith, nat_tests) in rw over refl
     ] refl)
 
--- ticks in which nothing happens to a message
-phase-still : (s : LinkSetup) (k : ℕ) (c : Current) (W : List (List ℕ)) (p : Phase) → IsStill (Some c) → k < phase_quiet p
-    → settled_in s (tick_fields s k c p) W ≡ resting (in_phase c (phase_later k p)) W
-phase-still s k c W (AwaitsFlow ticks) still h = let later : nat_le ticks k ≡ false = grind (arith, nat_tests) in
-    rw later (rests s c (AwaitsFlow (ticks - k)) W still.0 still.1)
-phase-still s k c W (InBlock rest gap ticks) still h = let later : nat_le ticks k ≡ false = grind (arith, nat_tests) in
-    rw later (rests s c (InBlock rest gap (ticks - k)) W still.0 still.1)
-
-sender-still : (s : LinkSetup) (k : ℕ) (cur : Option Current) (W : List (List ℕ)) → IsStill cur → k < sender_quiet cur →
-    sender_ticks s k cur W ≡ record { due = []; current = option_map (current_later k) cur; waiting = W }
-sender-still s k None W still h = refl
-sender-still s k (Some c) W still h = phase-still s k c W c.phase still h
-
--- and one tick more
-phase-more : (s : LinkSetup) (k : ℕ) (c : Current) (p : Phase) → tick_fields s (suc k) c p ≡ tick_fields s 1 (in_phase c (phase_later k p)) (phase_later k p)
-phase-more s k c (AwaitsFlow ticks) =
-    let same : nat_le ticks (suc k) ≡ nat_le (ticks - k) 1 = grind (arith, nat_tests) in
-    let e : ticks - suc k ≡ ticks - k - 1 = omega arith in
-    rw (same, e) refl
-phase-more s k c (InBlock rest gap ticks) =
-    let same : nat_le ticks (suc k) ≡ nat_le (ticks - k) 1 = grind (arith, nat_tests) in
-    let e : ticks - suc k ≡ ticks - k - 1 = omega arith in
-    rw (same, e) refl
-
-sender-more : (s : LinkSetup) (k : ℕ) (cur : Option Current) (W : List (List ℕ)) → IsStill cur → k < sender_quiet cur →
-    sender_ticks s (suc k) cur W ≡ sender_ticks s 1 (sender_ticks s k cur W).current (sender_ticks s k cur W).waiting
-sender-more s k cur W still h = one cur ∙ ap (λ r. sender_ticks s 1 r.current r.waiting) (sym (sender-still s k cur W still h))
+-- what is due doesn't depend on the phase
+due-phase : (s : LinkSetup) (c : Current) (p : Phase) (W : List (List ℕ)) → (settled_in s (Some c) W).due ≡ [] → (settled_in s (Some (in_phase c p)) W).due ≡ []
+due-phase s c p W h = go c.due (drop c.next (cut c.message s.pad)) h
   where
-    one : (cur : Option Current) → sender_ticks s (suc k) cur W ≡ sender_ticks s 1 (option_map (current_later k) cur) W
-    one None = refl
-    one (Some c) = ap (λ o. settled_in s o W) (phase-more s k c c.phase)
+    go : (n : ℕ) (frames : List (List ℕ)) → (once_gone n frames c W (started s W)).due ≡ [] → (once_gone n frames (in_phase c p) W (started s W)).due ≡ []
+    go zero frames h = refl
+    go (suc n) [] h = refl
+    go (suc n) (f ∷ []) h = cc
+    go (suc n) (f ∷ g ∷ frames) h = cc
+
+-- ticks in which nothing happens to a message, and one tick more
+phase-still : (s : LinkSetup) (k : ℕ) (c : Current) (p : Phase) (W : List (List ℕ)) → k < phase_quiet p → (settled_in s (Some c) W).due ≡ []
+    → ((settled_in s (tick_fields s k c p) W).due ≡ []) × (tick_fields s (suc k) c p ≡ ticked_fields s 1 (tick_fields s k c p))
+phase-still s k c (AwaitsFlow ticks) W h none =
+    let later : nat_le ticks k ≡ false = grind (arith, nat_tests) in
+    let same : nat_le ticks (suc k) ≡ nat_le (ticks - k) 1 = grind (arith, nat_tests) in
+    let e : ticks - suc k ≡ ticks - k - 1 = omega arith in
+    rw (later, same, e) (due-phase s c (AwaitsFlow (ticks - k)) W none, refl)
+phase-still s k c (InBlock rest gap ticks) W h none =
+    let later : nat_le ticks k ≡ false = grind (arith, nat_tests) in
+    let same : nat_le ticks (suc k) ≡ nat_le (ticks - k) 1 = grind (arith, nat_tests) in
+    let e : ticks - suc k ≡ ticks - k - 1 = omega arith in
+    rw (later, same, e) (due-phase s c (InBlock rest gap (ticks - k)) W none, refl)
+
+still : (s : LinkSetup) (k : ℕ) (r : SenderState) → k < sender_quiet r.current → (settled s r).due ≡ [] →
+    ((settled s (sender_ticks s k r.current r.waiting)).due ≡ []) × (ticked_fields s (suc k) r.current ≡ ticked_fields s 1 (ticked_fields s k r.current))
+still s k r few none = go r.current few none
+  where
+    go : (cur : Option Current) → k < sender_quiet cur → (settled_in s cur r.waiting).due ≡ []
+        → ((settled_in s (ticked_fields s k cur) r.waiting).due ≡ []) × (ticked_fields s (suc k) cur ≡ ticked_fields s 1 (ticked_fields s k cur))
+    go None few none = (none, refl)
+    go (Some c) few none = phase-still s k c c.phase r.waiting few none
 
 quiet-sender : (link : LinkState) (k : ℕ) → due link ≡ [] → 1 ≤ k → k < quiet link → k < sender_quiet link.sender.current
 unfolding quiet
@@ -93,35 +86,31 @@ link_later n link =
     }
 
 -- ticks, before the last of which nothing falls due
-stands_later :
-    (s : LinkSetup) (link : LinkState) (E : List Event) (A : List Placed) (Q : List Sent) (k : ℕ) → IsStill link.sender.current → due link ≡ []
-    → suc k ≤ quiet link → StandsFor s link E A Q →
-    StandsFor s (link_later (suc k) link) (E ++ Ticks (suc k) ∷ []) A Q
-stands_later s link E A Q zero still none h stands = stands_more s link (link_later 1 link) E A Q (Ticks 1) refl tt none refl refl refl refl refl stands
-stands_later s link E A Q (suc k) still none h stands =
-    let few = quiet-sender link (suc k) none (omega arith) (omega arith) in
-    let one : suc k + 1 ≡ suc (suc k) = omega arith in
-    stands_moments s (link_later (suc (suc k)) link) ((E ++ Ticks (suc k) ∷ []) ++ Ticks 1 ∷ []) (E ++ Ticks (suc (suc k)) ∷ []) A Q
-    (moments-sum E (suc k) 1 ∙ ap (λ (n : ℕ). moments (E ++ Ticks n ∷ [])) one)
-    (stands_more s (link_later (suc k) link) (link_later (suc (suc k)) link) (E ++ Ticks (suc k) ∷ []) A Q (Ticks 1) refl tt
-    (ap (λ r. r.due) (sender-still link.setup (suc k) link.sender.current link.sender.waiting still few)) refl
-    (sender-more link.setup (suc k) link.sender.current link.sender.waiting still few)
-    (partial-more link.setup.n_cr (suc k) link.partial) refl (omega arith)
-    (stands_later s link E A Q k still none (omega arith) stands))
-
 pub stands_ticks :
-    (s : LinkSetup) (link link' : LinkState) (E : List Event) (A : List Placed) (Q : List Sent) (n : ℕ) → IsStill link.sender.current → 1 ≤ n
+    (s : LinkSetup) (link link' : LinkState) (E : List Event) (A : List Placed) (Q : List Sent) (n : ℕ) → 1 ≤ n
     → n ≤ quiet link → due link ≡ [] → link'.grant ≡ None →
     link'.sender ≡ sender_ticks link.setup n link.sender.current link.sender.waiting
     → link'.partial ≡ option_and_then (ticks_later link.setup.n_cr n) link.partial →
     link'.setup ≡ link.setup → link'.now ≡ min (link.now + n) last_tick → StandsFor s link E A Q → StandsFor s link' (E ++ Ticks n ∷ []) A Q
-stands_ticks s link link' E A Q zero still some h none grant sender partial same now stands = absurd (omega arith)
-stands_ticks s link link' E A Q (suc k) still some h none grant sender partial same now stands =
-    stands_same s (link_later (suc k) link) link' (E ++ Ticks (suc k) ∷ []) A Q grant sender partial same now (stands_later s link E A Q k still none h stands)
+stands_ticks s link link' E A Q zero some h none grant sender partial same now stands = absurd (omega arith)
+stands_ticks s link link' E A Q (suc zero) some h none grant sender partial same now stands =
+    stands_more s link link' E A Q (Ticks 1) refl tt none grant sender partial same now stands
+stands_ticks s link link' E A Q (suc (suc k)) some h none grant sender partial same now stands =
+    let few = quiet-sender link (suc k) none (omega arith) (omega arith) in
+    let moved = still link.setup (suc k) link.sender few (none-granted link.grant _ none) in
+    let one : suc k + 1 ≡ suc (suc k) = omega arith in
+    stands_moments s link' ((E ++ Ticks (suc k) ∷ []) ++ Ticks 1 ∷ []) (E ++ Ticks (suc (suc k)) ∷ []) A Q
+    (moments-sum E (suc k) 1 ∙ ap (λ (n : ℕ). moments (E ++ Ticks n ∷ [])) one)
+    (stands_more s (link_later (suc k) link) link' (E ++ Ticks (suc k) ∷ []) A Q (Ticks 1) refl tt
+    moved.0 grant (sender ∙ ap (λ o. kept_as o link.sender.waiting) moved.1)
+    (partial ∙ partial-more link.setup.n_cr (suc k) link.partial) same (now ∙ omega arith)
+    (stands_ticks s link (link_later (suc k) link) E A Q (suc k) (omega arith) (omega arith) none refl refl refl refl refl stands))
 
 -- before the last tick nothing falls due
-pub silent : (s : LinkSetup) (n : ℕ) (link link' : LinkState) → IsStill link.sender.current → 1 ≤ n → due link ≡ [] → n < quiet link
-    → link'.grant ≡ None → link'.sender ≡ sender_ticks s n link.sender.current link.sender.waiting → length (due link') ≡ 0
-silent s n link link' still some none h grant sender =
-    ap (λ g. length (option_to_list g ++ link'.sender.due)) grant
-    ∙ ap (λ r. length r.due) (sender ∙ sender-still s n link.sender.current link.sender.waiting still (quiet-sender link n none some h))
+pub silent : (n : ℕ) (link link' : LinkState) → 1 ≤ n → due link ≡ [] → n < quiet link → link'.grant ≡ None → link'.setup ≡ link.setup
+    → link'.sender ≡ sender_ticks link.setup n link.sender.current link.sender.waiting → length (due link') ≡ 0
+silent n link link' some none h grant same sender =
+    ap (λ g. length (option_to_list g ++ (settled link'.setup link'.sender).due)) grant
+    ∙ (ap (λ t. length (settled t link'.sender).due) same
+    ∙ (ap (λ r. length (settled link.setup r).due) sender
+    ∙ ap length (still link.setup n link.sender (quiet-sender link n none some h) (none-granted link.grant _ none)).0))

@@ -20,7 +20,7 @@ use Rattle.diag_tp.specs.Link.{is_frame, partial_after, grant_after, pending, St
 use Rattle.diag_tp.specs.Taken.{IsTaken, left_of_kind, taken_of, reception_after, granted_after, sender_after}
 use Rattle.diag_tp.proofs.Numbers.{IsWithin, no-flow-within, frame-within}
 use Rattle.diag_tp.proofs.History.{stands_fed}
-use Rattle.diag_tp.proofs.Views.{Numbers, within-numbers, grant-few}
+use Rattle.diag_tp.proofs.Views.{Numbers, within_numbers, grant_few}
 
 -- a Consecutive that completes a message ends the reception, and grants nothing
 open-last : (o : Option Partial) (k : Pci) → IsTrue (is_some (completed_by o k)) → open_after o k ≡ None
@@ -115,8 +115,8 @@ within-taken s left.Single current W = no-flow-within s current W
 within-taken s left.Last current W = no-flow-within s current W
 within-taken s (left.Read k) current W = frame-within s k current W
 
-pub settled-numbers : (link link' : LinkState) (taken : Taken) → link'.setup ≡ link.setup →
+pub settled-numbers : (link link' : LinkState) (taken : Taken) → pending link ≡ 0 → link'.setup ≡ link.setup →
     link'.sender ≡ sender_after link.setup taken link.sender.current link.sender.waiting → Numbers link link' 1
-settled-numbers link link' taken same sender =
-    within-numbers link link' (sender_after link.setup taken link.sender.current link.sender.waiting) 1 (grant-few link'.grant) same sender
+settled-numbers link link' taken drained same sender =
+    within_numbers link link' (sender_after link.setup taken link.sender.current link.sender.waiting) 1 drained (grant_few link'.grant) same sender
     (within-taken link.setup taken link.sender.current link.sender.waiting)

@@ -1,54 +1,51 @@
 -- What the words of a link's contract say of its fields.
-use Rattle.std.proofs.Common.{◌≡◌, ℕ, ◌+◌, ◌<◌, ◌≤◌, true, List, [], ◌∷◌, ◌++◌, length, sym, ◌∙◌, ap, subst, arith, length-append}
-use Rattle.std.specs.Prelude.{Option, Some, None, IsSome, IsNone, IfSome, sum_by, IsTrue, option_to_list, nat_le, nat_lt}
+use Rattle.std.proofs.Common.{◌≡◌, ℕ, ◌+◌, ◌<◌, ◌≤◌, true, List, ◌∷◌, length, ◌∙◌, ap, arith, length-append}
+use Rattle.std.specs.Prelude.{Option, Some, None, IsTrue, option_to_list, nat_le, nat_lt}
 use Rattle.std.proofs.lemmas.Bool.Decides.{nat_tests}
 use Rattle.diag_can.specs.declared.frame.Event.{Event}
-use Rattle.diag_can.specs.declared.frame.Frame.{Frame}
-use Rattle.diag_tp.specs.Moments.{last_time}
-use Rattle.diag_tp.specs.declared.setup.LinkSetup.{LinkSetup}
-use Rattle.diag_tp.specs.declared.sent.Sent.{Sent}
 use Rattle.diag_tp.specs.State.{LinkState, LinkView, due}
-use Rattle.diag_tp.specs.Wire.{Placed, wire}
-use Rattle.diag_tp.specs.Sender.{SenderState, sender_event, sender_ticks, replied, frame_count, current_left}
-use Rattle.diag_tp.specs.Link.{StandsFor, EachHistory, pending, unsent, waiting_count, has_room, has_reply_room, KeepsRoom, KeepsReplyRoom, needed}
-use Rattle.diag_tp.proofs.Lists.{length-zero}
-use Rattle.diag_tp.proofs.Numbers.{total, IsWithin, event-within, sender-ticks-within, replied-numbers}
-use Rattle.diag_tp.proofs.History.{stands_all, stands_length, stands_next}
+use Rattle.diag_tp.specs.Sender.{SenderState, settled, sender_event, sender_ticks, replied}
+use Rattle.diag_tp.specs.Link.{pending, unsent, waiting_count, has_room, has_reply_room, KeepsRoom, KeepsReplyRoom, needed}
+use Rattle.diag_tp.proofs.Numbers.{left, IsWithin, settled-total, settled-fewer, event_within, sender_ticks_within, replied-numbers}
+use Rattle.diag_tp.proofs.Settled.{none-due}
+use Rattle.diag_tp.proofs.History.{drained_parts}
 
 pub room : (v : LinkView) (x : Event) → IsTrue (has_room v x) → needed v.state.setup x ≤ v.room
 unfolding has_room
 room v x h = let t : nat_le (needed v.state.setup x) v.room ≡ true = h in grind (arith, nat_tests)
 
-pub room-made : (v : LinkView) (x : Event) → needed v.state.setup x ≤ v.room → IsTrue (has_room v x)
+pub room_made : (v : LinkView) (x : Event) → needed v.state.setup x ≤ v.room → IsTrue (has_room v x)
 unfolding has_room
-room-made v x h = let t : nat_le (needed v.state.setup x) v.room ≡ true = grind (arith, nat_tests) in t
+room_made v x h = let t : nat_le (needed v.state.setup x) v.room ≡ true = grind (arith, nat_tests) in t
 
-pub reply-room : (v : LinkView) → IsTrue (has_reply_room v) → 0 < v.reply_room
+pub reply_room : (v : LinkView) → IsTrue (has_reply_room v) → 0 < v.reply_room
 unfolding has_reply_room
-reply-room v h = let t : nat_lt 0 v.reply_room ≡ true = h in grind (arith, nat_tests)
+reply_room v h = let t : nat_lt 0 v.reply_room ≡ true = h in grind (arith, nat_tests)
 
-pub reply-room-made : (v : LinkView) → 0 < v.reply_room → IsTrue (has_reply_room v)
+pub reply_room_made : (v : LinkView) → 0 < v.reply_room → IsTrue (has_reply_room v)
 unfolding has_reply_room
-reply-room-made v h = let t : nat_lt 0 v.reply_room ≡ true = grind (arith, nat_tests) in t
+reply_room_made v h = let t : nat_lt 0 v.reply_room ≡ true = grind (arith, nat_tests) in t
 
 -- at the same settings no room is lost where it doesn't get less
-pub keeps-room : (old new : LinkView) → new.state.setup ≡ old.state.setup → old.room ≤ new.room → KeepsRoom old new
-keeps-room old new same more x h =
+pub keeps_room : (old new : LinkView) → new.state.setup ≡ old.state.setup → old.room ≤ new.room → KeepsRoom old new
+keeps_room old new same more x h =
     let had = room old x h in
     let needs = ap (λ s. needed s x) same in
-    room-made new x (omega arith)
+    room_made new x (omega arith)
 
-pub keeps-reply-room : (old new : LinkView) → old.reply_room ≤ new.reply_room → KeepsReplyRoom old new
-keeps-reply-room old new more h = let had = reply-room old h in reply-room-made new (omega arith)
+pub keeps_reply_room : (old new : LinkView) → old.reply_room ≤ new.reply_room → KeepsReplyRoom old new
+keeps_reply_room old new more h = let had = reply_room old h in reply_room_made new (omega arith)
 
--- what is due, the rest of the current message and the replies that wait
-pub unsent-total : (link : LinkState) → unsent link ≡ length (option_to_list link.grant) + total link.setup link.sender
+-- what is due, and what is left then
+pub unsent-due : (link : LinkState) → unsent link ≡ length (due link) + left link.setup (settled link.setup link.sender).left
 unfolding unsent
-unsent-total link = let sum = length-append (option_to_list link.grant) link.sender.due in omega arith
+unsent-due link =
+    let sum = length-append (option_to_list link.grant) (settled link.setup link.sender).due in
+    let all = settled-total link.setup link.sender in omega arith
 
-pub pending-unsent : (link : LinkState) → pending link ≤ unsent link
-unfolding pending unsent
-pending-unsent link = omega arith
+pub pending_unsent : (link : LinkState) → pending link ≤ unsent link
+unfolding pending
+pending_unsent link = let all = unsent-due link in omega arith
 
 -- a move of the sender within what it had, and at most so many grants
 pub record Numbers (link link' : LinkState) (grants : ℕ) : Type 0 where
@@ -56,103 +53,76 @@ pub record Numbers (link link' : LinkState) (grants : ℕ) : Type 0 where
   pub now : pending link' ≤ unsent link'
   pub replies : waiting_count link' ≤ waiting_count link
 
-pub within-numbers :
-    (link link' : LinkState) (r : SenderState) (grants : ℕ) → length (option_to_list link'.grant) ≤ grants → link'.setup ≡ link.setup → link'.sender ≡ r →
-    IsWithin link.setup r (current_left link.setup link.sender.current + sum_by (frame_count link.setup) link.sender.waiting)
-    (length link.sender.waiting) → Numbers link link' grants
-unfolding waiting_count
-within-numbers link link' r grants few same sender h =
-    let old = unsent-total link in
-    let new = unsent-total link' in
-    let moved : total link'.setup link'.sender ≡ total link.setup r = ap (λ t. total t link'.sender) same ∙ ap (λ q. total link.setup q) sender in
-    let fewer = ap (λ q. length q.waiting) sender in
+-- no more replies wait where no more are behind a sender of which nothing was due
+pub waits_fewer : (link link' : LinkState) → pending link ≡ 0 → length link'.sender.waiting ≤ length link.sender.waiting
+    → waiting_count link' ≤ waiting_count link
+unfolding pending waiting_count
+waits_fewer link link' drained h =
+    let still = none-due link.setup link.sender (drained_parts link.grant (settled link.setup link.sender).due drained).1 in
+    let had_waiting = ap (λ q. length q.left.waiting) still in
+    let fewer = settled-fewer link'.setup link'.sender in omega arith
+
+pub within_numbers :
+    (link link' : LinkState) (r : SenderState) (grants : ℕ) → pending link ≡ 0 → length (option_to_list link'.grant) ≤ grants → link'.setup ≡ link.setup
+    → link'.sender ≡ r → IsWithin link.setup r (left link.setup link.sender) (length link.sender.waiting) → Numbers link link' grants
+unfolding unsent
+within_numbers link link' r grants drained few same sender h =
+    let moved : left link'.setup link'.sender ≡ left link.setup r = ap (λ t. left t link'.sender) same ∙ ap (λ q. left link.setup q) sender in
     let frames = h.frames in
-    let replies = h.replies in
     record {
       frames = omega arith;
-      now = pending-unsent link';
-      replies = omega arith;
+      now = pending_unsent link';
+      replies = waits_fewer link link' drained (let n = ap (λ q. length q.waiting) sender in let replies = h.replies in omega arith);
     }
 
-pub grant-few : (g : Option (List ℕ)) → length (option_to_list g) ≤ 1
-grant-few None = omega arith
-grant-few (Some g) = omega arith
+pub grant_few : (g : Option (List ℕ)) → length (option_to_list g) ≤ 1
+grant_few None = omega arith
+grant_few (Some g) = omega arith
 
--- a frame
-pub fed-numbers : (link link' : LinkState) (x : Event) → link'.setup ≡ link.setup
-    → link'.sender ≡ sender_event link.setup x link.sender.current link.sender.waiting → Numbers link link' 1
-fed-numbers link link' x same sender =
-    within-numbers link link' (sender_event link.setup x link.sender.current link.sender.waiting) 1 (grant-few link'.grant) same sender
-    (event-within link.setup x link.sender.current link.sender.waiting)
+-- a frame, and ticks
+pub fed_unsent : (link link' : LinkState) (x : Event) → pending link ≡ 0 → link'.setup ≡ link.setup
+    → link'.sender ≡ sender_event link.setup x link.sender.current link.sender.waiting → unsent link' ≤ unsent link + 1
+fed_unsent link link' x drained same sender =
+    (within_numbers link link' _ 1 drained (grant_few link'.grant) same sender (event_within link.setup x link.sender.current link.sender.waiting)).frames
 
--- ticks
-pub ticks-numbers : (link link' : LinkState) (n : ℕ) → link'.grant ≡ None → link'.setup ≡ link.setup
-    → link'.sender ≡ sender_ticks link.setup n link.sender.current link.sender.waiting → Numbers link link' 0
-ticks-numbers link link' n none same sender =
-    let few = ap (λ g. length (option_to_list g)) none in
-    within-numbers link link' (sender_ticks link.setup n link.sender.current link.sender.waiting) 0 (omega arith) same sender
-    (sender-ticks-within link.setup n link.sender.current link.sender.waiting)
+pub passed_unsent : (link link' : LinkState) (n : ℕ) → pending link ≡ 0 → link'.grant ≡ link.grant → link'.setup ≡ link.setup
+    → link'.sender ≡ sender_ticks link.setup n link.sender.current link.sender.waiting → unsent link' ≤ unsent link
+unfolding pending
+passed_unsent link link' n drained grant same sender =
+    let few = ap (λ g. length (option_to_list g)) (grant ∙ (drained_parts link.grant _ drained).0) in
+    let fewer = (within_numbers link link' _ 0 drained (omega arith) same sender
+    (sender_ticks_within link.setup n link.sender.current link.sender.waiting)).frames in omega arith
 
 -- a reply
-pub answered-numbers : (link link' : LinkState) (P : List ℕ) → link'.grant ≡ link.grant → link'.sender ≡ replied link.setup P link.sender
+pub answered_numbers : (link link' : LinkState) (P : List ℕ) → link'.grant ≡ link.grant
+    → settled link'.setup link'.sender ≡ replied link.setup P (settled link.setup link.sender)
     → (pending link' ≤ pending link + 1) × (waiting_count link' ≤ waiting_count link + 1)
 unfolding pending waiting_count
-answered-numbers link link' P grant sender =
-    let more = replied-numbers link.setup P link.sender in
+answered_numbers link link' P grant sender =
+    let r = settled link.setup link.sender in
+    let more = replied-numbers link.setup P r in
     let due = more.0 in
     let waiting = more.1 in
-    let old = length-append (option_to_list link.grant) link.sender.due in
-    let new = length-append (option_to_list link'.grant) link'.sender.due in
-    let same = ap (λ g. length (option_to_list g)) grant in
-    let now_due = ap (λ r. length r.due) sender in
-    let now_waiting = ap (λ r. length r.waiting) sender in
+    let old = length-append (option_to_list link.grant) r.due in
+    let new = length-append (option_to_list link'.grant) (settled link'.setup link'.sender).due in
+    let granted = ap (λ g. length (option_to_list g)) grant in
+    let now_due = ap (λ q. length q.due) sender in
+    let now_waiting = ap (λ q. length q.left.waiting) sender in
     (omega arith, omega arith)
 
 -- a frame that is handed out
-pub handed-numbers : (link link' : LinkState) (bytes : List ℕ) → due link ≡ bytes ∷ due link' → link'.sender.current ≡ link.sender.current
-    → link'.sender.waiting ≡ link.sender.waiting → link'.setup ≡ link.setup →
+pub handed_numbers : (link link' : LinkState) (bytes : List ℕ) → due link ≡ bytes ∷ due link'
+    → (settled link'.setup link'.sender).left ≡ (settled link.setup link.sender).left → link'.setup ≡ link.setup →
     (pending link ≡ pending link' + 1) × (unsent link ≡ unsent link' + 1)
-unfolding pending unsent
-handed-numbers link link' bytes less current waiting same =
+unfolding pending
+handed_numbers link link' bytes less kept same =
     let due_less = ap length less in
-    let left = ap (λ t. current_left t link'.sender.current + sum_by (frame_count t) link'.sender.waiting) same in
-    let now_current = ap (λ o. current_left link.setup o) current in
-    let now_waiting = ap (λ l. sum_by (frame_count link.setup) l) waiting in
+    let old = unsent-due link in
+    let new = unsent-due link' in
+    let rest = ap (λ r. left link'.setup r) kept ∙ ap (λ t. left t (settled link.setup link.sender).left) same in
     (omega arith, omega arith)
 
--- nothing is due exactly where all was handed out
-pub all_none : {X : Type 0} (s : LinkSetup) (link : LinkState) (E : List Event) (A : List Placed) (Q : List Sent) (o : Option X) →
-    (IsNone o → due link ≡ []) → (due link ≡ [] → IsNone o) → StandsFor s link E A Q → (IsNone o → Q ≡ wire s E A) × (Q ≡ wire s E A → IsNone o)
-unfolding pending
-all_none s link E A Q o f g h = (
-  λ t. stands_all s link E A Q h (ap length (f t)),
-  λ e. g (length-zero (due link) (let sizes = stands_length s link E A Q h in let same = ap length e in omega arith)),
-)
-
-pub none_pending : {X : Type 0} (link : LinkState) (o : Option X) → (IsNone o → due link ≡ []) → (due link ≡ [] → IsNone o)
-    → (IsNone o → pending link ≡ 0) × (pending link ≡ 0 → IsNone o)
-unfolding pending
-none_pending link o f g = (λ t. ap length (f t), λ e. g (length-zero (due link) e))
-
--- a frame that is handed out, in each history
-pub handed : (link link' : LinkState) (o : Option Frame) → IfSome o (λ frame. (due link ≡ frame.bytes ∷ due link') × (frame.id ≡ link.setup.ids.response)) →
-    link'.sender.current ≡ link.sender.current → link'.sender.waiting ≡ link.sender.waiting → link'.partial ≡ link.partial → link'.setup ≡ link.setup
-    → link'.now ≡ link.now →
-    IfSome o (λ frame. EachHistory link (λ s E A Q. StandsFor s link' E A (Q ++ record { at = last_time E; frame = frame } ∷ [])))
-handed link link' None some current waiting partial same now = tt
-handed link link' (Some frame) some current waiting partial same now =
-    λ s E A Q h.
-    subst (λ (id : ℕ). StandsFor s link' E A
-    (Q ++ (let sent : Sent = record { at = last_time E; frame = record { id = id; bytes = frame.bytes } } in sent) ∷ [])) (sym some.1)
-    (stands_next s link link' E A Q frame.bytes some.0 current waiting partial same now h)
-
-pub handed-fewer : (link link' : LinkState) (o : Option Frame)
-    → IfSome o (λ frame. (due link ≡ frame.bytes ∷ due link') × (frame.id ≡ link.setup.ids.response)) →
-    link'.sender.current ≡ link.sender.current → link'.sender.waiting ≡ link.sender.waiting → link'.setup ≡ link.setup →
-    IsSome o → (pending link ≡ pending link' + 1) × (unsent link ≡ unsent link' + 1)
-handed-fewer link link' None some current waiting same h = cc
-handed-fewer link link' (Some frame) some current waiting same h = handed-numbers link link' frame.bytes some.0 current waiting same
-
-pub waiting-same : (link link' : LinkState) → link'.sender.waiting ≡ link.sender.waiting → waiting_count link' ≤ waiting_count link
+pub waiting_same : (link link' : LinkState) → (settled link'.setup link'.sender).left ≡ (settled link.setup link.sender).left
+    → waiting_count link' ≤ waiting_count link
 unfolding waiting_count
-waiting-same link link' e = let same = ap length e in omega arith
+waiting_same link link' e = let same = ap (λ r. length r.waiting) e in omega arith

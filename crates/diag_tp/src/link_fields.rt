@@ -29,7 +29,7 @@ ghost use Rattle.std.specs.Prelude.{
 ghost use Rattle.diag_tp.specs.declared.step.Step.{Step as AStep};
 ghost use Rattle.diag_tp.specs.Kind.{kind};
 ghost use Rattle.diag_tp.specs.Gives.{is_request};
-ghost use Rattle.diag_tp.specs.Sender.{frames_of, sender_event, sender_frame, sender_ticks};
+ghost use Rattle.diag_tp.specs.Sender.{settled, sender_event, sender_frame, sender_ticks};
 ghost use Rattle.diag_tp.specs.Receiver.{
   open_after,
   completed_by,
@@ -67,54 +67,17 @@ use crate::message::Message;
 use crate::pci::Pci;
 use crate::step::{Request, Step};
 use crate::taken::Taken;
-use diag_can::{Event, Frame, FrameBytes};
+use diag_can::{Event, FrameBytes};
 use std::alloc::AllocError;
 
 impl Link {
-    /// Makes room, field by field.
-    pub(crate) fn reserve(&mut self, event: &Event) -> Result<(), AllocError>
-        ensures same { self.new.state ≡ self.old.state }
-        ensures room { OnOk result ((needed self.new.state.setup event.now ≤ self.new.room)
-            × (0 < self.new.reply_room)) }
-        ensures kept { self.old.room ≤ self.new.room }
-        ensures reply_kept { self.old.reply_room ≤ self.new.reply_room }
-    {
-        if let Event::Physical(bytes) = event {
-            let kind = self.kind(bytes);
-            self.receiver.make_room(&kind)?;
-        }
-        self.sender.make_room()
-    }
-
-    /// The next frame, field by field.
-    pub(crate) fn next_due(&mut self) -> Option<Frame>
-        ensures some { IfSome result (λ frame.
-            (due self.old.state ≡ frame.bytes ∷ due self.new.state)
-            × (frame.id ≡ self.old.state.setup.ids.response)) }
-        ensures none { IsNone result ↔ (due self.old.state ≡ []) }
-        ensures same { IfNone result (self.new ≡ self.old) }
-        ensures current { self.new.state.sender.current ≡ self.old.state.sender.current }
-        ensures waiting { self.new.state.sender.waiting ≡ self.old.state.sender.waiting }
-        ensures partial { self.new.state.partial ≡ self.old.state.partial }
-        ensures room { self.new.room ≡ self.old.room }
-        ensures reply_room { self.old.reply_room ≤ self.new.reply_room }
-        ensures setup { self.new.state.setup ≡ self.old.state.setup }
-        ensures now { self.new.state.now ≡ self.old.state.now }
-    {
-        let bytes = self.next_bytes()?;
-        Some(Frame {
-            id: self.setup.ids.response,
-            bytes,
-        })
-    }
-
     /// The bytes of the next frame: flow control goes first.
-    fn next_bytes(&mut self) -> Option<FrameBytes>
+    pub(crate) fn next_bytes(&mut self) -> Option<FrameBytes>
         ensures some { IfSome result (λ bytes. due self.old.state ≡ bytes ∷ due self.new.state) }
         ensures none { IsNone result ↔ (due self.old.state ≡ []) }
         ensures same { IfNone result (self.new ≡ self.old) }
-        ensures current { self.new.state.sender.current ≡ self.old.state.sender.current }
-        ensures waiting { self.new.state.sender.waiting ≡ self.old.state.sender.waiting }
+        ensures left { (settled self.new.state.setup self.new.state.sender).left
+            ≡ (settled self.old.state.setup self.old.state.sender).left }
         ensures partial { self.new.state.partial ≡ self.old.state.partial }
         ensures room { self.new.room ≡ self.old.room }
         ensures reply_room { self.old.reply_room ≤ self.new.reply_room }
@@ -128,6 +91,7 @@ impl Link {
     }
 
     /// Whether neither flow control nor a frame of a message is due.
+    #[tactic(auto, using(crate::proofs::Settled::drained_iff))]
     pub(crate) fn has_none_due(&self) -> bool
         ensures { IsTrue result ↔ (length (due self.now.state) ≡ 0) }
     {
@@ -295,7 +259,6 @@ impl Link {
 
     /// Takes what is left of a frame, field by field.
     pub(crate) fn finish(&mut self, taken: &Taken)
-        requires drained { self.old.state.sender.due ≡ [] }
         requires fits { FitsIn self.old taken.now }
         ensures partial { self.new.state.partial
             ≡ reception_after self.old.state.partial taken.now }
@@ -320,7 +283,6 @@ impl Link {
     /// Takes a frame, field by field.
     pub(crate) fn receive(&mut self, event: &Event) -> Option<Request>
         requires frame { IsTrue (is_frame event.now) }
-        requires drained { self.old.state.sender.due ≡ [] }
         requires room { needed self.old.state.setup event.now ≤ self.old.room }
         ensures answer { asked_of result
             ≡ step_after self.old.state.setup self.old.state.partial event.now }
@@ -350,7 +312,6 @@ impl Link {
 
     /// Takes a frame of this kind with the tester's own identifier, whose message, if any, was handed over.
     fn take_kind(&mut self, kind: &Pci)
-        requires drained { self.old.state.sender.due ≡ [] }
         requires read { IsRead self.old.state.setup.max_request kind.now }
         requires room { needed_for kind.now ≤ self.old.room }
         ensures partial { self.new.state.partial ≡ open_after self.old.state.partial kind.now }
@@ -376,11 +337,8 @@ impl Link {
 
     /// So many ticks, before the last of which nothing falls due.
     pub(crate) fn pass(&mut self, count: u16)
-        requires drained { self.old.state.sender.due ≡ [] }
         ensures partial { self.new.state.partial
             ≡ option_and_then (ticks_later self.old.state.setup.n_cr count) self.old.state.partial }
-        ensures still { IfSome self.old.state.sender.current (λ c.
-            (c.next < frames_of c.message) × (c.due ≡ 0)) }
         ensures grant { self.new.state.grant ≡ self.old.state.grant }
         ensures sender { self.new.state.sender
             ≡ sender_ticks self.old.state.setup count
@@ -398,7 +356,6 @@ impl Link {
 
     /// For how many ticks nothing falls due and nothing ends, from the fields.
     pub(crate) fn quiet_ticks(&self) -> u64
-        requires drained { self.now.state.sender.due ≡ [] }
         ensures { result
             ≡ max (min (reception_quiet self.now.state.setup.n_cr self.now.state.partial)
             (sender_quiet self.now.state.sender.current)) 1 }

@@ -17,7 +17,8 @@ ghost use Rattle.std.specs.Prelude.{
   IsTrue,
   ◌↔◌,
 };
-ghost use Rattle.diag_tp.specs.Sender.{frames_of, waits};
+ghost use Rattle.diag_tp.specs.declared.setup.LinkSetup.{LinkSetup as ALinkSetup};
+ghost use Rattle.diag_tp.specs.Sender.{frames_of, started};
 
 use crate::kind::consecutive_count;
 use crate::message::Message;
@@ -117,7 +118,7 @@ impl Queue {
     /// How many still wait where the first begins, and after one of a single frame the next. It looks at each reply up to
     /// the first longer one.
     pub(crate) fn still_waiting(&self) -> usize
-        ensures { result ≡ length (waits self.now.replies) }
+        ensures { (s : ALinkSetup) → result ≡ length (started s self.now.replies).left.waiting }
     {
         let len = self.replies.len();
         for first in 0..len {

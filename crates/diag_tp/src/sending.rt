@@ -96,7 +96,6 @@ fn within_block(setup: &LinkSetup, rest: u16, gap: u16) -> Phase
 impl Sending {
     /// So many ticks pass; false where the waiting time is up, which ends the message.
     pub(crate) fn tick(&mut self, setup: &LinkSetup, count: u16) -> bool
-        requires drained { self.old.due ≡ 0 }
         requires sound { IsSound self.old }
         ensures fields { (if result then Some self.new else None)
             ≡ tick_fields setup.now count self.old self.old.phase }
@@ -116,7 +115,6 @@ impl Sending {
 
     /// A flow control frame comes; false where it ends the message.
     pub(crate) fn decide(&mut self, setup: &LinkSetup, status: u8, block: u8, gap: u8) -> bool
-        requires drained { self.old.due ≡ 0 }
         requires sound { IsSound self.old }
         ensures fields { (if result then Some self.new else None)
             ≡ flow_fields setup.now self.old (flow_decision status block gap) self.old.phase }

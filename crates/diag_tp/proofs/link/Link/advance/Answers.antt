@@ -1,44 +1,30 @@
-use Rattle.std.proofs.Common.{◌≡◌, ◌∙◌, ◌+◌, arith, ap, min}
-use Rattle.std.specs.Prelude.{option_and_then}
+use Rattle.std.proofs.Common.{◌≡◌, ◌∙◌, ◌++◌, ◌∷◌, [], ℕ, arith, subst}
+use Rattle.diag_can.specs.declared.frame.Event.TheVariants.{Ticks}
 use Rattle.diag_tp.specs.State.{due}
-use Rattle.diag_tp.specs.Receiver.{ticks_later}
-use Rattle.diag_tp.specs.Sender.{sender_ticks}
-use Rattle.diag_tp.specs.Link.{pending, last_tick}
+use Rattle.diag_tp.specs.Link.{pending, StandsFor}
 use Rattle.diag_tp.proofs.Lists.{length-zero}
-use Rattle.diag_tp.proofs.History.{drained-parts}
+use Rattle.diag_tp.proofs.History.{drained_parts}
 use Rattle.diag_tp.proofs.Silence.{stands_ticks, silent}
-use Rattle.diag_tp.proofs.Views.{ticks-numbers, keeps-room, keeps-reply-room}
 use Rattle.diag_tp.proofs.link.Link.advance.Goals as goal
 
-pub pass-requires : goal.pass-requires
+pub returns-clause-stands : goal.returns-clause-stands
 unfolding pending
-pass-requires c = record { drained = (drained-parts c.args.self.now.state.grant c.args.self.now.state.sender.due c.requires.drained).1 }
-
-pub returns : goal.returns
-unfolding pending
-returns c =
+returns-clause-stands c = λ s E A Q h.
     let old = c.args.self.now.state in
-    let new = c.pass.new.self.state in
-    let n = c.args.count in
-    let same : c.get.result ≡ n = c.get.ensures.value in
+    let same : c.get.result ≡ c.args.count = c.get.ensures.value in
     let some = c.get.ensures.in_range.0 in
-    let none = length-zero (due old) c.requires.drained in
-    let idle = (drained-parts old.grant old.sender.due c.requires.drained).0 in
+    let few = c.requires.quiet in
     let done = c.pass.ensures in
-    let grant = done.grant ∙ idle in
-    let sender = done.sender ∙ ap (λ k. sender_ticks old.setup k old.sender.current old.sender.waiting) same in
-    let partial = done.partial ∙ ap (λ k. option_and_then (ticks_later old.setup.n_cr k) old.partial) same in
-    let now = done.now ∙ ap (λ k. min (old.now + k) last_tick) same in
-    let numbers = ticks-numbers old new n grant done.setup sender in
-    record {
-      stands = λ s E A Q h. stands_ticks s old new E A Q n done.still (omega arith) c.requires.quiet none grant sender partial done.setup now h;
-      silent = λ h. silent old.setup n old new done.still (omega arith) none h grant sender;
-      room = keeps-room c.args.self.now c.pass.new.self done.setup (let same = done.room in omega arith);
-      reply_room = keeps-reply-room c.args.self.now c.pass.new.self (let same = done.reply_room in omega arith);
-      unsent = let fewer = numbers.frames in omega arith;
-      due = numbers.now;
-      waiting = numbers.replies;
-      time = now;
-      later = done.later;
-      setup = done.setup;
-    }
+    subst (λ (n : ℕ). StandsFor s c.pass.new.self.state (E ++ Ticks n ∷ []) A Q) same
+    (stands_ticks s old c.pass.new.self.state E A Q c.get.result (omega arith) (omega arith) (length-zero (due old) c.requires.drained)
+    (done.grant ∙ (drained_parts old.grant _ c.requires.drained).0) done.sender done.partial done.setup done.now h)
+
+pub returns-clause-silent : goal.returns-clause-silent
+unfolding pending
+returns-clause-silent c = λ few.
+    let old = c.args.self.now.state in
+    let same : c.get.result ≡ c.args.count = c.get.ensures.value in
+    let some = c.get.ensures.in_range.0 in
+    let done = c.pass.ensures in
+    silent c.get.result old c.pass.new.self.state (omega arith) (length-zero (due old) c.requires.drained) (omega arith)
+    (done.grant ∙ (drained_parts old.grant _ c.requires.drained).0) done.setup done.sender

@@ -1,15 +1,9 @@
-use Rattle.std.proofs.Common.{◌≡◌, ◌∙◌, ap, sym, length, true, false, arith, refl}
+use Rattle.std.proofs.Common.{◌≡◌, ap, length, true, false, arith, refl}
 use Rattle.std.specs.Prelude.{◌==◌}
 use Rattle.std.proofs.lemmas.Bool.Decides.{nat_tests}
 use Rattle.diag_tp.specs.State.{due}
 use Rattle.diag_tp.specs.Link.{quiet}
-use Rattle.diag_tp.proofs.History.{drained-parts}
 use Rattle.diag_tp.proofs.link.Link.quiet.Goals as goal
-
-pub quiet_ticks-requires : goal.quiet_ticks-requires
-quiet_ticks-requires c =
-    let now = c.args.self.now.state in
-    record { drained = (drained-parts now.grant now.sender.due (c.has_none_due.ensures.0 c.if-has_none_due.true)).1 }
 
 pub returns-then-has_none_due-clause-is : goal.returns-then-has_none_due-clause-is
 unfolding quiet
@@ -23,11 +17,7 @@ pub returns-else-has_none_due-clause-is : goal.returns-else-has_none_due-clause-
 unfolding quiet
 returns-else-has_none_due-clause-is c =
     let now = c.args.self.now.state in
-    let some : (length (due now) == 0) ≡ false =
-    elim (length (due now) == 0) as (λ b. (length (due now) == 0) ≡ b → b ≡ false) [
-      | true ↦ λ t.
-          let e : length (due now) ≡ 0 = grind (arith, nat_tests) in
-          sym (c.has_none_due.ensures.1 e) ∙ c.if-has_none_due.false
-      | false ↦ λ f. refl
-    ] refl in
+    let all = c.has_none_due.ensures.1 in
+    let not = c.if-has_none_due.false in
+    let some : (length (due now) == 0) ≡ false = grind (arith, nat_tests, all, not) in
     rw some refl
