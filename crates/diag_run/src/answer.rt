@@ -15,21 +15,23 @@ use std::alloc::Global;
 use std::sync::Wait;
 use std::thread::Threads;
 
-/// Plays the logs on one thread, and says what the play writes.
+/// Plays the logs on one thread, and says what the play writes. The logs' texts are let go once they are read, and the
+/// logs once they are played.
 pub(crate) fn played_text(
     alloc: Global,
     setup: &Setup,
-    texts: &[Vec<u8>],
+    texts: Vec<Vec<u8>>,
     only_journal: bool,
     timing: Timing,
 ) -> Result<Vec<Vec<u8>>, RunFault>
-    requires { length texts.now ≡ length setup.now.testers }
+    requires { length texts.items ≡ length setup.now.testers }
     ensures gives { GivesPlayed only_journal timing setup.now
-        (or_bad_log (logs_of setup.now timing (map (λ text. text.items) texts.now)))
+        (or_bad_log (logs_of setup.now timing (map (λ text. text.items) texts.items)))
         (answered result) }
     ensures device { (n : ℕ) → result ≢ Err (RunFault.Read n) }
 {
-    let logs = read_logs(alloc, setup, texts, timing)?;
+    let logs = read_logs(alloc, setup, texts.as_slice(), timing)?;
+    drop(texts);
     let played = serial(alloc, setup, logs.as_slice())?;
     drop(logs);
     parts_in_turn(alloc, setup, played, only_journal, timing)
