@@ -8,19 +8,19 @@ ghost use Rattle.diag_run.specs.Run.{GivesPlayed, GivesWoven, GivesReplayed, pla
 use diag_can::Timing;
 use diag_desk::{TextFault, replay_lines};
 use diag_setup::Setup;
-use diag_text::{RunFault, counted_text, journal_part, one_part, play_parts, play_parts_beside};
+use diag_text::{RunFault, counted_text, journal_part, one_part, play_parts_beside, play_parts_in};
 use diag_workers::{NoWatch, play, read_logs};
 use diag_world::{Played, serial};
 use std::alloc::Global;
 use std::sync::Wait;
 use std::thread::Threads;
 
-/// Plays the logs on one thread, and says what the play writes. The logs' texts are let go once they are read, and the
-/// logs once they are played.
+/// Plays the logs on one thread, and says what the play writes. The logs are let go once they are played, and the memory
+/// of the last one's text takes what is written.
 pub(crate) fn played_text(
     alloc: Global,
     setup: &Setup,
-    texts: Vec<Vec<u8>>,
+    mut texts: Vec<Vec<u8>>,
     only_journal: bool,
     timing: Timing,
 ) -> Result<Vec<Vec<u8>>, RunFault>
@@ -31,10 +31,11 @@ pub(crate) fn played_text(
     ensures device { (n : ℕ) → result ≢ Err (RunFault.Read n) }
 {
     let logs = read_logs(alloc, setup, texts.as_slice(), timing)?;
-    drop(texts);
     let played = serial(alloc, setup, logs.as_slice())?;
     drop(logs);
-    parts_in_turn(alloc, setup, played, only_journal, timing)
+    let room = texts.pop().unwrap_or(Vec::new(alloc));
+    drop(texts);
+    parts_in_turn(room, alloc, setup, played, only_journal, timing)
 }
 
 /// Plays the logs, a thread for each tester, and says what the play writes.
@@ -82,6 +83,7 @@ fn parts_beside<R: Threads + Sync>(
 
 /// The same in parts that are made one behind the other. What was played is let go as it is written.
 fn parts_in_turn(
+    room: Vec<u8>,
     alloc: Global,
     setup: &Setup,
     played: Played,
@@ -97,7 +99,7 @@ fn parts_in_turn(
     let parts = if only_journal {
         one_part(alloc, journal_part(alloc, timing, played.desk.journal())?)?
     } else {
-        play_parts(alloc, setup, played, timing)?
+        play_parts_in(room, alloc, setup, played, timing)?
     };
     Ok(parts)
 }
