@@ -16,11 +16,11 @@ use std::sync::Wait;
 use std::thread::Threads;
 
 /// Plays the logs on one thread, and says what the play writes. The logs are let go once they are played, and the memory
-/// of the last one's text takes what is written.
+/// of their texts takes what is written.
 pub(crate) fn played_text(
     alloc: Global,
     setup: &Setup,
-    mut texts: Vec<Vec<u8>>,
+    texts: Vec<Vec<u8>>,
     only_journal: bool,
     timing: Timing,
 ) -> Result<Vec<Vec<u8>>, RunFault>
@@ -33,9 +33,7 @@ pub(crate) fn played_text(
     let logs = read_logs(alloc, setup, texts.as_slice(), timing)?;
     let played = serial(alloc, setup, logs.as_slice())?;
     drop(logs);
-    let room = texts.pop().unwrap_or(Vec::new(alloc));
-    drop(texts);
-    parts_in_turn(room, alloc, setup, played, only_journal, timing)
+    parts_in_turn(texts, alloc, setup, played, only_journal, timing)
 }
 
 /// Plays the logs, a thread for each tester, and says what the play writes.
@@ -83,7 +81,7 @@ fn parts_beside<R: Threads + Sync>(
 
 /// The same in parts that are made one behind the other. What was played is let go as it is written.
 fn parts_in_turn(
-    room: Vec<u8>,
+    rooms: Vec<Vec<u8>>,
     alloc: Global,
     setup: &Setup,
     played: Played,
@@ -99,7 +97,7 @@ fn parts_in_turn(
     let parts = if only_journal {
         one_part(alloc, journal_part(alloc, timing, played.desk.journal())?)?
     } else {
-        play_parts_in(room, alloc, setup, played, timing)?
+        play_parts_in(rooms, alloc, setup, played, timing)?
     };
     Ok(parts)
 }

@@ -15,7 +15,6 @@ use diag_store::DtcMemory;
 use diag_tp::Sent;
 use diag_world::Played;
 use std::alloc::{AllocError, Global};
-use std::mem;
 use std::thread::{Threads, join};
 
 /// All that a play writes, in parts that are made one behind the other: the reply lines of each tester, the journal,
@@ -36,12 +35,13 @@ pub fn play_parts(
     play_parts_in(Vec::new(alloc), alloc, setup, played, timing)
 }
 
-/// The same, with the lines of the first tester in memory that was used for something else: it is emptied, and may grow.
+/// The same, with each tester's lines in memory that was used for something else, as far as there is some: it is emptied,
+/// and may grow.
 ///
 /// # Errors
 /// `AllocError` where memory is refused.
 pub fn play_parts_in(
-    room: Vec<u8>,
+    rooms: Vec<Vec<u8>>,
     alloc: Global,
     setup: &Setup,
     played: Played,
@@ -52,7 +52,7 @@ pub fn play_parts_in(
         ≡ whole_text timing setup.now played.desk (map (λ sent. sent.items) played.sent.items)) }
 {
     let Played { desk, sent } = played;
-    let lines = lines_from(room, alloc, setup, sent)?;
+    let lines = lines_from(rooms, alloc, setup, sent)?;
     let journal = journal_part(alloc, timing, desk.journal())?;
     let end = end_text(alloc, setup, desk.ecu())?;
     with_end(lines, journal, end)
@@ -92,7 +92,7 @@ fn one_text(alloc: Global, parts: &[Vec<u8>]) -> Result<Vec<u8>, AllocError>
 
 /// The reply lines of these frames, which are let go.
 fn lines_from(
-    room: Vec<u8>,
+    rooms: Vec<Vec<u8>>,
     alloc: Global,
     setup: &Setup,
     sent: Vec<Vec<Sent>>,
@@ -101,7 +101,7 @@ fn lines_from(
     ensures { IfOk result (λ parts. concat (map (λ part. part.items) parts.items)
         ≡ lines_from setup.now 1 (map (λ frames. frames.items) sent.items)) }
 {
-    lines_in_turn(room, alloc, setup, sent.as_slice())
+    lines_in_turn(rooms, alloc, setup, sent.as_slice())
 }
 
 /// The same text in parts that are made beside each other.
@@ -282,9 +282,9 @@ fn tester_lines(mut text: Vec<u8>, name: &[u8], sent: &[Sent]) -> Result<Vec<u8>
 /// What a line of eight bytes has beside its name, where its time is below 10,000,000,000 seconds.
 const USUAL_LINE: usize = 42;
 
-/// The reply lines of each tester, a part each, the first in this memory.
+/// The reply lines of each tester, a part each, in these memories as far as they go.
 fn lines_in_turn(
-    mut room: Vec<u8>,
+    mut rooms: Vec<Vec<u8>>,
     alloc: Global,
     setup: &Setup,
     sent: &[Vec<Sent>],
@@ -298,8 +298,8 @@ fn lines_in_turn(
         let Some(who) = setup.who(index) else {
             unreachable!()
         };
-        let memory = mem::replace(&mut room, Vec::new(alloc));
-        let lines = tester_lines(memory, setup.name(who), frames.as_slice())?;
+        let room = rooms.pop().unwrap_or(Vec::new(alloc));
+        let lines = tester_lines(room, setup.name(who), frames.as_slice())?;
         add_part(&mut parts, lines)?;
     }
     Ok(parts)
