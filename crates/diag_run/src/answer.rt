@@ -8,31 +8,32 @@ ghost use Rattle.diag_run.specs.Run.{GivesPlayed, GivesWoven, GivesReplayed, pla
 use diag_can::Timing;
 use diag_desk::{TextFault, replay_lines};
 use diag_setup::Setup;
-use diag_text::{RunFault, counted_text, journal_part, one_part, play_parts, play_parts_beside};
+use diag_text::{RunFault, counted_text, journal_part, one_part, play_parts_beside, play_parts_in};
 use diag_workers::{NoWatch, play, read_logs};
 use diag_world::{Played, serial};
 use std::alloc::Global;
 use std::sync::Wait;
 use std::thread::Threads;
 
-/// Plays the logs on one thread, and says what the play writes.
+/// Plays the logs on one thread, and says what the play writes. The logs are let go once they are played, and the memory
+/// of their texts takes what is written.
 pub(crate) fn played_text(
     alloc: Global,
     setup: &Setup,
-    texts: &[Vec<u8>],
+    texts: Vec<Vec<u8>>,
     only_journal: bool,
     timing: Timing,
 ) -> Result<Vec<Vec<u8>>, RunFault>
-    requires { length texts.now ≡ length setup.now.testers }
+    requires { length texts.items ≡ length setup.now.testers }
     ensures gives { GivesPlayed only_journal timing setup.now
-        (or_bad_log (logs_of setup.now timing (map (λ text. text.items) texts.now)))
+        (or_bad_log (logs_of setup.now timing (map (λ text. text.items) texts.items)))
         (answered result) }
     ensures device { (n : ℕ) → result ≢ Err (RunFault.Read n) }
 {
-    let logs = read_logs(alloc, setup, texts, timing)?;
+    let logs = read_logs(alloc, setup, texts.as_slice(), timing)?;
     let played = serial(alloc, setup, logs.as_slice())?;
     drop(logs);
-    parts_in_turn(alloc, setup, played, only_journal, timing)
+    parts_in_turn(texts, alloc, setup, played, only_journal, timing)
 }
 
 /// Plays the logs, a thread for each tester, and says what the play writes.
@@ -80,6 +81,7 @@ fn parts_beside<R: Threads + Sync>(
 
 /// The same in parts that are made one behind the other. What was played is let go as it is written.
 fn parts_in_turn(
+    rooms: Vec<Vec<u8>>,
     alloc: Global,
     setup: &Setup,
     played: Played,
@@ -95,7 +97,7 @@ fn parts_in_turn(
     let parts = if only_journal {
         one_part(alloc, journal_part(alloc, timing, played.desk.journal())?)?
     } else {
-        play_parts(alloc, setup, played, timing)?
+        play_parts_in(rooms, alloc, setup, played, timing)?
     };
     Ok(parts)
 }

@@ -120,19 +120,18 @@ fn read_all<R: Read>(
 }
 
 /// The text that is written for what was read, in parts.
-fn text_alone(alloc: Global, job: Alone, given: &Given) -> Result<Vec<Vec<u8>>, RunFault>
-    requires { length given.now.texts.items ≡ wanted (job_of job) given.now.setup }
-    ensures gives { GivesText (job_of job) (inputs_of given.now)
-        (answered result) }
+fn text_alone(alloc: Global, job: Alone, given: Given) -> Result<Vec<Vec<u8>>, RunFault>
+    requires { length given.texts.items ≡ wanted (job_of job) given.setup }
+    ensures gives { GivesText (job_of job) (inputs_of given) (answered result) }
     ensures device { (n : ℕ) → result ≢ Err (RunFault.Read n) }
 {
-    let texts = given.texts.as_slice();
+    let Given { setup, texts } = given;
     match job {
         Alone::Serial {
             only_journal,
             timing,
-        } => played_text(alloc, &given.setup, texts, only_journal, timing),
-        Alone::Replay => replayed_text(alloc, &given.setup, texts[0].as_slice()),
+        } => played_text(alloc, &setup, texts, only_journal, timing),
+        Alone::Replay => replayed_text(alloc, &setup, texts[0].as_slice()),
     }
 }
 
@@ -141,13 +140,12 @@ fn text_of<T: Threads + Wait + Sync>(
     rt: &T,
     alloc: Global,
     job: Job,
-    given: &Given,
+    given: Given,
 ) -> Result<Vec<Vec<u8>>, RunFault>
-    requires { length given.now.texts.items ≡ wanted job given.now.setup }
-    ensures gives { GivesText job (inputs_of given.now) (answered result) }
+    requires { length given.texts.items ≡ wanted job given.setup }
+    ensures gives { GivesText job (inputs_of given) (answered result) }
     ensures device { (n : ℕ) → result ≢ Err (RunFault.Read n) }
 {
-    let texts = given.texts.as_slice();
     match job {
         Job::Serial {
             only_journal,
@@ -163,7 +161,10 @@ fn text_of<T: Threads + Wait + Sync>(
         Job::Play {
             only_journal,
             timing,
-        } => woven_text(rt, alloc, &given.setup, texts, only_journal, timing),
+        } => {
+            let texts = given.texts.as_slice();
+            woven_text(rt, alloc, &given.setup, texts, only_journal, timing)
+        }
         Job::Replay => text_alone(alloc, Alone::Replay, given),
     }
 }
@@ -186,7 +187,7 @@ fn whole_alone<R: Read>(
         (TextStops R.remaining (job_of job) config.old config.new files.old files.new) }
 {
     match read_all(alloc, job.job(), config, files) {
-        Ok(given) => text_alone(alloc, job, &given),
+        Ok(given) => text_alone(alloc, job, given),
         Err(fault) => Err(fault),
     }
 }
@@ -214,7 +215,7 @@ pub fn run_text<T: Threads + Wait + Sync, R: Read>(
         (TextStops R.remaining job config.old config.new files.old files.new) }
 {
     match read_all(alloc, job, config, files) {
-        Ok(given) => text_of(rt, alloc, job, &given),
+        Ok(given) => text_of(rt, alloc, job, given),
         Err(fault) => Err(fault),
     }
 }
