@@ -7,8 +7,9 @@ ghost use Rattle.diag_bus.specs.Batch.{entry_added};
 
 use crate::bus::Output;
 use diag_can::TickCount;
-use diag_desk::{Entry, Step, write_entry_at};
+use diag_desk::{Entry, write_entry_at};
 use diag_setup::TesterId;
+use diag_tp::Step;
 use std::alloc::AllocError;
 
 /// Adds the line of an entry, where a journal is wanted; `now` is what its tester's clock tells before it.

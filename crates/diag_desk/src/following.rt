@@ -21,7 +21,7 @@ use crate::next::{LineFault, clock_with, next_line};
 use crate::read::{JournalFault, is_stamped};
 use crate::usual::{behind, behind_reply, count_front, is_functional, line_front, read_front};
 use diag_ecu::Ecu;
-use diag_store::{Setup, TesterId};
+use diag_setup::{Setup, TesterId};
 use diag_tp::Message;
 use std::alloc::{AllocError, Global};
 use thiserror::Error;

@@ -9,7 +9,7 @@ use crate::clocks::Clocks;
 use crate::entry::{Entry, EntryRef, StepRef};
 use crate::journal::Journal;
 use diag_can::write_hex;
-use diag_store::TesterId;
+use diag_setup::TesterId;
 use std::alloc::{AllocError, Global};
 
 /// The text of version 1: the line `diag-journal 1`, then a line for each entry, each ended by LF.

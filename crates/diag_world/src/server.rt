@@ -38,7 +38,7 @@ use crate::port::{Prepared, prepare, settle};
 use diag_can::{Event, TickCount};
 use diag_desk::{Entry, reply_of, settle_step};
 use diag_ecu::Ecu;
-use diag_store::{Setup, TesterId};
+use diag_setup::{Setup, TesterId};
 use diag_tp::{Link, Sent, Taken};
 use std::alloc::{AllocError, Global};
 use std::marker::Model;
