@@ -1,7 +1,9 @@
 //! Messages, and their frames one by one.
 
 use diag_can::FrameBytes;
-use diag_tp::{Message, MessageFault, Pci, consecutive_frame, first_frame, flow_frame, frame_of, single_frame};
+use diag_tp::{
+    Message, MessageFault, Pci, consecutive_frame, first_frame, flow_frame, frame_of, single_frame,
+};
 use std::alloc::{AllocError, Global};
 use std::test::Fail;
 
