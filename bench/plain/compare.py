@@ -4,20 +4,22 @@
     bench/plain/compare.py                         the built program, and the twin, which is built first
     bench/plain/compare.py --program P --plain Q   other executables
     bench/plain/compare.py --only WORD ..          the workloads with such a word in their names
-    bench/plain/compare.py --lines N               N lines a workload, where it isn't 100,000, for the memory and the bytes
+    bench/plain/compare.py --lines N               N lines a workload, where it isn't 100,000, for time, memory and bytes
     bench/plain/compare.py --seed N                other random frames
     bench/plain/compare.py --bytes                 only whether both write the same bytes
 
 The workloads are those of bench/workloads.py. For each it is seen that both write the same bytes (with the
 journal and the end too, where the command has them), and a row in Markdown tells the instructions of each for a line
-more (by valgrind's callgrind, of two short runs the difference), the most memory of each in KiB (of five runs, each
-looked at every two milliseconds), and how many times the twin's the program's are. The last row has the geometric means
-of these. The twin is built by the line that stands in main.rs, which
-wants `rustc`.
+more (by valgrind's callgrind, of two short runs the difference), the processor's nanoseconds for a line more (its own
+and the system's for it: the least of fifteen runs, in which the two take turns, less the least of runs with a tenth of
+the lines), the most memory of each in KiB (of five runs, each looked at every two milliseconds), and how many times the
+twin's the program's are. The last row has the geometric means of these. Instructions are the same in each run; times
+feel what else the machine does. The twin is built by the line that stands in main.rs, which wants `rustc`.
 """
 import argparse
 import math
 import os
+import resource
 import subprocess
 import sys
 import tempfile
@@ -26,6 +28,9 @@ sys.dont_write_bytecode = True
 HERE = os.path.dirname(os.path.abspath(__file__))
 sys.path.insert(0, os.path.dirname(HERE))
 import workloads as module
+
+# the runs of which the least time counts
+RUNS = 15
 
 # other flags under which both have to write the same bytes
 FLAGS = {"serial": [[], ["--journal"]], "bus": [[], ["--journal"], ["--end"]], "replay": [[]]}
@@ -57,6 +62,26 @@ def costs(room, programs, work):
     return [int(it.replace(",", "")) for it in module.for_a_line(room, programs, work)]
 
 
+def spent(program, words):
+    """Returns the processor's seconds of a run, with the system's for it."""
+    before = resource.getrusage(resource.RUSAGE_CHILDREN)
+    subprocess.run([program, *words], stdout=subprocess.DEVNULL, check=True)
+    after = resource.getrusage(resource.RUSAGE_CHILDREN)
+    return after.ru_utime - before.ru_utime + after.ru_stime - before.ru_stime
+
+
+def least(programs, words):
+    """Returns the least seconds of each program."""
+    return [min(each) for each in zip(*([spent(it, words) for it in programs] for _ in range(RUNS)))]
+
+
+def times(room, programs, work, lines):
+    """Returns the processor's nanoseconds of each program for a line more."""
+    few = least(programs, module.words_of(room, programs[0], work, lines // 10))
+    all_of = least(programs, module.words_of(room, programs[0], work, lines))
+    return [max(round((more - less) * 1e9 / (lines - lines // 10)), 1) for less, more in zip(few, all_of)]
+
+
 def memory(program, words):
     return max(module.peak(program, words) for _ in range(5))
 
@@ -70,14 +95,14 @@ def row(*cells):
 
 
 def measure(room, name, programs, work, words):
-    """Prints a workload's row, and returns its two ratios."""
+    """Prints a workload's row, and returns its three ratios."""
     line = costs(room, programs, work)
-    # the short runs have written over the files
-    module.words_of(room, programs[0], work, words.lines)
+    # the short runs have written over the files, and the last of these write them as they were
+    time = times(room, programs, work, words.lines)
     most = [memory(it, words.words) for it in programs]
-    ratios = [line[0] / line[1], most[0] / most[1]]
-    row(name, *(f"{it:,}" for it in line), f"{ratios[0]:.2f}", *(f"{it:,}" for it in most), f"{ratios[1]:.2f}")
-    return ratios
+    pairs = (line, time, most)
+    row(name, *(cell for proved, plain in pairs for cell in (f"{proved:,}", f"{plain:,}", f"{proved / plain:.2f}")))
+    return [proved / plain for proved, plain in pairs]
 
 
 class Words:
@@ -100,7 +125,7 @@ def main():
     works = {name: it for name, it in module.workloads(given.seed).items() if any(word in name for word in given.only)}
     same, ratios = 0, []
     if not given.bytes:
-        kinds = [f"{kind}, {which}" for kind in ("instructions a line", "KiB") for which in ("proved", "plain", "ratio")]
+        kinds = [f"{kind}, {which}" for kind in ("instructions a line", "nanoseconds a line", "KiB") for which in ("proved", "plain", "ratio")]
         row("workload", *kinds)
         print(f"|---|{'---|' * len(kinds)}", flush=True)
     with tempfile.TemporaryDirectory() as room:
@@ -111,8 +136,7 @@ def main():
             if not given.bytes:
                 ratios.append(measure(room, name, programs, work, words))
     if ratios:
-        line, most = (f"{mean(it):.2f}" for it in zip(*ratios))
-        row("geometric mean", "", "", line, "", "", most)
+        row("geometric mean", *(cell for it in zip(*ratios) for cell in ("", "", f"{mean(it):.2f}")))
     print(f"\n{same} runs of {len(works)} workloads, {given.lines:,} lines each: the same bytes")
 
 

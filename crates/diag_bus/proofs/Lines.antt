@@ -2,12 +2,12 @@
 use Rattle.std.proofs.Common.{◌≡◌, ℕ, ◌+◌, max, Option, Some, None, List, [], ◌∷◌, ◌++◌, length, refl, ap, ap₂, subst, sym, ◌∙◌, append_assoc, Ok}
 use Rattle.std.proofs.lemmas.List.{append-nil, length-map}
 use Rattle.std.proofs.lemmas.List.Elements.{filter_map-append}
-use Rattle.std.proofs.lemmas.List.Sums.{fold-append}
-use Rattle.std.specs.List.{cons_option, filter_map, flat_map, reduce}
+use Rattle.std.specs.List.{filter_map, flat_map, reduce}
 use Rattle.std.specs.Prelude.{slice_get}
 use Rattle.diag_can.specs.Bus.{bus_line}
 use Rattle.diag_can.specs.Log.{silence, waited}
 use Rattle.diag_can.specs.Reading.{later}
+use Rattle.diag_can.proofs.Reading.{reduce-option}
 use Rattle.diag_can.specs.declared.bus.BusLine.{BusLine}
 use Rattle.diag_can.specs.declared.bus.BusLine.TheVariants.{Empty, Ticks, Stamped}
 use Rattle.diag_can.specs.declared.frame.Event.{Event}
@@ -83,18 +83,6 @@ events_push_after setup past (first ∷ lines) line =
 pub events_push : (setup : RawSetup) (lines : List (List ℕ)) (line : List ℕ)
     → events_of setup (lines ++ line ∷ []) ≡ events_of setup lines ++ line_events setup lines line
 events_push setup lines line = events_push_after setup [] lines line
-
-reduce-more : (moments : List ℕ) (moment : ℕ) → reduce max (moments ++ moment ∷ []) ≡ later (reduce max moments) (Some moment)
-reduce-more [] moment = refl
-reduce-more (first ∷ moments) moment = ap (λ n. Some n) (fold-append max first moments (moment ∷ []))
-
-later-none : (reference : Option ℕ) → later reference None ≡ reference
-later-none None = refl
-later-none (Some moment) = refl
-
-reduce-option : (moments : List ℕ) (moment : Option ℕ) → reduce max (moments ++ cons_option moment []) ≡ later (reduce max moments) moment
-reduce-option moments None = rw append-nil (sym (later-none (reduce max moments)))
-reduce-option moments (Some moment) = reduce-more moments moment
 
 pub reference_more : (past : List (List ℕ)) (line : List ℕ) → reference (past ++ line ∷ []) ≡ later (reference past) (moment_said (bus_line line))
 reference_more past line =

@@ -1,6 +1,7 @@
 -- What a verdict means.
 use Rattle.std.proofs.Common.{◌≡◌, ◌≢◌, ◌≤◌, ◌<◌, ◌⊎◌, ℕ, zero, suc, ◌+◌, Bool, true, false, Option, Some, None, List, [], ◌∷◌, ◌++◌, length, map, inl, inr, refl, ap, ap₂, subst, sym, ◌∙◌, arith}
 use Rattle.std.proofs.lemmas.Bool.Decides.{nat_tests}
+use Rattle.std.proofs.lemmas.Option.{none-some, same_Some}
 use Rattle.std.specs.List.{cons_option, filter_map, fold, reduce}
 use Rattle.std.specs.Option.{option_to_list}
 use Rattle.std.specs.Prelude.{bytes_eq, if◌then◌else◌, nat_lt, option_map, slice_get}
@@ -14,11 +15,7 @@ use Rattle.diag_bus.specs.declared.verdict.Difference.{Difference}
 use Rattle.diag_bus.specs.declared.verdict.Verdict.{Verdict}
 use Rattle.diag_bus.specs.declared.verdict.Verdict.TheVariants.{Agrees, Lacks}
 use Rattle.diag_bus.proofs.Apart.{bytes_same, bytes_self, differs_by}
-use Rattle.diag_bus.proofs.Recordings.{some_same}
 use Rattle.diag_bus.proofs.Verdicts.{none_left, unmapped}
-
-clash : {X : Type 0} {x : X} → None ≡ Some x → ⊥
-clash e = cc
 
 -- ---- one tester's lists
 
@@ -29,29 +26,29 @@ SameBefore n frames wanted = (p : ℕ) (f : Recorded) → p < n → slice_get fr
 -- where nothing differs
 same_all : (frames : List Recorded) (wanted : List (List ℕ)) → difference frames wanted ≡ None → (p : ℕ) (f : Recorded) → slice_get frames p ≡ Some f
     → slice_get wanted p ≡ Some f.bytes
-same_all [] wanted none p f at = absurd (clash at)
-same_all (g ∷ frames) [] none p f at = absurd (clash (sym none))
+same_all [] wanted none p f at = absurd (none-some _ at)
+same_all (g ∷ frames) [] none p f at = absurd (none-some _ (sym none))
 same_all (g ∷ frames) (bytes ∷ wanted) none p f at = pick (bytes_eq g.bytes bytes) refl none (λ rest q here. same_all frames wanted rest q f here) p at
   where
     pick : (b : Bool) → bytes_eq g.bytes bytes ≡ b → (if b then difference frames wanted else Some (differs_by g (Some bytes))) ≡ None
         → (difference frames wanted ≡ None → (q : ℕ) → slice_get frames q ≡ Some f → slice_get wanted q ≡ Some f.bytes)
         → (p : ℕ) → slice_get (g ∷ frames) p ≡ Some f → slice_get (bytes ∷ wanted) p ≡ Some f.bytes
-    pick true same rest next zero here = ap Some (sym (bytes_same g.bytes bytes same) ∙ ap bytes_of (some_same here))
+    pick true same rest next zero here = ap Some (sym (bytes_same g.bytes bytes same) ∙ ap bytes_of (same_Some _ _ here))
     pick true same rest next (suc p) here = next rest p here
-    pick false same rest next p here = absurd (clash (sym rest))
+    pick false same rest next p here = absurd (none-some _ (sym rest))
 
 -- and nothing is missing
 agree_all : (frames : List Recorded) (wanted : List (List ℕ)) → difference frames wanted ≡ None → slice_get wanted (length frames) ≡ None
     → map bytes_of frames ≡ wanted
 agree_all [] [] none missing = refl
-agree_all [] (bytes ∷ wanted) none missing = absurd (clash (sym missing))
-agree_all (g ∷ frames) [] none missing = absurd (clash (sym none))
+agree_all [] (bytes ∷ wanted) none missing = absurd (none-some _ (sym missing))
+agree_all (g ∷ frames) [] none missing = absurd (none-some _ (sym none))
 agree_all (g ∷ frames) (bytes ∷ wanted) none missing = pick (bytes_eq g.bytes bytes) refl none (λ rest. agree_all frames wanted rest missing)
   where
     pick : (b : Bool) → bytes_eq g.bytes bytes ≡ b → (if b then difference frames wanted else Some (differs_by g (Some bytes))) ≡ None
         → (difference frames wanted ≡ None → map bytes_of frames ≡ wanted) → map bytes_of (g ∷ frames) ≡ bytes ∷ wanted
     pick true same rest next = ap₂ (λ (b : List ℕ) (bs : List (List ℕ)). b ∷ bs) (bytes_same g.bytes bytes same) (next rest)
-    pick false same rest next = absurd (clash (sym rest))
+    pick false same rest next = absurd (none-some _ (sym rest))
 
 -- where something differs, it is at a place, and in front of it nothing does
 record Differing (frames : List Recorded) (wanted : List (List ℕ)) (d : Difference) : Type 0 where
@@ -62,21 +59,21 @@ record Differing (frames : List Recorded) (wanted : List (List ℕ)) (d : Differ
   before : SameBefore place frames wanted
 
 differing : (frames : List Recorded) (wanted : List (List ℕ)) (d : Difference) → difference frames wanted ≡ Some d → Differing frames wanted d
-differing [] wanted d is = absurd (clash is)
+differing [] wanted d is = absurd (none-some _ is)
 differing (g ∷ frames) [] d is =
-    let same : differs_by g None ≡ d = some_same is in
+    let same : differs_by g None ≡ d = same_Some _ _ is in
     subst (Differing (g ∷ frames) []) same (record
-    { place = 0; has = refl; wants = refl; other = λ e. clash e; before = λ p f less. absurd (omega (arith, less)) })
+    { place = 0; has = refl; wants = refl; other = λ e. none-some _ e; before = λ p f less. absurd (omega (arith, less)) })
 differing (g ∷ frames) (bytes ∷ wanted) d is = pick (bytes_eq g.bytes bytes) refl is (λ rest. differing frames wanted d rest)
   where
     wrong : true ≡ false → ⊥
     wrong e = cc
 
     unlike : bytes_eq g.bytes bytes ≡ false → Some bytes ≢ Some g.bytes
-    unlike other e = wrong (sym (bytes_self g.bytes) ∙ (ap (bytes_eq g.bytes) (sym (some_same e)) ∙ other))
+    unlike other e = wrong (sym (bytes_self g.bytes) ∙ (ap (bytes_eq g.bytes) (sym (same_Some _ _ e)) ∙ other))
 
     front : {n : ℕ} → bytes_eq g.bytes bytes ≡ true → SameBefore n frames wanted → SameBefore (suc n) (g ∷ frames) (bytes ∷ wanted)
-    front same h zero f less here = ap Some (sym (bytes_same g.bytes bytes same) ∙ ap bytes_of (some_same here))
+    front same h zero f less here = ap Some (sym (bytes_same g.bytes bytes same) ∙ ap bytes_of (same_Some _ _ here))
     front same h (suc p) f less here = h p f (omega (arith, less)) here
 
     pick : (b : Bool) → bytes_eq g.bytes bytes ≡ b → (if b then difference frames wanted else Some (differs_by g (Some bytes))) ≡ Some d
@@ -85,7 +82,7 @@ differing (g ∷ frames) (bytes ∷ wanted) d is = pick (bytes_eq g.bytes bytes)
         let later = next rest in
         record { place = suc later.place; has = later.has; wants = later.wants; other = later.other; before = front same later.before }
     pick false other rest next =
-        let same : differs_by g (Some bytes) ≡ d = some_same rest in
+        let same : differs_by g (Some bytes) ≡ d = same_Some _ _ rest in
         subst (Differing (g ∷ frames) (bytes ∷ wanted)) same
         (record { place = 0; has = refl; wants = refl; other = unlike other; before = λ p f less. absurd (omega (arith, less)) })
 
@@ -105,11 +102,11 @@ module _ (setup : RawSetup) (t : ℕ) where
   split : (n : ℕ) (o : Option (List ℕ)) (rest : List Recorded) (p : ℕ) (f : Recorded) → slice_get (option_to_list (option_map (at_line n) o) ++ rest) p ≡ Some f
       → ((p ≡ 0) × (f.line ≡ n)) ⊎ ((q : ℕ) × (q ≤ p) × (slice_get rest q ≡ Some f))
   split n None rest p f at = inr (p, omega arith, at)
-  split n (Some bytes) rest zero f at = inl (refl, ap (λ (r : Recorded). r.line) (sym (some_same at)))
+  split n (Some bytes) rest zero f at = inl (refl, ap (λ (r : Recorded). r.line) (sym (same_Some _ _ at)))
   split n (Some bytes) rest (suc p) f at = inr (p, omega arith, at)
 
   from_line : (n : ℕ) (lines : List (List ℕ)) (p : ℕ) (f : Recorded) → slice_get (recorded_from setup t n lines) p ≡ Some f → n ≤ f.line
-  from_line n [] p f at = absurd (clash at)
+  from_line n [] p f at = absurd (none-some _ at)
   from_line n (line ∷ lines) p f at = elim (split n (reply_said (ids_of setup t).response (bus_line line)) (recorded_from setup t (n + 1) lines) p f at) [
     | inl here ↦ omega (arith, here.1)
     | inr later ↦ (let above = from_line (n + 1) lines later.0 f later.2 in omega (arith, above))
@@ -121,10 +118,10 @@ module _ (setup : RawSetup) (t : ℕ) where
       → (o : Option (List ℕ)) (p q : ℕ) → p ≤ q → slice_get (option_to_list (option_map (at_line n) o) ++ rest) p ≡ Some f
       → slice_get (option_to_list (option_map (at_line n) o) ++ rest) q ≡ Some g → f.line ≤ g.line
   step n rest f g above later None p q le at there = later p q le at there
-  step n rest f g above later (Some bytes) zero zero le at there = let same : f ≡ g = some_same (sym at ∙ there) in
+  step n rest f g above later (Some bytes) zero zero le at there = let same : f ≡ g = same_Some _ _ (sym at ∙ there) in
       omega (arith, ap (λ (r : Recorded). r.line) same)
   step n rest f g above later (Some bytes) zero (suc q) le at there =
-      let first : n ≡ f.line = ap (λ (r : Recorded). r.line) (some_same at) in
+      let first : n ≡ f.line = ap (λ (r : Recorded). r.line) (same_Some _ _ at) in
       omega (arith, first, above q there)
   step n rest f g above later (Some bytes) (suc p) zero le at there = absurd (omega (arith, le))
   step n rest f g above later (Some bytes) (suc p) (suc q) le at there = later p q (omega (arith, le)) at there
@@ -132,7 +129,7 @@ module _ (setup : RawSetup) (t : ℕ) where
   rising : (n : ℕ) (lines : List (List ℕ)) (p q : ℕ) (f g : Recorded) → p ≤ q → slice_get (recorded_from setup t n lines) p ≡ Some f
       → slice_get (recorded_from setup t n lines) q ≡ Some g
       → f.line ≤ g.line
-  rising n [] p q f g le at there = absurd (clash at)
+  rising n [] p q f g le at there = absurd (none-some _ at)
   rising n (line ∷ lines) p q f g le at there =
       step n (recorded_from setup t (n + 1) lines) f g (λ k is. (let above = from_line (n + 1) lines k g is in omega (arith, above)))
       (λ k j less is at_j. rising (n + 1) lines k j f g less is at_j) (reply_said (ids_of setup t).response (bus_line line)) p q le at there
@@ -203,7 +200,7 @@ folded g a (suc n) first r is = pick (g a) refl is (λ next e. folded g (suc a) 
         let f = later first e in
         record {
           below = f.below;
-          least = least_later g a n r (λ x at. absurd (clash (sym none ∙ at))) f.least;
+          least = least_later g a n r (λ x at. absurd (none-some _ (sym none ∙ at))) f.least;
           found = elim f.found [ inl same ↦ inl same | inr there ↦ inr (found_later g a n r there) ];
         }
     pick (Some x) some e later =
@@ -213,7 +210,7 @@ folded g a (suc n) first r is = pick (g a) refl is (λ next e. folded g (suc a) 
               let same : (earlier first x).1.line ≡ first.1.line = line_same kept.0 in
               record {
                 below = omega (arith, f.below, same);
-                least = least_later g a n r (λ y at. (let here : x.1.line ≡ y.1.line = line_same (some_same (sym some ∙ at)) in
+                least = least_later g a n r (λ y at. (let here : x.1.line ≡ y.1.line = line_same (same_Some _ _ (sym some ∙ at)) in
                     omega (arith, f.below, same, kept.1, here))) f.least;
                 found = elim f.found [ inl is ↦ inl (is ∙ kept.0) | inr there ↦ inr (found_later g a n r there) ];
               })
@@ -221,7 +218,7 @@ folded g a (suc n) first r is = pick (g a) refl is (λ next e. folded g (suc a) 
               let same : (earlier first x).1.line ≡ x.1.line = line_same took.0 in
               record {
                 below = omega (arith, f.below, same, took.1);
-                least = least_later g a n r (λ y at. (let here : x.1.line ≡ y.1.line = line_same (some_same (sym some ∙ at)) in
+                least = least_later g a n r (λ y at. (let here : x.1.line ≡ y.1.line = line_same (same_Some _ _ (sym some ∙ at)) in
                     omega (arith, f.below, same, here))) f.least;
                 found = elim f.found [ inl is ↦ inr (found_here g a n r (some ∙ ap Some (sym (is ∙ took.0)))) | inr there ↦ inr (found_later g a n r there) ];
               })
@@ -230,7 +227,7 @@ folded g a (suc n) first r is = pick (g a) refl is (λ next e. folded g (suc a) 
 reduced : (g : ℕ → Option (ℕ × Difference)) (a n : ℕ) (r : ℕ × Difference) → reduce earlier (filter_map g (counted_from a n)) ≡ Some r
     → Found g a n r × Least g a n r
 unfolding Least
-reduced g a zero r is = absurd (clash is)
+reduced g a zero r is = absurd (none-some _ is)
 reduced g a (suc n) r is = pick (g a) refl is (λ e. reduced g (suc a) n r e)
   where
     pick : (o : Option (ℕ × Difference)) → g a ≡ o → reduce earlier (cons_option o (filter_map g (counted_from (suc a) n))) ≡ Some r
@@ -238,11 +235,11 @@ reduced g a (suc n) r is = pick (g a) refl is (λ e. reduced g (suc a) n r e)
         → Found g a (suc n) r × Least g a (suc n) r
     pick None none e later =
         let f = later e in
-        (found_later g a n r f.0, least_later g a n r (λ x at. absurd (clash (sym none ∙ at))) f.1)
+        (found_later g a n r f.0, least_later g a n r (λ x at. absurd (none-some _ (sym none ∙ at))) f.1)
     pick (Some x) some e later =
-        let f = folded g (suc a) n x r (some_same e) in (
+        let f = folded g (suc a) n x r (same_Some _ _ e) in (
           elim f.found [ inl is ↦ found_here g a n r (some ∙ ap Some (sym is)) | inr there ↦ found_later g a n r there ],
-          least_later g a n r (λ y at. (let here : x.1.line ≡ y.1.line = line_same (some_same (sym some ∙ at)) in omega (arith, f.below, here))) f.least,
+          least_later g a n r (λ y at. (let here : x.1.line ≡ y.1.line = line_same (same_Some _ _ (sym some ∙ at)) in omega (arith, f.below, here))) f.least,
         )
 
 -- ---- the first that is found
@@ -292,8 +289,8 @@ all_none g a (suc n) none =
     ∙ all_none g (suc a) n (λ t low high. none t (omega (arith, low)) (omega (arith, high)))
 
 mapped_from : {X Y : Type 0} (f : X → Y) (o : Option X) (y : Y) → option_map f o ≡ Some y → (x : X) × (o ≡ Some x) × (f x ≡ y)
-mapped_from f None y e = absurd (clash e)
-mapped_from f (Some x) y e = (x, refl, some_same e)
+mapped_from f None y e = absurd (none-some _ e)
+mapped_from f (Some x) y e = (x, refl, same_Some _ _ e)
 
 -- ---- of all testers
 
@@ -353,7 +350,7 @@ module _ (setup : RawSetup) (lines : List (List ℕ)) where
         (unmapped (Lacks t (length (recorded setup lines t))) (slice_get (expected setup lines t) (length (recorded setup lines t))) missing)
 
     none_differs : (u : ℕ) (frame : Recorded) (wanted : Option (List ℕ)) → ¬ IsDifferent setup lines u frame wanted
-    none_differs u frame wanted h = clash (sym (none_of_it u h.tester) ∙ (differs_later u frame wanted h).1)
+    none_differs u frame wanted h = none-some _ (sym (none_of_it u h.tester) ∙ (differs_later u frame wanted h).1)
 
     means_rest : (lacks : List Verdict) → filter_map (lack_of setup lines) (places setup) ≡ lacks → Means setup lines (verdict_by None lacks)
     means_rest [] are = λ t place. agrees_at t place (none_found (lack_of setup lines) 1 (length setup.testers) are t place.0 (omega (arith, place.1)))

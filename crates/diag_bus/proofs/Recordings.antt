@@ -1,7 +1,7 @@
 -- A recording with a line more, of all testers.
 use Rattle.std.proofs.Common.{◌≡◌, ◌<◌, ◌≤◌, ℕ, zero, suc, ◌+◌, Some, None, Ok, List, [], ◌∷◌, ◌++◌, length, map, inl, inr, refl, ap, subst, sym, ◌∙◌, append_assoc, arith}
 use Rattle.std.proofs.lemmas.List.{append-nil, map-append, length-append, length-set}
-use Rattle.std.proofs.lemmas.Option.{slice_get_within}
+use Rattle.std.proofs.lemmas.Option.{same_Some, slice_get_within}
 use Rattle.std.specs.Prelude.{option_map, slice_get, slice_set}
 use Rattle.std.specs.Option.{option_to_list}
 use Rattle.diag_can.specs.declared.bus.BusLine.{BusLine}
@@ -46,9 +46,6 @@ pub record TookEach (setup : RawSetup) (n : ℕ) (said : BusLine) (drawn : List 
   pub done : (k : ℕ) (before after : Comparison) (frames : List Sent) → k < index → slice_get old k ≡ Some before → slice_get new k ≡ Some after
       → slice_get drawn k ≡ Some frames → Takes before after (said_has setup n said k) (map sent_bytes frames)
 
-pub some_same : {X : Type 0} {x y : X} → Some x ≡ Some y → x ≡ y
-some_same e = cc
-
 module _ (setup : RawSetup) (n : ℕ) (said : BusLine) (drawn : List (List Sent)) (old : List Comparison) where
   pub took_one : (new : List Comparison) (i : ℕ) → TookEach setup n said drawn old new i → (before after : Comparison) (own : List Sent)
       → slice_get new i ≡ Some before → slice_get drawn i ≡ Some own → Takes before after (said_has setup n said i) (map sent_bytes own)
@@ -59,8 +56,8 @@ module _ (setup : RawSetup) (n : ℕ) (said : BusLine) (drawn : List (List Sent)
     done = λ k first last frames less was is at. elim (set_cases new i k after last is) [
       | inl p ↦ (
           let same : k ≡ i = p.0 in
-          let was_here : before ≡ first = some_same (sym here ∙ (h.left i (omega arith) ∙ (ap (slice_get old) (sym same) ∙ was))) in
-          let drew_here : own ≡ frames = some_same (sym drew ∙ (ap (slice_get drawn) (sym same) ∙ at)) in
+          let was_here : before ≡ first = same_Some _ _ (sym here ∙ (h.left i (omega arith) ∙ (ap (slice_get old) (sym same) ∙ was))) in
+          let drew_here : own ≡ frames = same_Some _ _ (sym drew ∙ (ap (slice_get drawn) (sym same) ∙ at)) in
           subst (λ j. Takes first last (said_has setup n said j) (map sent_bytes frames)) (sym same)
           (subst (λ (f : List Sent). Takes first last (said_has setup n said i) (map sent_bytes f)) drew_here
           (subst (λ (c : Comparison). Takes first c (said_has setup n said i) (map sent_bytes own)) (sym p.1)
@@ -98,7 +95,7 @@ took_all setup old new said drawn count each many lines line is drew h = record 
 -- one more of which this holds
 pub holds_more : {X : Type 0} (P : X → Type 0) (xs : List X) (x : X) → ((i : ℕ) (y : X) → slice_get xs i ≡ Some y → P y) → P x
     → (i : ℕ) (y : X) → slice_get (xs ++ x ∷ []) i ≡ Some y → P y
-holds_more P [] x h p zero y at = subst P (some_same at) p
+holds_more P [] x h p zero y at = subst P (same_Some _ _ at) p
 holds_more P [] x h p (suc i) y at = absurd (clash at)
   where
     clash : None ≡ Some y → ⊥

@@ -2,6 +2,7 @@
 use Rattle.std.proofs.Common.{◌≡◌, ◌≤◌, ℕ, zero, suc, ◌+◌, take, Vec, Global, Option, Some, None, List, [], ◌∷◌, ◌++◌, length, map, drop, refl, ap, ap₂, subst, sym, ◌∙◌, append_assoc, arith}
 use Rattle.std.proofs.lemmas.List.{append-nil, length-map, map-append, length-take-le, take_more}
 use Rattle.std.proofs.lemmas.Option.{slice_get_within, get_or_from_slice_get}
+use Rattle.std.proofs.Math.Seq.{drop-append_seam}
 use Rattle.std.specs.List.{All, flat_map}
 use Rattle.std.proofs.lemmas.List.Elements.{All-append, All-map}
 use Rattle.diag_bus.specs.declared.writing.Drawn.{Drawn}
@@ -20,10 +21,6 @@ use Rattle.diag_bus.specs.Text.{drawn_by, drawn_for, gathered, line_of, line_tex
 use Rattle.diag_bus.specs.declared.clock.Clock.{Clock}
 use Rattle.diag_bus.specs.declared.clock.Start.{Start}
 
-behind : {X : Type 0} (xs ys : List X) → drop (length xs) (xs ++ ys) ≡ ys
-behind [] ys = refl
-behind (x ∷ xs) ys = behind xs ys
-
 -- the testers' lists one behind the other are the frames that the events draw
 gathered_is : (setup : RawSetup) (L M : List (ℕ × Event)) (a : ℕ) (lists : List (List Sent))
     → ((i : ℕ) (frames : List Sent) → slice_get lists i ≡ Some frames → sent_of setup M (i + a) ≡ sent_of setup L (i + a) ++ frames)
@@ -34,7 +31,7 @@ gathered_is setup L M a (frames ∷ lists) h =
     let none : 0 + a ≡ a = omega arith in
     let first : sent_of setup M a ≡ sent_of setup L a ++ frames = subst (λ t. sent_of setup M t ≡ sent_of setup L t ++ frames) none (h zero frames refl) in
     let here : drawn_by setup L M a ≡ map (drawn_for a) frames =
-    ap (λ xs. map (drawn_for a) (drop (length (sent_of setup L a)) xs)) first ∙ ap (map (drawn_for a)) (behind (sent_of setup L a) frames) in
+    ap (λ xs. map (drawn_for a) (drop (length (sent_of setup L a)) xs)) first ∙ ap (map (drawn_for a)) (drop-append_seam (sent_of setup L a) frames) in
     ap₂ ◌++◌ here (gathered_is setup L M (suc a) lists (λ i fs at.
     let same : suc i + a ≡ i + suc a = omega arith in
     subst (λ t. sent_of setup M t ≡ sent_of setup L t ++ fs) same (h (suc i) fs at)) ∙ ap (λ n. gathered n lists) next)

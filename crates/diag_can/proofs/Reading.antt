@@ -26,7 +26,7 @@ later-none : (reference : Option ℕ) → later reference None ≡ reference
 later-none None = refl
 later-none (Some moment) = refl
 
-reduce-option : (moments : List ℕ) (moment : Option ℕ) → reduce max (moments ++ cons_option moment []) ≡ later (reduce max moments) moment
+pub reduce-option : (moments : List ℕ) (moment : Option ℕ) → reduce max (moments ++ cons_option moment []) ≡ later (reduce max moments) moment
 reduce-option moments None = rw append-nil (sym (later-none (reduce max moments)))
 reduce-option moments (Some moment) = reduce-more moments moment
 

@@ -62,8 +62,8 @@ legal_last s [] e h = h.0
 legal_last s (x ∷ xs) e h = legal_last (after_step s x.who x.step) xs e h.1
 
 -- the entries up to and with the one at an index
-pub take_one : (es : List Entry) (i : ℕ) (e : Entry) → slice_get es i ≡ Some e → take (i + 1) es ≡ take i es ++ e ∷ []
-take_one es i e at = take_more es i e (slice_get_within es i e at) ∙ ap (λ x. take i es ++ x ∷ []) (get_or_from_slice_get es i e e at)
+pub take_one : {X : Type 0} (xs : List X) (i : ℕ) (x : X) → slice_get xs i ≡ Some x → take (i + 1) xs ≡ take i xs ++ x ∷ []
+take_one xs i x at = take_more xs i x (slice_get_within xs i x at) ∙ ap (λ y. take i xs ++ y ∷ []) (get_or_from_slice_get xs i x x at)
 
 -- one entry more of a run
 pub run_more : (setup : RawSetup) (es : List Entry) (i : ℕ) (e : Entry) (now next : State) → slice_get es i ≡ Some e → IsRun setup (take i es)

@@ -8,7 +8,7 @@ ghost use Rattle.diag_desk.specs.Legal.{IsOpening, Legal, after, after_step, rep
 use crate::flat::reply_room;
 use crate::journal::Journal;
 use diag_ecu::Ecu;
-use diag_store::{Setup, TesterId};
+use diag_setup::{Setup, TesterId};
 use diag_tp::{Message, Step};
 use std::alloc::{AllocError, Global};
 use std::marker::Model;

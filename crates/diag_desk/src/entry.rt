@@ -1,7 +1,7 @@
 //! An entry of the journal, as it is entered and as it is shown.
 
 use diag_can::TickCount;
-use diag_store::TesterId;
+use diag_setup::TesterId;
 use diag_tp::{Message, Step};
 
 /// The most entries that a journal holds.

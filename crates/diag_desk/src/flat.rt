@@ -9,7 +9,7 @@ ghost use Rattle.diag_desk.specs.Line.{HasHex, IsHex, IsHexReply, decoded, line_
 use crate::entry::{EntryRef, StepRef};
 use crate::line::{Line, LineStep};
 use diag_can::{TickCount, read_hex};
-use diag_store::TesterId;
+use diag_setup::TesterId;
 use diag_tp::{Message, Step};
 use std::alloc::AllocError;
 

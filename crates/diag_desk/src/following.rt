@@ -24,7 +24,7 @@ use crate::usual::{
     behind, behind_reply, count_front, is_functional, line_front, read_front, short_front,
 };
 use diag_ecu::Ecu;
-use diag_store::{Setup, TesterId};
+use diag_setup::{Setup, TesterId};
 use diag_tp::Message;
 use std::alloc::{AllocError, Global};
 use thiserror::Error;

@@ -7,7 +7,7 @@ ghost use Rattle.diag_desk.specs.Line.{HasHex, line_entry};
 use crate::entry::{EntryRef, MOST_ENTRIES};
 use crate::flat::{Head, entry_at, head_of, head_of_line, reply_room, step_len};
 use crate::line::Line;
-use diag_store::TesterId;
+use diag_setup::TesterId;
 use diag_tp::{Message, Step};
 use std::alloc::{AllocError, Global};
 use std::marker::Model;

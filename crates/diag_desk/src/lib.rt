@@ -17,7 +17,6 @@ mod text;
 mod usual;
 
 pub use desk::{Desk, StepFault, reply_of, settle_step};
-pub use diag_tp::Step;
 pub use entry::{Entry, EntryRef, MOST_ENTRIES, StepRef};
 pub use following::{Replayed, TextFault, replay_lines};
 pub use journal::{Journal, JournalPush};

@@ -9,7 +9,7 @@ ghost use Rattle.diag_desk.specs.declared.line.Kind.{Kind as IsKind};
 
 use crate::table::upper_value;
 use diag_can::TickCount;
-use diag_store::TesterId;
+use diag_setup::TesterId;
 use diag_tp::Message;
 use memchr::memchr;
 

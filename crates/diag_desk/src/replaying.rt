@@ -9,7 +9,7 @@ ghost use Rattle.diag_desk.specs.Replay.{DiffersAt, IsRun};
 use crate::entry::{EntryRef, StepRef};
 use crate::journal::Journal;
 use diag_ecu::Ecu;
-use diag_store::Setup;
+use diag_setup::Setup;
 use diag_tp::Message;
 use std::alloc::{AllocError, Global};
 use thiserror::Error;

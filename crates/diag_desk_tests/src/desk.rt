@@ -2,12 +2,11 @@
 
 use diag_can::TickCount;
 use diag_desk::{
-    Desk, Journal, MOST_ENTRIES, Step, StepFault, journal_text, journal_text_at, read_journal,
-    replay,
+    Desk, Journal, MOST_ENTRIES, StepFault, journal_text, journal_text_at, read_journal, replay,
 };
-use diag_store::{Setup, TesterId};
+use diag_setup::{Setup, TesterId};
 use diag_stored::two_testers;
-use diag_tp::Message;
+use diag_tp::{Message, Step};
 use std::alloc::{AllocError, Global};
 use std::test::Fail;
 

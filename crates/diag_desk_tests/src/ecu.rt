@@ -2,7 +2,7 @@
 
 use diag_can::TickCount;
 use diag_ecu::{Ecu, Session};
-use diag_store::{RawDid, RawSetup, TesterId};
+use diag_setup::{RawDid, RawSetup, TesterId};
 use diag_stored::{bytes, raw_two_testers};
 use diag_tp::Message;
 use std::alloc::{AllocError, Global};

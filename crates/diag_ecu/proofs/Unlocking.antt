@@ -20,7 +20,7 @@ use Rattle.diag_ecu.specs.Unlocking.{HasUnlocked, IsKey, write_level_of}
 use Rattle.diag_ecu.specs.Bytes.{number_16, bytes_16}
 use Rattle.std.proofs.lemmas.Option.{same_Some}
 use Rattle.std.proofs.lemmas.Slice.Eq.{bytes_eq-Decides}
-use Rattle.std.proofs.lemmas.Bool.{eqb-true, and_parts}
+use Rattle.std.proofs.lemmas.Bool.{eqb-true, and_parts, not-false}
 
 -- a move leaves the holder and the unlocked level, or leaves nothing unlocked
 abbrev Same : State → State → Type 0
@@ -135,10 +135,6 @@ all_pass (check ∷ rest) e =
       | false ↦ λ p. (refl, all_pass rest p)
     ] e
 
-not_false : (b : Bool) → not b ≡ false → b ≡ true
-not_false true e = refl
-not_false false e = cc
-
 and_false : (a b : Bool) → a ≡ true → (a && b) ≡ false → b ≡ false
 and_false true b h e = e
 and_false false b h e = cc
@@ -179,13 +175,13 @@ key_passes s who p key passes =
     let known : ℕ → Bool = λ n. is_some (security.level_of s.security n) in
     let level = ecu.key_level p in
     let outstanding = security.outstanding_row s.security.outstanding level in
-    let level_known = or_true (known (ecu.sub p)) (known level) key (not_false (known (ecu.sub p) || known level) h.1.1.1.0) in
+    let level_known = or_true (known (ecu.sub p)) (known level) key (not-false (known (ecu.sub p) || known level) h.1.1.1.0) in
     let row = some_row outstanding (and_false (not (ecu.is_seed_request s p)) (is_none outstanding) is_key h.1.1.1.1.1.1.0) in
     let right = security.is_right_key s.security level (drop 2 p) in
     let same = bytes_same (drop 2 p) (security.key_at s.security level (unwrap_or outstanding 0))
-    (not_false right (and_false (not (ecu.is_seed_request s p)) (not right) is_key h.1.1.1.1.1.1.1.0)) in
+    (not-false right (and_false (not (ecu.is_seed_request s p)) (not right) is_key h.1.1.1.1.1.1.1.0)) in
     let at_row = ap (λ o. security.key_at s.security level (unwrap_or o 0)) row.1 in
-    (holder_is s.holder who (not_false (is_holder s who) h.0), (refl, above_level (ecu.sub p) known key level_known, (row.0, row.1, same ∙ at_row)))
+    (holder_is s.holder who (not-false (is_holder s who) h.0), (refl, above_level (ecu.sub p) known key level_known, (row.0, row.1, same ∙ at_row)))
 
 -- what a served request leaves: all as it was, or nothing unlocked, or what its key unlocked
 pub effect_unlocks : (s : State) (who : ℕ) (service : Service) (p : List ℕ) (holder level : ℕ)
@@ -392,7 +388,7 @@ write_passes s who id p passes e above =
     let high : number / 256 ≡ id / 256 = ap (λ (x : List ℕ). slice_index x 1) e in
     let low : number % 256 ≡ id % 256 = ap (λ (x : List ℕ). slice_index x 2) e in
     let same : number ≡ id = omega arith in
-    let allowed = not_false (is_open s who (write_level_of s number)) h.1.1.1.1.1.1.0 in
+    let allowed = not-false (is_open s who (write_level_of s number)) h.1.1.1.1.1.1.0 in
     open_unlocked s who (write_level_of s id) above (ap (λ n. is_open s who (write_level_of s n)) (sym same) ∙ allowed)
 
 write_open : (s : State) (who id : ℕ) (service : Service) (p : List ℕ) → service ≡ WriteDataByIdentifier → first_holding (ecu.checks s who service p) ≡ None

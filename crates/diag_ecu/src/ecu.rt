@@ -10,7 +10,8 @@ use crate::service::{Nrc, Service, ServiceRow};
 use crate::trouble_codes::setting_refusal;
 use crate::write_data::write_reply;
 use diag_can::FrameBytes;
-use diag_store::{Dids, DtcMemory, Routines, Security, ServerParameters, Setup, TesterId};
+use diag_setup::{ServerParameters, Setup, TesterId};
+use diag_store::{Dids, DtcMemory, Routines, Security};
 use diag_tp::Message;
 use std::alloc::{AllocError, Global};
 

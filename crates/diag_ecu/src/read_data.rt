@@ -7,7 +7,7 @@ ghost use Rattle.diag_ecu.specs.Respond.{ids_in, knows, may_read, data_records, 
 use crate::bytes::{bytes_16, number_16};
 use crate::ecu::{Ecu, say};
 use crate::service::Nrc;
-use diag_store::TesterId;
+use diag_setup::TesterId;
 use diag_tp::Message;
 use std::alloc::AllocError;
 

@@ -7,7 +7,8 @@ ghost use Rattle.diag_ecu.specs.Bytes.{number_16};
 use crate::bytes::{bytes_16, number_16_at, sub_of};
 use crate::ecu::{Ecu, say};
 use crate::service::{Nrc, Service};
-use diag_store::{RoutineState, TesterId};
+use diag_setup::TesterId;
+use diag_store::RoutineState;
 use diag_tp::Message;
 use std::alloc::AllocError;
 

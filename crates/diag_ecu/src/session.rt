@@ -6,7 +6,7 @@ ghost use Rattle.diag_ecu.specs.State.{session_of, session_ended};
 use crate::bytes::{bytes_16, sub_of};
 use crate::ecu::{Ecu, say};
 use crate::service::Service;
-use diag_store::TesterId;
+use diag_setup::TesterId;
 use diag_tp::Message;
 
 /// The session of a tester.

@@ -5,7 +5,7 @@ ghost use Rattle.diag_ecu.specs.Elapse.{elapse, session_ticked, session_elapsed,
 
 use crate::ecu::Ecu;
 use diag_can::TickCount;
-use diag_store::TesterId;
+use diag_setup::TesterId;
 
 impl Ecu {
     /// Ticks of a tester: its delay, and where it is the holder the routines and S3.

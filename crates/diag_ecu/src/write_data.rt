@@ -8,7 +8,7 @@ ghost use Rattle.diag_ecu.specs.Respond.{write_checks};
 use crate::bytes::{bytes_16, number_16_at};
 use crate::ecu::{Ecu, say};
 use crate::service::Nrc;
-use diag_store::TesterId;
+use diag_setup::TesterId;
 use diag_tp::Message;
 
 impl Ecu {

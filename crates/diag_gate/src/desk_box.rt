@@ -5,9 +5,9 @@ ghost use Rattle.diag_desk.specs.Entries.{entry};
 ghost use Rattle.diag_desk.specs.Legal.{entered};
 ghost use Rattle.diag_gate.specs.Views.{IsLegal};
 
-use diag_desk::{Desk, Step, StepFault};
-use diag_store::TesterId;
-use diag_tp::Message;
+use diag_desk::{Desk, StepFault};
+use diag_setup::TesterId;
+use diag_tp::{Message, Step};
 use std::alloc::{AllocError, Global};
 use std::marker::Model;
 

@@ -5,9 +5,9 @@ ghost use Rattle.diag_desk.specs.Entries.{entry};
 ghost use Rattle.diag_gate.specs.Seats.{Answered, Refused, waited};
 
 use crate::gate::{Gate, Seat};
-use diag_desk::{Step, StepFault};
-use diag_store::TesterId;
-use diag_tp::Message;
+use diag_desk::StepFault;
+use diag_setup::TesterId;
+use diag_tp::{Message, Step};
 use std::marker::Model;
 use std::sync::Wait;
 

@@ -1,5 +1,5 @@
 //! Why a step was not made.
-use diag_desk::Step;
+use diag_tp::Step;
 use thiserror::Error;
 
 /// Why a step that doesn't wait was not made.

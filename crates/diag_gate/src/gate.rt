@@ -6,7 +6,7 @@ use crate::desk_box::DeskBox;
 use crate::view::{Give, Learn, Name, OneHistory, TakeIn, View};
 use atomic_table::{Refused, Table};
 use diag_desk::Desk;
-use diag_store::TesterId;
+use diag_setup::TesterId;
 use std::alloc::{AllocError, Global};
 use std::marker::Model;
 use std::snapshot::Snapshot;

@@ -5,9 +5,9 @@ ghost use Rattle.diag_desk.specs.Entries.{entry};
 ghost use Rattle.diag_gate.specs.Views.{IsLawful};
 
 use crate::door::Door;
-use diag_desk::{Desk, Journal, Step, StepFault};
-use diag_store::TesterId;
-use diag_tp::Message;
+use diag_desk::{Desk, Journal, StepFault};
+use diag_setup::TesterId;
+use diag_tp::{Message, Step};
 use std::alloc::Global;
 use std::sync::{Mutex, Wait};
 

@@ -1,6 +1,7 @@
 -- What a search for a row's index says of a change of that row.
 use Rattle.std.proofs.Common.{◌≡◌, ℕ, zero, suc, ◌+◌, ◌<◌, ◌≤◌, Bool, true, false, cond, not, ◌&&◌, sym, nat_lt, List, [], ◌∷◌, length, refl, ap, ◌∙◌, arith, Some, None, slice_index_or, slice_set, ◌++◌, take, drop, add-one, length-append}
 use Rattle.std.proofs.lemmas.List.{length-map}
+use Rattle.std.proofs.Math.Seq.{take-append_seam}
 use Rattle.std.specs.Prelude.{position, map}
 use Rattle.std.proofs.lemmas.Grind.{common_steps}
 use Rattle.std.specs.List.{position_or_len}
@@ -104,13 +105,9 @@ pub map_rises : {X Y : Type 0} (key : X → ℕ) (other : Y → ℕ) (f : Y → 
     → is_rising key (map f ys) ≡ true
 map_rises key other f same ys h = same_keys-rise key other (map f ys) ys (map-keys key other f same ys) h
 
-take_all : {X : Type 0} (xs ys : List X) → take (length xs) (xs ++ ys) ≡ xs
-take_all [] ys = refl
-take_all (x ∷ xs) ys = ap (λ zs. x ∷ zs) (take_all xs ys)
-
 -- what a `Vec` holds after a slice of all its items was written
 pub refilled : {X : Type 0} (xs ys : List X) (n : ℕ) → n ≡ length xs → take n (xs ++ drop (length xs) ys) ≡ xs
-refilled xs ys n same = rw same (take_all xs (drop (length xs) ys))
+refilled xs ys n same = rw same (take-append_seam xs (drop (length xs) ys))
 
 take_over : {X : Type 0} (xs : List X) (n : ℕ) → length xs ≤ n → take n xs ≡ xs
 take_over [] zero h = refl

@@ -9,10 +9,6 @@ mod routines;
 mod search;
 mod security;
 
-pub use diag_setup::{
-    Items, RawCode, RawDid, RawKeyRow, RawLevel, RawRoutine, RawSetup, RawTester, ServerParameters,
-    Setup, SetupFault, TesterId,
-};
 pub use dids::{DidFault, DidRow, DidRule, Dids};
 pub use dtcs::{ALL_GROUPS, Dtc, DtcMemory};
 pub use levels::{KeyRow, KeyRows, Level, Levels};

@@ -1,7 +1,7 @@
 -- A crew at fresh seats of one gate plays the logs: what its records and the closed gate say together.
 use Rattle.std.proofs.Common.{◌≡◌, ◌≢◌, ◌⊎◌, inl, inr, ℕ, zero, suc, ◌+◌, ◌<◌, ◌≤◌, eqb, true, cond, is_some, List, [], ◌∷◌, ◌++◌, length, map, get_or, refl, sym, add-one, ap, ap₂, subst, ◌∙◌, arith, eq-eqb, ne_eqb, Some, None}
 use Rattle.std.specs.Prelude.{slice_get, if◌then◌else◌, ◌==◌}
-use Rattle.std.proofs.lemmas.Option.{slice_get_within}
+use Rattle.std.proofs.lemmas.Option.{same_Some, slice_get_within}
 use Rattle.std.proofs.lemmas.List.{length-map}
 use Rattle.std.proofs.lemmas.Bool.{cases_lt}
 use mathlib.Core.Logic.{dite}
@@ -81,9 +81,6 @@ entries_past n (s ∷ seats) t h =
     let above : n + 1 + length seats ≤ t = omega arith in
     past_reads n t (List Entry) s.own (entries_at (n + 1) seats t) (λ e. omega arith) ∙ entries_past (n + 1) seats t above
 
-some_same : {A : Type 0} (x y : A) → Some x ≡ Some y → x ≡ y
-some_same x y e = cc
-
 -- the crew's doors have seats
 abbrev Done : {D K : Type 0} → (D → SeatView) → (ℕ → LinkSetup) → (K → List Entry → Type 0) → List (List Event) → List D → List (WorkerRecord K × D) → Type 0
 Done seat links keeps logs doors done = AllWorked links (λ d. (seat d).who) (λ d. (seat d).own) (λ d. Some (seat d).gate) keeps logs doors done
@@ -120,7 +117,7 @@ module _ {D K : Type 0} (seat : D → SeatView) (links : ℕ → LinkSetup) (kee
   seats_kept n (log ∷ logs) (door ∷ doors) (r ∷ rs) f all zero d h =
       let w = all.0 in
       let same : n ≡ n + 0 = omega arith in record {
-        gate = some_same _ _ w.home ∙ f.0;
+        gate = same_Some _ _ w.home ∙ f.0;
         who = w.tester ∙ (f.1 ∙ same);
         own_is = sym (here_reads n (n + 0) (List Entry) (seat r.1).own (entries_at (n + 1) (seats_of seat rs) (n + 0)) same);
       }
@@ -167,7 +164,7 @@ module _ {D K : Type 0} (seat : D → SeatView) (links : ℕ → LinkSetup) (kee
   sent_at n (log ∷ logs) (door ∷ doors) (r ∷ rs) zero frames f all at =
       let same : n ≡ n + 0 = omega arith in
       let own = own_played n log door r (f.0, f.1, f.2) all.0 in
-      sym (some_same _ _ at) ∙ (all.0.played.sent
+      sym (same_Some _ _ at) ∙ (all.0.played.sent
       ∙ (ap (λ l. drawn (links (seat door).who) log (replies l)) (sym own)
       ∙ (λ i. drawn (links ((f.1 ∙ same) i)) (sym (here_reads n (n + 0) (List Event) log (log_at (n + 1) logs (n + 0)) same) i)
       (replies (sym (here_reads n (n + 0) (List Entry) (seat r.1).own (entries_at (n + 1) (seats_of seat rs) (n + 0)) same) i)))))
@@ -214,7 +211,7 @@ out_is_fresh setup h h1 n seats few o out = fresh_from h.gate 1 seats (λ k d lo
     let e = out.each k d within in
     let place : k + 1 < 9 = omega arith in
     let same : k + 1 ≡ 1 + k = omega arith in
-    let none : e.0 ≡ [] = some_same _ _ (sym e.1 ∙ o.owns (k + 1) place) in
+    let none : e.0 ≡ [] = same_Some _ _ (sym e.1 ∙ o.owns (k + 1) place) in
     (ap (λ (s : SeatView). s.gate) e.2, ap (λ (s : SeatView). s.who) e.2 ∙ same, ap (λ (s : SeatView). s.own) e.2 ∙ none))
 
 -- the host has its seats again

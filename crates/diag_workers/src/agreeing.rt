@@ -4,7 +4,7 @@ ghost use Rattle.diag_desk.specs.Entry.{entry_seen, step_seen};
 ghost use Rattle.diag_desk.specs.Entries.{own};
 
 use diag_desk::{EntryRef, Journal, StepRef};
-use diag_store::TesterId;
+use diag_setup::TesterId;
 
 /// Whether a record is the journal's entries of one tester.
 pub fn agree(journal: &Journal, who: TesterId, kept: &Journal) -> bool

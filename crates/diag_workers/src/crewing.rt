@@ -12,7 +12,7 @@ use crate::working::{WorkerRecord, work_keeping};
 use diag_can::Event;
 use diag_desk::StepFault;
 use diag_gate::Door;
-use diag_store::Setup;
+use diag_setup::Setup;
 use std::alloc::{AllocError, Global};
 use std::thread::{Threads, join};
 

@@ -5,9 +5,9 @@ ghost use Rattle.diag_desk.specs.Entry.{HasNoReply};
 ghost use Rattle.diag_desk.specs.declared.entry.Entry.{Entry as AnEntry};
 ghost use Rattle.diag_workers.specs.Work.{CanKeep};
 
-use diag_desk::{Journal, Step};
-use diag_store::TesterId;
-use diag_tp::Message;
+use diag_desk::Journal;
+use diag_setup::TesterId;
+use diag_tp::{Message, Step};
 use std::alloc::{AllocError, Global};
 
 /// What a worker keeps of its entries: all of them, or nothing.

@@ -12,8 +12,6 @@ mod working;
 
 pub use agreeing::agree;
 pub use crewing::crew;
-pub use diag_gate::{Door, Gate, GateDoor, Guard, Host, LockDoor, Seat, TryFault};
-pub use diag_world::Played;
 pub use keeping::Keep;
 pub use playing::{PlayFault, play};
 pub use reading::{read_logs, read_logs_beside};

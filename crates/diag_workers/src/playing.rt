@@ -16,7 +16,7 @@ use crate::watch::Watch;
 use diag_can::{Event, LogFault, Timing};
 use diag_desk::{Desk, StepFault};
 use diag_gate::Gate;
-use diag_store::{Setup, TesterId};
+use diag_setup::{Setup, TesterId};
 use diag_world::{Played, weaving_law};
 use std::alloc::Global;
 use std::sync::Wait;

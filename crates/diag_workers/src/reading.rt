@@ -7,7 +7,7 @@ ghost use Rattle.diag_workers.specs.Play.{Reads, ReadsOne, logs_from, logs_of};
 
 use crate::playing::PlayFault;
 use diag_can::{Event, LogFault, Timing, read_log};
-use diag_store::{Setup, TesterId};
+use diag_setup::{Setup, TesterId};
 use std::alloc::Global;
 use std::thread::{Threads, join};
 

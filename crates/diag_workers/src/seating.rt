@@ -7,8 +7,8 @@ use crate::keeping::Unkept;
 use crate::watch::{Watch, WatchedDoor};
 use crate::working::WorkerRecord;
 use diag_gate::{Gate, GateDoor, Host, Seat};
-use diag_store::TesterId;
-use diag_world::Sent;
+use diag_setup::TesterId;
+use diag_tp::Sent;
 use std::alloc::{AllocError, Global};
 use std::sync::Wait;
 

@@ -12,7 +12,7 @@ use crate::keeping::Keep;
 use diag_can::Event;
 use diag_desk::{Journal, StepFault};
 use diag_gate::Door;
-use diag_store::{Setup, TesterId};
+use diag_setup::{Setup, TesterId};
 use diag_tp::{LinkSetup, Sent};
 use diag_world::Channel;
 use std::alloc::Global;

@@ -4,10 +4,10 @@ ghost use Rattle.std.specs.Prelude.{◌≡◌, ◌≤◌, length};
 
 use crate::trouble::{Trouble, holds};
 use diag_can::{Event, read_line, write_line};
-use diag_desk::journal_text;
+use diag_desk::{StepFault, journal_text};
 use diag_setup::{Setup, TesterId};
 use diag_stored::{PLAYED, two_testers};
-use diag_world::{StepFault, World};
+use diag_world::World;
 use std::alloc::Global;
 
 /// The events of both testers' logs in turn: the tester's place from 0, and its line.

@@ -11,7 +11,7 @@ use crate::laws::{interleaving_law, turns_law};
 use crate::world::World;
 use diag_can::Event;
 use diag_desk::{Desk, StepFault};
-use diag_store::Setup;
+use diag_setup::Setup;
 use diag_tp::Sent;
 use std::alloc::Global;
 

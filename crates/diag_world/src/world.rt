@@ -29,7 +29,7 @@ use crate::serial_play::Played;
 use diag_can::Event;
 use diag_desk::{Desk, Journal, StepFault};
 use diag_ecu::Ecu;
-use diag_store::{Setup, TesterId};
+use diag_setup::{Setup, TesterId};
 use diag_tp::Sent;
 use std::alloc::{AllocError, Global};
 use std::marker::Model;

@@ -9,9 +9,9 @@ use super::{Gate, Guard, Place, Seat};
 use crate::desk_box::DeskBox;
 use crate::fault::TryFault;
 use crate::view::{Release, Take};
-use diag_desk::{Step, StepFault};
-use diag_store::TesterId;
-use diag_tp::Message;
+use diag_desk::StepFault;
+use diag_setup::TesterId;
+use diag_tp::{Message, Step};
 use std::sync::Wait;
 use std::thread;
 

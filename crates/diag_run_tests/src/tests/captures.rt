@@ -1,6 +1,7 @@
 //! Runs over the capture of a whole bus: devices that fail at each call, and pieces of each length.
 
-use super::given::{Dribble, End, Source, Trouble, WELL, config, holds, holds_at, is_end};
+use super::given::{Dribble, Source, config};
+use crate::ending::{End, Trouble, WELL, holds, holds_at, is_end};
 use diag_bus::Output;
 use diag_run::run_bus_and_tell;
 use std::alloc::{AllocError, Global};

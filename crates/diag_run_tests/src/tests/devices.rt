@@ -1,9 +1,7 @@
 //! Readers and writers that fail at one call, for each call.
 
-use super::given::{
-    Dribble, End, PLAY, Run, SERIAL, Source, Trouble, WELL, config, ends, ends_unwritten, holds,
-    holds_at,
-};
+use super::given::{Dribble, PLAY, Run, SERIAL, Source, config, ends, ends_unwritten};
+use crate::ending::{End, Trouble, WELL, holds, holds_at};
 use diag_run::Job;
 use diag_stored::{END, LOG_A, LOG_B, PLAYED};
 use diag_text::{ReadFault, read_whole};

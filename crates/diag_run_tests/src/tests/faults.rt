@@ -1,6 +1,6 @@
 //! Faults that no run of the program brings about, and want of memory: the text and the status of each.
 
-use super::given::Trouble;
+use crate::ending::Trouble;
 use diag_bus::BusFault;
 use diag_can::LogFault;
 use diag_config::ConfigFault;

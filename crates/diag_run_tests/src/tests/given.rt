@@ -1,7 +1,8 @@
 //! What the tests run on: a setup of two testers, readers and writers that fail, and how a run ended.
 
+use crate::ending::{End, is_end};
 use diag_can::Timing;
-use diag_run::{Job, Outcome, run_and_tell};
+use diag_run::{Job, run_and_tell};
 use diag_stored::CONFIG;
 use std::alloc::{AllocError, Global};
 use std::io;
@@ -142,19 +143,6 @@ pub struct Run<'a> {
     pub files: &'a [Source<'a>],
 }
 
-/// How a run ends: the line that it tells of a fault, and its status.
-#[derive(Clone, Copy)]
-pub struct End<'a> {
-    pub line: &'a [u8],
-    pub status: u8,
-}
-
-/// The end of a run with no fault.
-pub const WELL: End<'static> = End {
-    line: b"",
-    status: 0,
-};
-
 /// Whether the run ends so. Want of memory ends the test.
 pub fn ends<T: Threads + Wait + Sync + AllocGlobal, W: Write>(
     rt: &T,
@@ -168,23 +156,6 @@ pub fn ends<T: Threads + Wait + Sync + AllocGlobal, W: Write>(
     is_end(&outcome, end)
 }
 
-/// Whether this is the end of a run.
-pub fn is_end(outcome: &Outcome, end: End<'_>) -> Result<bool, AllocError> {
-    match outcome {
-        Outcome::Done => Ok(end.status == 0),
-        Outcome::Fault { told, status } => is_fault(told, *status, end),
-    }
-}
-
-/// Whether a fault of this line and this status ends it. A line that had no memory, or told want of memory, is an
-/// error.
-fn is_fault(told: &Option<Vec<u8>>, status: u8, end: End<'_>) -> Result<bool, AllocError> {
-    match told {
-        Some(line) if status != 4 => Ok(status == end.status && line.as_slice() == end.line),
-        _ => Err(AllocError),
-    }
-}
-
 /// Whether the run ends so, and nothing was written.
 pub fn ends_unwritten<T: Threads + Wait + Sync + AllocGlobal>(
     rt: &T,
@@ -194,33 +165,4 @@ pub fn ends_unwritten<T: Threads + Wait + Sync + AllocGlobal>(
     let mut out = Vec::new(rt.alloc());
     let told = ends(rt, run, &mut out, end);
     Ok(told? && out.is_empty())
-}
-
-/// Why a test did not come to its end: memory was refused, or a run did what it must not.
-#[derive(Clone, Copy, Debug)]
-pub enum Trouble {
-    Memory,
-    Wrong,
-    /// What is wrong is at this call of a device, from 1, or at this place of a table, from 0.
-    WrongAt(usize),
-}
-
-impl From<AllocError> for Trouble {
-    fn from(_refused: AllocError) -> Trouble {
-        Trouble::Memory
-    }
-}
-
-/// What was tried came to its end and holds.
-pub fn holds(tried: Result<bool, AllocError>) -> Result<(), Trouble> {
-    if tried? { Ok(()) } else { Err(Trouble::Wrong) }
-}
-
-/// The same of a call of a device, or of a place in a table.
-pub fn holds_at(at: usize, tried: Result<bool, AllocError>) -> Result<(), Trouble> {
-    if tried? {
-        Ok(())
-    } else {
-        Err(Trouble::WrongAt(at))
-    }
 }

@@ -1,6 +1,7 @@
 //! Runs with a thread for each tester.
 
-use super::given::{Run, Source, Trouble, WELL, config, ends, holds};
+use super::given::{Run, Source, config, ends};
+use crate::ending::{Trouble, WELL, holds};
 use diag_can::Timing;
 use diag_run::Job;
 use std::alloc::{AllocError, Global};

@@ -1,10 +1,10 @@
 //! What the tests of the gate begin with.
 
 use crate::trouble::Trouble;
-use diag_desk::{Desk, Step, journal_text};
-use diag_store::TesterId;
+use diag_desk::{Desk, journal_text};
+use diag_setup::TesterId;
 use diag_stored::two_testers;
-use diag_tp::Message;
+use diag_tp::{Message, Step};
 use std::alloc::Global;
 
 /// Whether both hold; where not both came to an end, the first trouble.

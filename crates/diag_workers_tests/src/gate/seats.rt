@@ -6,9 +6,9 @@ use crate::gate::given::{request, says};
 use crate::gate::seating::{bring_home, closed, gate_of_two, is_out, seat_of, tries};
 use crate::trouble::{Trouble, holds};
 use diag_can::TickCount;
-use diag_desk::{Journal, Step, StepFault, StepRef};
+use diag_desk::{Journal, StepFault, StepRef};
 use diag_gate::{Gate, Host, Seat, TryFault};
-use diag_tp::Message;
+use diag_tp::{Message, Step};
 use std::alloc::Global;
 use std::sync::Wait;
 

@@ -9,7 +9,8 @@ use crate::workers::given::{
 };
 use diag_can::Timing;
 use diag_setup::Setup;
-use diag_workers::{NoWatch, Played, Watch, play};
+use diag_workers::{NoWatch, Watch, play};
+use diag_world::Played;
 use std::alloc::Global;
 use std::sync::Wait;
 use std::thread::Threads;

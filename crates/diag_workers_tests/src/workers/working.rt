@@ -9,8 +9,9 @@ use crate::workers::given::{
 };
 use diag_can::Event;
 use diag_desk::{Desk, Journal, StepFault};
+use diag_gate::LockDoor;
 use diag_setup::{Setup, TesterId};
-use diag_workers::{LockDoor, WorkerRecord, agree, work};
+use diag_workers::{WorkerRecord, agree, work};
 use std::alloc::Global;
 use std::sync::{Mutex, Wait};
 

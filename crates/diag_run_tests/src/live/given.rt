@@ -1,8 +1,9 @@
 //! What the tests run on: a script of what is heard and when, a writer that fails, and how a run ended.
 
+use crate::ending::{End, WELL, is_end};
 use diag_bus::Output;
 use diag_live::{Bench, Heard, run_live_and_tell};
-use diag_run::{Outcome, run_bus_and_tell};
+use diag_run::run_bus_and_tell;
 use diag_stored::CONFIG;
 use std::alloc::{AllocError, Global};
 use std::io;
@@ -105,37 +106,11 @@ impl Write for Pipe {
     }
 }
 
-/// How a run ends: the line that it tells of a fault, and its status.
-#[derive(Clone, Copy)]
-pub struct End {
-    pub line: &'static str,
-    pub status: u8,
-}
-
-/// The end of a run with no fault.
-pub const WELL: End = End {
-    line: "",
-    status: 0,
-};
-
-/// Whether this is the end of a run. Want of memory is an error.
-pub fn is_end(outcome: &Outcome, end: End) -> Result<bool, AllocError> {
-    match outcome {
-        Outcome::Done => Ok(end.status == 0),
-        Outcome::Fault { told, status } => match told {
-            Some(line) if *status != 4 => Ok(
-                *status == end.status && line.as_slice() == end.line.as_bytes(),
-            ),
-            _ => Err(AllocError),
-        },
-    }
-}
-
 /// Whether a script is served so: its end, the record, and what was written.
 pub fn serves(
     alloc: Global,
     steps: &[Step],
-    end: End,
+    end: End<'_>,
     record: &str,
     text: &str,
 ) -> Result<bool, AllocError> {
@@ -159,33 +134,4 @@ fn is_drawn(alloc: Global, record: &[u8], text: &str) -> Result<bool, AllocError
     let mut out = Pipe::open(alloc)?;
     let outcome = run_bus_and_tell(alloc, Output::Replies, CONFIG.as_bytes(), record, &mut out);
     Ok(is_end(&outcome, WELL)? && out.taken.as_slice() == text.as_bytes())
-}
-
-/// Why a test did not come to its end: memory was refused, or a run did what it must not.
-#[derive(Clone, Copy, Debug)]
-pub enum Trouble {
-    Memory,
-    Wrong,
-    /// What is wrong is at this place of a table, from 0.
-    WrongAt(usize),
-}
-
-impl From<AllocError> for Trouble {
-    fn from(_refused: AllocError) -> Trouble {
-        Trouble::Memory
-    }
-}
-
-/// What was tried came to its end and holds.
-pub fn holds(tried: Result<bool, AllocError>) -> Result<(), Trouble> {
-    if tried? { Ok(()) } else { Err(Trouble::Wrong) }
-}
-
-/// The same of a place in a table.
-pub fn holds_at(at: usize, tried: Result<bool, AllocError>) -> Result<(), Trouble> {
-    if tried? {
-        Ok(())
-    } else {
-        Err(Trouble::WrongAt(at))
-    }
 }

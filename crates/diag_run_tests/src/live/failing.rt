@@ -1,6 +1,7 @@
 //! Benches and writers that fail.
 
-use super::given::{Comes, End, Pipe, Script, Step, Trouble, holds, holds_at, is_end, serves};
+use super::given::{Comes, Pipe, Script, Step, serves};
+use crate::ending::{End, Trouble, holds, holds_at, is_end};
 use diag_live::run_live_and_tell;
 use diag_stored::CONFIG;
 use std::alloc::{AllocError, Global};
@@ -25,13 +26,13 @@ const RECORD: &str = "(0.000000) can0 7E0#023E00\ntick 50\n(0.000000) can0 7E1#0
 const TEXT: &str =
     "(0000000000.000000) A 7E8#027E00CCCCCCCCCC\n(0000000000.050000) B 7E9#027E00CCCCCCCCCC\n";
 
-const CANNOT_READ: End = End {
-    line: "uds_play: cannot read file 1\n",
+const CANNOT_READ: End<'static> = End {
+    line: b"uds_play: cannot read file 1\n",
     status: 7,
 };
 
-const CANNOT_WRITE: End = End {
-    line: "uds_play: cannot write\n",
+const CANNOT_WRITE: End<'static> = End {
+    line: b"uds_play: cannot write\n",
     status: 7,
 };
 

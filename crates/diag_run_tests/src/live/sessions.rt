@@ -1,22 +1,23 @@
 //! Sessions by a script: what is written, what the record has, and that the bus draws the same of it.
 
-use super::given::{Comes, End, Step, Trouble, WELL, holds_at, serves};
+use super::given::{Comes, Step, serves};
+use crate::ending::{End, Trouble, WELL, holds_at};
 
 /// A script, how it ends, the record, and what is written.
-struct Session(&'static [Step], End, &'static str, &'static str);
+struct Session(&'static [Step], End<'static>, &'static str, &'static str);
 
-const BAD_LINE: End = End {
-    line: "uds_play: capture line 4: bad line\n",
+const BAD_LINE: End<'static> = End {
+    line: b"uds_play: capture line 4: bad line\n",
     status: 3,
 };
 
-const BAD_TICK: End = End {
-    line: "uds_play: capture line 1: bad tick\n",
+const BAD_TICK: End<'static> = End {
+    line: b"uds_play: capture line 1: bad tick\n",
     status: 3,
 };
 
-const TOO_MANY: End = End {
-    line: "uds_play: capture line 2: too many bytes\n",
+const TOO_MANY: End<'static> = End {
+    line: b"uds_play: capture line 2: too many bytes\n",
     status: 3,
 };
 

@@ -1,0 +1,63 @@
+//! How a run ended, and why a test did not come to its end.
+
+use diag_run::Outcome;
+use std::alloc::AllocError;
+
+/// How a run ends: the line that it tells of a fault, and its status.
+#[derive(Clone, Copy)]
+pub struct End<'a> {
+    pub line: &'a [u8],
+    pub status: u8,
+}
+
+/// The end of a run with no fault.
+pub const WELL: End<'static> = End {
+    line: b"",
+    status: 0,
+};
+
+/// Whether this is the end of a run.
+pub fn is_end(outcome: &Outcome, end: End<'_>) -> Result<bool, AllocError> {
+    match outcome {
+        Outcome::Done => Ok(end.status == 0),
+        Outcome::Fault { told, status } => is_fault(told, *status, end),
+    }
+}
+
+/// Whether a fault of this line and this status ends it. A line that had no memory, or told want of memory, is an
+/// error.
+fn is_fault(told: &Option<Vec<u8>>, status: u8, end: End<'_>) -> Result<bool, AllocError> {
+    match told {
+        Some(line) if status != 4 => Ok(status == end.status && line.as_slice() == end.line),
+        _ => Err(AllocError),
+    }
+}
+
+/// Why a test did not come to its end: memory was refused, or a run did what it must not.
+#[derive(Clone, Copy, Debug)]
+pub enum Trouble {
+    Memory,
+    Wrong,
+    /// What is wrong is at this call of a device, from 1, or at this place of a table, from 0.
+    WrongAt(usize),
+}
+
+impl From<AllocError> for Trouble {
+    fn from(_refused: AllocError) -> Trouble {
+        Trouble::Memory
+    }
+}
+
+/// What was tried came to its end and holds.
+pub fn holds(tried: Result<bool, AllocError>) -> Result<(), Trouble> {
+    if tried? { Ok(()) } else { Err(Trouble::Wrong) }
+}
+
+/// The same of a call of a device, or of a place in a table.
+pub fn holds_at(at: usize, tried: Result<bool, AllocError>) -> Result<(), Trouble> {
+    if tried? {
+        Ok(())
+    } else {
+        Err(Trouble::WrongAt(at))
+    }
+}
