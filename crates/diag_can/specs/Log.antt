@@ -12,6 +12,13 @@ use Rattle.diag_can.specs.declared.frame.Event.TheVariants.{Ticks}
 use Rattle.diag_can.specs.declared.log.Timing.{Timing}
 use Rattle.diag_can.specs.declared.log.Timing.TheVariants.{Stamps}
 
+-- the most lines of a log, and the most events
+abbrev pub most_lines : ℕ
+most_lines = 1000000
+
+abbrev pub most_events : ℕ
+most_events = 1000000
+
 -- ---- lines
 
 -- one carriage return at the end of a line is dropped
@@ -68,12 +75,12 @@ events_after timing ids past (line ∷ lines) = line_gives timing (reference ids
 -- what is at fault at the line of this number, with which there are so many events
 abbrev pub line_fault : ℕ → Result (Option Event) LineFault → ℕ → Option LogFault
 line_fault number (Err fault) count = Some (Line number fault)
-line_fault number (Ok event) count = if nat_lt 1000000 count then Some TooManyEvents else None
+line_fault number (Ok event) count = if nat_lt most_events count then Some TooManyEvents else None
 
 -- what is at fault at the line after these
 abbrev pub fault_after : Timing → Ids → List (List ℕ) → List ℕ → Option LogFault
 fault_after timing ids past line =
-    if nat_le 1000000 (length past) then Some TooManyLines
+    if nat_le most_lines (length past) then Some TooManyLines
     else line_fault (length past + 1) (line_event line ids)
     (length (events_after timing ids [] (past ++ line ∷ [])))
 

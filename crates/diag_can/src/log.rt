@@ -3,7 +3,7 @@
 ghost use Rattle.std.specs.Prelude.{◌≡◌, ◌≢◌, ◌<◌, ◌≤◌, ◌⊎◌, [], ◌∷◌, ◌++◌, length, Some, MatchOption, IfOk, IfErr, OnOk};
 ghost use Rattle.memchr.specs.Find.{IsFirstByte};
 ghost use Rattle.diag_can.specs.Lanes.{IsRunIn};
-ghost use Rattle.diag_can.specs.Log.{is_feed, without_return, lines_of, waited, events};
+ghost use Rattle.diag_can.specs.Log.{is_feed, without_return, lines_of, waited, events, most_events};
 ghost use Rattle.diag_can.specs.Reading.{fault_with, given_at};
 ghost use Rattle.diag_can.specs.Stamp.{is_digit};
 ghost use Rattle.diag_can.specs.Usual.{usual_moment};
@@ -56,7 +56,7 @@ pub fn read_log(
     ensures ok { IfOk result (λ log. events text.now ids.now timing ≡ Ok log.items) }
     ensures err { IfErr result (λ fault.
         fault ≢ LogFault.Memory → events text.now ids.now timing ≡ Err fault) }
-    ensures few { IfOk result (λ log. length log.items ≤ 1000000) }
+    ensures few { IfOk result (λ log. length log.items ≤ most_events) }
 {
     let mut reading = Reading {
         events: with_room(alloc, text)?,
@@ -136,9 +136,9 @@ fn next_line(text: &[u8]) -> Option<(&[u8], &[u8])>
 /// Adds an event.
 fn push_event(events: &mut Vec<Event>, event: Event) -> Result<(), LogFault>
     ensures ok { OnOk result (events.new.items ≡ events.old.items ++ event ∷ []) }
-    ensures room { OnOk result (length events.old.items < 1000000) }
+    ensures room { OnOk result (length events.old.items < most_events) }
     ensures err { IfErr result (λ fault.
-        ((fault ≡ LogFault.TooManyEvents) × (1000000 ≤ length events.old.items))
+        ((fault ≡ LogFault.TooManyEvents) × (most_events ≤ length events.old.items))
         ⊎ (fault ≡ LogFault.Memory)) }
 {
     if events.len() >= MAX_EVENTS {
@@ -152,11 +152,11 @@ fn push_event(events: &mut Vec<Event>, event: Event) -> Result<(), LogFault>
 
 /// Adds that many milliseconds of time.
 fn push_time(events: &mut Vec<Event>, ms: u64) -> Result<(), LogFault>
-    requires { length events.old.items ≤ 1000000 }
+    requires { length events.old.items ≤ most_events }
     ensures ok { OnOk result (events.new.items ≡ events.old.items ++ waited ms) }
-    ensures few { OnOk result (length events.new.items ≤ 1000000) }
+    ensures few { OnOk result (length events.new.items ≤ most_events) }
     ensures err { IfErr result (λ fault.
-        ((fault ≡ LogFault.TooManyEvents) × (1000000 < length (events.old.items ++ waited ms)))
+        ((fault ≡ LogFault.TooManyEvents) × (most_events < length (events.old.items ++ waited ms)))
         ⊎ (fault ≡ LogFault.Memory)) }
 {
     if ms == 0 {
@@ -184,7 +184,7 @@ impl Reading {
         number: u32,
         line: &[u8],
     ) -> Result<(), LogFault>
-        requires { length self.old.events.items ≤ 1000000 }
+        requires { length self.old.events.items ≤ most_events }
         ensures took { OnOk result (Took timing ids.now self.old self.new line.now) }
         ensures fault { IfErr result (λ fault. fault ≢ LogFault.Memory
             → fault_with timing ids.now self.old.events.items self.old.reference number line.now
@@ -205,14 +205,14 @@ impl Reading {
     /// Takes a frame that a line of the usual form gives, with the time before it.
     #[inline(always)]
     fn take_frame(&mut self, timing: Timing, line: &[u8], event: Event) -> Result<(), LogFault>
-        requires few { length self.old.events.items ≤ 1000000 }
+        requires few { length self.old.events.items ≤ most_events }
         requires long { 28 ≤ length line.now }
         requires seconds { IsRunIn is_digit line.now 1 16 10 }
         requires fraction { IsRunIn is_digit line.now 12 8 6 }
         ensures took { OnOk result
             (Grown timing self.old self.new (Some (usual_moment line.now)) (event ∷ [])) }
         ensures err { IfErr result (λ fault.
-            ((fault ≡ LogFault.TooManyEvents) × (1000000 < length (self.old.events.items
+            ((fault ≡ LogFault.TooManyEvents) × (most_events < length (self.old.events.items
             ++ given_at timing self.old.reference (Some (usual_moment line.now)) (event ∷ []))))
             ⊎ (fault ≡ LogFault.Memory)) }
     {
@@ -223,14 +223,14 @@ impl Reading {
     /// Lets the time pass up to the stamp of a line of the usual form, where stamps carry time.
     #[inline(always)]
     fn pass_to_stamp(&mut self, timing: Timing, line: &[u8]) -> Result<(), LogFault>
-        requires few { length self.old.events.items ≤ 1000000 }
+        requires few { length self.old.events.items ≤ most_events }
         requires long { 28 ≤ length line.now }
         requires seconds { IsRunIn is_digit line.now 1 16 10 }
         requires fraction { IsRunIn is_digit line.now 12 8 6 }
         ensures ok { OnOk result
             (Grown timing self.old self.new (Some (usual_moment line.now)) []) }
         ensures err { IfErr result (λ fault.
-            ((fault ≡ LogFault.TooManyEvents) × (1000000 < length (self.old.events.items
+            ((fault ≡ LogFault.TooManyEvents) × (most_events < length (self.old.events.items
             ++ given_at timing self.old.reference (Some (usual_moment line.now)) [])))
             ⊎ (fault ≡ LogFault.Memory)) }
     {
@@ -242,10 +242,10 @@ impl Reading {
 
     /// The same up to a moment, where there is one.
     fn pass_on(&mut self, timing: Timing, moment: Option<u64>) -> Result<(), LogFault>
-        requires { length self.old.events.items ≤ 1000000 }
+        requires { length self.old.events.items ≤ most_events }
         ensures ok { OnOk result (Grown timing self.old self.new moment []) }
         ensures err { IfErr result (λ fault.
-            ((fault ≡ LogFault.TooManyEvents) × (1000000 < length (self.old.events.items
+            ((fault ≡ LogFault.TooManyEvents) × (most_events < length (self.old.events.items
             ++ given_at timing self.old.reference moment [])))
             ⊎ (fault ≡ LogFault.Memory)) }
     {
@@ -257,10 +257,10 @@ impl Reading {
 
     /// Lets the time pass from the reference to a later moment, which is the reference then.
     fn pass_to(&mut self, moment: u64) -> Result<(), LogFault>
-        requires { length self.old.events.items ≤ 1000000 }
+        requires { length self.old.events.items ≤ most_events }
         ensures ok { OnOk result (Grown Timing.Stamps self.old self.new (Some moment) []) }
         ensures err { IfErr result (λ fault.
-            ((fault ≡ LogFault.TooManyEvents) × (1000000 < length (self.old.events.items
+            ((fault ≡ LogFault.TooManyEvents) × (most_events < length (self.old.events.items
             ++ given_at Timing.Stamps self.old.reference (Some moment) [])))
             ⊎ (fault ≡ LogFault.Memory)) }
     {
@@ -279,7 +279,7 @@ impl Reading {
         number: u32,
         line: &[u8],
     ) -> Result<(), LogFault>
-        requires { length self.old.events.items ≤ 1000000 }
+        requires { length self.old.events.items ≤ most_events }
         ensures took { OnOk result (Took timing ids.now self.old self.new line.now) }
         ensures fault { IfErr result (λ fault. fault ≢ LogFault.Memory
             → fault_with timing ids.now self.old.events.items self.old.reference number line.now

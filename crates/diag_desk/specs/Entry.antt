@@ -8,6 +8,10 @@ use Rattle.diag_desk.specs.declared.entry.EntryRef.{EntryRef}
 use Rattle.diag_desk.specs.declared.entry.StepRef.{StepRef}
 use Rattle.diag_desk.specs.declared.entry.StepRef.TheVariants as seen
 
+-- the most entries of a journal
+abbrev pub most_entries : ℕ
+most_entries = 1000000
+
 -- a journal: its entries, and how many more entries and bytes have room
 pub record Kept : Type 0 where
   pub entries : List Entry
@@ -71,4 +75,4 @@ AreEntries (e ∷ entries) = IsEntry e × AreEntries entries
 
 -- the entries of a journal
 abbrev pub IsJournal : List Entry → Type 0
-IsJournal entries = AreEntries entries × (length entries ≤ 1000000)
+IsJournal entries = AreEntries entries × (length entries ≤ most_entries)

@@ -8,7 +8,7 @@ use Rattle.diag_desk.specs.declared.entry.Entry.{Entry}
 use Rattle.diag_desk.specs.declared.following.Follower.{Follower}
 use Rattle.diag_desk.specs.declared.following.Play.{Play}
 use Rattle.diag_desk.specs.Clocks.{Tells}
-use Rattle.diag_desk.specs.Entry.{IsEntry, IsJournal, IsMessage, IsReply}
+use Rattle.diag_desk.specs.Entry.{IsEntry, IsJournal, IsMessage, IsReply, most_entries}
 use Rattle.diag_desk.specs.Fault.{IsTextOf}
 use Rattle.diag_desk.specs.Legal.{after}
 use Rattle.diag_desk.specs.PartRead.{PartRead}
@@ -68,7 +68,7 @@ pub record Answered (s new : State) (who : ℕ) (functional : Bool) (text rest :
 -- the next entry has room and no stamp, none before it differs, and its tester is in the setup
 pub record IsUsual (setup : RawSetup) (f : Follower) (who : ℕ) : Type 0 where
   pub stamped : f.stamped ≡ false
-  pub count : f.count < 1000000
+  pub count : f.count < most_entries
   pub differs : f.play.differs ≡ None
   pub tester : who ≤ length setup.testers
 

@@ -1,7 +1,7 @@
 -- What was read so far of a journal's text.
 use Rattle.std.specs.Prelude.{◌≡◌, ◌≢◌, ◌<◌, ℕ, Bool, List, ◌++◌, ◌∷◌, [], length}
 use Rattle.diag_desk.specs.declared.entry.Entry.{Entry}
-use Rattle.diag_desk.specs.Entry.{IsEntry}
+use Rattle.diag_desk.specs.Entry.{IsEntry, most_entries}
 use Rattle.diag_desk.specs.Text.{line_after}
 
 pub record PartRead : Type 0 where
@@ -15,7 +15,7 @@ IsNoNext r text = (e : Entry) → IsEntry e → line_after r.stamped r.entries e
 -- the same where no more entries have room
 abbrev pub HasNoNext : PartRead → List ℕ → Type 0
 HasNoNext r text =
-    (e : Entry) → IsEntry e → length r.entries < 1000000 → line_after r.stamped r.entries e ≢ text
+    (e : Entry) → IsEntry e → length r.entries < most_entries → line_after r.stamped r.entries e ≢ text
 
 -- one line more
 pub record Took (r n : PartRead) (text : List ℕ) : Type 0 where

@@ -2,7 +2,7 @@
 ghost use Rattle.std.specs.Prelude.{◌≡◌, ◌<◌, ◌≤◌, ◌↔◌, [], length, IsTrue, OnErr, IfOk, IfErr, Err, None};
 ghost use Rattle.diag_ecu.specs.State.{opening};
 ghost use Rattle.diag_desk.specs.Entries.{entry};
-ghost use Rattle.diag_desk.specs.Entry.{IsJournal};
+ghost use Rattle.diag_desk.specs.Entry.{IsJournal, most_entries};
 ghost use Rattle.diag_desk.specs.Legal.{IsOpening, Legal, after, after_step, reply_to, entered, is_ticks};
 
 use crate::flat::reply_room;
@@ -87,7 +87,7 @@ impl Desk {
         ensures locked { self.now.opening.security.unlocked ≡ None }
         ensures legal { Legal self.now.opening self.now.journal }
         ensures journal { IsJournal self.now.journal }
-        ensures limit { length self.now.journal ≤ 1000000 }
+        ensures limit { length self.now.journal ≤ most_entries }
     {
         &self.journal
     }
@@ -106,10 +106,10 @@ impl Desk {
         ensures ok { IfOk result (λ reply. self.new ≡ entered self.old (entry who step.now reply)) }
         ensures ticks_unanswered { IsTrue (is_ticks step.now) → IfOk result (λ reply. reply ≡ None) }
         ensures err { OnErr result (self.new ≡ self.old) }
-        ensures full { (result ≡ Err StepFault.JournalFull) ↔ (length self.old.journal ≡ 1000000) }
+        ensures full { (result ≡ Err StepFault.JournalFull) ↔ (length self.old.journal ≡ most_entries) }
         ensures room { IfErr result (λ fault.
-            fault ≡ StepFault.Memory → length self.old.journal < 1000000) }
-        ensures limit { length self.new.journal ≤ 1000000 }
+            fault ≡ StepFault.Memory → length self.old.journal < most_entries) }
+        ensures limit { length self.new.journal ≤ most_entries }
     {
         if self.journal.is_full() {
             return Err(StepFault::JournalFull);

@@ -1,7 +1,7 @@
 //! The journal: the steps of all testers in their order, with the replies.
 ghost use Rattle.std.specs.Prelude.{◌≡◌, ◌≢◌, ◌↔◌, ◌≤◌, ◌+◌, ◌++◌, ◌∷◌, [], length, max, unwrap_or, IsTrue, OnOk, OnErr, IfSome, Err, option_map, option_copied, slice_get};
 ghost use Rattle.diag_desk.specs.Entries.{entry};
-ghost use Rattle.diag_desk.specs.Entry.{entry_seen, HasNoReply, HasRoom, IsEntry, IsJournal, step_len};
+ghost use Rattle.diag_desk.specs.Entry.{entry_seen, HasNoReply, HasRoom, IsEntry, IsJournal, step_len, most_entries};
 ghost use Rattle.diag_desk.specs.Line.{HasHex, line_entry};
 
 use crate::entry::{EntryRef, MOST_ENTRIES};
@@ -69,7 +69,7 @@ impl Journal {
     /// The number of entries.
     pub fn len(&self) -> usize
         ensures same { result ≡ length self.now.entries }
-        ensures bound { result ≤ 1000000 }
+        ensures bound { result ≤ most_entries }
         ensures journal { IsJournal self.now.entries }
     {
         self.heads.len()
@@ -84,7 +84,7 @@ impl Journal {
 
     /// Whether there are 1,000,000 entries, so that no more are taken.
     pub fn is_full(&self) -> bool
-        ensures { IsTrue result ↔ (length self.now.entries ≡ 1000000) }
+        ensures { IsTrue result ↔ (length self.now.entries ≡ most_entries) }
     {
         self.len() == MOST_ENTRIES
     }
@@ -112,7 +112,7 @@ impl Journal {
             ≡ self.old.entries ++ entry who step.now (option_copied reply.entry) ∷ []) }
         ensures journal { IsJournal self.new.entries }
         ensures err { OnErr result (self.new.entries ≡ self.old.entries) }
-        ensures full { (result ≡ Err JournalPush.Full) ↔ (length self.old.entries ≡ 1000000) }
+        ensures full { (result ≡ Err JournalPush.Full) ↔ (length self.old.entries ≡ most_entries) }
         ensures room { HasRoom self.old step.now → result ≢ Err JournalPush.Memory }
     {
         if self.is_full() {
@@ -130,7 +130,7 @@ impl Journal {
     #[inline(always)]
     pub(crate) fn add(&mut self, who: TesterId, step: &Step, reply: Option<&Message>)
         requires no_reply { HasNoReply step.now (option_copied reply) }
-        requires open { length self.old.entries ≢ 1000000 }
+        requires open { length self.old.entries ≢ most_entries }
         requires head { 1 ≤ self.old.entry_room }
         requires room { step_len step.now + max (length (unwrap_or (option_copied reply) [])) 8
             ≤ self.old.byte_room }
@@ -148,7 +148,7 @@ impl Journal {
         requires entry { IsEntry (line_entry line.now) }
         ensures ok { OnOk result (self.new.entries ≡ self.old.entries ++ line_entry line.now ∷ []) }
         ensures err { OnErr result (self.new.entries ≡ self.old.entries) }
-        ensures full { (result ≡ Err JournalPush.Full) ↔ (length self.old.entries ≡ 1000000) }
+        ensures full { (result ≡ Err JournalPush.Full) ↔ (length self.old.entries ≡ most_entries) }
     {
         if self.is_full() {
             return Err(JournalPush::Full);

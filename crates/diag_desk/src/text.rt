@@ -8,7 +8,7 @@ use crate::clocks::Clocks;
 use crate::entry::{EntryRef, StepRef};
 use crate::journal::Journal;
 use diag_can::add_hex;
-use diag_store::TesterId;
+use diag_setup::TesterId;
 use std::alloc::{AllocError, Global};
 use std::mem;
 

@@ -9,7 +9,7 @@ use crate::flat::bytes_of;
 use crate::line::{Kind, front_of, kind_in, place_in};
 use crate::table::pair_value;
 use diag_can::{FrameBytes, TickCount, hex_digits};
-use diag_store::TesterId;
+use diag_setup::TesterId;
 use diag_tp::Message;
 use std::alloc::AllocError;
 

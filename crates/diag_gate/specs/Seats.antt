@@ -1,5 +1,6 @@
 -- What contracts see of a seat and of the host, and what each call leaves.
 use Rattle.std.specs.Prelude.{◌≡◌, ℕ, ◌+◌, ◌<◌, Bool, true, false, List, [], ◌∷◌, ◌++◌, length, replicate, slice_index_or, slice_set, Option, Some, None, is_some, Result, Ok, Err}
+use Rattle.diag_desk.specs.Entry.{most_entries}
 use Rattle.atomic_table.specs.Table.{Me}
 use Rattle.atomic_table.specs.Seated.{TableId}
 use Rattle.diag_ecu.specs.State.{State}
@@ -111,8 +112,8 @@ Answered s n step reply = Enters s n (entry s.who step reply)
 
 -- the journal is full exactly where that is the fault
 abbrev pub IsFull : SeatView → StepFault → Type 0
-IsFull s Memory = length s.seen < 1000000
-IsFull s JournalFull = length s.seen ≡ 1000000
+IsFull s Memory = length s.seen < most_entries
+IsFull s JournalFull = length s.seen ≡ most_entries
 
 -- the step was refused: the seat has seen the journal that was found, and nothing was entered
 abbrev pub Refused : SeatView → SeatView → StepFault → Type 0

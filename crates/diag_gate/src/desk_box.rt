@@ -1,6 +1,6 @@
 //! The desk as the slot keeps it.
 ghost use Rattle.std.specs.Prelude.{◌≡◌, ◌≤◌, ◌↔◌, length, IfOk, OnErr, Err};
-ghost use Rattle.diag_desk.specs.Entry.{HasNoReply};
+ghost use Rattle.diag_desk.specs.Entry.{HasNoReply, most_entries};
 ghost use Rattle.diag_desk.specs.Entries.{entry};
 ghost use Rattle.diag_desk.specs.Legal.{entered};
 ghost use Rattle.diag_gate.specs.Views.{IsLegal};
@@ -45,7 +45,7 @@ impl DeskBox {
     /// What every desk is, for a caller's proof.
     pub(crate) fn lawful(&self)
         ensures legal { IsLegal self.now }
-        ensures limit { length self.now.journal ≤ 1000000 }
+        ensures limit { length self.now.journal ≤ most_entries }
     {
         let _journal = self.desk.journal();
     }
@@ -53,7 +53,7 @@ impl DeskBox {
     pub(crate) fn step(&mut self, who: TesterId, step: &Step) -> Result<Option<Message>, StepFault>
         ensures ok { IfOk result (λ reply. self.new ≡ entered self.old (entry who step.now reply)) }
         ensures err { OnErr result (self.new ≡ self.old) }
-        ensures full { (result ≡ Err StepFault.JournalFull) ↔ (length self.old.journal ≡ 1000000) }
+        ensures full { (result ≡ Err StepFault.JournalFull) ↔ (length self.old.journal ≡ most_entries) }
         ensures ticks_unanswered { IfOk result (λ reply. HasNoReply step.now reply) }
     {
         let reply = self.desk.step(who, step)?;

@@ -1,6 +1,6 @@
 //! The door over a lock.
 ghost use Rattle.std.specs.Prelude.{◌≡◌, ◌++◌, ◌∷◌, [], length, None, Err, IfOk, MatchResult};
-ghost use Rattle.diag_desk.specs.Entry.{HasNoReply};
+ghost use Rattle.diag_desk.specs.Entry.{HasNoReply, most_entries};
 ghost use Rattle.diag_desk.specs.Entries.{entry};
 ghost use Rattle.diag_gate.specs.Views.{IsLawful};
 
@@ -53,7 +53,7 @@ impl<'a, R: Wait> Door for LockDoor<'a, R> {
     /// it is lawful behind some legal journal of some setup; which desk gave it, the contract doesn't say.
     fn step(&mut self, step: &Step) -> Result<Option<Message>, StepFault>
         ensures lawful { IfOk result (λ reply. IsLawful self.old.who step.now reply) }
-        ensures full { length self.old.given.entries ≡ 1000000
+        ensures full { length self.old.given.entries ≡ most_entries
             → result ≡ Err StepFault.JournalFull }
         ensures given { MatchResult result
             (λ reply. self.new.given.entries

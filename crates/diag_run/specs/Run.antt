@@ -10,7 +10,7 @@ use Rattle.diag_setup.specs.Setup.{link_of}
 use Rattle.diag_tp.specs.declared.sent.Sent.{Sent}
 use Rattle.diag_ecu.specs.State.{opening}
 use Rattle.diag_desk.specs.declared.entry.Entry.{Entry}
-use Rattle.diag_desk.specs.Entry.{IsJournal}
+use Rattle.diag_desk.specs.Entry.{IsJournal, most_entries}
 use Rattle.diag_desk.specs.Fault.{IsTextOf, FaultAt}
 use Rattle.diag_desk.specs.Legal.{Run, after}
 use Rattle.diag_desk.specs.Replay.{IsRun, DiffersAt}
@@ -132,7 +132,7 @@ abbrev pub GivesPlayed : Bool → Timing → RawSetup → Result (List (List Eve
 GivesPlayed only_journal timing setup said (Ok text) =
     IsOkAnd said (λ logs. IsPlayedText in_turn only_journal timing setup logs text)
 GivesPlayed only_journal timing setup said (Err JournalFull) =
-    IsOkAnd said (λ logs. 1000000 < length (steps_of (link_of setup) (turns logs)))
+    IsOkAnd said (λ logs. most_entries < length (steps_of (link_of setup) (turns logs)))
 GivesPlayed only_journal timing setup said (Err fault) = Fails fault said
 
 -- the same of a play in which each tester has a thread. The journal is full only where the logs are well

@@ -5,7 +5,9 @@ ghost use Rattle.std.specs.Prelude.{◌≡◌, IfOk};
 ghost use Rattle.diag_setup.specs.Setup.{sorted};
 ghost use Rattle.diag_setup.specs.TwoTesters.{key_row, level, routine, code, did, tester, two_testers};
 
-use diag_setup::{Items, RawCode, RawDid, RawKeyRow, RawLevel, RawRoutine, RawSetup, RawTester, Setup};
+use diag_setup::{
+    Items, RawCode, RawDid, RawKeyRow, RawLevel, RawRoutine, RawSetup, RawTester, Setup,
+};
 use std::alloc::{AllocError, Global};
 
 /// A setup with the testers A (7E0, 7E8) and B (7E1, 7E9).

@@ -5,7 +5,7 @@ use Rattle.std.specs.List.{AllByRecursion}
 use Rattle.diag_can.specs.declared.frame.Event.{Event}
 use Rattle.diag_can.specs.declared.log.Timing.{Timing}
 use Rattle.diag_can.specs.declared.fault.LogFault.{LogFault}
-use Rattle.diag_can.specs.Log.{events}
+use Rattle.diag_can.specs.Log.{events, most_events}
 use Rattle.diag_setup.specs.declared.raw.RawSetup.{RawSetup}
 use Rattle.diag_setup.specs.Setup.{ids_of}
 use Rattle.diag_workers.specs.declared.playing.PlayFault.{PlayFault}
@@ -31,7 +31,7 @@ logs_of setup timing texts = logs_from 1 setup timing texts
 
 -- what reading a tester's log answers, where this is what it says
 abbrev pub ReadsOne : ℕ → Result (List Event) LogFault → Result (Vec Event) PlayFault → Type 0
-ReadsOne n log (Ok read) = (log ≡ Ok read.items) × (vec_len read ≤ 1000000)
+ReadsOne n log (Ok read) = (log ≡ Ok read.items) × (vec_len read ≤ most_events)
 ReadsOne n log (Err Memory) = Unit {0}
 ReadsOne n log (Err (Log who fault)) = (who ≡ n) × (log ≡ Err fault)
 ReadsOne n log (Err JournalFull) = ⊥
@@ -49,5 +49,5 @@ abbrev pub Reads : Result (List (List Event)) (ℕ × LogFault) → ℕ
     → Result (Vec (Vec Event)) PlayFault → Type 0
 Reads logs count (Ok read) = (logs ≡ Ok (map (λ log. log.items) read.items))
     × (length read.items ≡ count)
-    × AllByRecursion (λ log. vec_len log ≤ 1000000) read.items
+    × AllByRecursion (λ log. vec_len log ≤ most_events) read.items
 Reads logs count (Err fault) = NotRead logs fault

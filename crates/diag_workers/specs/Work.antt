@@ -7,7 +7,7 @@ use Rattle.diag_tp.specs.declared.step.Step.{Step}
 use Rattle.diag_tp.specs.Gives.{steps}
 use Rattle.diag_tp.specs.Placing.{drawn}
 use Rattle.diag_desk.specs.declared.entry.Entry.{Entry}
-use Rattle.diag_desk.specs.Entry.{Kept}
+use Rattle.diag_desk.specs.Entry.{Kept, most_entries}
 use Rattle.diag_desk.specs.Entries.{asked, asked_by, replies}
 use Rattle.diag_world.specs.Channel.{ChannelState, ChannelStands, GoesOn}
 use Rattle.diag_world.specs.Weaving.{all_by}
@@ -29,7 +29,7 @@ holds journal entries = journal.entries ≡ entries
 
 -- what is kept is that of fewer entries than a journal may have
 abbrev pub CanKeep : {K : Type 0} → (K → List Entry → Type 0) → K → Type 0
-CanKeep keeps kept = (entries : List Entry) × keeps kept entries × (length entries < 1000000)
+CanKeep keeps kept = (entries : List Entry) × keeps kept entries × (length entries < most_entries)
 
 -- Between two events: the tester's channel took the events E, for which its door has given these entries more than
 -- before, and P holds of them

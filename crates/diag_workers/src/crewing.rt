@@ -2,6 +2,7 @@
 ghost use Rattle.std.specs.Prelude.{◌≡◌, ◌<◌, ◌≤◌, ◌∷◌, [], length, map, IfOk, vec_len};
 ghost use Rattle.std.specs.List.{AllByRecursion};
 ghost use Rattle.std.specs.Thread.{IsSync, IsSend};
+ghost use Rattle.diag_can.specs.Log.{most_events};
 ghost use Rattle.diag_tp.specs.Moments.{counted_from};
 ghost use Rattle.diag_setup.specs.Setup.{link_of};
 ghost use Rattle.diag_workers.specs.Crew.{Worked, AllWorked};
@@ -29,7 +30,7 @@ pub fn crew<D: Door + Send + Drop, R: Threads + Sync>(
     doors: Vec<D>,
 ) -> Result<Vec<(WorkerRecord, D)>, StepFault>
     requires logs { length logs.now ≡ length setup.now.testers }
-    requires limits { AllByRecursion (λ log. vec_len log ≤ 1000000) logs.now }
+    requires limits { AllByRecursion (λ log. vec_len log ≤ most_events) logs.now }
     requires doors { map D.tester doors.items ≡ counted_from 1 (length setup.now.testers) }
     ensures { IfOk result (λ done. AllWorked (link_of setup.now) D.tester D.given D.home holds
         (map (λ log. log.items) logs.now) doors.items done.items) }
@@ -46,7 +47,7 @@ pub(crate) fn crew_keeping<K: Keep + Send + Drop, D: Door + Send + Drop, R: Thre
     doors: Vec<D>,
 ) -> Result<Vec<(WorkerRecord<K>, D)>, StepFault>
     requires logs { length logs.now ≡ length setup.now.testers }
-    requires limits { AllByRecursion (λ log. vec_len log ≤ 1000000) logs.now }
+    requires limits { AllByRecursion (λ log. vec_len log ≤ most_events) logs.now }
     requires doors { map D.tester doors.items ≡ counted_from 1 (length setup.now.testers) }
     ensures { IfOk result (λ done. AllWorked (link_of setup.now) D.tester D.given D.home K.keeps
         (map (λ log. log.items) logs.now) doors.items done.items) }
@@ -63,7 +64,7 @@ fn crew_of<K: Keep + Send + Drop, D: Door + Send + Drop, R: Threads + Sync>(
     mut doors: Vec<D>,
 ) -> Result<Vec<(WorkerRecord<K>, D)>, StepFault>
     requires as_many { length doors.items ≡ length logs.now }
-    requires limits { AllByRecursion (λ log. vec_len log ≤ 1000000) logs.now }
+    requires limits { AllByRecursion (λ log. vec_len log ≤ most_events) logs.now }
     requires in_setup { AllByRecursion
         (λ door. D.tester door ≤ length setup.now.testers) doors.items }
     ensures { IfOk result (λ done. AllWorked (link_of setup.now) D.tester D.given D.home K.keeps
@@ -80,7 +81,7 @@ fn crew_of<K: Keep + Send + Drop, D: Door + Send + Drop, R: Threads + Sync>(
     let (one, others) = join(
         rt,
         move || -> Result<(WorkerRecord<K>, D), StepFault>
-            requires { (vec_len log.now ≤ 1000000) × (D.tester door ≤ length setup.now.testers) }
+            requires { (vec_len log.now ≤ most_events) × (D.tester door ≤ length setup.now.testers) }
             ensures { IfOk result (λ r. Worked (link_of setup.entry.now)
                 D.tester D.given D.home K.keeps log.entry.now.items door r.0 r.1) }
         { worked(alloc, setup, log, door) },
@@ -89,7 +90,7 @@ fn crew_of<K: Keep + Send + Drop, D: Door + Send + Drop, R: Threads + Sync>(
                 × IsSend K.row
                 × IsSend D.row
                 × (length doors.items ≡ length logs.now)
-                × AllByRecursion (λ log. vec_len log ≤ 1000000) logs.now
+                × AllByRecursion (λ log. vec_len log ≤ most_events) logs.now
                 × AllByRecursion (λ door. D.tester door ≤ length setup.now.testers) doors.items }
             ensures { IfOk result (λ done. AllWorked (link_of setup.entry.now) D.tester
                 D.given D.home K.keeps (map (λ log. log.items) logs.entry.now) doors.items done.items) }
@@ -127,7 +128,7 @@ fn worked<K: Keep + Drop, D: Door + Drop>(
     log: &[Event],
     mut door: D,
 ) -> Result<(WorkerRecord<K>, D), StepFault>
-    requires limit { length log.now ≤ 1000000 }
+    requires limit { length log.now ≤ most_events }
     requires in_setup { D.tester door ≤ length setup.now.testers }
     ensures { IfOk result (λ r.
         Worked (link_of setup.now) D.tester D.given D.home K.keeps log.now door r.0 r.1) }

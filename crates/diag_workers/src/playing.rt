@@ -1,6 +1,7 @@
 //! All testers' logs at the same time, over one gate.
 ghost use Rattle.std.specs.Prelude.{◌≡◌, ◌≢◌, ◌≤◌, ℕ, List, length, map, IfOk, vec_len, Ok, Err};
 ghost use Rattle.std.specs.List.{AllByRecursion};
+ghost use Rattle.diag_can.specs.Log.{most_events};
 ghost use Rattle.diag_can.specs.declared.frame.Event.{Event as AnEvent};
 ghost use Rattle.diag_can.specs.declared.fault.LogFault.{LogFault as ALogFault};
 ghost use Rattle.diag_setup.specs.Setup.{link_of};
@@ -88,7 +89,7 @@ fn play_logs<W: Watch + Sync, R: Threads + Wait + Sync>(
     watch: &W,
 ) -> Result<Played, StepFault>
     requires logs { length logs.now ≡ length setup.now.testers }
-    requires limits { AllByRecursion (λ log. vec_len log ≤ 1000000) logs.now }
+    requires limits { AllByRecursion (λ log. vec_len log ≤ most_events) logs.now }
     ensures { IfOk result (λ played. IsPlay setup.now
         (weave (link_of setup.now) played.desk.journal (map (λ log. log.items) logs.now))
         (map (λ log. log.items) logs.now) played.desk (map (λ s. s.items) played.sent.items)) }

@@ -1,5 +1,6 @@
 //! One tester's worker.
 ghost use Rattle.std.specs.Prelude.{◌≡◌, ◌≤◌, [], ◌++◌, length, IfOk, OnOk, OnErr};
+ghost use Rattle.diag_can.specs.Log.{most_events};
 ghost use Rattle.diag_tp.specs.Gives.{steps};
 ghost use Rattle.diag_tp.specs.Placing.{drawn};
 ghost use Rattle.diag_setup.specs.Setup.{link_of};
@@ -40,7 +41,7 @@ pub fn work<D: Door>(
     events: &[Event],
     door: &mut D,
 ) -> Result<WorkerRecord, StepFault>
-    requires limit { length events.now ≤ 1000000 }
+    requires limit { length events.now ≤ most_events }
     requires in_setup { who ≤ length setup.now.testers }
     requires own_door { D.tester door.old ≡ who }
     ensures given { IfOk result (λ r. D.given door.new ≡ D.given door.old ++ r.entries.entries) }
@@ -64,7 +65,7 @@ pub(crate) fn work_keeping<K: Keep + Drop, D: Door>(
     events: &[Event],
     door: &mut D,
 ) -> Result<WorkerRecord<K>, StepFault>
-    requires limit { length events.now ≤ 1000000 }
+    requires limit { length events.now ≤ most_events }
     requires in_setup { who ≤ length setup.now.testers }
     requires own_door { D.tester door.old ≡ who }
     ensures played { IfOk result (λ r. PlayedLog (link_of setup.now who) who events.now

@@ -12,7 +12,7 @@ use Rattle.diag_tp.specs.Placing.{placed, drawn}
 use Rattle.diag_tp.specs.State.{LinkState}
 use Rattle.diag_tp.specs.Link.{StandsFor, is_frame, pending, waiting_count}
 use Rattle.diag_desk.specs.declared.entry.Entry.{Entry}
-use Rattle.diag_desk.specs.Entry.{HasNoReply}
+use Rattle.diag_desk.specs.Entry.{HasNoReply, most_entries}
 use Rattle.diag_desk.specs.Entries.{asked, asked_by, replies}
 use Rattle.diag_world.specs.Port.{HasRoomFor, step_in}
 use Rattle.diag_world.specs.Weaving.{all_by}
@@ -67,7 +67,7 @@ EachChannelRun channel P =
 -- step, and else none.
 abbrev pub GoesOn : ℕ → ChannelState → ChannelState → Event → List Entry → Type 0
 GoesOn who old new e entries = EachChannelRun old (λ s E K.
-    length K ≤ 1000000
+    length K ≤ most_entries
     → (asked_by entries ≡ all_by who (option_to_list (gives s E e)))
     × ChannelStands s new (E ++ e ∷ []) (K ++ entries))
 

@@ -19,6 +19,7 @@ ghost use Rattle.std.specs.Prelude.{
   option_copied,
   ◌↔◌,
 };
+ghost use Rattle.diag_desk.specs.Entry.{most_entries};
 ghost use Rattle.diag_can.specs.declared.frame.Event.{Event as AnEvent};
 ghost use Rattle.diag_tp.specs.declared.setup.LinkSetup.{LinkSetup as ALinkSetup};
 ghost use Rattle.diag_tp.specs.Gives.{gives};
@@ -95,7 +96,7 @@ impl Channel {
         requires frame { IsSome reply → IsTrue (is_frame event.now) }
         ensures took { (s : ALinkSetup) (who : ℕ) (E : List AnEvent) (K : List AnEntry)
             → ChannelStands s (channel_of self.old) E K
-            → length K ≤ 1000000
+            → length K ≤ most_entries
             → (gives s E event.now ≡ None → reply ≡ None)
             → ChannelStands s (channel_of self.new) (E ++ event.now ∷ [])
             (K ++ entries_of who (gives s E event.now) reply) }

@@ -1,6 +1,7 @@
 //! All logs on one thread, one event of each in turn.
 
 ghost use Rattle.std.specs.Prelude.{◌≡◌, ◌≤◌, ◌<◌, ◌+◌, List, ℕ, [], ◌++◌, length, map, drop, IfOk, OnOk};
+ghost use Rattle.diag_desk.specs.Entry.{most_entries};
 ghost use Rattle.diag_can.specs.declared.frame.Event.{Event as AnEvent};
 ghost use Rattle.diag_setup.specs.Setup.{link_of};
 ghost use Rattle.diag_world.specs.Headline.{IsPlay};
@@ -34,7 +35,7 @@ pub fn serial(alloc: Global, setup: &Setup, logs: &[Vec<Event>]) -> Result<Playe
     ensures played { IfOk result (λ played. let events = map (λ log. log.items) logs.now in
         IsPlay setup.now (turns events) events played.desk (map (λ s. s.items) played.sent.items)) }
     ensures full { result ≡ Err StepFault.JournalFull
-        → 1000000
+        → most_entries
         < length (steps_of (link_of setup.now) (turns (map (λ log. log.items) logs.now))) }
 {
     let mut world = World::new(alloc, setup)?;
@@ -77,7 +78,7 @@ fn take_round(
     ensures full { result ≡ Err StepFault.JournalFull
         → (M : List (ℕ × AnEvent))
         → Stands setup.now world.old M
-        → 1000000 < length (steps_of (link_of setup.now)
+        → most_entries < length (steps_of (link_of setup.now)
         (M ++ first_of_each 1 (map (drop round) (map (λ log. log.items) logs.now)))) }
 {
     for (index, log) in logs.iter().enumerate() {

@@ -39,7 +39,7 @@ use crate::port::{Prepared, prepare, settle, step};
 use diag_can::{Event, TickCount};
 use diag_desk::{EntryRef, StepRef, reply_of, settle_step};
 use diag_ecu::Ecu;
-use diag_store::{Setup, TesterId};
+use diag_setup::{Setup, TesterId};
 use diag_tp::{Link, Message, Sent, Step};
 use std::alloc::{AllocError, Global};
 use std::marker::Model;

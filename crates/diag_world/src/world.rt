@@ -18,7 +18,7 @@ ghost use Rattle.diag_tp.specs.Gives.{gives};
 ghost use Rattle.diag_tp.specs.Placing.{drawn};
 ghost use Rattle.diag_setup.specs.Setup.{link_of};
 ghost use Rattle.diag_desk.specs.Entries.{own, replies};
-ghost use Rattle.diag_desk.specs.Entry.{IsJournal};
+ghost use Rattle.diag_desk.specs.Entry.{IsJournal, most_entries};
 ghost use Rattle.diag_desk.specs.Legal.{IsOpening, Legal, after};
 ghost use Rattle.diag_world.specs.Channel.{due, channel_of, EachChannelRun};
 ghost use Rattle.diag_world.specs.Weaving.{items_of};
@@ -80,10 +80,10 @@ impl World {
         ensures testers { length self.new.sent ≡ length self.old.sent }
         ensures err { OnErr result (self.new ≡ self.old) }
         ensures full { result ≡ Err StepFault.JournalFull
-            → (length self.old.desk.journal ≡ 1000000)
+            → (length self.old.desk.journal ≡ most_entries)
             × EachInterleaving self.old (λ setup M.
             IsSome (gives (link_of setup who) (items_of M who) event.now)) }
-        ensures first { length self.old.desk.journal ≡ 1000000
+        ensures first { length self.old.desk.journal ≡ most_entries
             → EachInterleaving self.old (λ setup M.
             IsSome (gives (link_of setup who) (items_of M who) event.now)
             → result ≡ Err StepFault.JournalFull) }
@@ -98,7 +98,7 @@ impl World {
         ensures opened { IsOpening self.now.desk.opening }
         ensures legal { Legal self.now.desk.opening self.now.desk.journal }
         ensures journal { IsJournal self.now.desk.journal }
-        ensures limit { length self.now.desk.journal ≤ 1000000 }
+        ensures limit { length self.now.desk.journal ≤ most_entries }
     {
         self.desk.journal()
     }
@@ -166,9 +166,9 @@ fn take(
     ensures err { OnErr result
         ((desk.new ≡ desk.old) × (channel_of channel.new ≡ channel_of channel.old)) }
     ensures full { result ≡ Err StepFault.JournalFull
-        → (length desk.old.journal ≡ 1000000)
+        → (length desk.old.journal ≡ most_entries)
         × EachChannelRun (channel_of channel.old) (λ s E K. IsSome (gives s E event.now)) }
-    ensures first { length desk.old.journal ≡ 1000000
+    ensures first { length desk.old.journal ≡ most_entries
         → EachChannelRun (channel_of channel.old) (λ s E K.
         IsSome (gives s E event.now) → result ≡ Err StepFault.JournalFull) }
 {

@@ -1,6 +1,7 @@
 //! Crews of two workers, at doors to no desk.
 
 ghost use Rattle.std.specs.Prelude.{◌≡◌, ◌≤◌, length, map, vec_len, IfOk};
+ghost use Rattle.diag_can.specs.Log.{most_events};
 ghost use Rattle.diag_tp.specs.Moments.{counted_from};
 
 use crate::trouble::{Trouble, holds};
@@ -89,7 +90,7 @@ fn lone_doors<'a>(
 
 /// A log of two ticks.
 fn two_ticks(alloc: Global) -> Result<Vec<Event>, Trouble>
-    ensures { IfOk result (λ log. vec_len log ≤ 1000000) }
+    ensures { IfOk result (λ log. vec_len log ≤ most_events) }
 {
     let count = TickCount::new(1).ok_or(Trouble::Wrong)?;
     Ok(Vec::from_array(alloc, [Event::Ticks(count), Event::Ticks(count)])?)

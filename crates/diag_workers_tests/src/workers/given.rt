@@ -1,6 +1,7 @@
 //! What all tests begin with.
 
 ghost use Rattle.std.specs.Prelude.{◌≡◌, ◌≤◌, length, vec_len, IfOk};
+ghost use Rattle.diag_can.specs.Log.{most_events};
 
 use crate::trouble::Trouble;
 use diag_can::{Event, Timing, read_log};
@@ -67,7 +68,7 @@ pub(crate) fn events_of(
     index: usize,
     lines: &[&str],
 ) -> Result<Vec<Event>, Trouble>
-    ensures { IfOk result (λ log. vec_len log ≤ 1000000) }
+    ensures { IfOk result (λ log. vec_len log ≤ most_events) }
 {
     let who = setup.who(index).ok_or(Trouble::Wrong)?;
     let text = text_of(alloc, lines)?;

@@ -1,6 +1,7 @@
 //! Workers at doors over a lock.
 
 ghost use Rattle.std.specs.Prelude.{◌≤◌, length};
+ghost use Rattle.diag_can.specs.Log.{most_events};
 
 use crate::trouble::{Trouble, holds};
 use crate::workers::given::{
@@ -24,7 +25,7 @@ fn at_lock<R: Wait>(
     who: TesterId,
     events: &[Event],
 ) -> Result<WorkerRecord, StepFault>
-    requires limit { length events.now ≤ 1000000 }
+    requires limit { length events.now ≤ most_events }
     requires in_setup { who ≤ length setup.now.testers }
 {
     let mut door = LockDoor::new(rt, alloc, desk, who);
