@@ -6,8 +6,8 @@ use Rattle.diag_world.specs.Channel.{ChannelStands}
 use Rattle.diag_world.proofs.Channels.{some_is_not_none, went_on}
 use Rattle.diag_world.proofs.world.take.Goals as goal
 
-pub returns-in-Some-clause-ok : goal.returns-in-Some-clause-ok
-returns-in-Some-clause-ok c =
+pub returns-in_ok-reply-in-Some-clause-ok : goal.returns-in_ok-reply-in-Some-clause-ok
+returns-in_ok-reply-in-Some-clause-ok c =
     let reply = c.in_ok-reply-in-Some.reply in
     record {
       entries = entry c.args.who c.in-Some.step.now reply ∷ [];
@@ -18,8 +18,8 @@ returns-in-Some-clause-ok c =
           (λ s E K h. c.settle.ensures.took s c.args.who E K (subst (λ l. ChannelStands s l E K) (sym c.in_ok-prepared.ensures.same) h));
     }
 
-pub returns-clause-ok : goal.returns-clause-ok
-returns-clause-ok c = record {
+pub returns-in-None-clause-ok : goal.returns-in-None-clause-ok
+returns-in-None-clause-ok c = record {
   entries = [];
   grown = sym (ap (λ J. record { opening = c.args.desk.now.opening; journal = J }) (append-nil c.args.desk.now.journal));
   legal = c.journal.ensures.legal;

@@ -7,8 +7,8 @@ use Rattle.diag_world.specs.Channel.{ChannelStands}
 use Rattle.diag_world.proofs.Channels.{some_is_not_none, went_on}
 use Rattle.diag_workers.proofs.working.Worker.take.Goals as goal
 
-pub returns-in-Some-clause-took : goal.returns-in-Some-clause-took
-returns-in-Some-clause-took g c =
+pub returns-in_ok-reply-in-Some-clause-took : goal.returns-in_ok-reply-in-Some-clause-took
+returns-in_ok-reply-in-Some-clause-took g c =
     let who = g.D.Door.tester c.args.door.now in
     let reply = c.in_ok-reply-in-Some.reply in
     record {
@@ -20,8 +20,8 @@ returns-in-Some-clause-took g c =
       kept = λ K kept. let kept' = c.in_ok-prepare-in-Some.ensures.same K kept in search (rules, common_steps);
     }
 
-pub returns-clause-took : goal.returns-clause-took
-returns-clause-took g c =
+pub returns-in-None-clause-took : goal.returns-in-None-clause-took
+returns-in-None-clause-took g c =
     let who = g.D.Door.tester c.args.door.now in
     record {
       entries = [];
