@@ -48,7 +48,8 @@ within text least most at room sixteen too none j lt =
     let high = get_or-zip2 less most v j 0 0 0 (omega (arith, too)) (omega (arith, long)) in
     let lane : get_or ms j false ≡ top 7 (bit_or (less (get_or v j 0) (get_or least j 0)) (less (get_or most j 0) (get_or v j 0))) =
     get_or-map (top 7) found j 0 false (omega (arith, count, lows, long))
-    ∙ ap (top 7) (get_or-zip2 bit_or (zip2 less v least) (zip2 less most v) j 0 0 0 (omega (arith, lows, long)) (omega (arith, highs, too)) ∙ ap₂ bit_or low high) in
+    ∙ ap (top 7) (get_or-zip2 bit_or (zip2 less v least) (zip2 less most v) j 0 0 0 (omega (arith, lows, long)) (omega (arith, highs, too))
+    ∙ ap₂ bit_or low high) in
     let both = neither (ltb (get_or v j 0) (get_or least j 0)) (ltb (get_or most j 0) (get_or v j 0)) (sym lane ∙ unset _ bit) in
     let here = get_or-chunk at 16 text j 0 (omega (arith, long)) in (
       subst (λ (x : ℕ). get_or least j 0 ≤ x) here (at_least _ _ both.0),
