@@ -11,3 +11,8 @@ pub record IsRunIn (test : ℕ → Bool) (text : List ℕ) (at n run : ℕ) : Ty
   pub in_range : run ≤ n
   pub pass : (k : ℕ) → at ≤ k → k < at + run → test (slice_index text k) ≡ true
   pub stops : run < n → test (slice_index text (at + run)) ≡ false
+
+-- each of the sixteen bytes from this place on is between those of two lists
+abbrev pub IsWithin : List ℕ → ℕ → List ℕ → List ℕ → Type 0
+IsWithin text at least most = (j : ℕ) → j < 16
+    → (slice_index least j ≤ slice_index text (at + j)) × (slice_index text (at + j) ≤ slice_index most j)

@@ -2,9 +2,9 @@
 
 ghost use Rattle.std.specs.Prelude.{◌≡◌, ℕ, ◌+◌, ◌-◌, ◌<◌, ◌≤◌, not, true, length, slice_index, IsTrue};
 ghost use Rattle.hex.specs.Hex.{is_hex_digit};
-ghost use Rattle.diag_can.specs.Lanes.{IsRunIn, first_set};
+ghost use Rattle.diag_can.specs.Lanes.{IsRunIn, IsWithin, first_set};
 ghost use Rattle.diag_can.specs.Log.{is_feed};
-ghost use Rattle.diag_can.specs.Stamp.{is_digit, is_no_space};
+ghost use Rattle.diag_can.specs.Stamp.{is_no_space};
 
 use std::simd::prelude::*;
 
@@ -20,26 +20,16 @@ fn first_set(mask: u64, lanes: usize) -> usize
     }
 }
 
-/// How many of these sixteen bytes are decimal digits, from the first.
+/// Whether each of sixteen bytes is between two.
 #[inline(always)]
-pub fn sixteen_digits(text: &[u8], at: usize) -> usize
+pub fn is_within(text: &[u8], at: usize, least: &[u8; 16], most: &[u8; 16]) -> bool
     requires { at + 16 ≤ length text.now }
-    ensures { IsRunIn is_digit text.now at 16 result }
+    ensures { IsTrue result → IsWithin text.now at least.now most.now }
 {
     let v = u8x16::from_slice(&text[at..]);
-    let stops = (v - u8x16::splat(b'0')).simd_ge(u8x16::splat(10));
-    first_set(stops.to_bitmask(), 16)
-}
-
-/// How many of these eight bytes are decimal digits, from the first.
-#[inline(always)]
-pub fn eight_digits(text: &[u8], at: usize) -> usize
-    requires { at + 8 ≤ length text.now }
-    ensures { IsRunIn is_digit text.now at 8 result }
-{
-    let v = u8x8::from_slice(&text[at..]);
-    let stops = (v - u8x8::splat(b'0')).simd_ge(u8x8::splat(10));
-    first_set(stops.to_bitmask(), 8)
+    let is_less = v.simd_lt(u8x16::from_array(*least));
+    let is_more = u8x16::from_array(*most).simd_lt(v);
+    (is_less | is_more).to_bitmask() == 0
 }
 
 /// How many of these eight bytes are other than space, from the first.

@@ -8,7 +8,7 @@ ghost use Rattle.diag_can.specs.Stamp.{is_digit};
 ghost use Rattle.diag_can.specs.Usual.{IsFramed, IsUsual, three_at, usual_moment};
 
 use crate::frame::{CanId, FrameBytes};
-use crate::lanes::{eight_digits, eight_of_word, ends_in_hex, sixteen_digits};
+use crate::lanes::{eight_of_word, ends_in_hex, is_within};
 use crate::line::short_id;
 use std::simd::prelude::*;
 
@@ -21,12 +21,8 @@ fn text_place(line: &[u8]) -> Option<usize>
     ensures { IfSome result (λ place. IsFramed line.now place) }
 {
     if line.len() < SHORTEST
-        || line[0] != b'('
-        || sixteen_digits(line, 1) != 10
-        || line[11] != b'.'
-        || eight_digits(line, 12) != 6
-        || line[18] != b')'
-        || line[19] != b' '
+        || !is_within(line, 0, b"(0000000000.0000", b"(9999999999.9999")
+        || !is_within(line, 4, b"0000000.000000) ", b"9999999.999999) ")
     {
         return None;
     }

@@ -165,7 +165,7 @@ impl LineWriter {
     ///
     /// # Errors
     /// `AllocError` where memory is refused; the text stays as it was.
-    #[inline]
+    #[inline(always)]
     pub fn write(&mut self, text: &mut Vec<u8>, at: u64, frame: &Frame) -> Result<(), AllocError>
         ensures ok { OnOk result
             (text.new.items ≡ text.old.items ++ reply_line self.old at frame.now) }
