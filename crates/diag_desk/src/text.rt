@@ -99,7 +99,7 @@ fn ticks_in(step: &StepRef<'_>) -> u64
 }
 
 /// Appends the line of an entry, where it is stamped with its stamp first; room for the whole line is made first.
-#[inline]
+#[inline(always)]
 fn write_line(
     text: &mut Vec<u8>,
     stamped: bool,

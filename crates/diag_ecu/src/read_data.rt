@@ -24,6 +24,7 @@ struct Reading {
 
 impl Ecu {
     /// The code of the first check of the identifiers that holds.
+    #[inline(never)]
     pub(crate) fn read_refusal(&self, who: TesterId, p: &[u8]) -> Option<Nrc>
         requires { 1 ≤ length p.now }
         ensures { result ≡ first_holding (read_checks self.now who p.now) }
@@ -42,6 +43,7 @@ impl Ecu {
     }
 
     /// The values of the known identifiers, in the order of the request.
+    #[inline(never)]
     pub(crate) fn data_reply(&self, who: TesterId, p: &[u8]) -> Result<Message, AllocError>
         requires some { 1 ≤ length p.now }
         requires fits { length (data_reply self.now p.now) ≤ 65535 }

@@ -13,6 +13,7 @@ use std::alloc::AllocError;
 
 impl Ecu {
     /// The code of the first check of a routine that holds.
+    #[inline(never)]
     pub(crate) fn routine_refusal(&self, who: TesterId, p: &[u8]) -> Option<Nrc>
         requires { length p.now ≡ 4 }
         ensures { result ≡ first_holding (routine_checks self.now who p.now) }
@@ -35,6 +36,7 @@ impl Ecu {
     /// The sub-function and the routine; where its result is asked for, 01 while it runs, and 00 and the result when it
     /// is done.
     #[tactic(auto, using(crate::proofs::ServiceLemmas::done_result))]
+    #[inline(never)]
     pub(crate) fn routine_reply(&self, p: &[u8]) -> Result<Option<Message>, AllocError>
         requires { length p.now ≡ 4 }
         ensures { IfOk result (λ reply.

@@ -13,6 +13,7 @@ use std::alloc::AllocError;
 
 impl Ecu {
     /// The code of the first check of a seed or key that holds.
+    #[inline(never)]
     pub(crate) fn security_refusal(&self, who: TesterId, p: &[u8]) -> Option<Nrc>
         requires long { 2 ≤ length p.now }
         requires known { IsTrue (is_sub_function self.now SubFunctions.OfLevels (sub p.now)) }
@@ -29,6 +30,7 @@ impl Ecu {
     }
 
     /// The seed, or the word that the key was right.
+    #[inline(never)]
     pub(crate) fn security_reply(
         &self,
         who: TesterId,
