@@ -7,6 +7,7 @@ ghost use Rattle.diag_desk.specs.Text.{ended, entry_line, header, journal_text, 
 use crate::clocks::Clocks;
 use crate::entry::{Entry, StepRef};
 use crate::journal::Journal;
+use crate::numerals::{add, add_decimal};
 use diag_can::add_hex;
 use diag_store::TesterId;
 use std::alloc::{AllocError, Global};
@@ -150,31 +151,6 @@ fn reply_len(reply: Option<&[u8]>) -> usize
         Some(bytes) => bytes.len(),
         None => 0,
     }
-}
-
-/// Appends bytes for which there is room.
-#[inline(always)]
-fn add(text: &mut Vec<u8>, bytes: &[u8])
-    requires { vec_len text.old + length bytes.now ≤ vec_capacity text.old }
-    ensures items { text.new.items ≡ text.old.items ++ bytes.now }
-    ensures len { vec_len text.new ≡ vec_len text.old + length bytes.now }
-    ensures capacity { vec_capacity text.new ≡ vec_capacity text.old }
-{
-    for byte in bytes {
-        text.push_reserved(*byte);
-    }
-}
-
-/// Appends a number in decimal, where there is room.
-#[inline(always)]
-fn add_decimal(text: &mut Vec<u8>, number: u64)
-    requires { vec_len text.old + 20 ≤ vec_capacity text.old }
-    ensures items { text.new.items ≡ text.old.items ++ decimal number }
-    ensures len { vec_len text.new ≤ vec_len text.old + 20 }
-    ensures capacity { vec_capacity text.new ≡ vec_capacity text.old }
-{
-    let mut buffer = itoa::Buffer::new();
-    add(text, buffer.format(number).as_bytes());
 }
 
 /// Appends a stamp and its space, where there is room.
