@@ -110,7 +110,8 @@ fn write_line(
     reply: Option<&[u8]>,
 ) -> Result<(), AllocError>
     ensures ok { OnOk result (text.new.items ≡ text.old.items
-        ++ ended (stamped_line stamped clock (entry_line (entry who (step_seen step.now) (option_copied reply.entry))))) }
+        ++ ended (stamped_line stamped clock
+        (entry_line (entry who (step_seen step.now) (option_copied reply.entry))))) }
     ensures err { OnErr result (text.new.items ≡ text.old.items) }
 {
     let Some(room) = line_room(step, reply) else {
@@ -134,7 +135,8 @@ const LINE_ROOM: usize = 64;
 /// No fewer bytes than a line has.
 #[inline(always)]
 fn line_room(step: &StepRef<'_>, reply: Option<&[u8]>) -> Option<usize>
-    ensures { IfSome result (λ room. room ≡ 64 + 2 * messages_len (step_seen step.now) (option_copied reply.entry)) }
+    ensures { IfSome result (λ room. room
+        ≡ 64 + 2 * messages_len (step_seen step.now) (option_copied reply.entry)) }
 {
     let bytes = match *step {
         StepRef::Request { bytes, .. } => bytes.len().checked_add(reply_len(reply))?,
@@ -168,8 +170,11 @@ fn add_stamp(text: &mut Vec<u8>, clock: u64)
 /// Appends the line of an entry, where there is room.
 #[inline(always)]
 fn add_entry(text: &mut Vec<u8>, who: TesterId, step: &StepRef<'_>, reply: Option<&[u8]>)
-    requires { vec_len text.old + (32 + 2 * messages_len (step_seen step.now) (option_copied reply)) ≤ vec_capacity text.old }
-    ensures { text.new.items ≡ text.old.items ++ ended (entry_line (entry who (step_seen step.now) (option_copied reply.entry))) }
+    requires { vec_len text.old
+        + (32 + 2 * messages_len (step_seen step.now) (option_copied reply))
+        ≤ vec_capacity text.old }
+    ensures { text.new.items ≡ text.old.items
+        ++ ended (entry_line (entry who (step_seen step.now) (option_copied reply.entry))) }
 {
     match *step {
         StepRef::Request { functional, bytes } => {
@@ -190,9 +195,11 @@ fn add_entry(text: &mut Vec<u8>, who: TesterId, step: &StepRef<'_>, reply: Optio
 /// Appends the text of a reply, where there is room.
 #[inline(always)]
 fn add_reply(text: &mut Vec<u8>, reply: Option<&[u8]>)
-    requires { vec_len text.old + (1 + 2 * length (unwrap_or (option_copied reply) [])) ≤ vec_capacity text.old }
+    requires { vec_len text.old + (1 + 2 * length (unwrap_or (option_copied reply) []))
+        ≤ vec_capacity text.old }
     ensures items { text.new.items ≡ text.old.items ++ reply_text (option_copied reply.entry) }
-    ensures len { vec_len text.new ≤ vec_len text.old + (1 + 2 * length (unwrap_or (option_copied reply.entry) [])) }
+    ensures len { vec_len text.new
+        ≤ vec_len text.old + (1 + 2 * length (unwrap_or (option_copied reply.entry) [])) }
     ensures capacity { vec_capacity text.new ≡ vec_capacity text.old }
 {
     match reply {

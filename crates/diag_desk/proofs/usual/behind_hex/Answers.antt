@@ -13,7 +13,8 @@ loop-i-preserved c =
     let byte = get_or c.args.bytes.now i 0 in
     let high = get_or text (2 * i) 0 in
     let low = get_or text (2 * i + 1) 0 in
-    let spelled = same_digits c.digits.result byte high low c.digits.ensures (c.type_inv.bytes i).fits (c.type_inv.text (2 * i)).fits (c.type_inv.text (2 * i + 1)).fits
+    let spelled = same_digits c.digits.result byte high low c.digits.ensures (c.type_inv.bytes i).fits (c.type_inv.text (2 * i)).fits
+    (c.type_inv.text (2 * i + 1)).fits
     (omega (arith, c.from_le_bytes.ensures, c.from_le_bytes-in-loop-i.ensures, c.if-from_le_bytes.false)) in
     byte_more text c.args.bytes.now i byte high low c.loop-i.invariant (omega (arith, c.if-text-end.false, c.loop-i-test.true))
     (slice_get-get_or c.args.bytes.now i 0 c.loop-i-test.true) refl refl spelled
