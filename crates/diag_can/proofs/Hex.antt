@@ -1,6 +1,6 @@
 -- What is written in upper-case hex.
-use Rattle.std.proofs.Common.{◌≡◌, ℕ, zero, suc, ◌+◌, ◌*◌, ◌/◌, ◌%◌, ◌<◌, true, cond, eqb, List, [], ◌∷◌, ◌++◌, map, length, take, get_or, slice_get, slice_index, Some, refl, sym, ap, subst, ◌∙◌, append_assoc, append-nil, length-append, arith}
-use Rattle.std.proofs.lemmas.List.{take_all, take_at, take_more}
+use Rattle.std.proofs.Common.{◌≡◌, ℕ, zero, suc, ◌+◌, ◌*◌, ◌/◌, ◌%◌, ◌<◌, true, cond, eqb, List, [], ◌∷◌, ◌++◌, map, length, take, drop, get_or, slice_get, slice_index, Some, refl, sym, ap, subst, ◌∙◌, append_assoc, append-nil, length-append, arith}
+use Rattle.std.proofs.lemmas.List.{take_all, take_at, take_more, take-append-drop}
 use Rattle.std.proofs.lemmas.Option.{slice_get_within, get_or_from_slice_get}
 use Rattle.std.proofs.lemmas.Bool.{agree_below_at, eqb-true}
 use Rattle.std.proofs.lemmas.Simd.{swz_l, SwzOk, SwzOk-from_below, pick_l_whole}
@@ -22,6 +22,20 @@ upper-append : (bytes : List ℕ) (b : ℕ) → encode_upper (bytes ++ b ∷ [])
 unfolding encode_with
 upper-append [] b = refl
 upper-append (x ∷ bytes) b = ap (λ text. slice_index upper_digits (x / 16) ∷ slice_index upper_digits (x % 16) ∷ text) (upper-append bytes b)
+
+-- the hex of two parts
+pub upper-parts : (a b : List ℕ) → encode_upper (a ++ b) ≡ encode_upper a ++ encode_upper b
+unfolding encode_with
+upper-parts [] b = refl
+upper-parts (x ∷ a) b = ap (λ text. slice_index upper_digits (x / 16) ∷ slice_index upper_digits (x % 16) ∷ text) (upper-parts a b)
+
+-- eight bytes more, and what is left
+pub upper_eight : (text next rest eight tail whole : List ℕ) → text ++ encode_upper rest ≡ whole → eight ≡ take 8 rest → tail ≡ drop 8 rest
+    → next ≡ text ++ encode_upper eight → next ++ encode_upper tail ≡ whole
+upper_eight text next rest eight tail whole w e t n =
+    let both : eight ++ tail ≡ rest = (λ i. e i ++ t i) ∙ take-append-drop 8 rest in
+    ap (λ x. x ++ encode_upper tail) n ∙ append_assoc text (encode_upper eight) (encode_upper tail)
+    ∙ ap (λ x. text ++ x) (sym (upper-parts eight tail) ∙ ap encode_upper both) ∙ w
 
 -- two digits, one by one
 pub two_digits : (pair : List ℕ) (b : ℕ) → pair ≡ encode_upper (b ∷ []) → get_or pair 0 0 ∷ get_or pair 1 0 ∷ [] ≡ encode_upper (b ∷ [])

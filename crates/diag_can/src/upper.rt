@@ -20,9 +20,26 @@ pub fn write_hex(text: &mut Vec<u8>, bytes: &[u8]) -> Result<(), AllocError>
     Ok(())
 }
 
-/// Appends bytes in upper-case hex, where there is room for them.
+/// Appends bytes in upper-case hex, where there is room for them: eight bytes are looked at together, and the last by the
+/// table.
 #[inline(always)]
 pub fn add_hex(text: &mut Vec<u8>, bytes: &[u8])
+    requires { vec_len text.old + 2 * length bytes.now ≤ vec_capacity text.old }
+    ensures items { text.new.items ≡ text.old.items ++ encode_upper bytes.now }
+    ensures len { vec_len text.new ≡ vec_len text.old + 2 * length bytes.now }
+    ensures capacity { vec_capacity text.new ≡ vec_capacity text.old }
+{
+    let mut rest = bytes;
+    while let Some((eight, tail)) = rest.split_first_chunk::<8>() {
+        add_sixteen(text, &digits_of_eight(eight));
+        rest = tail;
+    }
+    add_pairs(text, rest);
+}
+
+/// Appends bytes in upper-case hex by the table, where there is room for them.
+#[inline(always)]
+fn add_pairs(text: &mut Vec<u8>, bytes: &[u8])
     requires { vec_len text.old + 2 * length bytes.now ≤ vec_capacity text.old }
     ensures items { text.new.items ≡ text.old.items ++ encode_upper bytes.now }
     ensures len { vec_len text.new ≡ vec_len text.old + 2 * length bytes.now }
@@ -32,6 +49,19 @@ pub fn add_hex(text: &mut Vec<u8>, bytes: &[u8])
         let [high, low] = digits(*byte);
         text.push_reserved(high);
         text.push_reserved(low);
+    }
+}
+
+/// Appends sixteen digits, where there is room for them.
+#[inline(always)]
+fn add_sixteen(text: &mut Vec<u8>, digits: &[u8; 16])
+    requires { vec_len text.old + 16 ≤ vec_capacity text.old }
+    ensures items { text.new.items ≡ text.old.items ++ digits.now }
+    ensures len { vec_len text.new ≡ vec_len text.old + 16 }
+    ensures capacity { vec_capacity text.new ≡ vec_capacity text.old }
+{
+    for digit in digits {
+        text.push_reserved(*digit);
     }
 }
 

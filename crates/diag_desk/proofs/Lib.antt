@@ -1,4 +1,5 @@
 pub mod EntryLemmas
+pub mod DecimalText
 pub mod CountText
 pub mod CutText
 pub mod HexText

@@ -1,9 +1,10 @@
 -- Entries of the usual form, which are read from the front of a text.
-use Rattle.std.proofs.Common.{◌≡◌, ℕ, ◌+◌, ◌-◌, ◌*◌, ◌/◌, ◌%◌, ◌<◌, ◌≤◌, ◌==◌, eqb, nat_lt, Bool, true, false, ◌&&◌, ◌||◌, List, [], ◌∷◌, ◌++◌, length, take, drop, get_or, slice_get, slice_index, Option, Some, None, refl, sym, ap, ◌∙◌, append_assoc, arith, decimal}
+use Rattle.std.proofs.Common.{◌≡◌, ℕ, suc, ◌+◌, ◌-◌, ◌*◌, ◌/◌, ◌%◌, ◌<◌, ◌≤◌, ◌==◌, eqb, nat_lt, Bool, true, false, ◌&&◌, ◌||◌, List, [], ◌∷◌, ◌++◌, length, take, drop, get_or, slice_get, slice_index, Option, Some, None, refl, sym, ap, ◌∙◌, append_assoc, arith, decimal}
 use Rattle.std.proofs.lemmas.Bool.{agree_below_at, eqb-true}
 use Rattle.std.proofs.lemmas.Bool.Decides.{nat_tests}
 use Rattle.std.proofs.lemmas.Fmt.{decimal_digit, decimal_step}
 use Rattle.std.proofs.lemmas.List.{take_all, take_more}
+use Rattle.std.proofs.Math.Seq.{drop-cons}
 use Rattle.std.proofs.lemmas.Option.{slice_get_within, get_or_from_slice_get}
 use Rattle.hex.specs.Hex.{encode_upper, encode_with, upper_digits}
 use Rattle.diag_desk.specs.Text.{entry_line, reply_text, upper_value}
@@ -71,8 +72,52 @@ front_two [] two = absurd (omega arith)
 front_two (x ∷ []) two = absurd (omega arith)
 front_two (x ∷ y ∷ rest) two = ap (λ l. x ∷ y ∷ l) (sym (take_all (length (x ∷ y ∷ rest) - 2) rest (omega arith)))
 
+-- two bytes and three by their digits
+pub two_spelled : (bytes tail : List ℕ) (x y a b c d : ℕ) → encode_upper (x ∷ []) ≡ a ∷ b ∷ [] → encode_upper (y ∷ []) ≡ c ∷ d ∷ [] → bytes ≡ x ∷ y ∷ []
+    → a ∷ b ∷ c ∷ d ∷ tail ≡ encode_upper bytes ++ tail
+two_spelled bytes tail x y a b c d p q is =
+    let text : List ℕ = a ∷ b ∷ c ∷ d ∷ tail in
+    let one = front-more text [] (x ∷ []) text (c ∷ d ∷ tail) x a b (front-none text) refl p refl in
+    front-more text (x ∷ []) bytes (c ∷ d ∷ tail) tail y c d one refl q is
+
+pub three_spelled : (bytes tail : List ℕ) (x y z a b c d e f : ℕ) → encode_upper (x ∷ []) ≡ a ∷ b ∷ [] → encode_upper (y ∷ []) ≡ c ∷ d ∷ []
+    → encode_upper (z ∷ []) ≡ e ∷ f ∷ [] → bytes ≡ x ∷ y ∷ z ∷ [] → a ∷ b ∷ c ∷ d ∷ e ∷ f ∷ tail ≡ encode_upper bytes ++ tail
+three_spelled bytes tail x y z a b c d e f p q r is =
+    let text : List ℕ = a ∷ b ∷ c ∷ d ∷ e ∷ f ∷ tail in
+    let one = front-more text [] (x ∷ []) text (c ∷ d ∷ e ∷ f ∷ tail) x a b (front-none text) refl p refl in
+    let two = front-more text (x ∷ []) (x ∷ y ∷ []) (c ∷ d ∷ e ∷ f ∷ tail) (e ∷ f ∷ tail) y c d one refl q refl in
+    front-more text (x ∷ y ∷ []) bytes (e ∷ f ∷ tail) tail z e f two refl r is
+
 pub taken_more : (bytes : List ℕ) (i b : ℕ) → slice_get bytes i ≡ Some b → take (i + 1) bytes ≡ take i bytes ++ b ∷ []
 taken_more bytes i b at = take_more bytes i b (slice_get_within bytes i b at) ∙ ap (λ x. take i bytes ++ x ∷ []) (get_or_from_slice_get bytes i b b at)
+
+digit_small : (n : ℕ) → n < 16 → nat_lt (slice_index upper_digits n) 256 ≡ true
+digit_small n below = agree_below_at (λ n. nat_lt (slice_index upper_digits n) 256) (λ n. true) 16 n refl below
+
+both_same : (h l x y : ℕ) → h < 256 → l < 256 → nat_lt x 256 ≡ true → nat_lt y 256 ≡ true → h + 256 * l ≡ x + 256 * y → (x ≡ h) × (y ≡ l)
+both_same h l x y hb lb xb yb e = grind (arith, nat_tests)
+
+-- two digits that make the same number are the same
+pub same_digits : (pair : List ℕ) (b high low : ℕ) → pair ≡ encode_upper (b ∷ []) → b < 256 → high < 256 → low < 256
+    → high + 256 * low ≡ slice_index pair 0 + 256 * slice_index pair 1 → encode_upper (b ∷ []) ≡ high ∷ low ∷ []
+unfolding encode_with
+same_digits pair b high low is byte hb lb e =
+    let same = both_same high low _ _ hb lb (digit_small (b / 16) (omega arith)) (digit_small (b % 16) (omega arith)) (rw is at e) in
+    λ i. same.0 i ∷ same.1 i ∷ []
+
+-- a byte more, by a place
+pub byte_more : (text bytes : List ℕ) (i b high low : ℕ) → text ≡ encode_upper (take i bytes) ++ drop (2 * i) text → 2 * i + 2 ≤ length text
+    → slice_get bytes i ≡ Some b → get_or text (2 * i) 0 ≡ high → get_or text (2 * i + 1) 0 ≡ low → encode_upper (b ∷ []) ≡ high ∷ low ∷ []
+    → text ≡ encode_upper (take (i + 1) bytes) ++ drop (2 * (i + 1)) text
+byte_more text bytes i b high low t room at h l spelled =
+    let first = drop-cons text (2 * i) 0 (omega arith) in
+    let second = drop-cons text (suc (2 * i)) 0 (omega arith) in
+    let next : 2 * (i + 1) ≡ suc (suc (2 * i)) = omega arith in
+    let after : suc (2 * i) ≡ 2 * i + 1 = omega arith in
+    let rest : drop (2 * i) text ≡ high ∷ low ∷ drop (2 * (i + 1)) text =
+    first ∙ ap (λ r. get_or text (2 * i) 0 ∷ r) second
+    ∙ (λ j. h j ∷ (ap (λ k. get_or text k 0) after ∙ l) j ∷ drop (sym next j) text) in
+    front-more text (take i bytes) (take (i + 1) bytes) (drop (2 * i) text) (drop (2 * (i + 1)) text) b high low t rest spelled (taken_more bytes i b at)
 
 -- ---- whole lines
 

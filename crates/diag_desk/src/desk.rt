@@ -5,7 +5,7 @@ ghost use Rattle.diag_desk.specs.Entries.{entry};
 ghost use Rattle.diag_desk.specs.Entry.{IsJournal, most_entries};
 ghost use Rattle.diag_desk.specs.Legal.{IsOpening, Legal, after, after_step, reply_to, entered, is_ticks};
 
-use crate::flat::reply_room;
+use crate::flat::len_of;
 use crate::journal::Journal;
 use diag_ecu::Ecu;
 use diag_setup::{Setup, TesterId};
@@ -117,7 +117,7 @@ impl Desk {
         self.journal.make_room(step)?;
         let reply = reply_of(&self.ecu, who, step)?;
         // (for its contract: a reply has at most 65535 bytes)
-        let _room = reply_room(reply.as_ref());
+        let _len = len_of(reply.as_ref());
         self.journal.add(who, step, reply.as_ref());
         settle_step(&mut self.ecu, who, step);
         Ok(reply)

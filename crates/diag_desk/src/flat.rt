@@ -1,5 +1,5 @@
 //! How the journal keeps its entries: a small head for each, and the bytes of all messages in one list.
-ghost use Rattle.std.specs.Prelude.{◌≡◌, ◌≤◌, ◌+◌, ◌++◌, ◌∷◌, [], length, max, OnErr, IfOk, ◌/◌, None, option_map, option_copied, unwrap_or, vec_len, vec_capacity};
+ghost use Rattle.std.specs.Prelude.{◌≡◌, ◌≤◌, ◌+◌, ◌++◌, ◌∷◌, [], length, OnErr, IfOk, ◌/◌, None, option_map, option_copied, unwrap_or, vec_len, vec_capacity};
 ghost use Rattle.diag_desk.specs.Entries.{entry};
 ghost use Rattle.diag_desk.specs.Entry.{entry_seen, HasNoReply, step_len, entry_bytes, IsEntry, IsMessage, IsReply};
 ghost use Rattle.hex.specs.Hex.{IsBytes};
@@ -77,15 +77,42 @@ pub(crate) fn bytes_of(reply: Option<&Message>) -> Option<&[u8]>
     }
 }
 
-/// No fewer bytes than a reply has, and eight at least.
+/// The length of a reply, if there is one.
 #[inline(always)]
-pub(crate) fn reply_room(reply: Option<&Message>) -> usize
-    ensures same { result ≡ max (length (unwrap_or (option_copied reply.entry) [])) 8 }
+pub(crate) fn len_of(reply: Option<&Message>) -> usize
+    ensures same { result ≡ length (unwrap_or (option_copied reply.entry) []) }
     ensures bound { result ≤ 65535 }
 {
     match reply {
-        Some(message) => message.bytes().len().max(8),
-        None => 8,
+        Some(message) => message.bytes().len(),
+        None => 0,
+    }
+}
+
+/// The most bytes that are appended one by one, for which a call that copies them costs more.
+const FEW: usize = 8;
+
+/// Appends bytes where there is room.
+fn append(bytes: &mut Vec<u8>, more: &[u8])
+    requires { vec_len bytes.old + length more.now ≤ vec_capacity bytes.old }
+    ensures items { bytes.new.items ≡ bytes.old.items ++ more.now }
+    ensures room { vec_capacity bytes.old ≤ vec_capacity bytes.new }
+{
+    if more.len() <= FEW {
+        append_few(bytes, more);
+        return;
+    }
+    let _ = bytes.extend_from_slice(more);
+}
+
+/// Appends bytes one by one where there is room.
+fn append_few(bytes: &mut Vec<u8>, more: &[u8])
+    requires { vec_len bytes.old + length more.now ≤ vec_capacity bytes.old }
+    ensures items { bytes.new.items ≡ bytes.old.items ++ more.now }
+    ensures room { vec_capacity bytes.old ≤ vec_capacity bytes.new }
+{
+    for byte in more {
+        bytes.push_reserved(*byte);
     }
 }
 
@@ -98,7 +125,7 @@ pub(crate) fn head_of(
     reply: Option<&Message>,
 ) -> Head
     requires room { vec_len bytes.old
-        + (step_len step.now + max (length (unwrap_or (option_copied reply) [])) 8)
+        + (step_len step.now + length (unwrap_or (option_copied reply) []))
         ≤ vec_capacity bytes.old }
     requires no_reply { HasNoReply step.now (option_copied reply) }
     ensures items { bytes.new.items
@@ -121,24 +148,24 @@ pub(crate) fn head_of(
             message,
         } => {
             let start = bytes.len();
-            let request_len = message_bytes(message).len() as u16;
-            message.append_to(bytes);
+            let request = message_bytes(message);
+            append(bytes, request);
             match reply {
                 Some(reply) => {
-                    let reply_len = message_bytes(reply).len() as u16;
-                    reply.append_to(bytes);
+                    let reply = message_bytes(reply);
+                    append(bytes, reply);
                     Head::Answered {
                         who,
                         functional: *functional,
-                        request_len,
-                        reply_len,
+                        request_len: request.len() as u16,
+                        reply_len: reply.len() as u16,
                         start,
                     }
                 }
                 None => Head::Silent {
                     who,
                     functional: *functional,
-                    request_len,
+                    request_len: request.len() as u16,
                     start,
                 },
             }

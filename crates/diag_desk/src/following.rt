@@ -175,6 +175,23 @@ impl Play {
             let message = Message::in_place(front.bytes);
             return self.answers_message(who, functional, &message, front.rest);
         }
+        self.answers_long(alloc, who, functional, text)
+    }
+
+    /// It too, for a request of any length, which is read into memory.
+    #[inline(never)]
+    fn answers_long<'a>(
+        &mut self,
+        alloc: Global,
+        who: TesterId,
+        functional: bool,
+        text: &'a [u8],
+    ) -> Option<&'a [u8]>
+        ensures differs { self.new.differs ≡ self.old.differs }
+        ensures some { IfSome result (λ rest.
+            Answered self.old.ecu self.new.ecu who functional text.now rest.now) }
+        ensures none { IfNone result (self.new.ecu ≡ self.old.ecu) }
+    {
         let Ok(text) = read_front(&mut self.bytes, text) else {
             return None;
         };

@@ -1,11 +1,11 @@
 //! The journal: the steps of all testers in their order, with the replies.
-ghost use Rattle.std.specs.Prelude.{◌≡◌, ◌≢◌, ◌↔◌, ◌≤◌, ◌+◌, ◌++◌, ◌∷◌, [], length, max, unwrap_or, IsTrue, OnOk, OnErr, IfSome, Err, option_map, option_copied, slice_get};
+ghost use Rattle.std.specs.Prelude.{◌≡◌, ◌≢◌, ◌↔◌, ◌≤◌, ◌+◌, ◌++◌, ◌∷◌, [], length, unwrap_or, IsTrue, OnOk, OnErr, IfSome, Err, option_map, option_copied, slice_get};
 ghost use Rattle.diag_desk.specs.Entries.{entry};
 ghost use Rattle.diag_desk.specs.Entry.{entry_seen, HasNoReply, HasRoom, IsEntry, IsJournal, step_len, most_entries};
 ghost use Rattle.diag_desk.specs.Line.{HasHex, line_entry};
 
 use crate::entry::{EntryRef, MOST_ENTRIES};
-use crate::flat::{Head, entry_at, head_of, head_of_line, reply_room, step_len};
+use crate::flat::{Head, entry_at, head_of, head_of_line, len_of, step_len};
 use crate::line::Line;
 use diag_setup::TesterId;
 use diag_tp::{Message, Step};
@@ -118,7 +118,7 @@ impl Journal {
         if self.is_full() {
             return Err(JournalPush::Full);
         }
-        let room = step_len(step) + reply_room(reply);
+        let room = step_len(step) + len_of(reply);
         if self.heads.reserve(1).is_err() || self.bytes.reserve(room).is_err() {
             return Err(JournalPush::Memory);
         }
@@ -126,13 +126,13 @@ impl Journal {
         Ok(())
     }
 
-    /// Adds an entry at the end, for which there is room, and room for a reply of eight bytes at least.
+    /// Adds an entry at the end, for which there is room.
     #[inline(always)]
     pub(crate) fn add(&mut self, who: TesterId, step: &Step, reply: Option<&Message>)
         requires no_reply { HasNoReply step.now (option_copied reply) }
         requires open { length self.old.entries ≢ most_entries }
         requires head { 1 ≤ self.old.entry_room }
-        requires room { step_len step.now + max (length (unwrap_or (option_copied reply) [])) 8
+        requires room { step_len step.now + length (unwrap_or (option_copied reply) [])
             ≤ self.old.byte_room }
         ensures ok { self.new.entries
             ≡ self.old.entries ++ entry who step.now (option_copied reply.entry) ∷ [] }

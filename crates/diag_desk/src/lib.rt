@@ -10,6 +10,7 @@ mod journal;
 mod laws;
 mod line;
 mod next;
+mod numerals;
 mod read;
 mod replaying;
 mod table;

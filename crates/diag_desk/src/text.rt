@@ -7,6 +7,7 @@ ghost use Rattle.diag_desk.specs.Text.{ended, entry_line, header, journal_text, 
 use crate::clocks::Clocks;
 use crate::entry::{EntryRef, StepRef};
 use crate::journal::Journal;
+use crate::numerals::{add, add_decimal};
 use diag_can::add_hex;
 use diag_setup::TesterId;
 use std::alloc::{AllocError, Global};
@@ -98,7 +99,7 @@ fn ticks_in(step: &StepRef<'_>) -> u64
 }
 
 /// Appends the line of an entry, where it is stamped with its stamp first; room for the whole line is made first.
-#[inline]
+#[inline(always)]
 fn write_line(
     text: &mut Vec<u8>,
     stamped: bool,
@@ -108,7 +109,8 @@ fn write_line(
     reply: Option<&[u8]>,
 ) -> Result<(), AllocError>
     ensures ok { OnOk result (text.new.items ≡ text.old.items
-        ++ ended (stamped_line stamped clock (entry_line (entry who (step_seen step.now) (option_copied reply.entry))))) }
+        ++ ended (stamped_line stamped clock
+        (entry_line (entry who (step_seen step.now) (option_copied reply.entry))))) }
     ensures err { OnErr result (text.new.items ≡ text.old.items) }
 {
     let Some(room) = line_room(step, reply) else {
@@ -132,7 +134,8 @@ const LINE_ROOM: usize = 64;
 /// No fewer bytes than a line has.
 #[inline(always)]
 fn line_room(step: &StepRef<'_>, reply: Option<&[u8]>) -> Option<usize>
-    ensures { IfSome result (λ room. room ≡ 64 + 2 * messages_len (step_seen step.now) (option_copied reply.entry)) }
+    ensures { IfSome result (λ room. room
+        ≡ 64 + 2 * messages_len (step_seen step.now) (option_copied reply.entry)) }
 {
     let bytes = match *step {
         StepRef::Request { bytes, .. } => bytes.len().checked_add(reply_len(reply))?,
@@ -151,31 +154,6 @@ fn reply_len(reply: Option<&[u8]>) -> usize
     }
 }
 
-/// Appends bytes for which there is room.
-#[inline(always)]
-fn add(text: &mut Vec<u8>, bytes: &[u8])
-    requires { vec_len text.old + length bytes.now ≤ vec_capacity text.old }
-    ensures items { text.new.items ≡ text.old.items ++ bytes.now }
-    ensures len { vec_len text.new ≡ vec_len text.old + length bytes.now }
-    ensures capacity { vec_capacity text.new ≡ vec_capacity text.old }
-{
-    for byte in bytes {
-        text.push_reserved(*byte);
-    }
-}
-
-/// Appends a number in decimal, where there is room.
-#[inline(always)]
-fn add_decimal(text: &mut Vec<u8>, number: u64)
-    requires { vec_len text.old + 20 ≤ vec_capacity text.old }
-    ensures items { text.new.items ≡ text.old.items ++ decimal number }
-    ensures len { vec_len text.new ≤ vec_len text.old + 20 }
-    ensures capacity { vec_capacity text.new ≡ vec_capacity text.old }
-{
-    let mut buffer = itoa::Buffer::new();
-    add(text, buffer.format(number).as_bytes());
-}
-
 /// Appends a stamp and its space, where there is room.
 #[inline(always)]
 fn add_stamp(text: &mut Vec<u8>, clock: u64)
@@ -191,8 +169,11 @@ fn add_stamp(text: &mut Vec<u8>, clock: u64)
 /// Appends the line of an entry, where there is room.
 #[inline(always)]
 fn add_entry(text: &mut Vec<u8>, who: TesterId, step: &StepRef<'_>, reply: Option<&[u8]>)
-    requires { vec_len text.old + (32 + 2 * messages_len (step_seen step.now) (option_copied reply)) ≤ vec_capacity text.old }
-    ensures { text.new.items ≡ text.old.items ++ ended (entry_line (entry who (step_seen step.now) (option_copied reply.entry))) }
+    requires { vec_len text.old
+        + (32 + 2 * messages_len (step_seen step.now) (option_copied reply))
+        ≤ vec_capacity text.old }
+    ensures { text.new.items ≡ text.old.items
+        ++ ended (entry_line (entry who (step_seen step.now) (option_copied reply.entry))) }
 {
     match *step {
         StepRef::Request { functional, bytes } => {
@@ -213,9 +194,11 @@ fn add_entry(text: &mut Vec<u8>, who: TesterId, step: &StepRef<'_>, reply: Optio
 /// Appends the text of a reply, where there is room.
 #[inline(always)]
 fn add_reply(text: &mut Vec<u8>, reply: Option<&[u8]>)
-    requires { vec_len text.old + (1 + 2 * length (unwrap_or (option_copied reply) [])) ≤ vec_capacity text.old }
+    requires { vec_len text.old + (1 + 2 * length (unwrap_or (option_copied reply) []))
+        ≤ vec_capacity text.old }
     ensures items { text.new.items ≡ text.old.items ++ reply_text (option_copied reply.entry) }
-    ensures len { vec_len text.new ≤ vec_len text.old + (1 + 2 * length (unwrap_or (option_copied reply.entry) [])) }
+    ensures len { vec_len text.new
+        ≤ vec_len text.old + (1 + 2 * length (unwrap_or (option_copied reply.entry) [])) }
     ensures capacity { vec_capacity text.new ≡ vec_capacity text.old }
 {
     match reply {

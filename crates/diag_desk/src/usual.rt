@@ -137,9 +137,61 @@ pub(crate) fn read_front<'a>(bytes: &mut Vec<u8>, text: &'a [u8]) -> Result<&'a 
     Ok(rest)
 }
 
-/// Reads the upper-case hex of a message that a frame could carry, and the space behind it, at the front of a text.
+/// Reads the upper-case hex of a message that a frame could carry, and the space behind it, at the front of a text. Most
+/// have two or three bytes.
 #[inline(always)]
 pub(crate) fn short_front(text: &[u8]) -> Option<ShortFront<'_>>
+    ensures some { IfSome result (λ front. 1 ≤ length front.bytes) }
+    ensures is { IfSome result (λ front.
+        text.now ≡ encode_upper front.bytes ++ 32 ∷ front.rest.now) }
+{
+    match text {
+        [a, b, c, d, b' ', rest @ ..] => two_front(*a, *b, *c, *d, rest),
+        [a, b, c, d, e, f, b' ', rest @ ..] => three_front(*a, *b, *c, *d, *e, *f, rest),
+        _ => few_front(text),
+    }
+}
+
+/// Two bytes by their digits, and what follows these and a space.
+#[inline(always)]
+fn two_front(a: u8, b: u8, c: u8, d: u8, rest: &[u8]) -> Option<ShortFront<'_>>
+    ensures some { IfSome result (λ front. 1 ≤ length front.bytes) }
+    ensures is { IfSome result (λ front.
+        a ∷ b ∷ c ∷ d ∷ 32 ∷ rest.now ≡ encode_upper front.bytes ++ 32 ∷ front.rest.now) }
+{
+    let first = pair_value(a, b);
+    let second = pair_value(c, d);
+    if 255 < first || 255 < second {
+        return None;
+    }
+    Some(ShortFront {
+        bytes: FrameBytes::from_slice(&[first as u8, second as u8]),
+        rest,
+    })
+}
+
+/// Three bytes by their digits, and what follows these and a space.
+#[inline(always)]
+fn three_front(a: u8, b: u8, c: u8, d: u8, e: u8, f: u8, rest: &[u8]) -> Option<ShortFront<'_>>
+    ensures some { IfSome result (λ front. 1 ≤ length front.bytes) }
+    ensures is { IfSome result (λ front.
+        a ∷ b ∷ c ∷ d ∷ e ∷ f ∷ 32 ∷ rest.now ≡ encode_upper front.bytes ++ 32 ∷ front.rest.now) }
+{
+    let first = pair_value(a, b);
+    let second = pair_value(c, d);
+    let third = pair_value(e, f);
+    if 255 < first || 255 < second || 255 < third {
+        return None;
+    }
+    Some(ShortFront {
+        bytes: FrameBytes::from_slice(&[first as u8, second as u8, third as u8]),
+        rest,
+    })
+}
+
+/// It too, for any number of bytes that a frame could carry.
+#[inline(never)]
+fn few_front(text: &[u8]) -> Option<ShortFront<'_>>
     ensures some { IfSome result (λ front. 1 ≤ length front.bytes) }
     ensures is { IfSome result (λ front.
         text.now ≡ encode_upper front.bytes ++ 32 ∷ front.rest.now) }
@@ -177,17 +229,18 @@ pub(crate) fn behind(byte: u8, text: &[u8]) -> Option<&[u8]>
 fn behind_hex<'a>(bytes: &[u8], text: &'a [u8]) -> Option<&'a [u8]>
     ensures { IfSome result (λ rest. text.now ≡ encode_upper bytes.now ++ rest.now) }
 {
-    let mut rest = text;
-    for byte in bytes {
-        let [high, low, tail @ ..] = rest else {
-            return None;
-        };
-        if [*high, *low] != hex_digits(*byte) {
+    let end = 2 * bytes.len();
+    if text.len() < end {
+        return None;
+    }
+    for (i, byte) in bytes.iter().enumerate() {
+        // (two digits are compared as one number)
+        let digits = [text[2 * i], text[2 * i + 1]];
+        if u16::from_le_bytes(digits) != u16::from_le_bytes(hex_digits(*byte)) {
             return None;
         }
-        rest = tail;
     }
-    Some(rest)
+    Some(&text[end..])
 }
 
 /// What follows the text of a reply at the front of a text, where it stands there.

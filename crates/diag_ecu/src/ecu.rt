@@ -102,18 +102,10 @@ impl Ecu {
         ensures { IfOk result (λ r. r ≡ reply self.now who functional message.now) }
     {
         let p = message.bytes();
-        let Some(service) = Service::of(p[0]) else {
-            return Ok(negative_reply(functional, p[0], Nrc::ServiceNotSupported));
-        };
-        let row = service.row();
-        match self.refusal(who, service, row, p) {
-            Some(nrc) => Ok(negative_reply(functional, p[0], nrc)),
-            None if row.asks_for_silence(p) => Ok(None),
-            None => {
-                let reply = self.positive_reply(who, service, p)?;
-                Ok(Some(reply))
-            }
+        if let [0x22, high, low] = p {
+            return self.read_reply(who, functional, *high, *low);
         }
+        self.any_reply(who, functional, p)
     }
 
     /// Goes to the state after a tester's request, which is the same for a functional and a physical one. It takes no
@@ -144,6 +136,28 @@ impl Ecu {
 }
 
 impl Ecu {
+    /// The reply to any request.
+    #[inline(never)]
+    fn any_reply(
+        &self,
+        who: TesterId,
+        functional: bool,
+        p: &[u8],
+    ) -> Result<Option<Message>, AllocError>
+        requires { 1 ≤ length p.now }
+        ensures { IfOk result (λ r. r ≡ reply self.now who functional p.now) }
+    {
+        let Some(service) = Service::of(p[0]) else {
+            return Ok(negative_reply(functional, p[0], Nrc::ServiceNotSupported));
+        };
+        let row = service.row();
+        match self.refusal(who, service, row, p) {
+            Some(nrc) => Ok(negative_reply(functional, p[0], nrc)),
+            None if row.asks_for_silence(p) => Ok(None),
+            None => self.positive_reply(who, service, p),
+        }
+    }
+
     /// The code of the first check of the service that holds.
     fn refusal(&self, who: TesterId, service: Service, row: &ServiceRow, p: &[u8]) -> Option<Nrc>
         requires some { 1 ≤ length p.now }
@@ -179,29 +193,29 @@ impl Ecu {
         }
     }
 
-    /// The positive reply to a request that passes all checks.
+    /// The positive reply to a request that passes all checks, in the form of what is sent, so that it moves no more.
     fn positive_reply(
         &self,
         who: TesterId,
         service: Service,
         p: &[u8],
-    ) -> Result<Message, AllocError>
+    ) -> Result<Option<Message>, AllocError>
         requires some { 1 ≤ length p.now }
         requires common { first_holding (common_checks self.now who (row_of service) p.now) ≡ None }
         requires own { first_holding (own_checks self.now who service p.now) ≡ None }
-        ensures { IfOk result (λ reply. reply ≡ positive_reply self.now service p.now) }
+        ensures { IfOk result (λ reply. reply ≡ Some (positive_reply self.now service p.now)) }
     {
         match service {
-            Service::DiagnosticSessionControl => Ok(self.session_reply(p)),
-            Service::EcuReset => Ok(say(&[0x51, sub_of(p)])),
-            Service::ClearDiagnosticInformation => Ok(say(&[0x54])),
-            Service::ReadDtcInformation => self.codes_reply(p),
-            Service::ReadDataByIdentifier => self.data_reply(who, p),
+            Service::DiagnosticSessionControl => Ok(Some(self.session_reply(p))),
+            Service::EcuReset => Ok(Some(say(&[0x51, sub_of(p)]))),
+            Service::ClearDiagnosticInformation => Ok(Some(say(&[0x54]))),
+            Service::ReadDtcInformation => Ok(Some(self.codes_reply(p)?)),
+            Service::ReadDataByIdentifier => Ok(Some(self.data_reply(who, p)?)),
             Service::SecurityAccess => self.security_reply(who, p),
-            Service::WriteDataByIdentifier => Ok(write_reply(p)),
+            Service::WriteDataByIdentifier => Ok(Some(write_reply(p))),
             Service::RoutineControl => self.routine_reply(p),
-            Service::TesterPresent => Ok(say(&[0x7E, 0x00])),
-            Service::ControlDtcSetting => Ok(say(&[0xC5, sub_of(p)])),
+            Service::TesterPresent => Ok(Some(say(&[0x7E, 0x00]))),
+            Service::ControlDtcSetting => Ok(Some(say(&[0xC5, sub_of(p)]))),
         }
     }
 
@@ -219,9 +233,17 @@ impl Ecu {
         requires { 1 ≤ length p.now }
         ensures { self.new ≡ (served self.old who (Some service) p.now).state }
     {
-        if changes_nothing(service) {
-            return;
+        if !changes_nothing(service) {
+            self.change(who, service, p);
         }
+    }
+
+    /// Does what a request does of a service that may change something.
+    #[inline(never)]
+    fn change(&mut self, who: TesterId, service: Service, p: &[u8])
+        requires { 1 ≤ length p.now }
+        ensures { self.new ≡ (served self.old who (Some service) p.now).state }
+    {
         match self.refusal(who, service, service.row(), p) {
             None => self.take_effect(who, service, p),
             // It counts, though it is refused.
@@ -289,21 +311,31 @@ impl Ecu {
     }
 
     /// The reply of these bytes, the second part right after the first.
-    pub(crate) fn say_with(&self, head: &[u8], tail: &[u8]) -> Result<Message, AllocError>
+    #[inline(always)]
+    pub(crate) fn say_with(&self, head: &[u8], tail: &[u8]) -> Result<Option<Message>, AllocError>
         requires some { 1 ≤ length head.now }
         requires fits { length head.now + length tail.now ≤ 65535 }
-        ensures { IfOk result (λ message. message ≡ head.now ++ tail.now) }
+        ensures { IfOk result (λ reply. reply ≡ Some (head.now ++ tail.now)) }
     {
-        let len = head.len() + tail.len();
-        if len <= IN_PLACE {
+        if head.len() + tail.len() <= IN_PLACE {
             let mut bytes = FrameBytes::from_slice(head);
             bytes.append(tail);
-            return Ok(Message::in_place(bytes));
+            return Ok(Some(Message::in_place(bytes)));
         }
-        let mut bytes = Vec::with_capacity(self.alloc(), len)?;
+        self.say_long(head, tail)
+    }
+
+    /// The reply of these bytes, in memory of its own.
+    #[inline(never)]
+    fn say_long(&self, head: &[u8], tail: &[u8]) -> Result<Option<Message>, AllocError>
+        requires some { 1 ≤ length head.now }
+        requires fits { length head.now + length tail.now ≤ 65535 }
+        ensures { IfOk result (λ reply. reply ≡ Some (head.now ++ tail.now)) }
+    {
+        let mut bytes = Vec::with_capacity(self.alloc(), head.len() + tail.len())?;
         bytes.extend_from_slice(head)?;
         bytes.extend_from_slice(tail)?;
-        Ok(Message::from_vec(bytes))
+        Ok(Some(Message::from_vec(bytes)))
     }
 }
 
@@ -311,6 +343,7 @@ impl Ecu {
 const IN_PLACE: usize = 8;
 
 /// The reply of these bytes, which takes no memory.
+#[inline(always)]
 pub(crate) fn say(bytes: &[u8]) -> Message
     requires some { 1 ≤ length bytes.now }
     requires fits { length bytes.now ≤ 8 }
@@ -320,7 +353,7 @@ pub(crate) fn say(bytes: &[u8]) -> Message
 }
 
 /// What is sent where a negative response code is the answer.
-fn negative_reply(functional: bool, sid: u8, nrc: Nrc) -> Option<Message>
+pub(crate) fn negative_reply(functional: bool, sid: u8, nrc: Nrc) -> Option<Message>
     ensures { result ≡ sent_negative functional sid nrc }
 {
     if functional && nrc.is_silent() {

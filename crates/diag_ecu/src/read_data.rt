@@ -2,10 +2,10 @@
 ghost use Rattle.std.specs.Prelude.{◌≡◌, ◌≤◌, ◌++◌, ◌∷◌, [], length, min, IfOk, OnOk, Some};
 ghost use Rattle.std.specs.List.{list_any, list_all};
 ghost use Rattle.diag_setup.specs.Setup.{first_holding};
-ghost use Rattle.diag_ecu.specs.Respond.{ids_in, knows, may_read, data_records, data_reply, did_record, read_checks};
+ghost use Rattle.diag_ecu.specs.Respond.{ids_in, knows, may_read, data_records, data_reply, did_record, read_checks, reply};
 
 use crate::bytes::{bytes_16, number_16};
-use crate::ecu::{Ecu, say};
+use crate::ecu::{Ecu, negative_reply};
 use crate::service::Nrc;
 use diag_setup::TesterId;
 use diag_tp::Message;
@@ -24,6 +24,7 @@ struct Reading {
 
 impl Ecu {
     /// The code of the first check of the identifiers that holds.
+    #[inline(never)]
     pub(crate) fn read_refusal(&self, who: TesterId, p: &[u8]) -> Option<Nrc>
         requires { 1 ≤ length p.now }
         ensures { result ≡ first_holding (read_checks self.now who p.now) }
@@ -42,31 +43,35 @@ impl Ecu {
     }
 
     /// The values of the known identifiers, in the order of the request.
+    #[inline(never)]
     pub(crate) fn data_reply(&self, who: TesterId, p: &[u8]) -> Result<Message, AllocError>
         requires some { 1 ≤ length p.now }
         requires fits { length (data_reply self.now p.now) ≤ 65535 }
         ensures { IfOk result (λ reply. reply ≡ data_reply self.now p.now) }
     {
-        if let [_, high, low] = p {
-            return self.record_reply(number_16(*high, *low));
-        }
         let ids = &p[1..];
         let bytes = self.records(ids, self.reading(who, ids).length)?;
         Ok(Message::from_vec(bytes))
     }
 
-    /// The reply to a request for one identifier.
-    fn record_reply(&self, id: u16) -> Result<Message, AllocError>
-        requires { length (data_records self.now (id ∷ [])) ≤ 65535 }
-        ensures { IfOk result (λ reply. reply ≡ data_records self.now (id ∷ [])) }
+    /// The reply to a request for one identifier. None of the checks that every service has can hold of it.
+    #[inline(never)]
+    pub(crate) fn read_reply(
+        &self,
+        who: TesterId,
+        functional: bool,
+        high: u8,
+        low: u8,
+    ) -> Result<Option<Message>, AllocError>
+        ensures { IfOk result (λ r. r ≡ reply self.now who functional (0x22 ∷ high ∷ low ∷ [])) }
     {
-        match self.dids.get(id) {
-            Some(value) => {
-                let [high, low] = bytes_16(id);
-                self.say_with(&[0x62, high, low], value)
-            }
-            None => Ok(say(&[0x62])),
+        let Some(row) = self.dids.row(number_16(high, low)) else {
+            return Ok(negative_reply(functional, 0x22, Nrc::RequestOutOfRange));
+        };
+        if !self.is_open(who, row.rule.read_level) {
+            return Ok(negative_reply(functional, 0x22, Nrc::SecurityAccessDenied));
         }
+        self.say_with(&[0x62, high, low], row.value.as_slice())
     }
 
     fn reading(&self, who: TesterId, ids: &[u8]) -> Reading

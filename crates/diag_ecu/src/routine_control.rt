@@ -1,5 +1,5 @@
 //! Routine control (ISO 14229-1:2013, 13.2).
-ghost use Rattle.std.specs.Prelude.{◌≡◌, length, is_some, IfOk, IsTrue};
+ghost use Rattle.std.specs.Prelude.{◌≡◌, length, is_some, IfOk, IsTrue, Some};
 ghost use Rattle.diag_setup.specs.Setup.{first_holding};
 ghost use Rattle.diag_ecu.specs.Respond.{routine_checks, routine_of, routine_effect, positive_reply, sub};
 ghost use Rattle.diag_ecu.specs.Bytes.{number_16};
@@ -14,6 +14,7 @@ use std::alloc::AllocError;
 
 impl Ecu {
     /// The code of the first check of a routine that holds.
+    #[inline(never)]
     pub(crate) fn routine_refusal(&self, who: TesterId, p: &[u8]) -> Option<Nrc>
         requires { length p.now ≡ 4 }
         ensures { result ≡ first_holding (routine_checks self.now who p.now) }
@@ -36,17 +37,20 @@ impl Ecu {
     /// The sub-function and the routine; where its result is asked for, 01 while it runs, and 00 and the result when it
     /// is done.
     #[tactic(auto, using(crate::proofs::ServiceLemmas::done_result))]
-    pub(crate) fn routine_reply(&self, p: &[u8]) -> Result<Message, AllocError>
+    #[inline(never)]
+    pub(crate) fn routine_reply(&self, p: &[u8]) -> Result<Option<Message>, AllocError>
         requires { length p.now ≡ 4 }
         ensures { IfOk result (λ reply.
-            reply ≡ positive_reply self.now Service.RoutineControl p.now) }
+            reply ≡ Some (positive_reply self.now Service.RoutineControl p.now)) }
     {
         let id = number_16_at(p, 2);
         let sub = sub_of(p);
         let [high, low] = bytes_16(id);
         if sub == 0x03 {
             match self.routines.state(id) {
-                Some(RoutineState::Running(_)) => return Ok(say(&[0x71, sub, high, low, 0x01])),
+                Some(RoutineState::Running(_)) => {
+                    return Ok(Some(say(&[0x71, sub, high, low, 0x01])));
+                }
                 Some(RoutineState::Done) => {
                     if let Some(result) = self.routines.result(id) {
                         return self.say_with(&[0x71, sub, high, low, 0x00], result);
@@ -55,7 +59,7 @@ impl Ecu {
                 _ => {}
             }
         }
-        Ok(say(&[0x71, sub, high, low]))
+        Ok(Some(say(&[0x71, sub, high, low])))
     }
 
     /// Starts or stops a routine.

@@ -1,5 +1,5 @@
 //! Security access: seeds and keys (ISO 14229-1:2013, 9.4).
-ghost use Rattle.std.specs.Prelude.{◌≡◌, ◌≤◌, ◌-◌, length, is_some, false, IsTrue, IfOk};
+ghost use Rattle.std.specs.Prelude.{◌≡◌, ◌≤◌, ◌-◌, length, is_some, false, IsTrue, IfOk, Some};
 ghost use Rattle.diag_setup.specs.Setup.{first_holding};
 ghost use Rattle.diag_store.specs.Security.{level_of, is_delayed};
 ghost use Rattle.diag_ecu.specs.Respond.{own_outcome, security_checks, positive_reply, is_sub_function, sub, seed_refusal, key_refusal};
@@ -14,6 +14,7 @@ use std::alloc::AllocError;
 
 impl Ecu {
     /// The code of the first check of a seed or key that holds.
+    #[inline(never)]
     pub(crate) fn security_refusal(&self, who: TesterId, p: &[u8]) -> Option<Nrc>
         requires long { 2 ≤ length p.now }
         requires known { IsTrue (is_sub_function self.now SubFunctions.OfLevels (sub p.now)) }
@@ -30,10 +31,15 @@ impl Ecu {
     }
 
     /// The seed, or the word that the key was right.
-    pub(crate) fn security_reply(&self, who: TesterId, p: &[u8]) -> Result<Message, AllocError>
+    #[inline(never)]
+    pub(crate) fn security_reply(
+        &self,
+        who: TesterId,
+        p: &[u8],
+    ) -> Result<Option<Message>, AllocError>
         requires { is_delayed self.now.security who ≡ false }
         ensures { IfOk result (λ reply.
-            reply ≡ positive_reply self.now Service.SecurityAccess p.now) }
+            reply ≡ Some (positive_reply self.now Service.SecurityAccess p.now)) }
     {
         let sub = sub_of(p);
         if self.has_level(sub)
@@ -41,7 +47,7 @@ impl Ecu {
         {
             return self.say_with(&[0x67, sub], seed.as_slice());
         }
-        Ok(say(&[0x67, sub]))
+        Ok(Some(say(&[0x67, sub])))
     }
 
     /// Gives a seed, or takes a key: what a key does that is wrong is here too.

@@ -15,6 +15,7 @@ use std::alloc::AllocError;
 
 impl Ecu {
     /// Refuses to clear a code that isn't known.
+    #[inline(never)]
     pub(crate) fn clear_refusal(&self, p: &[u8]) -> Option<Nrc>
         requires { 4 ≤ length p.now }
         ensures { result ≡ first_holding (clear_checks self.now p.now) }
@@ -62,6 +63,7 @@ pub(crate) fn setting_refusal(p: &[u8]) -> Option<Nrc>
 
 impl Ecu {
     /// Reports the codes: how many are counted, those, or all.
+    #[inline(never)]
     pub(crate) fn codes_reply(&self, p: &[u8]) -> Result<Message, AllocError>
         requires { 2 ≤ length p.now }
         ensures { IfOk result (λ reply. reply ≡ dtc_reply self.now p.now) }

@@ -13,6 +13,7 @@ use diag_tp::Message;
 
 impl Ecu {
     /// The code of the first check of a value to be written that holds.
+    #[inline(never)]
     pub(crate) fn write_refusal(&self, who: TesterId, p: &[u8]) -> Option<Nrc>
         requires { 4 ≤ length p.now }
         ensures { result ≡ first_holding (write_checks self.now who p.now) }

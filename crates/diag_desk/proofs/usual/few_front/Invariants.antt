@@ -1,6 +1,6 @@
 use Rattle.std.proofs.Common.{◌≡◌, ◌++◌, length}
 use Rattle.hex.specs.Hex.{encode_upper}
-use Rattle.diag_desk.proofs.usual.short_front.Given as goal
+use Rattle.diag_desk.proofs.usual.few_front.Given as goal
 
 -- what was read of the text, and the rest
 abbrev pub invariant-loop-rest : goal.invariant-loop-rest

@@ -1,7 +1,7 @@
 use Rattle.std.proofs.Common.{◌∙◌, ◌++◌, sym, ap, get_or, arith, rules}
 use Rattle.hex.specs.Hex.{encode_upper}
 use Rattle.diag_desk.proofs.UsualLemmas.{front-more, front-none, front_two}
-use Rattle.diag_desk.proofs.usual.short_front.Goals as goal
+use Rattle.diag_desk.proofs.usual.few_front.Goals as goal
 
 pub loop-rest-init : goal.loop-rest-init
 loop-rest-init c = front-none c.args.text.now ∙ ap (λ bytes. encode_upper bytes ++ c.args.text.now) (sym c.new-bytes.ensures)

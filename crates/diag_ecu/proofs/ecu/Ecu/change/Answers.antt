@@ -2,7 +2,7 @@ use Rattle.std.proofs.Common.{◌≡◌, Some, sym, ◌∙◌}
 use Rattle.diag_setup.specs.Setup.{first_holding}
 use Rattle.diag_ecu.specs.Respond.{checks}
 use Rattle.diag_ecu.proofs.PassLemmas.{key_passes, key_served}
-use Rattle.diag_ecu.proofs.ecu.Ecu.serve_known.Goals as goal
+use Rattle.diag_ecu.proofs.ecu.Ecu.change.Goals as goal
 
 pub access_security-requires-clause-known : goal.access_security-requires-clause-known
 access_security-requires-clause-known c =
