@@ -251,7 +251,8 @@ went_from ecu ecu' start old new who e asked more same h = record {
     time = subst (λ (S : LinkState). new.state.now ≡ time_after S.now e) same h.settled.time;
     most = subst (λ (S : LinkState). new.state.now ≤ S.now + 60000) same h.settled.most;
     within = subst (λ (S : LinkState). AreWithin S.now new.state.now more) same h.settled.within;
-    stands = subst (λ S. (s : LinkSetup) (E : List Event) (K : List Entry) → PortStands s S E K → PortStands s new.state (E ++ e ∷ []) (K ++ option_to_list asked)
+    stands = subst (λ S. (s : LinkSetup) (E : List Event) (K : List Entry) → PortStands s S E K
+        → PortStands s new.state (E ++ e ∷ []) (K ++ option_to_list asked)
         × (drawn s (E ++ e ∷ []) (replies (K ++ option_to_list asked)) ≡ drawn s E (replies K) ++ more)) same h.settled.stands;
   };
 }

@@ -80,9 +80,10 @@ unreachable-requires c =
 pub returns-clause-pace : goal.returns-clause-pace
 returns-clause-pace c =
     let grew = c.settle.ensures.took in
-    let settled = subst (λ (s : ServerState). Settled s (server_of c.settle.new.self) c.args.who c.args.event.now (entry_asked c.ask.new.self c.args.who c.in-Ok.asked) grew.more)
+    let asked = entry_asked c.ask.new.self c.args.who c.in-Ok.asked in
+    let settled = subst (λ (s : ServerState). Settled s (server_of c.settle.new.self) c.args.who c.args.event.now asked grew.more)
     c.in-Ok.ensures.same grew.holds in
-    went_on c.args.self.now.server c.settle.new.self (c.args.who - 1) 0 c.args.event.now (entry_asked c.ask.new.self c.args.who c.in-Ok.asked) grew.more settled.moved
+    went_on c.args.self.now.server c.settle.new.self (c.args.who - 1) 0 c.args.event.now asked grew.more settled.moved
     (frame_time c.args.event.now c.requires.frame)
 
 pub returns-in-Err-Memory-clause-pace : goal.returns-in-Err-Memory-clause-pace
@@ -108,10 +109,11 @@ returns-clause-shape c =
     let within : i < length old.drawn.items =
     omega (arith, c.from-index.ensures, c.place.ensures.same, c.place.ensures.fits.0, c.requires.in_setup, c.requires.lists) in
     let grew = c.settle.ensures.took in
-    let settled = subst (λ (s : ServerState). Settled s (server_of c.settle.new.self) c.args.who c.args.event.now (entry_asked c.ask.new.self c.args.who c.in-Ok.asked) grew.more)
+    let asked = entry_asked c.ask.new.self c.args.who c.in-Ok.asked in
+    let settled = subst (λ (s : ServerState). Settled s (server_of c.settle.new.self) c.args.who c.args.event.now asked grew.more)
     c.in-Ok.ensures.same grew.holds in
     shape_after old new i c.settle.new.out c.is_empty.result
-    (links_moved old.server c.settle.new.self c.args.who c.args.event.now (entry_asked c.ask.new.self c.args.who c.in-Ok.asked) grew.more settled) within refl refl c.after-self.ensures
+    (links_moved old.server c.settle.new.self c.args.who c.args.event.now asked grew.more settled) within refl refl c.after-self.ensures
     c.is_empty.ensures
 
 pub returns-in-Err-Memory-clause-shape : goal.returns-in-Err-Memory-clause-shape
