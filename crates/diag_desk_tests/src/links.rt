@@ -105,6 +105,7 @@ fn take(
     if !link.is_drained() {
         return Err("a frame is due".into());
     }
+    link.make_room(event)?;
     ask(&link.feed(event), text)?;
     if let Some(reply) = reply {
         link.answer(reply);
