@@ -8,6 +8,7 @@ ghost use Rattle.diag_desk.specs.Line.{HasHex, IsHex, IsHexReply, decoded, line_
 
 use crate::entry::{EntryRef, StepRef};
 use crate::line::{Line, LineStep};
+use crate::numerals::add;
 use diag_can::{TickCount, read_hex};
 use diag_setup::TesterId;
 use diag_tp::{Message, Step};
@@ -99,21 +100,10 @@ fn append(bytes: &mut Vec<u8>, more: &[u8])
     ensures room { vec_capacity bytes.old ≤ vec_capacity bytes.new }
 {
     if more.len() <= FEW {
-        append_few(bytes, more);
+        add(bytes, more);
         return;
     }
     let _ = bytes.extend_from_slice(more);
-}
-
-/// Appends bytes one by one where there is room.
-fn append_few(bytes: &mut Vec<u8>, more: &[u8])
-    requires { vec_len bytes.old + length more.now ≤ vec_capacity bytes.old }
-    ensures items { bytes.new.items ≡ bytes.old.items ++ more.now }
-    ensures room { vec_capacity bytes.old ≤ vec_capacity bytes.new }
-{
-    for byte in more {
-        bytes.push_reserved(*byte);
-    }
 }
 
 /// Appends the bytes of an entry, and gives its head.
