@@ -1,17 +1,18 @@
 //! The log of a tester's link.
 
-ghost use Rattle.std.specs.Prelude.{◌≡◌, ◌≢◌, ◌<◌, ◌≤◌, ◌⊎◌, [], ◌∷◌, ◌++◌, length, Some, MatchOption, IfOk, IfErr, OnOk};
+ghost use Rattle.std.specs.Prelude.{◌≡◌, ◌≢◌, ◌<◌, ◌≤◌, ◌⊎◌, [], ◌∷◌, ◌++◌, length, Some, MatchOption, IfOk, IfErr, IsTrue, OnOk};
 ghost use Rattle.memchr.specs.Find.{IsFirstByte};
 ghost use Rattle.diag_can.specs.Lanes.{IsRunIn};
+ghost use Rattle.diag_can.specs.Line.{is_time};
 ghost use Rattle.diag_can.specs.Log.{is_feed, without_return, lines_of, waited, events, most_events};
 ghost use Rattle.diag_can.specs.Reading.{fault_with, given_at};
 ghost use Rattle.diag_can.specs.Stamp.{is_digit};
 ghost use Rattle.diag_can.specs.Usual.{usual_moment};
 
-use crate::fault::LogFault;
+use crate::fault::{LineFault, LogFault};
 use crate::frame::{Event, Ids, TickCount};
 use crate::lanes::line_run;
-use crate::read::other_line_event;
+use crate::read::{other_line_event, tick_count};
 use crate::usual::{bytes_at, usual_frame, usual_moment};
 use memchr::memchr;
 use std::alloc::Global;
@@ -285,6 +286,9 @@ impl Reading {
             → fault_with timing ids.now self.old.events.items self.old.reference number line.now
             ≡ Some fault) }
     {
+        if line.starts_with(b"tick") {
+            return self.take_ticks(timing, ids, number, line);
+        }
         let timed = match other_line_event(line, ids) {
             Ok(timed) => timed,
             Err(fault) => return Err(LogFault::Line(number, fault)),
@@ -293,6 +297,30 @@ impl Reading {
         match timed.event {
             None => Ok(()),
             Some(event) => push_event(&mut self.events, event),
+        }
+    }
+
+    /// Takes the time that a line which begins with `tick` gives.
+    fn take_ticks(
+        &mut self,
+        timing: Timing,
+        ids: &Ids,
+        number: u32,
+        line: &[u8],
+    ) -> Result<(), LogFault>
+        requires few { length self.old.events.items ≤ most_events }
+        requires time { IsTrue (is_time line.now) }
+        ensures took { OnOk result (Took timing ids.now self.old self.new line.now) }
+        ensures fault { IfErr result (λ fault. fault ≢ LogFault.Memory
+            → fault_with timing ids.now self.old.events.items self.old.reference number line.now
+            ≡ Some fault) }
+    {
+        // (for its contract: such a line is the same to every tester, whatever stamps carry)
+        let _ = timing;
+        let _ = ids;
+        match tick_count(&line[4..]) {
+            None => Err(LogFault::Line(number, LineFault::BadTick)),
+            Some(count) => push_event(&mut self.events, Event::Ticks(count)),
         }
     }
 }
