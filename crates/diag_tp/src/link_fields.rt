@@ -18,6 +18,7 @@ ghost use Rattle.std.specs.Prelude.{
   option_copied,
   IfSome,
   IsNone,
+  IsSome,
   IfNone,
   IfOk,
   OnOk,
@@ -26,7 +27,9 @@ ghost use Rattle.std.specs.Prelude.{
   true,
   false,
 };
+ghost use Rattle.diag_can.specs.declared.frame.Event.{Event as AnEvent};
 ghost use Rattle.diag_tp.specs.declared.step.Step.{Step as AStep};
+ghost use Rattle.diag_tp.specs.Cut.{cut};
 ghost use Rattle.diag_tp.specs.Kind.{kind};
 ghost use Rattle.diag_tp.specs.Gives.{is_request};
 ghost use Rattle.diag_tp.specs.Sender.{settled, sender_event, sender_frame, sender_ticks};
@@ -60,8 +63,11 @@ ghost use Rattle.diag_tp.specs.Link.{
   grant_after,
   step_after,
   IsReadHere,
+  IsIdle,
 };
 
+use crate::frames::lone_frame;
+use crate::kind::single_size;
 use crate::link::Link;
 use crate::message::Message;
 use crate::pci::Pci;
@@ -88,6 +94,21 @@ impl Link {
             return self.grant.take();
         }
         self.sender.next_frame(&self.setup)
+    }
+
+    /// The frame of a reply that has a single one, where nothing else is to be sent.
+    #[inline(always)]
+    pub(crate) fn lone_frame(&self, message: &Message) -> Option<FrameBytes>
+        ensures some { IfSome result (λ bytes.
+            cut message.now self.now.state.setup.pad ≡ bytes ∷ []) }
+        ensures found { IsSome result
+            ↔ (IsIdle self.now.state × (length message.now ≤ 7)) }
+    {
+        if self.grant.is_none() && self.sender.is_free() {
+            lone_frame(message, self.setup.pad)
+        } else {
+            None
+        }
     }
 
     /// Whether neither flow control nor a frame of a message is due.
@@ -155,12 +176,7 @@ impl Link {
         ensures reply_kept { self.old.reply_room ≤ self.new.reply_room }
     {
         match event {
-            Event::Physical(bytes) => {
-                let kind = self.kind(bytes);
-                self.receiver.make_room(&kind)?;
-                self.sender.make_room()?;
-                Ok(self.left_of(kind))
-            }
+            Event::Physical(bytes) => self.take_up_own(bytes),
             Event::Functional(bytes) => {
                 let kind = self.kind(bytes);
                 self.sender.make_room()?;
@@ -168,6 +184,51 @@ impl Link {
             }
             Event::Ticks(_) => unreachable!(),
         }
+    }
+
+    /// Reads a frame with the tester's own identifier and makes room for it. A SingleFrame, as most are, makes no `Pci`.
+    #[inline(always)]
+    fn take_up_own(&mut self, bytes: &FrameBytes) -> Result<Taken, AllocError>
+        ensures same { self.new.state ≡ self.old.state }
+        ensures room { OnOk result
+            ((needed self.new.state.setup (AnEvent.Physical bytes.now) ≤ self.new.room)
+            × (0 < self.new.reply_room)) }
+        ensures request { IfOk result (λ taken. asked_in self.new taken
+            ≡ step_after self.old.state.setup self.old.state.partial (AnEvent.Physical bytes.now)) }
+        ensures taken { IfOk result (λ taken.
+            IsTaken self.old.state (AnEvent.Physical bytes.now) taken) }
+        ensures fits { IfOk result (λ taken. FitsIn self.new taken) }
+        ensures kept { self.old.room ≤ self.new.room }
+        ensures reply_kept { self.old.reply_room ≤ self.new.reply_room }
+    {
+        let size = single_size(bytes);
+        if size == 0 {
+            return self.take_up_any(bytes);
+        }
+        self.sender.make_room()?;
+        self.note(false, bytes.part(1, size));
+        Ok(Taken::Single)
+    }
+
+    /// The same of a frame of any kind.
+    #[inline(never)]
+    fn take_up_any(&mut self, bytes: &FrameBytes) -> Result<Taken, AllocError>
+        ensures same { self.new.state ≡ self.old.state }
+        ensures room { OnOk result
+            ((needed self.new.state.setup (AnEvent.Physical bytes.now) ≤ self.new.room)
+            × (0 < self.new.reply_room)) }
+        ensures request { IfOk result (λ taken. asked_in self.new taken
+            ≡ step_after self.old.state.setup self.old.state.partial (AnEvent.Physical bytes.now)) }
+        ensures taken { IfOk result (λ taken.
+            IsTaken self.old.state (AnEvent.Physical bytes.now) taken) }
+        ensures fits { IfOk result (λ taken. FitsIn self.new taken) }
+        ensures kept { self.old.room ≤ self.new.room }
+        ensures reply_kept { self.old.reply_room ≤ self.new.reply_room }
+    {
+        let kind = self.kind(bytes);
+        self.receiver.make_room(&kind)?;
+        self.sender.make_room()?;
+        Ok(self.left_of(kind))
     }
 
     /// What is left of a frame of this kind that has the tester's own identifier. The request that it completes is made.
