@@ -148,10 +148,31 @@ pub(crate) fn receive(
     // (for its contract: the event is that of which this is left)
     let _ = event;
     link.settle(taken);
-    if let Some(reply) = reply {
-        link.answer(reply);
+    match reply {
+        Some(reply) => place(link, reply, out),
+        None => send_due(link, out),
     }
-    send_due(link, out);
+}
+
+/// Places a reply, and hands out all frames that are due.
+fn place(link: &mut Link, reply: Message, out: &mut Vec<Sent>)
+    requires reply_room { IsTrue (has_reply_room link.old) }
+    requires room { vec_len out.old + pending link.old.state + 1 ≤ vec_capacity out.old }
+    ensures placed { Grew out.old.items out.new.items (λ more. AreWithin link.old.state.now link.new.state.now more
+        × ((s : ALinkSetup) (E : List AnEvent) (A : List Placed) (Q : List ASent)
+        → StandsFor s link.old.state E A Q
+        → last_time E ≤ last_tick
+        → HandedOut s link.new.state E
+        (A ++ record { moment = last_moment E; message = reply } ∷ []) (Q ++ more))) }
+    ensures time { link.new.state.now ≡ link.old.state.now }
+    ensures drained { pending link.new.state ≡ 0 }
+    ensures waiting { waiting_count link.new.state ≤ waiting_count link.old.state + 1 }
+{
+    let at = link.now();
+    match link.answer_at_once(reply) {
+        Some(frame) => out.push_reserved(Sent { at, frame }),
+        None => send_due(link, out),
+    }
 }
 
 /// Hands out all frames that are due.
