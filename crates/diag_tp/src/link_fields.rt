@@ -78,6 +78,7 @@ use std::alloc::AllocError;
 
 impl Link {
     /// The bytes of the next frame: flow control goes first.
+    #[inline(always)]
     pub(crate) fn next_bytes(&mut self) -> Option<FrameBytes>
         ensures some { IfSome result (λ bytes. due self.old.state ≡ bytes ∷ due self.new.state) }
         ensures none { IsNone result ↔ (due self.old.state ≡ []) }
@@ -113,6 +114,7 @@ impl Link {
 
     /// Whether neither flow control nor a frame of a message is due.
     #[tactic(auto, using(crate::proofs::Settled::drained_iff))]
+    #[inline(always)]
     pub(crate) fn has_none_due(&self) -> bool
         ensures { IsTrue result ↔ (length (due self.now.state) ≡ 0) }
     {
@@ -120,6 +122,7 @@ impl Link {
     }
 
     /// What a frame is here.
+    #[inline(always)]
     pub(crate) fn kind(&self, bytes: &FrameBytes) -> Pci
         ensures kind { result ≡ kind bytes.now self.now.state.setup.max_request }
         ensures read { IsRead self.now.state.setup.max_request result }
@@ -163,6 +166,7 @@ impl Link {
     }
 
     /// Reads a frame and makes room for it, from the fields.
+    #[inline(always)]
     pub(crate) fn take_up(&mut self, event: &Event) -> Result<Taken, AllocError>
         requires frame { IsTrue (is_frame event.now) }
         ensures same { self.new.state ≡ self.old.state }
@@ -283,6 +287,7 @@ impl Link {
     }
 
     /// Notes the request of one frame, in the place of the one before.
+    #[inline(always)]
     fn note(&mut self, functional: bool, payload: FrameBytes)
         requires { 1 ≤ length payload }
         ensures noted { self.new.noted ≡ AStep.Request functional payload }
@@ -308,6 +313,7 @@ impl Link {
     }
 
     /// The request that a frame completes: noted, or staged.
+    #[inline(always)]
     pub(crate) fn lent<'a>(&'a self, taken: &'a Taken) -> Option<&'a Step>
         ensures { option_copied result ≡ asked_in self.now taken.now }
     {
@@ -319,6 +325,7 @@ impl Link {
     }
 
     /// Takes what is left of a frame, field by field.
+    #[inline(always)]
     pub(crate) fn finish(&mut self, taken: &Taken)
         requires fits { FitsIn self.old taken.now }
         ensures partial { self.new.state.partial
@@ -397,6 +404,7 @@ impl Link {
     }
 
     /// So many ticks, before the last of which nothing falls due.
+    #[inline(always)]
     pub(crate) fn pass(&mut self, count: u16)
         ensures partial { self.new.state.partial
             ≡ option_and_then (ticks_later self.old.state.setup.n_cr count) self.old.state.partial }
@@ -416,6 +424,7 @@ impl Link {
     }
 
     /// For how many ticks nothing falls due and nothing ends, from the fields.
+    #[inline(always)]
     pub(crate) fn quiet_ticks(&self) -> u64
         ensures { result
             ≡ max (min (reception_quiet self.now.state.setup.n_cr self.now.state.partial)

@@ -59,6 +59,7 @@ pub(crate) fn let_pass(
 }
 
 /// The same with room for the frames.
+#[inline(always)]
 pub(crate) fn pass(link: &mut Link, count: TickCount, out: &mut Vec<Sent>)
     requires drained { pending link.old.state ≡ 0 }
     requires room { vec_len out.old + unsent link.old.state ≤ vec_capacity out.old }
@@ -76,6 +77,7 @@ pub(crate) fn pass(link: &mut Link, count: TickCount, out: &mut Vec<Sent>)
 }
 
 /// Whether nothing falls due and nothing ends in so many ticks.
+#[inline(always)]
 fn is_quiet_for(link: &Link, count: TickCount) -> bool
     ensures is { IsTrue result ↔ (count < quiet link.now.state) }
     ensures most { count ≤ 60000 }
@@ -84,6 +86,7 @@ fn is_quiet_for(link: &Link, count: TickCount) -> bool
 }
 
 /// Lets so many ticks pass, in which nothing falls due.
+#[inline(always)]
 pub(crate) fn pass_quiet(link: &mut Link, count: TickCount)
     requires drained { pending link.old.state ≡ 0 }
     requires quiet { count < quiet link.old.state }
@@ -121,6 +124,7 @@ fn pass_in_moves(link: &mut Link, count: TickCount, out: &mut Vec<Sent>)
 }
 
 /// Takes a frame that was read, places the reply to the request that it completes, and hands out what is due.
+#[inline(always)]
 pub(crate) fn receive(
     link: &mut Link,
     event: &Event,
@@ -155,6 +159,7 @@ pub(crate) fn receive(
 }
 
 /// Places a reply, and hands out all frames that are due.
+#[inline(always)]
 fn place(link: &mut Link, reply: Message, out: &mut Vec<Sent>)
     requires reply_room { IsTrue (has_reply_room link.old) }
     requires room { vec_len out.old + pending link.old.state + 1 ≤ vec_capacity out.old }
