@@ -73,7 +73,7 @@ use crate::message::Message;
 use crate::pci::Pci;
 use crate::step::{Request, Step};
 use crate::taken::Taken;
-use diag_can::{Event, FrameBytes};
+use diag_can::{Event, Frame, FrameBytes};
 use std::alloc::AllocError;
 
 impl Link {
@@ -99,17 +99,21 @@ impl Link {
 
     /// The frame of a reply that has a single one, where nothing else is to be sent.
     #[inline(always)]
-    pub(crate) fn lone_frame(&self, message: &Message) -> Option<FrameBytes>
-        ensures some { IfSome result (λ bytes.
-            cut message.now self.now.state.setup.pad ≡ bytes ∷ []) }
+    pub(crate) fn lone_frame(&self, message: &Message) -> Option<Frame>
+        ensures some { IfSome result (λ frame.
+            (cut message.now self.now.state.setup.pad ≡ frame.bytes ∷ [])
+            × (frame.id ≡ self.now.state.setup.ids.response)) }
         ensures found { IsSome result
             ↔ (IsIdle self.now.state × (length message.now ≤ 7)) }
     {
         if self.grant.is_none() && self.sender.is_free() {
-            lone_frame(message, self.setup.pad)
-        } else {
-            None
+            let bytes = lone_frame(message, self.setup.pad)?;
+            return Some(Frame {
+                id: self.setup.ids.response,
+                bytes,
+            });
         }
+        None
     }
 
     /// Whether neither flow control nor a frame of a message is due.
