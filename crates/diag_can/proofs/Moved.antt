@@ -1,5 +1,5 @@
 -- Eight bytes as one number, moved to the front together.
-use Rattle.std.proofs.Common.{◌≡◌, ℕ, zero, suc, ◌+◌, ◌-◌, ◌*◌, ◌/◌, ◌%◌, ◌^◌, ◌<◌, ◌≤◌, List, ◌∷◌, length, take, drop, get_or, refl, sym, ap, ◌∙◌, arith, pow-add}
+use Rattle.std.proofs.Common.{◌≡◌, ℕ, zero, suc, ◌+◌, ◌-◌, ◌*◌, ◌/◌, ◌%◌, ◌^◌, ◌<◌, ◌≤◌, List, [], ◌∷◌, length, take, drop, get_or, refl, sym, ap, ◌∙◌, arith, pow-add}
 use Rattle.std.specs.Int.{w64, byte_at, bytes_low_first, from_le_bytes, to_le_bytes}
 use Rattle.std.proofs.lemmas.List.{drop-take, take-take}
 use Rattle.std.proofs.lemmas.Nat.{le_bytes_8}
@@ -70,3 +70,27 @@ moved_part bytes out len from count n full small is inside few at =
     let within : drop from (take len bytes) ≡ take rest (drop from bytes) = ap (λ (l : ℕ). drop from (take l bytes)) (sym all) ∙ drop-take from rest bytes in
     sym (take-take count (8 - from) out (omega arith)) ∙ ap (take count) moved_all
     ∙ sym (ap (take count) within ∙ take-take count rest (drop from bytes) (omega arith))
+
+-- what is taken of small bytes is small
+small-take : (bytes : List ℕ) (k i : ℕ) → ((i : ℕ) → get_or bytes i 0 < 256) → get_or (take k bytes) i 0 < 256
+small-take [] zero i small = small i
+small-take [] (suc k) i small = small i
+small-take (b ∷ bytes) zero i small = omega arith
+small-take (b ∷ bytes) (suc k) zero small = small 0
+small-take (b ∷ bytes) (suc k) (suc i) small = small-take bytes k i (λ j. small (suc j))
+
+-- one byte in front of the first of eight bytes, fewer than all
+pub behind_one : (bytes out : List ℕ) (len first n : ℕ) → length bytes ≡ 8 → ((i : ℕ) → get_or bytes i 0 < 256) → n ≡ from_le_bytes w64 bytes
+    → len < 8 → first < 256 → out ≡ to_le_bytes w64 (n % 2 ^ 56 * 256 + first) → take (len + 1) out ≡ first ∷ take len bytes
+behind_one (a ∷ b ∷ c ∷ d ∷ e ∷ f ∷ g ∷ h ∷ []) out len first n full small is few byte at =
+    let bytes = a ∷ b ∷ c ∷ d ∷ e ∷ f ∷ g ∷ h ∷ [] in
+    let one : len + 1 ≡ suc len = omega arith in
+    let whole : n % 2 ^ 56 * 256 + first ≡ from_le_bytes w64 (first ∷ take 7 bytes) =
+    omega (arith, is, small 0, small 1, small 2, small 3, small 4, small 5, small 6, small 7) in
+    ap (take (len + 1)) (at ∙ le_bytes_8 (first ∷ take 7 bytes) (n % 2 ^ 56 * 256 + first) refl (in-front bytes small) whole)
+    ∙ rw one (ap (λ (l : List ℕ). first ∷ l) (take-take len 7 bytes (omega arith)))
+  where
+    in-front : (bytes : List ℕ) → ((i : ℕ) → get_or bytes i 0 < 256) → (i : ℕ) → get_or (first ∷ take 7 bytes) i 0 < 256
+    in-front bytes small zero = byte
+    in-front bytes small (suc i) = small-take bytes 7 i small
+behind_one bytes out len first n full small is few byte at = absurd (omega arith)

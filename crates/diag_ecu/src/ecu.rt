@@ -327,7 +327,7 @@ impl Ecu {
 
     /// The reply of these bytes, in memory of its own.
     #[inline(never)]
-    fn say_long(&self, head: &[u8], tail: &[u8]) -> Result<Option<Message>, AllocError>
+    pub(crate) fn say_long(&self, head: &[u8], tail: &[u8]) -> Result<Option<Message>, AllocError>
         requires some { 1 ≤ length head.now }
         requires fits { length head.now + length tail.now ≤ 65535 }
         ensures { IfOk result (λ reply. reply ≡ Some (head.now ++ tail.now)) }
@@ -359,7 +359,8 @@ pub(crate) fn negative_reply(functional: bool, sid: u8, nrc: Nrc) -> Option<Mess
     if functional && nrc.is_silent() {
         return None;
     }
-    Some(say(&[0x7F, sid, nrc.code()]))
+    let code = FrameBytes::new().behind(nrc.code());
+    Some(Message::in_place(code.behind(sid).behind(0x7F)))
 }
 
 /// Whether a service changes nothing but S3, whatever a request of it is answered.

@@ -7,6 +7,7 @@ ghost use Rattle.diag_ecu.specs.Respond.{ids_in, knows, may_read, data_records, 
 use crate::bytes::{bytes_16, number_16};
 use crate::ecu::{Ecu, negative_reply};
 use crate::service::Nrc;
+use diag_can::FrameBytes;
 use diag_setup::TesterId;
 use diag_tp::Message;
 use std::alloc::AllocError;
@@ -71,7 +72,20 @@ impl Ecu {
         if !self.is_open(who, row.rule.read_level) {
             return Ok(negative_reply(functional, 0x22, Nrc::SecurityAccessDenied));
         }
-        self.say_with(&[0x62, high, low], row.value.as_slice())
+        self.say_value(high, low, row.value.as_slice())
+    }
+
+    /// The reply of an identifier and its value; a short one is made in one piece.
+    #[inline(always)]
+    fn say_value(&self, high: u8, low: u8, value: &[u8]) -> Result<Option<Message>, AllocError>
+        requires { length value.now ≤ 65532 }
+        ensures { IfOk result (λ reply. reply ≡ Some (0x62 ∷ high ∷ low ∷ value.now)) }
+    {
+        if value.len() > 5 {
+            return self.say_long(&[0x62, high, low], value);
+        }
+        let bytes = FrameBytes::from_slice(value);
+        Ok(Some(Message::in_place(bytes.behind(low).behind(high).behind(0x62))))
     }
 
     fn reading(&self, who: TesterId, ids: &[u8]) -> Reading

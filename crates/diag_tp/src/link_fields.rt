@@ -18,6 +18,7 @@ ghost use Rattle.std.specs.Prelude.{
   option_copied,
   IfSome,
   IsNone,
+  IsSome,
   IfNone,
   IfOk,
   OnOk,
@@ -26,7 +27,9 @@ ghost use Rattle.std.specs.Prelude.{
   true,
   false,
 };
+ghost use Rattle.diag_can.specs.declared.frame.Event.{Event as AnEvent};
 ghost use Rattle.diag_tp.specs.declared.step.Step.{Step as AStep};
+ghost use Rattle.diag_tp.specs.Cut.{cut};
 ghost use Rattle.diag_tp.specs.Kind.{kind};
 ghost use Rattle.diag_tp.specs.Gives.{is_request};
 ghost use Rattle.diag_tp.specs.Sender.{settled, sender_event, sender_frame, sender_ticks};
@@ -60,18 +63,22 @@ ghost use Rattle.diag_tp.specs.Link.{
   grant_after,
   step_after,
   IsReadHere,
+  IsIdle,
 };
 
+use crate::frames::lone_frame;
+use crate::kind::single_size;
 use crate::link::Link;
 use crate::message::Message;
 use crate::pci::Pci;
 use crate::step::{Request, Step};
 use crate::taken::Taken;
-use diag_can::{Event, FrameBytes};
+use diag_can::{Event, Frame, FrameBytes};
 use std::alloc::AllocError;
 
 impl Link {
     /// The bytes of the next frame: flow control goes first.
+    #[inline(always)]
     pub(crate) fn next_bytes(&mut self) -> Option<FrameBytes>
         ensures some { IfSome result (λ bytes. due self.old.state ≡ bytes ∷ due self.new.state) }
         ensures none { IsNone result ↔ (due self.old.state ≡ []) }
@@ -90,8 +97,28 @@ impl Link {
         self.sender.next_frame(&self.setup)
     }
 
+    /// The frame of a reply that has a single one, where nothing else is to be sent.
+    #[inline(always)]
+    pub(crate) fn lone_frame(&self, message: &Message) -> Option<Frame>
+        ensures some { IfSome result (λ frame.
+            (cut message.now self.now.state.setup.pad ≡ frame.bytes ∷ [])
+            × (frame.id ≡ self.now.state.setup.ids.response)) }
+        ensures found { IsSome result
+            ↔ (IsIdle self.now.state × (length message.now ≤ 7)) }
+    {
+        if self.grant.is_none() && self.sender.is_free() {
+            let bytes = lone_frame(message, self.setup.pad)?;
+            return Some(Frame {
+                id: self.setup.ids.response,
+                bytes,
+            });
+        }
+        None
+    }
+
     /// Whether neither flow control nor a frame of a message is due.
     #[tactic(auto, using(crate::proofs::Settled::drained_iff))]
+    #[inline(always)]
     pub(crate) fn has_none_due(&self) -> bool
         ensures { IsTrue result ↔ (length (due self.now.state) ≡ 0) }
     {
@@ -99,6 +126,7 @@ impl Link {
     }
 
     /// What a frame is here.
+    #[inline(always)]
     pub(crate) fn kind(&self, bytes: &FrameBytes) -> Pci
         ensures kind { result ≡ kind bytes.now self.now.state.setup.max_request }
         ensures read { IsRead self.now.state.setup.max_request result }
@@ -142,6 +170,7 @@ impl Link {
     }
 
     /// Reads a frame and makes room for it, from the fields.
+    #[inline(always)]
     pub(crate) fn take_up(&mut self, event: &Event) -> Result<Taken, AllocError>
         requires frame { IsTrue (is_frame event.now) }
         ensures same { self.new.state ≡ self.old.state }
@@ -155,12 +184,7 @@ impl Link {
         ensures reply_kept { self.old.reply_room ≤ self.new.reply_room }
     {
         match event {
-            Event::Physical(bytes) => {
-                let kind = self.kind(bytes);
-                self.receiver.make_room(&kind)?;
-                self.sender.make_room()?;
-                Ok(self.left_of(kind))
-            }
+            Event::Physical(bytes) => self.take_up_own(bytes),
             Event::Functional(bytes) => {
                 let kind = self.kind(bytes);
                 self.sender.make_room()?;
@@ -168,6 +192,51 @@ impl Link {
             }
             Event::Ticks(_) => unreachable!(),
         }
+    }
+
+    /// Reads a frame with the tester's own identifier and makes room for it. A SingleFrame, as most are, makes no `Pci`.
+    #[inline(always)]
+    fn take_up_own(&mut self, bytes: &FrameBytes) -> Result<Taken, AllocError>
+        ensures same { self.new.state ≡ self.old.state }
+        ensures room { OnOk result
+            ((needed self.new.state.setup (AnEvent.Physical bytes.now) ≤ self.new.room)
+            × (0 < self.new.reply_room)) }
+        ensures request { IfOk result (λ taken. asked_in self.new taken
+            ≡ step_after self.old.state.setup self.old.state.partial (AnEvent.Physical bytes.now)) }
+        ensures taken { IfOk result (λ taken.
+            IsTaken self.old.state (AnEvent.Physical bytes.now) taken) }
+        ensures fits { IfOk result (λ taken. FitsIn self.new taken) }
+        ensures kept { self.old.room ≤ self.new.room }
+        ensures reply_kept { self.old.reply_room ≤ self.new.reply_room }
+    {
+        let size = single_size(bytes);
+        if size == 0 {
+            return self.take_up_any(bytes);
+        }
+        self.sender.make_room()?;
+        self.note(false, bytes.part(1, size));
+        Ok(Taken::Single)
+    }
+
+    /// The same of a frame of any kind.
+    #[inline(never)]
+    fn take_up_any(&mut self, bytes: &FrameBytes) -> Result<Taken, AllocError>
+        ensures same { self.new.state ≡ self.old.state }
+        ensures room { OnOk result
+            ((needed self.new.state.setup (AnEvent.Physical bytes.now) ≤ self.new.room)
+            × (0 < self.new.reply_room)) }
+        ensures request { IfOk result (λ taken. asked_in self.new taken
+            ≡ step_after self.old.state.setup self.old.state.partial (AnEvent.Physical bytes.now)) }
+        ensures taken { IfOk result (λ taken.
+            IsTaken self.old.state (AnEvent.Physical bytes.now) taken) }
+        ensures fits { IfOk result (λ taken. FitsIn self.new taken) }
+        ensures kept { self.old.room ≤ self.new.room }
+        ensures reply_kept { self.old.reply_room ≤ self.new.reply_room }
+    {
+        let kind = self.kind(bytes);
+        self.receiver.make_room(&kind)?;
+        self.sender.make_room()?;
+        Ok(self.left_of(kind))
     }
 
     /// What is left of a frame of this kind that has the tester's own identifier. The request that it completes is made.
@@ -222,6 +291,7 @@ impl Link {
     }
 
     /// Notes the request of one frame, in the place of the one before.
+    #[inline(always)]
     fn note(&mut self, functional: bool, payload: FrameBytes)
         requires { 1 ≤ length payload }
         ensures noted { self.new.noted ≡ AStep.Request functional payload }
@@ -247,6 +317,7 @@ impl Link {
     }
 
     /// The request that a frame completes: noted, or staged.
+    #[inline(always)]
     pub(crate) fn lent<'a>(&'a self, taken: &'a Taken) -> Option<&'a Step>
         ensures { option_copied result ≡ asked_in self.now taken.now }
     {
@@ -258,6 +329,7 @@ impl Link {
     }
 
     /// Takes what is left of a frame, field by field.
+    #[inline(always)]
     pub(crate) fn finish(&mut self, taken: &Taken)
         requires fits { FitsIn self.old taken.now }
         ensures partial { self.new.state.partial
@@ -336,6 +408,7 @@ impl Link {
     }
 
     /// So many ticks, before the last of which nothing falls due.
+    #[inline(always)]
     pub(crate) fn pass(&mut self, count: u16)
         ensures partial { self.new.state.partial
             ≡ option_and_then (ticks_later self.old.state.setup.n_cr count) self.old.state.partial }
@@ -355,6 +428,7 @@ impl Link {
     }
 
     /// For how many ticks nothing falls due and nothing ends, from the fields.
+    #[inline(always)]
     pub(crate) fn quiet_ticks(&self) -> u64
         ensures { result
             ≡ max (min (reception_quiet self.now.state.setup.n_cr self.now.state.partial)

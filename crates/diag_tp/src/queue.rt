@@ -102,6 +102,7 @@ impl Queue {
     }
 
     /// How many replies there are.
+    #[inline(always)]
     pub(crate) fn len(&self) -> usize
         ensures { result ≡ length self.now.replies }
     {
@@ -109,6 +110,7 @@ impl Queue {
     }
 
     /// Whether there is none.
+    #[inline(always)]
     pub(crate) fn is_empty(&self) -> bool
         ensures { IsTrue result ↔ (self.now.replies ≡ []) }
     {
@@ -130,6 +132,7 @@ impl Queue {
     }
 
     /// How many frames the replies have.
+    #[inline(always)]
     pub(crate) fn frames(&self) -> u64
         ensures count { result ≡ sum_by frames_of self.now.replies }
         ensures few { result ≤ 10000 * MOST_WAITING }

@@ -59,6 +59,7 @@ pub(crate) fn let_pass(
 }
 
 /// The same with room for the frames.
+#[inline(always)]
 pub(crate) fn pass(link: &mut Link, count: TickCount, out: &mut Vec<Sent>)
     requires drained { pending link.old.state ≡ 0 }
     requires room { vec_len out.old + unsent link.old.state ≤ vec_capacity out.old }
@@ -76,6 +77,7 @@ pub(crate) fn pass(link: &mut Link, count: TickCount, out: &mut Vec<Sent>)
 }
 
 /// Whether nothing falls due and nothing ends in so many ticks.
+#[inline(always)]
 fn is_quiet_for(link: &Link, count: TickCount) -> bool
     ensures is { IsTrue result ↔ (count < quiet link.now.state) }
     ensures most { count ≤ 60000 }
@@ -84,6 +86,7 @@ fn is_quiet_for(link: &Link, count: TickCount) -> bool
 }
 
 /// Lets so many ticks pass, in which nothing falls due.
+#[inline(always)]
 pub(crate) fn pass_quiet(link: &mut Link, count: TickCount)
     requires drained { pending link.old.state ≡ 0 }
     requires quiet { count < quiet link.old.state }
@@ -121,6 +124,7 @@ fn pass_in_moves(link: &mut Link, count: TickCount, out: &mut Vec<Sent>)
 }
 
 /// Takes a frame that was read, places the reply to the request that it completes, and hands out what is due.
+#[inline(always)]
 pub(crate) fn receive(
     link: &mut Link,
     event: &Event,
@@ -148,10 +152,32 @@ pub(crate) fn receive(
     // (for its contract: the event is that of which this is left)
     let _ = event;
     link.settle(taken);
-    if let Some(reply) = reply {
-        link.answer(reply);
+    match reply {
+        Some(reply) => place(link, reply, out),
+        None => send_due(link, out),
     }
-    send_due(link, out);
+}
+
+/// Places a reply, and hands out all frames that are due.
+#[inline(always)]
+fn place(link: &mut Link, reply: Message, out: &mut Vec<Sent>)
+    requires reply_room { IsTrue (has_reply_room link.old) }
+    requires room { vec_len out.old + pending link.old.state + 1 ≤ vec_capacity out.old }
+    ensures placed { Grew out.old.items out.new.items (λ more. AreWithin link.old.state.now link.new.state.now more
+        × ((s : ALinkSetup) (E : List AnEvent) (A : List Placed) (Q : List ASent)
+        → StandsFor s link.old.state E A Q
+        → last_time E ≤ last_tick
+        → HandedOut s link.new.state E
+        (A ++ record { moment = last_moment E; message = reply } ∷ []) (Q ++ more))) }
+    ensures time { link.new.state.now ≡ link.old.state.now }
+    ensures drained { pending link.new.state ≡ 0 }
+    ensures waiting { waiting_count link.new.state ≤ waiting_count link.old.state + 1 }
+{
+    let at = link.now();
+    match link.answer_at_once(reply) {
+        Some(frame) => out.push_reserved(Sent { at, frame }),
+        None => send_due(link, out),
+    }
 }
 
 /// Hands out all frames that are due.

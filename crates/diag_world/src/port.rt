@@ -57,6 +57,7 @@ pub enum Prepared {
 }
 
 /// Reads the event and makes room for it; `step` lends the step that it gives. Nothing else changes, whatever the answer.
+#[inline(always)]
 pub(crate) fn prepare(
     link: &mut Link,
     event: &Event,
@@ -90,6 +91,7 @@ pub(crate) fn prepare(
 }
 
 /// The step that an event gives, if any, after it was read; it is lent.
+#[inline(always)]
 pub(crate) fn step<'a>(link: &'a Link, prepared: &'a Prepared) -> Option<&'a Step>
     ensures { option_copied result ≡ step_in link.now prepared.now }
 {
@@ -100,6 +102,7 @@ pub(crate) fn step<'a>(link: &'a Link, prepared: &'a Prepared) -> Option<&'a Ste
 }
 
 /// Takes an event that was read and has room, with the reply to the step that it gives, and hands out what is due.
+#[inline(always)]
 pub(crate) fn settle(
     link: &mut Link,
     event: &Event,

@@ -1,8 +1,0 @@
-use Rattle.std.proofs.Common.{rules}
-use Rattle.diag_tp.proofs.reception.Partial.expects.Goals as goal
-
-pub returns-then-from : goal.returns-then-from
-returns-then-from c = search rules
-
-pub returns-else-from : goal.returns-else-from
-returns-else-from c = search rules
