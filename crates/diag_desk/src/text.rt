@@ -1,5 +1,5 @@
 //! Writing the text of a journal, in one buffer.
-ghost use Rattle.std.specs.Prelude.{◌≡◌, ◌≤◌, ◌+◌, ◌*◌, ◌++◌, [], true, length, OnOk, OnErr, IfOk, IfSome, codes, decimal, option_copied, unwrap_or, vec_len, vec_capacity};
+ghost use Rattle.std.specs.Prelude.{◌≡◌, ◌≤◌, ◌+◌, ◌*◌, ◌^◌, ◌++◌, [], true, length, OnOk, OnErr, IfOk, IfSome, codes, decimal, option_copied, unwrap_or, vec_len, vec_capacity};
 ghost use Rattle.diag_desk.specs.Entries.{entry};
 ghost use Rattle.diag_desk.specs.Entry.{entry_seen, messages_len, step_seen};
 ghost use Rattle.diag_desk.specs.Text.{ended, entry_line, header, journal_text, journal_text_at, reply_text, stamped_line, text_of, ticks_in};
@@ -51,6 +51,26 @@ pub fn write_entry_at(text: &mut Vec<u8>, at: u64, entry: &EntryRef<'_>) -> Resu
     write_line(text, true, at, entry.who, &entry.step, entry.reply)
 }
 
+/// Appends the line of an entry: in version 2 where the text is stamped, else in version 1; `before` is the ticks of its
+/// tester before it.
+///
+/// After an error the bytes that stood there are as before.
+pub fn write_entry(
+    text: &mut Vec<u8>,
+    stamped: bool,
+    before: u64,
+    entry: &EntryRef<'_>,
+) -> Result<(), AllocError>
+    requires { before ≤ 2 ^ 63 }
+    ensures ok { OnOk result (text.new.items ≡ text.old.items
+        ++ ended (stamped_line stamped (before + ticks_in (step_seen entry.now.step))
+        (entry_line (entry_seen entry.now)))) }
+    ensures err { OnErr result (text.new.items ≡ text.old.items) }
+{
+    let at = before + ticks_in(&entry.step);
+    write_line(text, stamped, at, entry.who, &entry.step, entry.reply)
+}
+
 fn write_all(alloc: Global, journal: &Journal, stamped: bool) -> Result<Vec<u8>, AllocError>
     ensures { IfOk result (λ text. text.items ≡ text_of stamped journal.now.entries) }
 {
@@ -75,8 +95,10 @@ fn write_all(alloc: Global, journal: &Journal, stamped: bool) -> Result<Vec<u8>,
     Ok(text)
 }
 
-/// Appends the header, with its end.
-fn write_header(text: &mut Vec<u8>, stamped: bool) -> Result<(), AllocError>
+/// Appends the header: of version 2 where the text is stamped, else of version 1.
+///
+/// After an error the bytes that stood there are as before.
+pub fn write_header(text: &mut Vec<u8>, stamped: bool) -> Result<(), AllocError>
     ensures ok { OnOk result (text.new.items ≡ text.old.items ++ ended (header stamped)) }
     ensures err { OnErr result (text.new.items ≡ text.old.items) }
 {

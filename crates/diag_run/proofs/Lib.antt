@@ -5,3 +5,4 @@ pub mod Pieces
 pub mod Plays
 pub mod Reading
 pub mod Runs
+pub mod Written

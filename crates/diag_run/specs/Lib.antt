@@ -2,4 +2,5 @@ pub mod Capture
 pub mod Capturing
 pub mod Ending
 pub mod Files
+pub mod Playing
 pub mod Run

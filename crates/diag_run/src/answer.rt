@@ -5,18 +5,18 @@ ghost use Rattle.diag_workers.specs.Play.{logs_of};
 ghost use Rattle.diag_run.specs.Files.{or_bad_log};
 ghost use Rattle.diag_run.specs.Run.{GivesPlayed, GivesWoven, GivesReplayed, played_text, answered, joined};
 
+use crate::serial::serial_text;
 use diag_can::Timing;
 use diag_desk::{TextFault, replay_lines};
 use diag_setup::Setup;
-use diag_text::{RunFault, counted_text, journal_part, one_part, play_parts_beside, play_parts_in};
+use diag_text::{RunFault, counted_text, journal_part, one_part, play_parts_beside};
 use diag_workers::{NoWatch, play, read_logs};
-use diag_world::{Played, serial};
+use diag_world::Played;
 use std::alloc::Global;
 use std::sync::Wait;
 use std::thread::Threads;
 
-/// Plays the logs on one thread, and says what the play writes. The logs are let go once they are played, and the memory
-/// of their texts takes what is written.
+/// Plays the logs on one thread, and says what the play writes. The memory of their texts takes the reply lines.
 pub(crate) fn played_text(
     alloc: Global,
     setup: &Setup,
@@ -31,9 +31,8 @@ pub(crate) fn played_text(
     ensures device { (n : ℕ) → result ≢ Err (RunFault.Read n) }
 {
     let logs = read_logs(alloc, setup, texts.as_slice(), timing)?;
-    let played = serial(alloc, setup, logs.as_slice())?;
-    drop(logs);
-    parts_in_turn(texts, alloc, setup, played, only_journal, timing)
+    let parts = serial_text(alloc, setup, texts, logs.as_slice(), only_journal, timing)?;
+    Ok(parts)
 }
 
 /// Plays the logs, a thread for each tester, and says what the play writes.
@@ -75,29 +74,6 @@ fn parts_beside<R: Threads + Sync>(
         one_part(alloc, journal_part(alloc, timing, played.desk.journal())?)?
     } else {
         play_parts_beside(rt, alloc, setup, played, timing)?
-    };
-    Ok(parts)
-}
-
-/// The same in parts that are made one behind the other. What was played is let go as it is written.
-fn parts_in_turn(
-    rooms: Vec<Vec<u8>>,
-    alloc: Global,
-    setup: &Setup,
-    played: Played,
-    only_journal: bool,
-    timing: Timing,
-) -> Result<Vec<Vec<u8>>, RunFault>
-    requires { length played.sent.items ≡ length setup.now.testers }
-    ensures ok { IfOk result (λ parts.
-        joined parts ≡ played_text only_journal timing setup.now played.desk
-        (map (λ sent. sent.items) played.sent.items)) }
-    ensures err { IfErr result (λ fault. fault ≡ RunFault.Memory) }
-{
-    let parts = if only_journal {
-        one_part(alloc, journal_part(alloc, timing, played.desk.journal())?)?
-    } else {
-        play_parts_in(rooms, alloc, setup, played, timing)?
     };
     Ok(parts)
 }

@@ -5,7 +5,11 @@ mod answer;
 mod bus_run;
 mod capture;
 mod ending;
+mod entering;
 mod files;
+mod playing;
+mod replies;
+mod serial;
 mod whole;
 
 pub use bus_run::{run_bus, run_bus_and_tell, run_fault};

@@ -32,27 +32,8 @@ pub fn play_parts(
     ensures { IfOk result (λ parts. concat (map (λ part. part.items) parts.items)
         ≡ whole_text timing setup.now played.desk (map (λ sent. sent.items) played.sent.items)) }
 {
-    play_parts_in(Vec::new(alloc), alloc, setup, played, timing)
-}
-
-/// The same, with each tester's lines in memory that was used for something else, as far as there is some: it is emptied,
-/// and may grow.
-///
-/// # Errors
-/// `AllocError` where memory is refused.
-pub fn play_parts_in(
-    rooms: Vec<Vec<u8>>,
-    alloc: Global,
-    setup: &Setup,
-    played: Played,
-    timing: Timing,
-) -> Result<Vec<Vec<u8>>, AllocError>
-    requires { length played.sent.items ≡ length setup.now.testers }
-    ensures { IfOk result (λ parts. concat (map (λ part. part.items) parts.items)
-        ≡ whole_text timing setup.now played.desk (map (λ sent. sent.items) played.sent.items)) }
-{
     let Played { desk, sent } = played;
-    let lines = lines_from(rooms, alloc, setup, sent)?;
+    let lines = lines_from(alloc, setup, sent)?;
     let journal = journal_part(alloc, timing, desk.journal())?;
     let end = end_text(alloc, setup, desk.ecu())?;
     with_end(lines, journal, end)
@@ -72,7 +53,7 @@ pub fn play_text(
     ensures { IfOk result (λ text. text.items ≡ whole_text timing setup.now played.now.desk
         (map (λ sent. sent.items) played.now.sent.items)) }
 {
-    let lines = lines_in_turn(Vec::new(alloc), alloc, setup, played.sent.as_slice())?;
+    let lines = lines_in_turn(alloc, setup, played.sent.as_slice())?;
     let journal = journal_part(alloc, timing, played.desk.journal())?;
     let end = end_text(alloc, setup, played.desk.ecu())?;
     let parts = with_end(lines, journal, end)?;
@@ -92,7 +73,6 @@ fn one_text(alloc: Global, parts: &[Vec<u8>]) -> Result<Vec<u8>, AllocError>
 
 /// The reply lines of these frames, which are let go.
 fn lines_from(
-    rooms: Vec<Vec<u8>>,
     alloc: Global,
     setup: &Setup,
     sent: Vec<Vec<Sent>>,
@@ -101,7 +81,7 @@ fn lines_from(
     ensures { IfOk result (λ parts. concat (map (λ part. part.items) parts.items)
         ≡ lines_from setup.now 1 (map (λ frames. frames.items) sent.items)) }
 {
-    lines_in_turn(rooms, alloc, setup, sent.as_slice())
+    lines_in_turn(alloc, setup, sent.as_slice())
 }
 
 /// The same text in parts that are made beside each other.
@@ -214,7 +194,7 @@ fn lines_halved<R: Threads + Sync>(
         concat (map (λ part. part.items) parts.items) ≡ lines_of name.now sent.now) }
 {
     if most < 2 || sent.len() <= FEW_LINES {
-        let lines = tester_lines(Vec::new(alloc), name, sent)?;
+        let lines = tester_lines(alloc, name, sent)?;
         return one_part(alloc, lines);
     }
     let (front, back) = sent.split_at(sent.len() / 2);
@@ -266,17 +246,16 @@ pub fn one_part(alloc: Global, text: Vec<u8>) -> Result<Vec<Vec<u8>>, AllocError
     Ok(parts)
 }
 
-/// The lines of the frames that one tester was sent, in this memory, which is emptied first.
-fn tester_lines(mut text: Vec<u8>, name: &[u8], sent: &[Sent]) -> Result<Vec<u8>, AllocError>
+/// The lines of the frames that one tester was sent.
+fn tester_lines(alloc: Global, name: &[u8], sent: &[Sent]) -> Result<Vec<u8>, AllocError>
     ensures { IfOk result (λ text. text.items ≡ lines_of name.now sent.now) }
 {
     let room = sent
         .len()
         .saturating_mul(name.len().saturating_add(USUAL_LINE));
-    text.clear();
-    text.reserve(room)?;
+    let mut text = Vec::with_capacity(alloc, room)?;
     if let Some(first) = sent.first() {
-        let mut writer = LineWriter::new(*text.allocator(), name, first.frame.id)?;
+        let mut writer = LineWriter::new(alloc, name, first.frame.id)?;
         add_lines(&mut text, &mut writer, sent)?;
     }
     Ok(text)
@@ -285,9 +264,8 @@ fn tester_lines(mut text: Vec<u8>, name: &[u8], sent: &[Sent]) -> Result<Vec<u8>
 /// What a line of eight bytes has beside its name, where its time is below 10,000,000,000 seconds.
 const USUAL_LINE: usize = 42;
 
-/// The reply lines of each tester, a part each, in these memories as far as they go.
+/// The reply lines of each tester, a part each.
 fn lines_in_turn(
-    mut rooms: Vec<Vec<u8>>,
     alloc: Global,
     setup: &Setup,
     sent: &[Vec<Sent>],
@@ -301,8 +279,7 @@ fn lines_in_turn(
         let Some(who) = setup.who(index) else {
             unreachable!()
         };
-        let room = rooms.pop().unwrap_or(Vec::new(alloc));
-        let lines = tester_lines(room, setup.name(who), frames.as_slice())?;
+        let lines = tester_lines(alloc, setup.name(who), frames.as_slice())?;
         add_part(&mut parts, lines)?;
     }
     Ok(parts)
