@@ -1,15 +1,25 @@
 //! Reading data by identifier (ISO 14229-1:2013, 10.2).
-ghost use Rattle.std.specs.Prelude.{◌≡◌, ◌≤◌, ◌++◌, ◌∷◌, [], length, min, IfOk, OnOk, Some};
+ghost use Rattle.std.specs.Prelude.{◌≡◌, ◌≤◌, ◌++◌, ◌∷◌, [], length, min, IfOk, IfSome, OnOk, Some, option_map};
 ghost use Rattle.std.specs.List.{list_any, list_all};
 ghost use Rattle.diag_setup.specs.Setup.{first_holding};
-ghost use Rattle.diag_ecu.specs.Respond.{ids_in, knows, may_read, data_records, data_reply, did_record, read_checks, reply};
+ghost use Rattle.diag_ecu.specs.Lent.{lent_bytes};
+ghost use Rattle.diag_ecu.specs.Respond.{ids_in, knows, may_read, data_records, data_reply, did_record, read_checks, reply, sent_negative};
 
 use crate::bytes::{bytes_16, number_16};
-use crate::ecu::{Ecu, negative_reply};
+use crate::ecu::Ecu;
 use crate::service::Nrc;
 use diag_setup::TesterId;
 use diag_tp::Message;
 use std::alloc::AllocError;
+
+/// The reply to a request for one identifier: three bytes, and behind them the value where it stands.
+#[derive(Clone, Copy)]
+pub struct Lent<'a> {
+    /// The service and the identifier, or a negative response.
+    pub head: [u8; 3],
+    /// The value; nothing of a negative response.
+    pub value: &'a [u8],
+}
 
 /// What the identifiers of a request to read data come to.
 #[derive(Drop)]
@@ -54,8 +64,8 @@ impl Ecu {
         Ok(Message::from_vec(bytes))
     }
 
-    /// The reply to a request for one identifier. None of the checks that every service has can hold of it.
-    #[inline(never)]
+    /// The reply to a request for one identifier.
+    #[inline(always)]
     pub(crate) fn read_reply(
         &self,
         who: TesterId,
@@ -65,13 +75,30 @@ impl Ecu {
     ) -> Result<Option<Message>, AllocError>
         ensures { IfOk result (λ r. r ≡ reply self.now who functional (0x22 ∷ high ∷ low ∷ [])) }
     {
+        match self.lent_reply(who, functional, high, low) {
+            Some(lent) => self.say_with(&lent.head, lent.value),
+            None => Ok(None),
+        }
+    }
+
+    /// It too, or none where none is sent, with the value where it stands. None of the checks that every service has can
+    /// hold of the request.
+    #[inline(always)]
+    pub fn lent_reply(&self, who: TesterId, functional: bool, high: u8, low: u8) -> Option<Lent<'_>>
+        ensures same { option_map lent_bytes result
+            ≡ reply self.now who functional (0x22 ∷ high ∷ low ∷ []) }
+        ensures fits { IfSome result (λ lent. length lent.value.now ≤ 255) }
+    {
         let Some(row) = self.dids.row(number_16(high, low)) else {
-            return Ok(negative_reply(functional, 0x22, Nrc::RequestOutOfRange));
+            return refused(functional, Nrc::RequestOutOfRange);
         };
         if !self.is_open(who, row.rule.read_level) {
-            return Ok(negative_reply(functional, 0x22, Nrc::SecurityAccessDenied));
+            return refused(functional, Nrc::SecurityAccessDenied);
         }
-        self.say_with(&[0x62, high, low], row.value.as_slice())
+        Some(Lent {
+            head: [0x62, high, low],
+            value: row.value.as_slice(),
+        })
     }
 
     fn reading(&self, who: TesterId, ids: &[u8]) -> Reading
@@ -123,4 +150,19 @@ fn append_record(bytes: &mut Vec<u8>, id: u16, value: &[u8]) -> Result<(), Alloc
 {
     bytes.extend_from_slice(&bytes_16(id))?;
     bytes.extend_from_slice(value)
+}
+
+/// What is sent where a negative response code is the answer to a request for one identifier.
+#[inline(always)]
+fn refused<'a>(functional: bool, nrc: Nrc) -> Option<Lent<'a>>
+    ensures same { option_map lent_bytes result ≡ sent_negative functional 0x22 nrc }
+    ensures fits { IfSome result (λ lent. length lent.value.now ≤ 255) }
+{
+    if functional && nrc.is_silent() {
+        return None;
+    }
+    Some(Lent {
+        head: [0x7F, 0x22, nrc.code()],
+        value: &[],
+    })
 }
