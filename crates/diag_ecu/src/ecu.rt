@@ -348,7 +348,7 @@ impl Ecu {
         ensures { IfOk result (λ reply. reply ≡ Some (head.now ++ tail.now)) }
     {
         if head.len() + tail.len() <= IN_PLACE {
-            let mut bytes = FrameBytes::from_slice(head);
+            let mut bytes = FrameBytes::made_of(head);
             bytes.append(tail);
             return Ok(Some(Message::in_place(bytes)));
         }
@@ -357,7 +357,7 @@ impl Ecu {
 
     /// The reply of these bytes, in memory of its own.
     #[inline(never)]
-    fn say_long(&self, head: &[u8], tail: &[u8]) -> Result<Option<Message>, AllocError>
+    pub(crate) fn say_long(&self, head: &[u8], tail: &[u8]) -> Result<Option<Message>, AllocError>
         requires some { 1 ≤ length head.now }
         requires fits { length head.now + length tail.now ≤ 65535 }
         ensures { IfOk result (λ reply. reply ≡ Some (head.now ++ tail.now)) }

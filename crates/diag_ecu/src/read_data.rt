@@ -6,7 +6,7 @@ ghost use Rattle.diag_ecu.specs.Lent.{lent_bytes};
 ghost use Rattle.diag_ecu.specs.Respond.{ids_in, knows, may_read, data_records, data_reply, did_record, read_checks, reply, sent_negative};
 
 use crate::bytes::{bytes_16, number_16};
-use crate::ecu::Ecu;
+use crate::ecu::{Ecu, say};
 use crate::service::Nrc;
 use diag_setup::TesterId;
 use diag_tp::Message;
@@ -76,9 +76,28 @@ impl Ecu {
         ensures { IfOk result (λ r. r ≡ reply self.now who functional (0x22 ∷ high ∷ low ∷ [])) }
     {
         match self.lent_reply(who, functional, high, low) {
-            Some(lent) => self.say_with(&lent.head, lent.value),
+            Some(lent) => self.said(lent),
             None => Ok(None),
         }
+    }
+
+    /// The reply that is lent, with a copy of the value. Up to eight bytes are put together at once.
+    #[inline(always)]
+    fn said(&self, lent: Lent<'_>) -> Result<Option<Message>, AllocError>
+        requires { length lent.value.now ≤ 255 }
+        ensures { IfOk result (λ reply. reply ≡ Some (lent_bytes lent.entry)) }
+    {
+        let [x, y, z] = lent.head;
+        let few = match lent.value {
+            [] => say(&[x, y, z]),
+            [a] => say(&[x, y, z, *a]),
+            [a, b] => say(&[x, y, z, *a, *b]),
+            [a, b, c] => say(&[x, y, z, *a, *b, *c]),
+            [a, b, c, d] => say(&[x, y, z, *a, *b, *c, *d]),
+            [a, b, c, d, e] => say(&[x, y, z, *a, *b, *c, *d, *e]),
+            value => return self.say_long(&lent.head, value),
+        };
+        Ok(Some(few))
     }
 
     /// It too, or none where none is sent, with the value where it stands. None of the checks that every service has can
