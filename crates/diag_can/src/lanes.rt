@@ -10,7 +10,7 @@ use std::simd::prelude::*;
 
 /// The place of the lowest bit that is set, or how many lanes there are.
 #[inline(always)]
-fn first_set(mask: u64, lanes: usize) -> usize
+pub fn first_set(mask: u64, lanes: usize) -> usize
     ensures { result ≡ first_set mask lanes }
 {
     if mask == 0 {

@@ -67,7 +67,7 @@ fn add_sixteen(text: &mut Vec<u8>, digits: &[u8; 16])
 
 /// Eight bytes in upper-case hex, which are looked at together.
 #[inline(always)]
-pub(crate) fn digits_of_eight(bytes: &[u8; 8]) -> [u8; 16]
+pub fn digits_of_eight(bytes: &[u8; 8]) -> [u8; 16]
     ensures { result ≡ encode_upper bytes.now }
 {
     let v = u8x8::from_array(*bytes);

@@ -11,3 +11,4 @@ pub mod Runs
 pub mod FollowLemmas
 pub mod UsualLemmas
 pub mod Unlocking
+pub mod Written

@@ -1,9 +1,9 @@
 -- Entries of the usual form, which are read from the front of a text.
-use Rattle.std.proofs.Common.{◌≡◌, ℕ, suc, ◌+◌, ◌-◌, ◌*◌, ◌/◌, ◌%◌, ◌<◌, ◌≤◌, ◌==◌, eqb, nat_lt, Bool, true, false, ◌&&◌, ◌||◌, List, [], ◌∷◌, ◌++◌, length, take, drop, get_or, slice_get, slice_index, Option, Some, None, refl, sym, ap, ◌∙◌, append_assoc, arith, decimal}
+use Rattle.std.proofs.Common.{◌≡◌, ℕ, zero, suc, ◌+◌, ◌-◌, ◌*◌, ◌/◌, ◌%◌, ◌<◌, ◌≤◌, ◌==◌, eqb, nat_lt, Bool, true, false, ◌&&◌, ◌||◌, List, [], ◌∷◌, ◌++◌, length, take, drop, get_or, slice_get, slice_index, Option, Some, None, refl, sym, ap, ◌∙◌, append_assoc, arith, decimal}
 use Rattle.std.proofs.lemmas.Bool.{agree_below_at, eqb-true}
 use Rattle.std.proofs.lemmas.Bool.Decides.{nat_tests}
 use Rattle.std.proofs.lemmas.Fmt.{decimal_digit, decimal_step}
-use Rattle.std.proofs.lemmas.List.{take_all, take_more}
+use Rattle.std.proofs.lemmas.List.{take_all, take_more, take-append-drop, take-take}
 use Rattle.std.proofs.Math.Seq.{drop-cons}
 use Rattle.std.proofs.lemmas.Option.{slice_get_within, get_or_from_slice_get}
 use Rattle.hex.specs.Hex.{encode_upper, encode_with, upper_digits}
@@ -72,14 +72,7 @@ front_two [] two = absurd (omega arith)
 front_two (x ∷ []) two = absurd (omega arith)
 front_two (x ∷ y ∷ rest) two = ap (λ l. x ∷ y ∷ l) (sym (take_all (length (x ∷ y ∷ rest) - 2) rest (omega arith)))
 
--- two bytes and three by their digits
-pub two_spelled : (bytes tail : List ℕ) (x y a b c d : ℕ) → encode_upper (x ∷ []) ≡ a ∷ b ∷ [] → encode_upper (y ∷ []) ≡ c ∷ d ∷ [] → bytes ≡ x ∷ y ∷ []
-    → a ∷ b ∷ c ∷ d ∷ tail ≡ encode_upper bytes ++ tail
-two_spelled bytes tail x y a b c d p q is =
-    let text : List ℕ = a ∷ b ∷ c ∷ d ∷ tail in
-    let one = front-more text [] (x ∷ []) text (c ∷ d ∷ tail) x a b (front-none text) refl p refl in
-    front-more text (x ∷ []) bytes (c ∷ d ∷ tail) tail y c d one refl q is
-
+-- three bytes by their digits
 pub three_spelled : (bytes tail : List ℕ) (x y z a b c d e f : ℕ) → encode_upper (x ∷ []) ≡ a ∷ b ∷ [] → encode_upper (y ∷ []) ≡ c ∷ d ∷ []
     → encode_upper (z ∷ []) ≡ e ∷ f ∷ [] → bytes ≡ x ∷ y ∷ z ∷ [] → a ∷ b ∷ c ∷ d ∷ e ∷ f ∷ tail ≡ encode_upper bytes ++ tail
 three_spelled bytes tail x y z a b c d e f p q r is =
@@ -87,6 +80,45 @@ three_spelled bytes tail x y z a b c d e f p q r is =
     let one = front-more text [] (x ∷ []) text (c ∷ d ∷ e ∷ f ∷ tail) x a b (front-none text) refl p refl in
     let two = front-more text (x ∷ []) (x ∷ y ∷ []) (c ∷ d ∷ e ∷ f ∷ tail) (e ∷ f ∷ tail) y c d one refl q refl in
     front-more text (x ∷ y ∷ []) bytes (e ∷ f ∷ tail) tail z e f two refl r is
+
+-- the digits of 22
+pub read_spelled : encode_upper (0x22 ∷ []) ≡ 50 ∷ 50 ∷ []
+unfolding encode_with
+read_spelled = refl
+
+-- the hex of two parts
+pub upper-parts : (a b : List ℕ) → encode_upper (a ++ b) ≡ encode_upper a ++ encode_upper b
+unfolding encode_with
+upper-parts [] b = refl
+upper-parts (x ∷ a) b = ap (λ text. slice_index upper_digits (x / 16) ∷ slice_index upper_digits (x % 16) ∷ text) (upper-parts a b)
+
+pub upper-take : (n : ℕ) (bytes : List ℕ) → take (2 * n) (encode_upper bytes) ≡ encode_upper (take n bytes)
+unfolding encode_with
+upper-take zero bytes = refl
+upper-take (suc n) [] = take_all (2 * suc n) [] (omega arith)
+upper-take (suc n) (b ∷ bytes) =
+    let more : 2 * suc n ≡ suc (suc (2 * n)) = omega arith in
+    rw more (ap (λ text. slice_index upper_digits (b / 16) ∷ slice_index upper_digits (b % 16) ∷ text) (upper-take n bytes))
+
+-- the hex of eight bytes more, and what is left of both
+pub eight_more : (left rest eight after digits behind tail : List ℕ) → eight ≡ take 8 left → after ≡ drop 8 left → digits ≡ take 16 rest → behind ≡ drop 16 rest
+    → encode_upper eight ≡ digits → behind ≡ encode_upper after ++ tail → rest ≡ encode_upper left ++ tail
+eight_more left rest eight after digits behind tail e a d b same is =
+    let whole : eight ++ after ≡ left = (λ i. e i ++ a i) ∙ take-append-drop 8 left in
+    let text : digits ++ behind ≡ rest = (λ i. d i ++ b i) ∙ take-append-drop 16 rest in
+    sym text ∙ (λ i. sym same i ++ is i) ∙ sym (append_assoc (encode_upper eight) (encode_upper after) tail)
+    ∙ ap (λ l. l ++ tail) (sym (upper-parts eight after) ∙ ap encode_upper whole)
+
+-- a front that is the hex of some bytes
+pub front_written : (text front : List ℕ) (n : ℕ) (bytes : List ℕ) → front ≡ take 16 text → 2 * n ≤ 16 → encode_upper bytes ≡ take (2 * n) front
+    → text ≡ encode_upper bytes ++ drop (2 * n) text
+front_written text front n bytes f few is =
+    sym (take-append-drop (2 * n) text) ∙ ap (λ l. l ++ drop (2 * n) text) (sym (is ∙ ap (take (2 * n)) f ∙ take-take (2 * n) 16 text few))
+
+-- what follows two parts, one behind the other
+pub hex_joined : (a b text between rest : List ℕ) → text ≡ encode_upper a ++ between → between ≡ encode_upper b ++ rest → text ≡ encode_upper (a ++ b) ++ rest
+hex_joined a b text between rest t s =
+    t ∙ ap (λ l. encode_upper a ++ l) s ∙ sym (append_assoc (encode_upper a) (encode_upper b) rest) ∙ ap (λ l. l ++ rest) (sym (upper-parts a b))
 
 pub taken_more : (bytes : List ℕ) (i b : ℕ) → slice_get bytes i ≡ Some b → take (i + 1) bytes ≡ take i bytes ++ b ∷ []
 taken_more bytes i b at = take_more bytes i b (slice_get_within bytes i b at) ∙ ap (λ x. take i bytes ++ x ∷ []) (get_or_from_slice_get bytes i b b at)

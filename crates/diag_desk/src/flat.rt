@@ -52,7 +52,7 @@ pub(crate) fn step_len(step: &Step) -> usize
 }
 
 /// Tells that bytes are numbers below 256.
-fn tell_bytes(bytes: &[u8])
+pub(crate) fn tell_bytes(bytes: &[u8])
     ensures { IsBytes bytes.now }
 {}
 

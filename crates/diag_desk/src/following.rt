@@ -6,7 +6,7 @@ ghost use Rattle.diag_setup.specs.declared.raw.RawSetup.{RawSetup};
 ghost use Rattle.diag_ecu.specs.State.{opening};
 ghost use Rattle.diag_ecu.specs.Respond as ecu;
 ghost use Rattle.diag_desk.specs.declared.entry.Entry.{Entry};
-ghost use Rattle.diag_desk.specs.Entry.{IsEntry};
+ghost use Rattle.diag_desk.specs.Entry.{IsEntry, IsMessage};
 ghost use Rattle.diag_desk.specs.Fault.{FaultAt, IsTextOf};
 ghost use Rattle.diag_desk.specs.Following.{Answered, Followed, FollowedIn, Follows, IsReplayed, IsUsual, Plays, TextDiffers, read_so_far};
 ghost use Rattle.diag_desk.specs.Legal.{after_step, reply_to};
@@ -16,12 +16,13 @@ ghost use Rattle.diag_desk.specs.PartRead.{HasNoNext};
 
 use crate::clocks::Clocks;
 use crate::entry::MOST_ENTRIES;
-use crate::flat::{append_hex, decoded_len, message_bytes};
+use crate::flat::{append_hex, decoded_len, tell_bytes};
 use crate::line::{Line, LineStep, cut};
 use crate::next::{LineFault, clock_with, next_line};
 use crate::read::{JournalFault, is_stamped};
 use crate::usual::{
-    behind, behind_reply, count_front, is_functional, line_front, read_front, short_front,
+    ReadFront, behind, behind_lent, behind_reply, count_front, is_functional, line_front,
+    read_front, read_request, short_front,
 };
 use diag_ecu::Ecu;
 use diag_setup::{Setup, TesterId};
@@ -159,9 +160,9 @@ impl Play {
     /// Plays a request that is read from the front of a text, where the reply there is the ECU's; what follows the line.
     ///
     /// None where it isn't, where there is no request, and where memory is refused: then the ECU is as before.
+    #[inline(always)]
     fn answers_front<'a>(
         &mut self,
-        alloc: Global,
         who: TesterId,
         functional: bool,
         text: &'a [u8],
@@ -171,18 +172,23 @@ impl Play {
             Answered self.old.ecu self.new.ecu who functional text.now rest.now) }
         ensures none { IfNone result (self.new.ecu ≡ self.old.ecu) }
     {
-        if let Some(front) = short_front(text) {
-            let message = Message::in_place(front.bytes);
-            return self.answers_message(who, functional, &message, front.rest);
+        if let Some(front) = read_request(text) {
+            return answers_read(&mut self.ecu, who, functional, front);
         }
-        self.answers_long(alloc, who, functional, text)
+        let (bytes, rest) = short_front(text);
+        let bytes = bytes.as_slice();
+        if let Some(rest) = behind(b' ', rest) {
+            if is_message(bytes) {
+                return answers_bytes(&mut self.ecu, who, functional, bytes, rest);
+            }
+        }
+        self.answers_long(who, functional, text)
     }
 
     /// It too, for a request of any length, which is read into memory.
     #[inline(never)]
     fn answers_long<'a>(
         &mut self,
-        alloc: Global,
         who: TesterId,
         functional: bool,
         text: &'a [u8],
@@ -198,41 +204,81 @@ impl Play {
         let Some(text) = behind(b' ', text) else {
             return None;
         };
-        let Ok(message) = Message::new(alloc, self.bytes.as_slice()) else {
+        let bytes = self.bytes.as_slice();
+        if !is_message(bytes) {
             return None;
-        };
-        self.answers_message(who, functional, &message, text)
+        }
+        answers_bytes(&mut self.ecu, who, functional, bytes, text)
     }
+}
 
-    /// Plays a request where the reply at the front of a text is the ECU's; what follows the line.
-    ///
-    /// None where it isn't, and where memory is refused: then the ECU is as before.
-    #[inline]
-    fn answers_message<'a>(
-        &mut self,
-        who: TesterId,
-        functional: bool,
-        message: &Message,
-        text: &'a [u8],
-    ) -> Option<&'a [u8]>
-        ensures differs { self.new.differs ≡ self.old.differs }
-        ensures some { IfSome result (λ rest. Answered self.old.ecu self.new.ecu who functional
-            (encode_upper message.now ++ 32 ∷ text.now) rest.now) }
-        ensures none { IfNone result (self.new.ecu ≡ self.old.ecu) }
-    {
-        let _is_message = message_bytes(message);
-        let Ok(said) = self.ecu.reply(who, functional, message) else {
-            return None;
-        };
-        let Some(text) = behind_reply(said.as_ref(), text) else {
-            return None;
-        };
-        let Some(rest) = behind(b'\n', text) else {
-            return None;
-        };
-        self.ecu.settle(who, functional, message);
-        Some(rest)
-    }
+/// Has the ECU take a request for one identifier where the reply at the front of a text is its own; what follows the
+/// line. None where it isn't: then the ECU is as before.
+#[inline(always)]
+fn answers_read<'a>(
+    ecu: &mut Ecu,
+    who: TesterId,
+    functional: bool,
+    front: ReadFront<'a>,
+) -> Option<&'a [u8]>
+    ensures some { IfSome result (λ rest. Answered ecu.old ecu.new who functional
+        (encode_upper (0x22 ∷ front.entry.high ∷ front.entry.low ∷ []) ++ 32 ∷ front.entry.rest.now)
+        rest.now) }
+    ensures none { IfNone result (ecu.new ≡ ecu.old) }
+{
+    tell_read(front.high, front.low);
+    let lent = ecu.lent_reply(who, functional, front.high, front.low);
+    let Some(text) = behind_lent(lent, front.rest) else {
+        return None;
+    };
+    let Some(rest) = behind(b'\n', text) else {
+        return None;
+    };
+    ecu.settle_read(who, functional, front.high, front.low);
+    Some(rest)
+}
+
+/// Whether so many bytes are a message.
+fn is_message(bytes: &[u8]) -> bool
+    ensures { IsTrue result ↔ IsMessage bytes.now }
+{
+    tell_bytes(bytes);
+    !bytes.is_empty() && bytes.len() <= Message::MAX
+}
+
+/// Tells that a request for one identifier is a message.
+fn tell_read(high: u8, low: u8)
+    ensures { IsMessage (0x22 ∷ high ∷ low ∷ []) }
+{
+    tell_bytes(&[0x22, high, low]);
+}
+
+/// Has the ECU take a request where the reply at the front of a text is its own; what follows the line. None where it
+/// isn't, and where memory is refused: then the ECU is as before.
+#[inline(always)]
+fn answers_bytes<'a>(
+    ecu: &mut Ecu,
+    who: TesterId,
+    functional: bool,
+    bytes: &[u8],
+    text: &'a [u8],
+) -> Option<&'a [u8]>
+    requires { IsMessage bytes.now }
+    ensures some { IfSome result (λ rest. Answered ecu.old ecu.new who functional
+        (encode_upper bytes.now ++ 32 ∷ text.now) rest.now) }
+    ensures none { IfNone result (ecu.new ≡ ecu.old) }
+{
+    let Ok(said) = ecu.reply_to(who, functional, bytes) else {
+        return None;
+    };
+    let Some(text) = behind_reply(said.as_ref(), text) else {
+        return None;
+    };
+    let Some(rest) = behind(b'\n', text) else {
+        return None;
+    };
+    ecu.settle_to(who, functional, bytes);
+    Some(rest)
 }
 
 /// The bytes of a message's hex text, in place of what the list had.
@@ -286,7 +332,8 @@ impl Follower {
 
     /// Takes the line at the front of a text where it is of the usual form, and gives what follows it: an entry without a
     /// stamp, whose reply is the ECU's. None where it isn't, and where memory is refused.
-    fn take_usual<'a>(&mut self, alloc: Global, setup: &Setup, text: &'a [u8]) -> Option<&'a [u8]>
+    #[inline(always)]
+    fn take_usual<'a>(&mut self, setup: &Setup, text: &'a [u8]) -> Option<&'a [u8]>
         requires { (past : List Entry) × Follows setup.now self.old past }
         ensures some { IfSome result (λ rest. (past : List Entry)
             → Follows setup.now self.old past
@@ -306,17 +353,15 @@ impl Follower {
             return None;
         }
         match is_functional(front.kind) {
-            Some(functional) => {
-                self.take_request(alloc, setup, front.who, functional, front.rest)
-            }
+            Some(functional) => self.take_request(setup, front.who, functional, front.rest),
             None => self.take_ticks(setup, front.who, front.rest),
         }
     }
 
     /// Takes the rest of a request's line.
+    #[inline(always)]
     fn take_request<'a>(
         &mut self,
-        alloc: Global,
         setup: &Setup,
         who: TesterId,
         functional: bool,
@@ -334,7 +379,7 @@ impl Follower {
     {
         // (for its contract: a place is at most 8)
         let _place = who.place();
-        let Some(rest) = self.play.answers_front(alloc, who, functional, text) else {
+        let Some(rest) = self.play.answers_front(who, functional, text) else {
             return None;
         };
         self.clocks.set(who, self.clocks.at(who));
@@ -413,7 +458,7 @@ fn follow(alloc: Global, setup: &Setup, text: &[u8]) -> Result<Follower, Journal
     };
     let mut follower = Follower::new(alloc, stamped, ecu);
     while !rest.is_empty() {
-        if let Some(after) = follower.take_usual(alloc, setup, rest) {
+        if let Some(after) = follower.take_usual(setup, rest) {
             rest = after;
             continue;
         }

@@ -13,6 +13,7 @@ mod next;
 mod numerals;
 mod read;
 mod replaying;
+mod sixteen;
 mod table;
 mod text;
 mod usual;

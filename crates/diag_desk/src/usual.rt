@@ -1,14 +1,17 @@
 //! Reading entries of the usual form, whose reply is the ECU's: their text is gone through once.
-ghost use Rattle.std.specs.Prelude.{◌≡◌, ◌≤◌, ◌+◌, ◌++◌, ◌∷◌, IfOk, IfNone, IfSome, IsTrue, ◌↔◌, decimal, length, option_copied};
+ghost use Rattle.std.specs.Prelude.{◌≡◌, ◌≤◌, ◌+◌, ◌++◌, ◌∷◌, [], IfOk, IfNone, IfSome, IsTrue, ◌↔◌, decimal, length, option_copied, option_map};
 ghost use Rattle.hex.specs.Hex.{encode_upper};
+ghost use Rattle.diag_ecu.specs.Lent.{lent_bytes};
 ghost use Rattle.diag_desk.specs.Entry.{IsReply};
 ghost use Rattle.diag_desk.specs.Line.{fronted, kind_code, request_kind};
 ghost use Rattle.diag_desk.specs.Text.{reply_text};
 
-use crate::flat::bytes_of;
+use crate::flat::{bytes_of, tell_bytes};
 use crate::line::{Kind, front_of, kind_in, place_in};
+use crate::sixteen::{is_upper_of, upper_front};
 use crate::table::pair_value;
 use diag_can::{FrameBytes, TickCount, hex_digits};
+use diag_ecu::Lent;
 use diag_setup::TesterId;
 use diag_tp::Message;
 use std::alloc::AllocError;
@@ -28,10 +31,11 @@ struct NumberFront<'a> {
     rest: &'a [u8],
 }
 
-/// A message that a frame could carry, and what follows its hex and a space.
-#[derive(Drop)]
-pub(crate) struct ShortFront<'a> {
-    pub bytes: FrameBytes,
+/// The identifier of a request to read it, and what follows the request's hex and a space.
+#[derive(Clone, Copy)]
+pub(crate) struct ReadFront<'a> {
+    pub high: u8,
+    pub low: u8,
     pub rest: &'a [u8],
 }
 
@@ -137,82 +141,48 @@ pub(crate) fn read_front<'a>(bytes: &mut Vec<u8>, text: &'a [u8]) -> Result<&'a 
     Ok(rest)
 }
 
-/// Reads the upper-case hex of a message that a frame could carry, and the space behind it, at the front of a text. Most
-/// have two or three bytes.
+/// Reads the upper-case hex of a request for one identifier, and the space behind it, at the front of a text.
 #[inline(always)]
-pub(crate) fn short_front(text: &[u8]) -> Option<ShortFront<'_>>
-    ensures some { IfSome result (λ front. 1 ≤ length front.bytes) }
-    ensures is { IfSome result (λ front.
-        text.now ≡ encode_upper front.bytes ++ 32 ∷ front.rest.now) }
+pub(crate) fn read_request(text: &[u8]) -> Option<ReadFront<'_>>
+    ensures { IfSome result (λ front. text.now
+        ≡ encode_upper (0x22 ∷ front.high ∷ front.low ∷ []) ++ 32 ∷ front.rest.now) }
 {
     match text {
-        [a, b, c, d, b' ', rest @ ..] => two_front(*a, *b, *c, *d, rest),
-        [a, b, c, d, e, f, b' ', rest @ ..] => three_front(*a, *b, *c, *d, *e, *f, rest),
-        _ => few_front(text),
+        [b'2', b'2', a, b, c, d, b' ', rest @ ..] => read_digits(*a, *b, *c, *d, rest),
+        _ => None,
     }
 }
 
-/// Two bytes by their digits, and what follows these and a space.
+/// The identifier of four digits, and what follows these and a space.
 #[inline(always)]
-fn two_front(a: u8, b: u8, c: u8, d: u8, rest: &[u8]) -> Option<ShortFront<'_>>
-    ensures some { IfSome result (λ front. 1 ≤ length front.bytes) }
-    ensures is { IfSome result (λ front.
-        a ∷ b ∷ c ∷ d ∷ 32 ∷ rest.now ≡ encode_upper front.bytes ++ 32 ∷ front.rest.now) }
+fn read_digits(a: u8, b: u8, c: u8, d: u8, rest: &[u8]) -> Option<ReadFront<'_>>
+    ensures { IfSome result (λ front. 50 ∷ 50 ∷ a ∷ b ∷ c ∷ d ∷ 32 ∷ rest.now
+        ≡ encode_upper (0x22 ∷ front.high ∷ front.low ∷ []) ++ 32 ∷ front.rest.now) }
 {
-    let first = pair_value(a, b);
-    let second = pair_value(c, d);
-    if 255 < first || 255 < second {
+    let high = pair_value(a, b);
+    let low = pair_value(c, d);
+    if 255 < high || 255 < low {
         return None;
     }
-    Some(ShortFront {
-        bytes: FrameBytes::from_slice(&[first as u8, second as u8]),
+    Some(ReadFront {
+        high: high as u8,
+        low: low as u8,
         rest,
     })
 }
 
-/// Three bytes by their digits, and what follows these and a space.
+/// The bytes whose upper-case hex stands at the front of a text, as many as a frame could carry; none where fewer than
+/// sixteen bytes are left of the text. What follows their hex comes with them.
 #[inline(always)]
-fn three_front(a: u8, b: u8, c: u8, d: u8, e: u8, f: u8, rest: &[u8]) -> Option<ShortFront<'_>>
-    ensures some { IfSome result (λ front. 1 ≤ length front.bytes) }
-    ensures is { IfSome result (λ front.
-        a ∷ b ∷ c ∷ d ∷ e ∷ f ∷ 32 ∷ rest.now ≡ encode_upper front.bytes ++ 32 ∷ front.rest.now) }
+pub(crate) fn short_front(text: &[u8]) -> (FrameBytes, &[u8])
+    ensures { text.now ≡ encode_upper result.0 ++ result.1.now }
 {
-    let first = pair_value(a, b);
-    let second = pair_value(c, d);
-    let third = pair_value(e, f);
-    if 255 < first || 255 < second || 255 < third {
-        return None;
-    }
-    Some(ShortFront {
-        bytes: FrameBytes::from_slice(&[first as u8, second as u8, third as u8]),
-        rest,
-    })
-}
-
-/// It too, for any number of bytes that a frame could carry.
-#[inline(never)]
-fn few_front(text: &[u8]) -> Option<ShortFront<'_>>
-    ensures some { IfSome result (λ front. 1 ≤ length front.bytes) }
-    ensures is { IfSome result (λ front.
-        text.now ≡ encode_upper front.bytes ++ 32 ∷ front.rest.now) }
-{
-    let mut bytes = FrameBytes::new();
-    let mut rest = text;
-    while let [high, low, tail @ ..] = rest {
-        let value = pair_value(*high, *low);
-        if 255 < value || bytes.len() == 8 {
-            break;
-        }
-        bytes.push(value as u8);
-        rest = tail;
-    }
-    if bytes.len() == 0 {
-        return None;
-    }
-    let Some(rest) = behind(b' ', rest) else {
-        return None;
+    let Some(front) = text.first_chunk::<16>() else {
+        return (FrameBytes::new(), text);
     };
-    Some(ShortFront { bytes, rest })
+    let bytes = upper_front(front);
+    let end = 2 * bytes.len();
+    (bytes, &text[end..])
 }
 
 /// What follows a byte at the front of a text, where it stands there.
@@ -225,8 +195,30 @@ pub(crate) fn behind(byte: u8, text: &[u8]) -> Option<&[u8]>
     }
 }
 
-/// What follows the upper-case hex of these bytes at the front of a text, where it stands there.
-fn behind_hex<'a>(bytes: &[u8], text: &'a [u8]) -> Option<&'a [u8]>
+/// What follows the upper-case hex of these bytes at the front of a text, where it stands there: that of eight bytes is
+/// looked at together.
+#[inline(always)]
+pub(crate) fn behind_hex<'a>(bytes: &[u8], text: &'a [u8]) -> Option<&'a [u8]>
+    ensures { IfSome result (λ rest. text.now ≡ encode_upper bytes.now ++ rest.now) }
+{
+    let mut left = bytes;
+    let mut rest = text;
+    while let Some((eight, tail)) = left.split_first_chunk::<8>() {
+        let Some((digits, behind)) = rest.split_first_chunk::<16>() else {
+            return None;
+        };
+        if !is_upper_of(digits, eight) {
+            return None;
+        }
+        left = tail;
+        rest = behind;
+    }
+    behind_pairs(left, rest)
+}
+
+/// The same, pair by pair.
+#[inline(always)]
+fn behind_pairs<'a>(bytes: &[u8], text: &'a [u8]) -> Option<&'a [u8]>
     ensures { IfSome result (λ rest. text.now ≡ encode_upper bytes.now ++ rest.now) }
 {
     let end = 2 * bytes.len();
@@ -241,6 +233,27 @@ fn behind_hex<'a>(bytes: &[u8], text: &'a [u8]) -> Option<&'a [u8]>
         }
     }
     Some(&text[end..])
+}
+
+/// What follows the text of a reply at the front of a text, where it stands there; the reply's value is lent.
+#[inline(always)]
+pub(crate) fn behind_lent<'a>(lent: Option<Lent<'_>>, text: &'a [u8]) -> Option<&'a [u8]>
+    requires { IfSome lent (λ lent. length lent.value.now ≤ 255) }
+    ensures reply { IsReply (option_map lent_bytes lent.entry) }
+    ensures text { IfSome result (λ rest.
+        text.now ≡ reply_text (option_map lent_bytes lent.entry) ++ rest.now) }
+{
+    match lent {
+        Some(lent) => {
+            tell_bytes(&lent.head);
+            tell_bytes(lent.value);
+            match behind_pairs(&lent.head, text) {
+                Some(text) => behind_hex(lent.value, text),
+                None => None,
+            }
+        }
+        None => behind(b'-', text),
+    }
 }
 
 /// What follows the text of a reply at the front of a text, where it stands there.

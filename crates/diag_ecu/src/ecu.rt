@@ -1,5 +1,5 @@
 //! The ECU: what it holds, and what it does with a request.
-ghost use Rattle.std.specs.Prelude.{◌≡◌, ◌≤◌, ◌+◌, ◌++◌, ℕ, List, None, Some, length, IfOk, IfNone, OnOk, OnErr, IsTrue};
+ghost use Rattle.std.specs.Prelude.{◌≡◌, ◌≤◌, ◌+◌, ◌++◌, ◌∷◌, [], ℕ, List, None, Some, length, IfOk, IfNone, OnOk, OnErr, IsTrue};
 ghost use Rattle.diag_setup.specs.Setup.{first_holding};
 ghost use Rattle.diag_ecu.specs.State.{State, opening, is_holder, is_held_by_another, is_open};
 ghost use Rattle.diag_ecu.specs.Respond.{common_checks, own_checks, checks, after_request, reply, outcome, served, effect, positive_reply, kept_alive, sent_negative};
@@ -101,11 +101,24 @@ impl Ecu {
     ) -> Result<Option<Message>, AllocError>
         ensures { IfOk result (λ r. r ≡ reply self.now who functional message.now) }
     {
-        let p = message.bytes();
-        if let [0x22, high, low] = p {
-            return self.read_reply(who, functional, *high, *low);
+        self.reply_to(who, functional, message.bytes())
+    }
+
+    /// The reply to a request of these bytes. Those that come most often are answered by one look.
+    pub fn reply_to(
+        &self,
+        who: TesterId,
+        functional: bool,
+        p: &[u8],
+    ) -> Result<Option<Message>, AllocError>
+        requires { 1 ≤ length p.now }
+        ensures { IfOk result (λ r. r ≡ reply self.now who functional p.now) }
+    {
+        match p {
+            [0x22, high, low] => self.read_reply(who, functional, *high, *low),
+            [0x3E, 0x00] => Ok(Some(say(&[0x7E, 0x00]))),
+            _ => self.any_reply(who, functional, p),
         }
-        self.any_reply(who, functional, p)
     }
 
     /// Goes to the state after a tester's request, which is the same for a functional and a physical one. It takes no
@@ -113,8 +126,25 @@ impl Ecu {
     pub fn settle(&mut self, who: TesterId, functional: bool, message: &Message)
         ensures { self.new ≡ after_request self.old who functional message.now }
     {
+        self.settle_to(who, functional, message.bytes());
+    }
+
+    /// Goes to the state after a request of these bytes.
+    pub fn settle_to(&mut self, who: TesterId, functional: bool, p: &[u8])
+        requires { 1 ≤ length p.now }
+        ensures { self.new ≡ after_request self.old who functional p.now }
+    {
         let _ = functional;
-        self.serve(who, message.bytes());
+        self.serve(who, p);
+        self.keep_alive(who);
+    }
+
+    /// Goes to the state after a request for one identifier.
+    #[inline]
+    pub fn settle_read(&mut self, who: TesterId, functional: bool, high: u8, low: u8)
+        ensures { self.new ≡ after_request self.old who functional (0x22 ∷ high ∷ low ∷ []) }
+    {
+        let _ = (functional, high, low);
         self.keep_alive(who);
     }
 
@@ -318,7 +348,7 @@ impl Ecu {
         ensures { IfOk result (λ reply. reply ≡ Some (head.now ++ tail.now)) }
     {
         if head.len() + tail.len() <= IN_PLACE {
-            let mut bytes = FrameBytes::from_slice(head);
+            let mut bytes = FrameBytes::made_of(head);
             bytes.append(tail);
             return Ok(Some(Message::in_place(bytes)));
         }
@@ -349,7 +379,7 @@ pub(crate) fn say(bytes: &[u8]) -> Message
     requires fits { length bytes.now ≤ 8 }
     ensures { result ≡ bytes.now }
 {
-    Message::in_place(FrameBytes::from_slice(bytes))
+    Message::in_place(FrameBytes::made_of(bytes))
 }
 
 /// What is sent where a negative response code is the answer.
@@ -359,8 +389,7 @@ pub(crate) fn negative_reply(functional: bool, sid: u8, nrc: Nrc) -> Option<Mess
     if functional && nrc.is_silent() {
         return None;
     }
-    let code = FrameBytes::new().behind(nrc.code());
-    Some(Message::in_place(code.behind(sid).behind(0x7F)))
+    Some(say(&[0x7F, sid, nrc.code()]))
 }
 
 /// Whether a service changes nothing but S3, whatever a request of it is answered.

@@ -14,5 +14,6 @@ mod trouble_codes;
 mod write_data;
 
 pub use ecu::Ecu;
+pub use read_data::Lent;
 pub use service::{Busy, Lengths, Nrc, Service, ServiceRow, SubFunctions};
 pub use session::Session;

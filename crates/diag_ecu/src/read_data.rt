@@ -1,16 +1,25 @@
 //! Reading data by identifier (ISO 14229-1:2013, 10.2).
-ghost use Rattle.std.specs.Prelude.{◌≡◌, ◌≤◌, ◌++◌, ◌∷◌, [], length, min, IfOk, OnOk, Some};
+ghost use Rattle.std.specs.Prelude.{◌≡◌, ◌≤◌, ◌++◌, ◌∷◌, [], length, min, IfOk, IfSome, OnOk, Some, option_map};
 ghost use Rattle.std.specs.List.{list_any, list_all};
 ghost use Rattle.diag_setup.specs.Setup.{first_holding};
-ghost use Rattle.diag_ecu.specs.Respond.{ids_in, knows, may_read, data_records, data_reply, did_record, read_checks, reply};
+ghost use Rattle.diag_ecu.specs.Lent.{lent_bytes};
+ghost use Rattle.diag_ecu.specs.Respond.{ids_in, knows, may_read, data_records, data_reply, did_record, read_checks, reply, sent_negative};
 
 use crate::bytes::{bytes_16, number_16};
-use crate::ecu::{Ecu, negative_reply};
+use crate::ecu::{Ecu, say};
 use crate::service::Nrc;
-use diag_can::FrameBytes;
 use diag_setup::TesterId;
 use diag_tp::Message;
 use std::alloc::AllocError;
+
+/// The reply to a request for one identifier: three bytes, and behind them the value where it stands.
+#[derive(Clone, Copy)]
+pub struct Lent<'a> {
+    /// The service and the identifier, or a negative response.
+    pub head: [u8; 3],
+    /// The value; nothing of a negative response.
+    pub value: &'a [u8],
+}
 
 /// What the identifiers of a request to read data come to.
 #[derive(Drop)]
@@ -55,8 +64,8 @@ impl Ecu {
         Ok(Message::from_vec(bytes))
     }
 
-    /// The reply to a request for one identifier. None of the checks that every service has can hold of it.
-    #[inline(never)]
+    /// The reply to a request for one identifier.
+    #[inline(always)]
     pub(crate) fn read_reply(
         &self,
         who: TesterId,
@@ -66,26 +75,49 @@ impl Ecu {
     ) -> Result<Option<Message>, AllocError>
         ensures { IfOk result (λ r. r ≡ reply self.now who functional (0x22 ∷ high ∷ low ∷ [])) }
     {
-        let Some(row) = self.dids.row(number_16(high, low)) else {
-            return Ok(negative_reply(functional, 0x22, Nrc::RequestOutOfRange));
-        };
-        if !self.is_open(who, row.rule.read_level) {
-            return Ok(negative_reply(functional, 0x22, Nrc::SecurityAccessDenied));
+        match self.lent_reply(who, functional, high, low) {
+            Some(lent) => self.said(lent),
+            None => Ok(None),
         }
-        self.say_value(high, low, row.value.as_slice())
     }
 
-    /// The reply of an identifier and its value; a short one is made in one piece.
+    /// The reply that is lent, with a copy of the value. Up to eight bytes are put together at once.
     #[inline(always)]
-    fn say_value(&self, high: u8, low: u8, value: &[u8]) -> Result<Option<Message>, AllocError>
-        requires { length value.now ≤ 65532 }
-        ensures { IfOk result (λ reply. reply ≡ Some (0x62 ∷ high ∷ low ∷ value.now)) }
+    fn said(&self, lent: Lent<'_>) -> Result<Option<Message>, AllocError>
+        requires { length lent.value.now ≤ 255 }
+        ensures { IfOk result (λ reply. reply ≡ Some (lent_bytes lent.entry)) }
     {
-        if value.len() > 5 {
-            return self.say_long(&[0x62, high, low], value);
+        let [x, y, z] = lent.head;
+        let few = match lent.value {
+            [] => say(&[x, y, z]),
+            [a] => say(&[x, y, z, *a]),
+            [a, b] => say(&[x, y, z, *a, *b]),
+            [a, b, c] => say(&[x, y, z, *a, *b, *c]),
+            [a, b, c, d] => say(&[x, y, z, *a, *b, *c, *d]),
+            [a, b, c, d, e] => say(&[x, y, z, *a, *b, *c, *d, *e]),
+            value => return self.say_long(&lent.head, value),
+        };
+        Ok(Some(few))
+    }
+
+    /// It too, or none where none is sent, with the value where it stands. None of the checks that every service has can
+    /// hold of the request.
+    #[inline(always)]
+    pub fn lent_reply(&self, who: TesterId, functional: bool, high: u8, low: u8) -> Option<Lent<'_>>
+        ensures same { option_map lent_bytes result
+            ≡ reply self.now who functional (0x22 ∷ high ∷ low ∷ []) }
+        ensures fits { IfSome result (λ lent. length lent.value.now ≤ 255) }
+    {
+        let Some(row) = self.dids.row(number_16(high, low)) else {
+            return refused(functional, Nrc::RequestOutOfRange);
+        };
+        if !self.is_open(who, row.rule.read_level) {
+            return refused(functional, Nrc::SecurityAccessDenied);
         }
-        let bytes = FrameBytes::from_slice(value);
-        Ok(Some(Message::in_place(bytes.behind(low).behind(high).behind(0x62))))
+        Some(Lent {
+            head: [0x62, high, low],
+            value: row.value.as_slice(),
+        })
     }
 
     fn reading(&self, who: TesterId, ids: &[u8]) -> Reading
@@ -137,4 +169,19 @@ fn append_record(bytes: &mut Vec<u8>, id: u16, value: &[u8]) -> Result<(), Alloc
 {
     bytes.extend_from_slice(&bytes_16(id))?;
     bytes.extend_from_slice(value)
+}
+
+/// What is sent where a negative response code is the answer to a request for one identifier.
+#[inline(always)]
+fn refused<'a>(functional: bool, nrc: Nrc) -> Option<Lent<'a>>
+    ensures same { option_map lent_bytes result ≡ sent_negative functional 0x22 nrc }
+    ensures fits { IfSome result (λ lent. length lent.value.now ≤ 255) }
+{
+    if functional && nrc.is_silent() {
+        return None;
+    }
+    Some(Lent {
+        head: [0x7F, 0x22, nrc.code()],
+        value: &[],
+    })
 }

@@ -1,7 +1,10 @@
-use Rattle.std.proofs.Common.{◌≡◌, ◌*◌, ◌++◌, take, drop}
+use Rattle.std.proofs.Common.{◌≡◌, ◌++◌, ℕ, List, length}
 use Rattle.hex.specs.Hex.{encode_upper}
 use Rattle.diag_desk.proofs.usual.behind_hex.Given as goal
 
--- the text begins with the hex of the bytes so far
-abbrev pub invariant-loop-i : goal.invariant-loop-i
-invariant-loop-i l = l.text ≡ encode_upper (take l.i l.bytes) ++ drop (2 * l.i) l.text
+-- what begins with the hex of what is left, begins with that of all
+abbrev pub invariant-loop-eight : goal.invariant-loop-eight
+invariant-loop-eight l = (tail : List ℕ) → l.rest ≡ encode_upper l.left ++ tail → l.text ≡ encode_upper l.bytes ++ tail
+
+abbrev pub decreases-loop-eight : goal.decreases-loop-eight
+decreases-loop-eight l = length l.left
