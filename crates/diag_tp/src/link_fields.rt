@@ -336,6 +336,7 @@ impl Link {
     }
 
     /// So many ticks, before the last of which nothing falls due.
+    #[inline(always)]
     pub(crate) fn pass(&mut self, count: u16)
         ensures partial { self.new.state.partial
             ≡ option_and_then (ticks_later self.old.state.setup.n_cr count) self.old.state.partial }
