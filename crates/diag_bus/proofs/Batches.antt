@@ -75,10 +75,10 @@ pub gave_none : (a : MidLine) → Gave a a []
 gave_none a = λ setup base before N d. subst (λ w. Drew setup a base before w) (sym (append-nil N)) d
 
 pub same_more : (a b c : MidLine) → SameShape a b → SameShape b c → SameShape a c
-same_more a b c h k = record { links = k.links ∙ h.links; lists = k.lists ∙ h.lists; output = k.output ∙ h.output; filled = λ known. k.filled (h.filled known) }
+same_more a b c h k = record { links = k.links ∙ h.links; lists = k.lists ∙ h.lists; output = k.output ∙ h.output; filled = λ known. k.filled (h.filled known); rest = λ known. k.rest (h.rest known) }
 
 pub same_none : (a : MidLine) → SameShape a a
-same_none a = record { links = refl; lists = refl; output = refl; filled = λ known. known }
+same_none a = record { links = refl; lists = refl; output = refl; filled = λ known. known; rest = λ known. known }
 
 pub frames_more : (setup : RawSetup) (frame : Option Frame) (n who : ℕ) → who ≡ n + 1
     → flat_map (frame_to setup frame) (counted_from 1 (n + 1)) ≡ flat_map (frame_to setup frame) (counted_from 1 n) ++ frame_to setup frame who

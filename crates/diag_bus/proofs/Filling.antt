@@ -1,22 +1,23 @@
 -- Where the testers' lists have frames, and what a line writes that draws one.
-use Rattle.std.proofs.Common.{◌≡◌, ◌≢◌, ◌<◌, ℕ, zero, suc, ◌+◌, ◌-◌, Bool, true, false, Option, Some, Vec, Global, vec_len, List, [], ◌∷◌, ◌++◌, length, map, get_or, refl, ap, ap₂, sym, subst, ◌∙◌, arith, inl, inr}
+use Rattle.std.proofs.Common.{◌≡◌, ◌≢◌, ◌≤◌, ◌<◌, min, ℕ, zero, suc, ◌+◌, ◌-◌, Bool, true, false, Option, None, Some, Vec, Global, vec_len, List, [], ◌∷◌, ◌++◌, length, map, get_or, refl, ap, ap₂, sym, subst, ◌∙◌, arith, inl, inr}
 use Rattle.std.proofs.Math.Seq.{map-set_same}
 use Rattle.std.proofs.lemmas.Bool.{eqb-true}
 use Rattle.std.proofs.lemmas.List.{append-nil, length-map, length-set, map-set}
-use Rattle.std.specs.Prelude.{◌==◌, if◌then◌else◌, slice_get, slice_set}
+use Rattle.std.specs.Prelude.{◌==◌, IfSome, if◌then◌else◌, slice_get, slice_set}
 use Rattle.std.specs.List.{flat_map}
 use Rattle.std.specs.Option.{option_map}
 use Rattle.std.proofs.lemmas.Option.{slice_get-map}
 use Rattle.diag_can.specs.declared.frame.Event.{Event}
 use Rattle.diag_tp.proofs.Lists.{length-zero}
-use Rattle.diag_tp.specs.State.{LinkView}
+use Rattle.diag_tp.specs.Link.{quiet}
+use Rattle.diag_tp.specs.State.{LinkState, LinkView}
 use Rattle.diag_tp.specs.declared.sent.Sent.{Sent}
 use Rattle.diag_setup.specs.Rows.{in_order}
 use Rattle.diag_setup.specs.declared.raw.RawSetup.{RawSetup}
 use Rattle.diag_desk.specs.declared.entry.Entry.{Entry}
-use Rattle.diag_world.specs.Server.{ServerState, ServerView, Settled, server_of}
+use Rattle.diag_world.specs.Server.{ServerState, ServerView, Settled, quiet_of, server_of}
 use Rattle.diag_world.proofs.Worlds.{set_cases}
-use Rattle.diag_bus.specs.Batch.{SameShape, lists_of}
+use Rattle.diag_bus.specs.Batch.{IsRest, SameShape, lists_of}
 use Rattle.diag_bus.specs.declared.mid_line.MidLine.{MidLine}
 use Rattle.diag_bus.specs.Requests.{AreFilled, filled_at}
 use Rattle.diag_bus.specs.Text.{drawn_for, drawn_text, gathered, line_of, time_of}
@@ -76,12 +77,56 @@ links_same old new same =
     let state = λ (l : LinkView). l.state in
     sym (length-map new.links state) ∙ (ap (λ (s : ServerState). length s.links) same ∙ length-map old.links state)
 
+-- ---- how long no link does anything
+
+-- nothing needs be known of it
+pub rest_unknown : (server : ServerView) → IsRest server 0
+rest_unknown server = omega arith
+
+pub rest_stays : (old new : ServerView) (rest : ℕ) → server_of new ≡ server_of old → IsRest old rest → IsRest new rest
+rest_stays old new rest same known = subst (λ (s : ServerState). rest ≤ quiet_of s.links) (sym same) known
+
+quiet_set : (links : List LinkState) (i : ℕ) (link : LinkState) → min (quiet_of links) (quiet link) ≤ quiet_of (slice_set links i link)
+quiet_set [] i link = omega arith
+quiet_set (first ∷ links) zero link = omega arith
+quiet_set (first ∷ links) (suc i) link = omega (arith, quiet_set links i link)
+
+get_set : (links : List LinkState) (i : ℕ) (link before : LinkState) → slice_get links i ≡ Some before → slice_get (slice_set links i link) i ≡ Some link
+get_set [] i link before at = absurd (clash at)
+  where
+    clash : slice_get [] i ≡ Some before → ⊥
+    clash e = cc
+get_set (first ∷ links) zero link before at = refl
+get_set (first ∷ links) (suc i) link before at = get_set links i link before at
+
+quiet_found : (o : Option LinkView) (link : LinkState) (q : ℕ) → option_map (λ (l : LinkView). l.state) o ≡ Some link
+    → IfSome o (λ (l : LinkView). q ≡ quiet l.state) → q ≡ quiet link
+quiet_found None link q found is = cc
+quiet_found (Some l) link q found is = let same : l.state ≡ link = cc in rw (sym same) is
+
+-- a link that took an event may do something sooner
+pub rest_after : (old new : ServerView) (who : ℕ) (e : Event) (asked : Option Entry) (more : List Sent) (rest q rest' : ℕ)
+    → Settled (server_of old) (server_of new) who e asked more
+    → IfSome (slice_get new.links (who - 1)) (λ (l : LinkView). q ≡ quiet l.state) → rest' ≡ min rest q → IsRest old rest → IsRest new rest'
+rest_after old new who e asked more rest q rest' settled is least known =
+    let state = λ (l : LinkView). l.state in
+    let moved = settled.moved in
+    let before = map state old.links in
+    let found : option_map state (slice_get new.links (who - 1)) ≡ Some moved.after =
+    sym (slice_get-map state new.links (who - 1)) ∙ (ap (λ ls. slice_get ls (who - 1)) moved.set
+    ∙ get_set before (who - 1) moved.after moved.before moved.found) in
+    let here = quiet_found (slice_get new.links (who - 1)) moved.after q found is in
+    let most = quiet_set before (who - 1) moved.after in
+    let now : quiet_of (map state new.links) ≡ quiet_of (slice_set before (who - 1) moved.after) = ap quiet_of moved.set in
+    omega (arith, least, known, here, most, now)
+
 -- frames were added to the list at this place
 pub shape_after : (old new : MidLine) (i : ℕ) (list : Vec Sent Global) (is_empty : Bool) → length new.server.links ≡ length old.server.links
     → i < length old.drawn.items
     → new.drawn.items ≡ slice_set old.drawn.items i list → new.output ≡ old.output
-    → new.filled ≡ (if is_empty then old.filled else filled_at old.filled i) → is_empty ≡ (vec_len list == 0) → SameShape old new
-shape_after old new i list is_empty links within set output filled tested =
+    → new.filled ≡ (if is_empty then old.filled else filled_at old.filled i) → is_empty ≡ (vec_len list == 0)
+    → (IsRest old.server old.rest → IsRest new.server new.rest) → SameShape old new
+shape_after old new i list is_empty links within set output filled tested rest =
     let items = λ (f : Vec Sent Global). f.items in
     let lists : lists_of new ≡ slice_set (lists_of old) i list.items = ap (map items) set ∙ map-set items old.drawn.items i list in
     record {
@@ -90,13 +135,15 @@ shape_after old new i list is_empty links within set output filled tested =
       output = output;
       filled = filled_after old.filled new.filled (lists_of old) (lists_of new) i list.items is_empty
           (omega (arith, within, length-map old.drawn.items items)) lists filled (λ e. none_in list (sym tested ∙ e));
+      rest = rest;
     }
 
 -- the list at this place is as it was
 pub shape_same : (old new : MidLine) (i : ℕ) (list before : Vec Sent Global) → length new.server.links ≡ length old.server.links
     → new.drawn.items ≡ slice_set old.drawn.items i list
-    → before ≡ get_or old.drawn.items i before → list.items ≡ before.items → new.output ≡ old.output → new.filled ≡ old.filled → SameShape old new
-shape_same old new i list before links set was same output filled =
+    → before ≡ get_or old.drawn.items i before → list.items ≡ before.items → new.output ≡ old.output → new.filled ≡ old.filled
+    → (IsRest old.server old.rest → IsRest new.server new.rest) → SameShape old new
+shape_same old new i list before links set was same output filled rest =
     let items = λ (f : Vec Sent Global). f.items in
     let lists : lists_of new ≡ lists_of old = ap (map items) set ∙ map-set_same items old.drawn.items i list before (same ∙ ap items was) in
     record {
@@ -104,6 +151,7 @@ shape_same old new i list before links set was same output filled =
       lists = ap length set ∙ length-set old.drawn.items i list;
       output = output;
       filled = λ known. subst (λ (f : Filled). AreFilled f (lists_of new)) (sym filled) (subst (AreFilled old.filled) (sym lists) known);
+      rest = rest;
     }
 
 -- ---- what is written

@@ -18,3 +18,5 @@ pub mod TextExamples
 pub mod Texts
 pub mod Verdicts
 mod VerdictExamples
+pub mod Usual
+pub mod Nobody

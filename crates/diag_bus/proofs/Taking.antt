@@ -1,5 +1,5 @@
 -- A bus takes a line more.
-use Rattle.std.proofs.Common.{◌≡◌, ℕ, ◌+◌, List, [], ◌∷◌, ◌++◌, Some, None, Ok, length, ap, ap₂, subst, sym, ◌∙◌, arith}
+use Rattle.std.proofs.Common.{◌≡◌, ℕ, ◌+◌, List, [], ◌∷◌, ◌++◌, Some, None, Ok, length, refl, ap, ap₂, subst, sym, ◌∙◌, arith}
 use Rattle.std.specs.Prelude.{slice_get}
 use Rattle.diag_can.specs.Bus.{bus_line}
 use Rattle.diag_can.specs.declared.bus.BusLine.{BusLine}
@@ -29,12 +29,12 @@ seen setup line clock compared =
 
 -- what is kept of the recording goes on with the line, where a verdict is wanted
 judges_on : (output : Output) (setup : RawSetup) (old new : Comparisons) (said : BusLine) (drawn : List (List Sent)) (lines : List (List ℕ)) (line : List ℕ)
-    → TakesLine setup old new said drawn → bus_line line ≡ Ok said → DrawnBy setup lines line drawn
+    → (output ≡ Verdict → TakesLine setup old new said drawn) → bus_line line ≡ Ok said → DrawnBy setup lines line drawn
     → Judges output setup old lines → Judges output setup new (lines ++ line ∷ [])
 judges_on Replies setup old new said drawn lines line takes is drew h = h
 judges_on Journal setup old new said drawn lines line takes is drew h = h
 judges_on End setup old new said drawn lines line takes is drew h = h
-judges_on Verdict setup old new said drawn lines line takes is drew h = takes lines line is drew h
+judges_on Verdict setup old new said drawn lines line takes is drew h = takes refl lines line is drew h
 
 -- the line begins, what it says is given to the server, and what that drew is written
 pub took_line : (setup : RawSetup) (lines : List (List ℕ)) (line : List ℕ) (said : BusLine) (old begun taken done : MidLine) (clock clock' : Clock)
@@ -44,7 +44,7 @@ pub took_line : (setup : RawSetup) (lines : List (List ℕ)) (line : List ℕ) (
     → ((i : ℕ) (frames : List Sent) → slice_get (lists_of begun) i ≡ Some frames → frames ≡ []) → begun.text.items ≡ [] → begun.server ≡ old.server
     → SameShape old begun
     → Gave begun taken (said_gives setup clock.reference said) → SameShape begun taken
-    → TakesLine setup compared compared' said (lists_of taken)
+    → (old.output ≡ Verdict → TakesLine setup compared compared' said (lists_of taken))
     → done.server ≡ taken.server → SameShape taken done
     → TookLines (seen setup old clock compared) lines
     → TookLines (seen setup done clock' compared') (lines ++ line ∷ [])
@@ -85,6 +85,7 @@ sound_taken setup line said old begun taken clock clock' compared compared' h is
   line_paced begun.server taken.server clock clock' said on (subst (λ (s : ServerView). IsBy s clock.time) (sym server) h.3) took,
   start moment_end h.4 (bus_line_low line said is),
   second.filled (first.filled h.5),
+  second.rest (first.rest h.6),
 )
 
 -- what it drew was written
@@ -98,4 +99,5 @@ sound_written setup taken done clock compared h server shape = (
   subst (λ (s : ServerView). IsBy s clock.time) (sym server) h.3,
   h.4,
   shape.filled h.5,
+  shape.rest h.6,
 )

@@ -12,7 +12,6 @@ use Rattle.diag_bus.specs.Comparing.{earlier_of}
 use Rattle.diag_bus.specs.Verdict.{difference, difference_of, earlier, expected, first_difference, lack_of, places, recorded, verdict, verdict_by}
 use Rattle.diag_bus.specs.declared.verdict.Difference.{Difference}
 use Rattle.diag_bus.specs.declared.verdict.Verdict.{Verdict}
-use Rattle.diag_bus.specs.declared.verdict.Verdict.TheVariants.{Agrees, Differs}
 use Rattle.diag_world.proofs.Waiting.{counted_more}
 
 clash : {X : Type 0} {x : X} → Some x ≡ None → ⊥

@@ -10,7 +10,7 @@ use Rattle.diag_tp.specs.State.{LinkState}
 use Rattle.diag_setup.specs.declared.raw.RawSetup.{RawSetup}
 use Rattle.diag_desk.specs.declared.entry.Entry.{Entry}
 use Rattle.diag_desk.specs.Text.{ended, entry_line, journal_text_at, stamped_line, ticks_in}
-use Rattle.diag_world.specs.Server.{ServerState, ServerView, Serves, closing_time, sent_to, server_of}
+use Rattle.diag_world.specs.Server.{ServerState, ServerView, Serves, closing_time, quiet_of, sent_to, server_of}
 use Rattle.diag_bus.specs.Events.{clock_of, events_of, moment_said, reference, span_said}
 use Rattle.diag_bus.specs.Requests.{AreFilled}
 use Rattle.diag_bus.specs.Text.{drawn_text, sent_of, start_after, start_said}
@@ -116,12 +116,18 @@ SentIn old new span = (time last : ℕ)
     → AreSentBy (lists_of old) last
     → AreSentBy (lists_of new) last
 
--- as many testers as before, and the same output; where the lists have frames is known as before
+-- so many ticks at least no link does anything before the last of them
+abbrev pub IsRest : ServerView → ℕ → Type 0
+IsRest server rest = rest ≤ quiet_of (server_of server).links
+
+-- as many testers as before, and the same output; where the lists have frames is known as before, and so is how long no link
+-- does anything
 pub record SameShape (old new : MidLine) : Type 0 where
   pub links : length new.server.links ≡ length old.server.links
   pub lists : length new.drawn.items ≡ length old.drawn.items
   pub output : new.output ≡ old.output
   pub filled : AreFilled old.filled (lists_of old) → AreFilled new.filled (lists_of new)
+  pub rest : IsRest old.server old.rest → IsRest new.server new.rest
 
 -- ---- moments
 

@@ -2,7 +2,7 @@
 use Rattle.std.specs.Prelude.{◌≡◌, ◌≤◌, ℕ, List, length, None}
 use Rattle.diag_setup.specs.declared.raw.RawSetup.{RawSetup}
 use Rattle.diag_world.specs.Server.{ServerState}
-use Rattle.diag_bus.specs.Batch.{BusStands, IsBy, StartsBelow, lists_of, moment_end}
+use Rattle.diag_bus.specs.Batch.{BusStands, IsBy, IsRest, StartsBelow, lists_of, moment_end}
 use Rattle.diag_bus.specs.Events.{first_fault}
 use Rattle.diag_bus.specs.Comparing.{ComparesLines}
 use Rattle.diag_bus.specs.Requests.{AreFilled}
@@ -28,6 +28,7 @@ AreSound setup line compared clock = (length line.server.links ≡ length setup.
     × IsBy line.server clock.time
     × StartsBelow clock.start moment_end
     × AreFilled line.filled (lists_of line)
+    × IsRest line.server line.rest
 
 -- where a verdict is wanted, what is kept of the recording stands for these lines
 abbrev pub Judges : Output → RawSetup → Comparisons → List (List ℕ) → Type 0

@@ -1,6 +1,8 @@
 //! The bus: the server, and what is kept of a capture between two of its lines.
 
-ghost use Rattle.std.specs.Prelude.{◌≡◌, ◌≢◌, ◌≤◌, ◌∷◌, [], ◌++◌, ℕ, List, length, IfOk, IfSome, OnOk, OnErr, Err};
+ghost use Rattle.std.specs.Prelude.{◌≡◌, ◌≢◌, ◌≤◌, ◌↔◌, ◌∷◌, [], ◌++◌, ℕ, List, length, IfOk, IfSome, OnOk, OnErr, IsTrue, Ok, Err};
+ghost use Rattle.diag_can.specs.Bus.{bus_line};
+ghost use Rattle.diag_can.specs.Usual.{IsUsual, usual_said};
 ghost use Rattle.diag_world.specs.Port.{Grew};
 ghost use Rattle.diag_world.specs.Server.{quiet_of};
 ghost use Rattle.diag_bus.specs.Bus.{Judges, TookLines};
@@ -9,7 +11,7 @@ ghost use Rattle.diag_bus.specs.Text.{ecu_after, written};
 ghost use Rattle.diag_bus.specs.Verdict.{recorded, verdict};
 ghost use Rattle.diag_bus.specs.declared.fault.BusFault.{BusFault as ABusFault};
 
-use crate::clock::{Clock, next_said};
+use crate::clock::{Clock, next_said, next_usual, silence};
 use crate::comparing::Comparisons;
 use crate::fault::BusFault;
 use crate::filled::Filled;
@@ -17,7 +19,7 @@ use crate::mid_line::MidLine;
 use crate::request_ids::RequestIds;
 use crate::verdict::Verdict;
 use crate::writing::{Drawn, writers_of};
-use diag_can::LineWriter;
+use diag_can::{CanId, LineWriter, usual_line};
 use diag_desk::write_header_at;
 use diag_ecu::Ecu;
 use diag_setup::{Setup, TesterId};
@@ -37,6 +39,16 @@ pub enum Output {
     End,
     /// Nothing: what is wanted is the verdict on the unit's own frames in the capture.
     Verdict,
+}
+
+impl Output {
+    /// Whether a verdict is wanted.
+    #[inline(always)]
+    fn is_verdict(self) -> bool
+        ensures { IsTrue result ↔ (self ≡ Output.Verdict) }
+    {
+        matches!(self, Output::Verdict)
+    }
 }
 
 /// The server, and what is kept of a capture between two of its lines: the bus's clock, and room to work in.
@@ -93,6 +105,7 @@ impl Bus {
                 drawn,
                 filled: Filled::Anywhere,
                 text: Vec::new(alloc),
+                rest: 0,
             },
             setup,
             ids,
@@ -122,6 +135,69 @@ impl Bus {
     /// where memory is refused, or 2^40 replies wait. Refused, the text is as it was, and the bus can't go on: of what
     /// it took nothing is said then.
     pub fn take_line(&mut self, line: &[u8], text: &mut Vec<u8>) -> Result<(), BusFault>
+        ensures took { OnOk result (Grew text.old.items text.new.items (λ more.
+            (lines : List (List ℕ)) → TookLines self.old lines
+            → TookLines self.new (lines ++ line.now ∷ [])
+            × (written self.old.output self.old.setup (lines ++ line.now ∷ [])
+            ≡ written self.old.output self.old.setup lines ++ more))) }
+        ensures fault { (fault : ABusFault) → result ≡ Err fault → fault ≢ BusFault.Memory
+            → (lines : List (List ℕ)) → TookLines self.old lines
+            → line_fault lines line.now ≡ Some fault }
+        ensures first { (lines : List (List ℕ)) → TookLines self.old lines
+            → IfSome (line_fault lines line.now) (λ fault. result ≡ Err fault) }
+        ensures err { OnErr result (text.new.items ≡ text.old.items) }
+        ensures setup { self.new.setup ≡ self.old.setup }
+        ensures output { self.new.output ≡ self.old.output }
+    {
+        match usual_line(line) {
+            Some((usual, id, at)) if !self.line.output.is_verdict() => {
+                self.take_usual(line, usual, id, at, text)
+            }
+            _ => self.take_any(line, text),
+        }
+    }
+
+    /// The same of a line of the usual form, where no verdict is wanted: `usual` is the line without its CR.
+    #[inline(always)]
+    fn take_usual(
+        &mut self,
+        line: &[u8],
+        usual: &[u8],
+        id: CanId,
+        at: usize,
+        text: &mut Vec<u8>,
+    ) -> Result<(), BusFault>
+        requires usual { IsUsual usual.now id at }
+        requires says { bus_line line.now ≡ Ok (usual_said usual.now id at) }
+        requires unjudged { self.old.output ≢ Output.Verdict }
+        ensures took { OnOk result (Grew text.old.items text.new.items (λ more.
+            (lines : List (List ℕ)) → TookLines self.old lines
+            → TookLines self.new (lines ++ line.now ∷ [])
+            × (written self.old.output self.old.setup (lines ++ line.now ∷ [])
+            ≡ written self.old.output self.old.setup lines ++ more))) }
+        ensures fault { (fault : ABusFault) → result ≡ Err fault → fault ≢ BusFault.Memory
+            → (lines : List (List ℕ)) → TookLines self.old lines
+            → line_fault lines line.now ≡ Some fault }
+        ensures first { (lines : List (List ℕ)) → TookLines self.old lines
+            → IfSome (line_fault lines line.now) (λ fault. result ≡ Err fault) }
+        ensures err { OnErr result (text.new.items ≡ text.old.items) }
+        ensures setup { self.new.setup ≡ self.old.setup }
+        ensures output { self.new.output ≡ self.old.output }
+    {
+        let (moment, time) = next_usual(&self.clock, line, usual, id, at)?;
+        let span = silence(self.clock.reference, moment);
+        self.clock.go_on_at(moment, time);
+        self.line.begin();
+        self.line
+            .take_usual(&self.setup, &self.ids, span, usual, id, at)?;
+        let start = self.clock.start;
+        let (writers, batch) = (&mut self.writers, &mut self.batch);
+        Ok(self.line.write(&self.setup, start, writers, batch, text)?)
+    }
+
+    /// The same of any line.
+    #[inline(never)]
+    fn take_any(&mut self, line: &[u8], text: &mut Vec<u8>) -> Result<(), BusFault>
         ensures took { OnOk result (Grew text.old.items text.new.items (λ more.
             (lines : List (List ℕ)) → TookLines self.old lines
             → TookLines self.new (lines ++ line.now ∷ [])

@@ -1,16 +1,19 @@
 //! The clock of a recording.
 
-ghost use Rattle.std.specs.Prelude.{◌≡◌, ◌+◌, ◌≤◌, ℕ, Some, None, Ok, IfOk, IfErr, IfSome};
+ghost use Rattle.std.specs.Prelude.{◌≡◌, ◌+◌, ◌≤◌, ◌<◌, ℕ, Option, Some, None, Ok, IfOk, IfErr, IfSome};
 ghost use Rattle.diag_can.specs.Bus.{bus_line};
+ghost use Rattle.diag_can.specs.Usual.{IsUsual, usual_moment, usual_said};
 ghost use Rattle.diag_world.specs.Server.{closing_time};
 ghost use Rattle.diag_can.specs.Reading.{later};
 ghost use Rattle.diag_bus.specs.Batch.{GoesOn, SaidBelow, StartsBelow, started_at};
 ghost use Rattle.diag_bus.specs.Events.{fault_said, span_said};
 ghost use Rattle.diag_can.specs.Log.{silence};
+ghost use Rattle.diag_can.specs.declared.bus.BusLine.TheVariants.{Stamped};
+ghost use Rattle.diag_can.specs.declared.frame.Frame.{Frame as AFrame};
 ghost use Rattle.diag_can.specs.declared.log.Timing.TheVariants.{Stamps};
 
 use crate::fault::BusFault;
-use diag_can::{BusLine, read_bus_line};
+use diag_can::{BusLine, CanId, read_bus_line, usual_moment};
 
 /// Where the bus's time begins.
 #[derive(Clone, Copy, Debug, PartialEq, Eq)]
@@ -58,6 +61,17 @@ impl Clock {
         }
     }
 
+    /// Goes on by a stamped line of this moment, whatever its frame is.
+    #[inline(always)]
+    pub(crate) fn go_on_at(&mut self, moment: u64, time: u64)
+        requires { time ≡ self.old.time + silence Stamps self.old.reference (Some moment) }
+        ensures on { (frame : Option AFrame) → GoesOn self.old (Stamped moment frame) self.new }
+        ensures start { (most : ℕ) → StartsBelow self.old.start most → moment < most
+            → StartsBelow self.new.start most }
+    {
+        self.go_on_to(moment, time);
+    }
+
     /// The same by a line of this moment.
     #[inline(always)]
     fn go_on_to(&mut self, moment: u64, time: u64)
@@ -93,6 +107,7 @@ impl Clock {
 }
 
 /// The milliseconds from the reference to a later moment.
+#[inline(always)]
 pub(crate) fn silence(reference: Option<u64>, moment: u64) -> u64
     ensures { result ≡ silence Stamps reference (Some moment) }
 {
@@ -132,6 +147,38 @@ pub(crate) fn next_said(clock: &Clock, line: &[u8]) -> Result<(BusLine, u64), Bu
     };
     match clock.time.checked_add(span_of(clock.reference, &said)) {
         Some(time) if time <= CLOSING_TIME => Ok((said, time)),
+        _ => Err(BusFault::Late),
+    }
+}
+
+/// The moment of a line of the usual form, and what each tester's clock tells behind it; its fault where it has one. `usual`
+/// is the line without its CR.
+#[inline(always)]
+pub(crate) fn next_usual(
+    clock: &Clock,
+    line: &[u8],
+    usual: &[u8],
+    id: CanId,
+    at: usize,
+) -> Result<(u64, u64), BusFault>
+    requires usual { IsUsual usual.now id at }
+    requires says { bus_line line.now ≡ Ok (usual_said usual.now id at) }
+    ensures moment { IfOk result (λ r. r.0 ≡ usual_moment usual.now) }
+    ensures time { IfOk result (λ r.
+        r.1 ≡ clock.now.time + silence Stamps clock.now.reference (Some r.0)) }
+    ensures early { IfOk result (λ r. r.1 ≤ closing_time) }
+    ensures well { IfOk result (λ r. fault_said (bus_line line.now)
+        (clock.now.time + span_said clock.now.reference (bus_line line.now)) ≡ None) }
+    ensures fault { IfErr result (λ fault. fault_said (bus_line line.now)
+        (clock.now.time + span_said clock.now.reference (bus_line line.now)) ≡ Some fault) }
+{
+    // (for its contract: what the line says)
+    let _ = line;
+    let _ = id;
+    let _ = at;
+    let moment = usual_moment(usual);
+    match clock.time.checked_add(silence(clock.reference, moment)) {
+        Some(time) if time <= CLOSING_TIME => Ok((moment, time)),
         _ => Err(BusFault::Late),
     }
 }

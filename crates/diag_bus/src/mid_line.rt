@@ -1,13 +1,14 @@
 //! A line of a capture, given to the server: its time to every tester, and its frame to those it is for.
 
-ghost use Rattle.std.specs.Prelude.{◌≡◌, ◌≢◌, ◌≤◌, ◌<◌, ◌-◌, ℕ, List, [], ◌∷◌, ◌++◌, Ok, Some, length, map, slice_get, IsTrue, OnOk, OnErr};
+ghost use Rattle.std.specs.Prelude.{◌≡◌, ◌≢◌, ◌≤◌, ◌<◌, ◌-◌, ℕ, List, [], ◌∷◌, ◌++◌, Ok, Some, length, map, slice_get, IfSome, IsSome, IsTrue, OnOk, OnErr};
 ghost use Rattle.std.specs.List.{flat_map};
 ghost use Rattle.diag_can.specs.declared.frame.Event.{Event as AnEvent};
 ghost use Rattle.diag_can.specs.Log.{waited};
+ghost use Rattle.diag_can.specs.Usual.{IsUsual, usual_bytes};
 ghost use Rattle.diag_tp.specs.Link.{is_frame};
 ghost use Rattle.diag_tp.specs.Moments.{counted_from};
 ghost use Rattle.diag_tp.specs.declared.sent.Sent.{Sent as ASent};
-ghost use Rattle.diag_world.specs.Server.{closing_time, quiet_of, server_of};
+ghost use Rattle.diag_world.specs.Server.{closing_time};
 ghost use Rattle.diag_bus.specs.Events.{frame_to, said_gives, span_said, to_each};
 ghost use Rattle.diag_bus.specs.Requests.{AreFilled, AreNamesOf, AreRequestsOf};
 ghost use Rattle.diag_bus.specs.Text.{drawn_text};
@@ -18,7 +19,7 @@ use crate::entering::{enter, enter_ticks};
 use crate::filled::Filled;
 use crate::request_ids::RequestIds;
 use crate::writing::{Drawn, write_drawn, write_one};
-use diag_can::{BusLine, Event, Frame, LineWriter, TickCount};
+use diag_can::{BusLine, CanId, Event, Frame, LineWriter, TickCount, usual_bytes};
 use diag_setup::{Setup, TesterId};
 use diag_tp::Sent;
 use diag_world::{Server, ServerFault};
@@ -37,10 +38,12 @@ pub struct MidLine {
     pub filled: Filled,
     /// The entries of this line, where they are wanted.
     pub text: Vec<u8>,
+    /// So many ticks at least no link does anything before the last of them.
+    pub rest: u64,
 }
 
 impl MidLine {
-    ghost use Rattle.diag_bus.specs.Batch.{AreSentBy, Gave, HasTime, IsEarly, OneSentIn, OneWentOn, SameShape, SentIn, StartsBelow, TookTime, added, lists_of, moment_end};
+    ghost use Rattle.diag_bus.specs.Batch.{AreSentBy, Gave, HasTime, IsEarly, IsRest, OneSentIn, OneWentOn, SameShape, SentIn, StartsBelow, TookTime, added, lists_of, moment_end};
 
     /// Begins a line: nothing was drawn and nothing written.
     pub fn begin(&mut self)
@@ -172,6 +175,7 @@ impl MidLine {
         match self.server.event(who, event, out) {
             Ok(()) => {
                 self.filled = self.filled.after(index, out.is_empty());
+                self.rest = self.rest.min(self.server.quiet_at(who));
                 Ok(())
             }
             Err(ServerFault::Memory) => Err(AllocError),
@@ -202,6 +206,7 @@ impl MidLine {
         enter(self.output, now, entry.as_ref(), &mut self.text)?;
         self.server.settle(who, event, asked, out);
         self.filled = self.filled.after(index, out.is_empty());
+        self.rest = 0;
         Ok(())
     }
 
@@ -221,6 +226,7 @@ impl MidLine {
         match self.server.ticks(who, count, out) {
             Ok(()) => {
                 self.filled = self.filled.after(index, out.is_empty());
+                self.rest = 0;
                 enter_ticks(self.output, now, who, count, &mut self.text)
             }
             Err(ServerFault::Memory) => Err(AllocError),
@@ -228,17 +234,35 @@ impl MidLine {
         }
     }
 
-    /// Whether no link does anything in so many ticks, and no entry of them is wanted.
-    fn can_wait(&self, count: TickCount) -> bool
-        ensures quiet { IsTrue result → count < quiet_of (server_of self.now.server).links }
-        ensures silent { IsTrue result → self.now.output ≢ Output.Journal }
+    /// For how many ticks no link does anything before the last of them, where these are more than so many, and no entry of
+    /// those is wanted.
+    #[inline(always)]
+    fn rest_after(&self, count: TickCount) -> Option<u64>
+        requires known { IsRest self.now.server self.now.rest }
+        ensures more { IfSome result (λ rest. count < rest) }
+        ensures is { IfSome result (λ rest. IsRest self.now.server rest) }
+        ensures silent { IsSome result → self.now.output ≢ Output.Journal }
     {
         match self.output {
-            Output::Journal => false,
+            Output::Journal => None,
             Output::Replies | Output::End | Output::Verdict => {
-                u64::from(count.get()) < self.server.quiet()
+                let count = u64::from(count.get());
+                if count < self.rest {
+                    return Some(self.rest);
+                }
+                self.quiet_after(count)
             }
         }
+    }
+
+    /// The same, where the links have to be looked at.
+    #[inline(never)]
+    fn quiet_after(&self, count: u64) -> Option<u64>
+        ensures more { IfSome result (λ rest. count < rest) }
+        ensures is { IfSome result (λ rest. IsRest self.now.server rest) }
+    {
+        let rest = self.server.quiet();
+        if count < rest { Some(rest) } else { None }
     }
 
     /// Gives the server so many ticks of each tester, in order.
@@ -246,14 +270,16 @@ impl MidLine {
         requires in_setup { length self.old.server.links ≡ length setup.now.testers }
         requires lists { length self.old.drawn.items ≡ length setup.now.testers }
         requires early { HasTime self.old.server count }
+        requires rest { IsRest self.old.server self.old.rest }
         ensures ok { OnOk result
             (Gave self.old self.new (to_each (length setup.now.testers) (AnEvent.Ticks count))) }
         ensures shape { SameShape self.old self.new }
         ensures pace { TookTime self.old.server self.new.server count }
         ensures sent { OnOk result (SentIn self.old self.new count) }
     {
-        if self.can_wait(count) {
+        if let Some(rest) = self.rest_after(count) {
             self.server.pass_quietly(setup, count);
+            self.rest = rest - u64::from(count.get());
             return Ok(());
         }
         self.give_one_by_one(setup, count)
@@ -279,11 +305,31 @@ impl MidLine {
         Ok(())
     }
 
-    /// Lets so many milliseconds pass for each tester: 60000 each, and last the rest.
+    /// Lets so many milliseconds pass for each tester.
+    #[inline(always)]
     fn pass(&mut self, setup: &Setup, ms: u64) -> Result<(), AllocError>
         requires in_setup { length self.old.server.links ≡ length setup.now.testers }
         requires lists { length self.old.drawn.items ≡ length setup.now.testers }
         requires early { HasTime self.old.server ms }
+        requires rest { IsRest self.old.server self.old.rest }
+        ensures ok { OnOk result (Gave self.old self.new
+            (flat_map (to_each (length setup.now.testers)) (waited ms))) }
+        ensures shape { SameShape self.old self.new }
+        ensures pace { TookTime self.old.server self.new.server ms }
+        ensures sent { OnOk result (SentIn self.old self.new ms) }
+    {
+        if ms == 0 {
+            return Ok(());
+        }
+        self.pass_parts(setup, ms)
+    }
+
+    /// The same by 60000 each, and last the rest.
+    fn pass_parts(&mut self, setup: &Setup, ms: u64) -> Result<(), AllocError>
+        requires in_setup { length self.old.server.links ≡ length setup.now.testers }
+        requires lists { length self.old.drawn.items ≡ length setup.now.testers }
+        requires early { HasTime self.old.server ms }
+        requires rest { IsRest self.old.server self.old.rest }
         ensures ok { OnOk result (Gave self.old self.new
             (flat_map (to_each (length setup.now.testers)) (waited ms))) }
         ensures shape { SameShape self.old self.new }
@@ -329,6 +375,40 @@ impl MidLine {
         Ok(())
     }
 
+    /// Gives the server what a line of the usual form says: so many milliseconds, and a frame of this identifier, whose data
+    /// begin there.
+    #[inline(always)]
+    pub fn take_usual(
+        &mut self,
+        setup: &Setup,
+        ids: &RequestIds,
+        ms: u64,
+        line: &[u8],
+        id: CanId,
+        at: usize,
+    ) -> Result<(), AllocError>
+        requires in_setup { length self.old.server.links ≡ length setup.now.testers }
+        requires lists { length self.old.drawn.items ≡ length setup.now.testers }
+        requires ids { AreRequestsOf setup.now ids.now }
+        requires early { HasTime self.old.server ms }
+        requires rest { IsRest self.old.server self.old.rest }
+        requires usual { IsUsual line.now id at }
+        ensures ok { OnOk result (Gave self.old self.new
+            (flat_map (to_each (length setup.now.testers)) (waited ms)
+            ++ flat_map (frame_to setup.now (Some (record { id = id; bytes = usual_bytes line.now at })))
+            (counted_from 1 (length setup.now.testers)))) }
+        ensures shape { SameShape self.old self.new }
+        ensures pace { TookTime self.old.server self.new.server ms }
+        ensures sent { OnOk result (SentIn self.old self.new ms) }
+    {
+        self.pass(setup, ms)?;
+        if !ids.are_for(id) {
+            return Ok(());
+        }
+        let bytes = usual_bytes(line, at);
+        self.give_frame(setup, ids, &Frame { id, bytes })
+    }
+
     /// Gives the server what a line says.
     pub fn take_said(
         &mut self,
@@ -341,6 +421,7 @@ impl MidLine {
         requires lists { length self.old.drawn.items ≡ length setup.now.testers }
         requires ids { AreRequestsOf setup.now ids.now }
         requires early { HasTime self.old.server (span_said reference (Ok said.now)) }
+        requires rest { IsRest self.old.server self.old.rest }
         ensures ok { OnOk result (Gave self.old self.new (said_gives setup.now reference said.now)) }
         ensures shape { SameShape self.old self.new }
         ensures pace { TookTime self.old.server self.new.server

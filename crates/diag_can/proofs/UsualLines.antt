@@ -15,9 +15,10 @@ use Rattle.diag_can.proofs.Pairs.{is_ok-value}
 use Rattle.diag_can.specs.declared.frame.Event.TheVariants.{Physical, Functional}
 use Rattle.diag_can.specs.declared.bus.BusLine.TheVariants.{Stamped}
 use Rattle.diag_can.specs.Line.{line_event, frame_moment, event_moment, stamped_frame, is_time, is_passed_over, frame_data, frame_event, event_of, id_of}
-use Rattle.diag_can.specs.Bus.{line_says, text_frame, frame_of}
+use Rattle.diag_can.specs.Bus.{bus_line, line_says, text_frame, frame_of}
 use Rattle.diag_can.specs.Lanes.{IsRunIn}
-use Rattle.diag_can.specs.Usual.{IsFramed, IsUsual, usual_moment}
+use Rattle.diag_can.specs.Log.{without_return}
+use Rattle.diag_can.specs.Usual.{IsFramed, IsUsual, bytes_or_none, usual_bytes, usual_moment, usual_said}
 use Rattle.diag_can.specs.declared.frame.Ids.{Ids}
 
 -- ---- parts of a line, by the bytes that stand there
@@ -229,3 +230,14 @@ module _ (line : List ℕ) (id at : ℕ) (u : IsUsual line id at) where
           → line_says xs ≡ Ok (Stamped (usual_moment line) (Some (record { id = id; bytes = bytes })))
       go [] long plain stamp frame = absurd (omega arith)
       go (c ∷ xs) long plain stamp frame = rw (plain, stamp, frame) refl
+
+-- ---- a whole line of a capture
+
+pub says-usual : (piece line : List ℕ) (id at : ℕ) → IsUsual line id at → length piece ≤ 4096 → line ≡ without_return piece
+    → bus_line piece ≡ Ok (usual_said line id at)
+says-usual piece line id at u short same =
+    let not_long : nat_lt 4096 (length piece) ≡ false = grind (arith, nat_tests) in
+    let read = is_ok-value (decode_of (drop at line)) u.hex in
+    let bytes : read.0 ≡ usual_bytes line at = sym (ap bytes_or_none read.1) in
+    let says = says-frame line id at u read.0 read.1 in
+    rw not_long (ap line_says (sym same) ∙ (says ∙ ap (λ (b : List ℕ). Ok (Stamped (usual_moment line) (Some (record { id = id; bytes = b })))) bytes))

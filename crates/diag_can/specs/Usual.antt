@@ -1,10 +1,12 @@
 -- Lines of the usual form: ten digits of seconds and six of the fraction, and nothing but the frame's digits behind its `#`.
-use Rattle.std.specs.Prelude.{◌≡◌, ℕ, ◌+◌, ◌*◌, ◌≤◌, ◌<◌, IsOk, List, length, take, drop, slice_index, Some, Ok, false}
+use Rattle.std.specs.Prelude.{◌≡◌, ℕ, ◌+◌, ◌*◌, ◌≤◌, ◌<◌, IsOk, List, [], length, take, drop, slice_index, Some, Result, Ok, Err, false}
 use Rattle.hex.specs.Hex.{decode_of}
 use Rattle.diag_can.specs.Stamp.{is_digit, moment_of}
 use Rattle.diag_can.specs.Line.{event_of, frame_data, frame_event, is_time, stamped_frame}
 use Rattle.diag_can.specs.Bus.{frame_of, text_frame}
 use Rattle.diag_can.specs.Lanes.{IsRunIn}
+use Rattle.diag_can.specs.declared.bus.BusLine.{BusLine}
+use Rattle.diag_can.specs.declared.bus.BusLine.TheVariants.{Stamped}
 use Rattle.diag_can.specs.declared.frame.Ids.{Ids}
 
 -- the moment of a stamp of that form
@@ -34,3 +36,16 @@ pub record IsUsual (line : List ℕ) (id at : ℕ) : Type 0 where
   pub few : length (drop at line) ≤ 16
   pub hex : IsOk (decode_of (drop at line))
   pub decoded : (bytes : List ℕ) → decode_of (drop at line) ≡ Ok bytes → frame_data (drop at line) ≡ Ok bytes
+
+-- the bytes that were read, if any
+abbrev pub bytes_or_none : {E : Type 0} → Result (List ℕ) E → List ℕ
+bytes_or_none (Ok bytes) = bytes
+bytes_or_none (Err fault) = []
+
+-- the bytes of the frame, from where its data begin
+abbrev pub usual_bytes : List ℕ → ℕ → List ℕ
+usual_bytes line at = bytes_or_none (decode_of (drop at line))
+
+-- what the line says
+abbrev pub usual_said : List ℕ → ℕ → ℕ → BusLine
+usual_said line id at = Stamped (usual_moment line) (Some (record { id = id; bytes = usual_bytes line at }))

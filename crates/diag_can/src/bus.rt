@@ -4,6 +4,7 @@ ghost use Rattle.std.specs.Prelude.{◌≡◌, IfSome, Ok};
 ghost use Rattle.diag_can.specs.Bus.{bus_line, data_frame, line_says, text_frame};
 ghost use Rattle.diag_can.specs.Line.{line_event};
 ghost use Rattle.diag_can.specs.Bus.{said_for, SameForms};
+ghost use Rattle.diag_can.specs.Usual.{IsUsual, usual_said};
 
 use crate::fault::LineFault;
 use crate::frame::{CanId, Frame, TickCount};
@@ -97,6 +98,21 @@ fn line_says(line: &[u8]) -> Result<BusLine, LineFault>
             Ok(BusLine::Stamped { moment, frame })
         }
     }
+}
+
+/// A whole line of a capture in the usual form, without its CR, the identifier of its frame, and where that's data begin: its
+/// moment and its bytes can be read from it. None of another line, whatever it says.
+#[inline(always)]
+pub fn usual_line(piece: &[u8]) -> Option<(&[u8], CanId, usize)>
+    ensures is { IfSome result (λ r. IsUsual r.0.now r.1 r.2) }
+    ensures says { IfSome result (λ r. bus_line piece.now ≡ Ok (usual_said r.0.now r.1 r.2)) }
+{
+    if piece.len() > LONGEST_LINE {
+        return None;
+    }
+    let line = without_return(piece);
+    let (id, at) = usual_frame(line)?;
+    Some((line, id, at))
 }
 
 /// What a whole line of a capture says, from its bytes without LF.

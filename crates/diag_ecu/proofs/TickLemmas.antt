@@ -1,7 +1,10 @@
 -- Many ticks at once: the delay apart from the session, and the ticks in which nothing ends.
-use Rattle.std.proofs.Common.{◌≡◌, ℕ, zero, suc, ◌+◌, ◌-◌, ◌≤◌, Bool, true, false, cond, List, [], ◌∷◌, Option, Some, None, refl, ap, sym, ◌∙◌, arith}
-use Rattle.std.specs.Prelude.{nat_le, is_some, ◌==◌, if◌then◌else◌, slice_index, slice_set}
+use Rattle.std.proofs.Common.{◌≡◌, ℕ, zero, suc, ◌+◌, ◌-◌, ◌≤◌, Bool, true, false, cond, List, [], ◌∷◌, length, Option, Some, None, refl, ap, sym, ◌∙◌, arith}
+use Rattle.std.specs.Prelude.{nat_le, nat_lt, is_some, ◌==◌, if◌then◌else◌, slice_index, slice_set}
 use Rattle.std.proofs.lemmas.Bool.{lt-leb}
+use Rattle.diag_setup.specs.Setup.{who_at}
+use Rattle.diag_setup.specs.declared.raw.RawSetup.{RawSetup}
+use Rattle.diag_store.proofs.DelayLemmas.{nobody_waits}
 use Rattle.diag_store.specs.Security as security
 use Rattle.diag_store.specs.Routines.{quiet_in, quiet_ticks, state_later, rows_later, state_after_tick, ends_now, rows_after_tick, codes_after_tick}
 use Rattle.diag_store.specs.declared.dtcs.Dtc.{Dtc}
@@ -10,7 +13,7 @@ use Rattle.diag_store.specs.declared.routines.RoutineState.{RoutineState}
 use Rattle.diag_store.specs.declared.routines.RoutineState.TheVariants.{Idle, Running, Done}
 use Rattle.diag_store.specs.declared.security.SecurityState.{SecurityState}
 use Rattle.diag_ecu.specs.State.{State, is_holder, session_ended}
-use Rattle.diag_ecu.specs.Elapse.{elapse, ticked, delay_ticked, routines_ticked, session_ticked, session_elapsed, delay_elapsed}
+use Rattle.diag_ecu.specs.Elapse.{elapse, elapse_each, ticked, delay_ticked, routines_ticked, session_ticked, session_elapsed, delay_elapsed}
 
 -- ---- the delay apart from the session
 
@@ -142,3 +145,29 @@ quiet_session (suc k) s held quiet lasts =
 pub first_part : (q n whole : ℕ) (s : State) → whole ≡ q + n → session_elapsed s whole ≡ session_elapsed (session_elapsed s q) n
 first_part zero n whole s e = let same : whole ≡ n = omega (arith, e) in rw same refl
 first_part (suc q) n whole s e = let next : whole ≡ suc (q + n) = omega (arith, e) in rw next (first_part q n (q + n) (session_ticked s) refl)
+
+-- ---- each tester
+
+-- a tester is its place
+pub who_found : (setup : RawSetup) (i who : ℕ) → Some who ≡ who_at setup i → who ≡ i + 1
+who_found setup i who h = pick (nat_lt i (length setup.testers)) h
+  where
+    pick : (b : Bool) → Some who ≡ cond b (Some (i + 1)) None → who ≡ i + 1
+    pick true h = cc
+    pick false h = cc
+
+pub one_more : (s : State) (n m who count : ℕ) → who ≡ n + 1 → m ≡ n + 1 → elapse (elapse_each s n count) who count ≡ elapse_each s m count
+one_more s n m who count e f =
+    let here : who ≡ suc n = omega (arith, e) in
+    let more : m ≡ suc n = omega (arith, f) in
+    rw (here, more) refl
+
+-- without a holder and a delay ticks change nothing
+rested : (s : State) (who count : ℕ) → s.holder ≡ None → security.nobody_is_delayed s.security ≡ true → elapse s who count ≡ s
+rested s who count free none =
+    let not_holder : is_holder s who ≡ false = rw free refl in
+    apart count s who false not_holder ∙ ap (λ (x : SecurityState). record s { security = x }) (nobody_waits count s.security who none)
+
+pub all_rested : (s : State) (n count : ℕ) → s.holder ≡ None → security.nobody_is_delayed s.security ≡ true → elapse_each s n count ≡ s
+all_rested s zero count free none = refl
+all_rested s (suc n) count free none = rw (all_rested s n count free none) (rested s (suc n) count free none)

@@ -1,11 +1,11 @@
 //! Time on the timers of a tester.
-ghost use Rattle.std.specs.Prelude.{◌≡◌, ◌-◌, ◌≤◌, is_some, min, IsTrue};
+ghost use Rattle.std.specs.Prelude.{◌≡◌, ◌-◌, ◌≤◌, is_some, length, min, IsTrue};
 ghost use Rattle.diag_store.specs.Routines.{quiet_ticks};
-ghost use Rattle.diag_ecu.specs.Elapse.{elapse, session_ticked, session_elapsed, s3_ticked};
+ghost use Rattle.diag_ecu.specs.Elapse.{elapse, elapse_each, session_ticked, session_elapsed, s3_ticked};
 
 use crate::ecu::Ecu;
 use diag_can::TickCount;
-use diag_setup::TesterId;
+use diag_setup::{Setup, TesterId};
 
 impl Ecu {
     /// Ticks of a tester: its delay, and where it is the holder the routines and S3.
@@ -18,6 +18,32 @@ impl Ecu {
         self.security.pass(who, count);
         if self.is_holder(who) {
             self.pass_session(count);
+        }
+    }
+
+    /// So many ticks of each tester of a setup, in order.
+    ///
+    /// They change nothing while nobody is the holder and nobody delayed, and then no tester is looked at.
+    #[inline(always)]
+    pub fn ticks_each(&mut self, setup: &Setup, count: TickCount)
+        ensures { self.new ≡ elapse_each self.old (length setup.now.testers) count }
+    {
+        if self.holder.is_none() && self.security.nobody_is_delayed() {
+            return;
+        }
+        self.ticks_one_by_one(setup, count);
+    }
+
+    /// The same, one tester behind the other.
+    #[inline(never)]
+    fn ticks_one_by_one(&mut self, setup: &Setup, count: TickCount)
+        ensures { self.new ≡ elapse_each self.old (length setup.now.testers) count }
+    {
+        for index in 0..setup.testers() {
+            let Some(who) = setup.who(index) else {
+                unreachable!()
+            };
+            self.ticks(who, count);
         }
     }
 

@@ -1,7 +1,8 @@
 -- Many ticks of a tester's delay at once.
-use Rattle.std.proofs.Common.{◌≡◌, ℕ, zero, suc, ◌-◌, ◌<◌, ◌≤◌, false, List, [], ◌∷◌, ◌==◌, slice_index, slice_set, refl, ap, sym, ◌∙◌, arith}
-use Rattle.std.proofs.lemmas.Bool.{ne_eqb}
-use Rattle.diag_store.specs.Security.{after_tick, after_ticks}
+use Rattle.std.proofs.Common.{◌≡◌, ℕ, zero, suc, ◌-◌, ◌<◌, ◌≤◌, true, false, List, [], ◌∷◌, ◌==◌, slice_index, slice_set, refl, ap, sym, ◌∙◌, arith}
+use Rattle.std.proofs.lemmas.Bool.{and_parts, eqb-true, ne_eqb}
+use Rattle.std.specs.List.{list_all}
+use Rattle.diag_store.specs.Security.{after_tick, after_ticks, is_none_left, nobody_is_delayed}
 use Rattle.diag_store.specs.declared.security.SecurityState.{SecurityState}
 
 set_same : (xs : List ℕ) (i : ℕ) → slice_set xs i (slice_index xs i) ≡ xs
@@ -66,3 +67,13 @@ over (suc n) s who (suc (suc left)) e some ends =
     rw (goes_on s who (suc (suc left)) e (omega arith))
     (rest ∙ ap (λ (d : List ℕ). record s { delays = d; wrong_keys = slice_set s.wrong_keys (who - 1) 0 })
     (set_twice s.delays (who - 1) (suc (suc left) - 1) 0))
+
+-- where nobody is delayed, each delay is over
+over_at : (delays : List ℕ) (i : ℕ) → list_all is_none_left delays ≡ true → slice_index delays i ≡ 0
+over_at [] i none = refl
+over_at (left ∷ delays) zero none = eqb-true left 0 (and_parts (is_none_left left) (list_all is_none_left delays) none).0
+over_at (left ∷ delays) (suc i) none = over_at delays i (and_parts (is_none_left left) (list_all is_none_left delays) none).1
+
+-- and ticks change nothing
+pub nobody_waits : (n : ℕ) (s : SecurityState) (who : ℕ) → nobody_is_delayed s ≡ true → after_ticks s who n ≡ s
+nobody_waits n s who none = no_delay n s who (over_at s.delays (who - 1) none)

@@ -1,7 +1,7 @@
 //! The security access of the testers: seeds, keys, and the delay after too many wrong keys (ISO 14229-1:2013, 9.4).
 
 ghost use Rattle.std.specs.Prelude.{◌≡◌, ◌≤◌, ◌<◌, bytes_eq, is_some, replicate, length, IsTrue, IfOk};
-ghost use Rattle.diag_store.specs.Security.{IsSecurity, is_unlocked, level_of, key_len, locked, is_delayed, outstanding_row, seed_at, key_at, next_row, seed_answer, after_seed, key_answer, after_key, after_tick, after_ticks};
+ghost use Rattle.diag_store.specs.Security.{IsSecurity, is_unlocked, level_of, key_len, locked, is_delayed, nobody_is_delayed, outstanding_row, seed_at, key_at, next_row, seed_answer, after_seed, key_answer, after_key, after_tick, after_ticks};
 ghost use Rattle.diag_store.specs.Opening.{opening_security};
 
 use crate::bytes::bytes_of;
@@ -177,6 +177,13 @@ impl Security {
         ensures { self.new ≡ after_ticks self.old who count }
     {
         self.state.pass(who, count);
+    }
+
+    /// Whether no tester is delayed.
+    pub fn nobody_is_delayed(&self) -> bool
+        ensures { result ≡ nobody_is_delayed self.now }
+    {
+        self.state.delays.iter().all(|left| *left == 0)
     }
 
     /// Nothing is unlocked and no seed is outstanding.

@@ -1,5 +1,5 @@
 -- Ticks before which nothing falls due and nothing ends.
-use Rattle.std.proofs.Common.{◌≡◌, ℕ, zero, suc, ◌+◌, ◌-◌, ◌<◌, ◌≤◌, true, false, List, [], ◌∷◌, ◌++◌, length, drop, refl, ◌∙◌, ap, arith, min}
+use Rattle.std.proofs.Common.{◌≡◌, ℕ, zero, suc, ◌+◌, ◌-◌, ◌<◌, ◌≤◌, Bool, true, false, List, [], ◌∷◌, ◌++◌, length, drop, refl, ◌∙◌, ap, arith, min}
 use Rattle.std.specs.Prelude.{Option, Some, None, max, nat_le, nat_lt, ◌==◌, if◌then◌else◌, option_and_then, option_to_list}
 use Rattle.std.proofs.lemmas.Bool.Decides.{nat_tests}
 use Rattle.diag_can.specs.declared.frame.Event.{Event}
@@ -114,3 +114,48 @@ silent n link link' some none h grant same sender =
     ∙ (ap (λ t. length (settled t link'.sender).due) same
     ∙ (ap (λ r. length (settled link.setup r).due) sender
     ∙ ap length (still link.setup n link.sender (quiet-sender link n none some h) (none-granted link.grant _ none)).0))
+
+-- ---- what is left of a quiet time
+
+reception-rest : (n_cr n : ℕ) (o : Option Partial) → reception_quiet n_cr o ≤ reception_quiet n_cr (option_and_then (ticks_later n_cr n) o) + n
+reception-rest n_cr n None = omega arith
+reception-rest n_cr n (Some p) = go (nat_lt (p.silence + n) n_cr) refl
+  where
+    go : (b : Bool) → nat_lt (p.silence + n) n_cr ≡ b
+        → n_cr - p.silence ≤ reception_quiet n_cr (option_and_then (ticks_later n_cr n) (Some p)) + n
+    go true on = rw on (omega arith)
+    go false off = let over : n_cr ≤ p.silence + n = grind (arith, nat_tests, off) in rw off (omega arith)
+
+phase-rest : (s : LinkSetup) (n : ℕ) (c : Current) (p : Phase) → n < phase_quiet p → phase_quiet p ≤ sender_quiet (tick_fields s n c p) + n
+phase-rest s n c (AwaitsFlow ticks) few =
+    let later : nat_le ticks n ≡ false = grind (arith, nat_tests) in
+    rw later (omega arith)
+phase-rest s n c (InBlock rest gap ticks) few =
+    let later : nat_le ticks n ≡ false = grind (arith, nat_tests) in
+    rw later (omega arith)
+
+sender-rest : (s : LinkSetup) (n : ℕ) (o : Option Current) → n < sender_quiet o → sender_quiet o ≤ sender_quiet (ticked_fields s n o) + n
+sender-rest s n None few = omega arith
+sender-rest s n (Some c) few = phase-rest s n c c.phase few
+
+quiet-none-due : (link : LinkState) → length (due link) ≡ 0
+    → quiet link ≡ max (min (reception_quiet link.setup.n_cr link.partial) (sender_quiet link.sender.current)) 1
+unfolding quiet
+quiet-none-due link none = rw none refl
+
+-- so many ticks less
+pub quiet-rest : (n : ℕ) (link link' : LinkState) → 1 ≤ n → due link ≡ [] → n < quiet link → length (due link') ≡ 0 → link'.setup ≡ link.setup
+    → link'.sender ≡ sender_ticks link.setup n link.sender.current link.sender.waiting
+    → link'.partial ≡ option_and_then (ticks_later link.setup.n_cr n) link.partial → quiet link ≤ quiet link' + n
+quiet-rest n link link' some none h none' same sender partial =
+    let before = quiet-none-due link (ap length none) in
+    let after = quiet-none-due link' none' in
+    let few = quiet-sender link n none some h in
+    let reception : reception_quiet link'.setup.n_cr link'.partial
+    ≡ reception_quiet link.setup.n_cr (option_and_then (ticks_later link.setup.n_cr n) link.partial) =
+    ap (λ (t : LinkSetup). reception_quiet t.n_cr link'.partial) same ∙ ap (reception_quiet link.setup.n_cr) partial in
+    let sends : sender_quiet link'.sender.current ≡ sender_quiet (ticked_fields link.setup n link.sender.current) =
+    ap (λ (r : SenderState). sender_quiet r.current) sender in
+    let a = reception-rest link.setup.n_cr n link.partial in
+    let b = sender-rest link.setup n link.sender.current few in
+    omega (arith, before, after, few, reception, sends, a, b, some, h)

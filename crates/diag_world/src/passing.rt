@@ -94,6 +94,7 @@ pub(crate) fn pass_quiet(link: &mut Link, count: TickCount)
     ensures time { link.new.state.now ≡ min (link.old.state.now + count) last_tick }
     ensures drained { pending link.new.state ≡ 0 }
     ensures waiting { waiting_count link.new.state ≤ waiting_count link.old.state }
+    ensures rest { quiet link.old.state ≤ quiet link.new.state + count }
     ensures most { count ≤ 60000 }
 {
     let _most = count.get();

@@ -5,10 +5,12 @@ ghost use Rattle.std.specs.Prelude.{
   ◌≤◌,
   ◌<◌,
   ◌-◌,
+  ◌+◌,
   [],
   ◌∷◌,
   ◌++◌,
   length,
+  map,
   Option,
   Some,
   Err,
@@ -26,6 +28,8 @@ ghost use Rattle.diag_tp.specs.Gives.{gives};
 ghost use Rattle.diag_tp.specs.Link.{pending, quiet};
 ghost use Rattle.diag_tp.specs.Moments.{last_time};
 ghost use Rattle.diag_setup.specs.Setup.{link_of};
+ghost use Rattle.diag_ecu.specs.State.{State};
+ghost use Rattle.diag_ecu.specs.Elapse.{elapse_each};
 ghost use Rattle.diag_desk.specs.declared.entry.Entry.{Entry as AnEntry};
 ghost use Rattle.diag_desk.specs.Legal.{after, reply_to};
 ghost use Rattle.diag_world.specs.Weaving.{items_of};
@@ -202,13 +206,16 @@ impl Server {
 
     /// Takes so many ticks of each tester, in order, in which no link does anything. The entries that they give have no
     /// reply, and aren't made.
+    #[inline(always)]
     pub fn pass_quietly(&mut self, setup: &Setup, count: TickCount)
         requires in_setup { length self.old.links ≡ length setup.now.testers }
         requires quiet { count < quiet_of (server_of self.old).links }
         requires early { AreEarly (server_of self.old).links }
-        ensures { Waited (server_of self.old) (server_of self.new) (length setup.now.testers) count }
+        ensures waited { Waited (server_of self.old) (server_of self.new) (length setup.now.testers) count }
+        ensures rest { quiet_of (server_of self.old).links ≤ quiet_of (server_of self.new).links + count }
     {
-        pass_each(&mut self.links, &mut self.ecu, setup, count);
+        pass_each(&mut self.links, count);
+        self.ecu.ticks_each(setup, count);
     }
 
     /// Takes an event of a tester, and hands out the frames that it draws. Refused, nothing has changed.
@@ -258,6 +265,17 @@ impl Server {
             least = least.min(link.quiet());
         }
         least
+    }
+
+    /// For how many ticks a tester's link does nothing before the last of them; at least 1.
+    #[inline(always)]
+    pub fn quiet_at(&self, who: TesterId) -> u64
+        requires in_setup { who ≤ length self.now.links }
+        ensures is { IfSome (slice_get self.now.links (who - 1)) (λ link. result ≡ quiet link.state) }
+        ensures some { 1 ≤ result }
+    {
+        let index = usize::from(who.place()) - 1;
+        self.links[index].quiet()
     }
 
     /// The ECU as the run has made it.
@@ -399,36 +417,21 @@ fn ticks_at(
     Ok(())
 }
 
-/// Takes ticks at each link, in which it does nothing.
-fn pass_each(links: &mut Vec<Link>, ecu: &mut Ecu, setup: &Setup, count: TickCount)
-    requires in_setup { length links.old.items ≡ length setup.now.testers }
+/// Lets so many ticks pass at each link, in which it does nothing.
+fn pass_each(links: &mut Vec<Link>, count: TickCount)
     requires drained { AllDrained links.old.items }
-    requires quiet { count < quiet_of (state_at ecu.old links.old.items).links }
-    requires early { AreEarly (state_at ecu.old links.old.items).links }
-    ensures waited { Waited (state_at ecu.old links.old.items) (state_at ecu.new links.new.items)
-        (length setup.now.testers) count }
+    requires quiet { count < quiet_of (map (λ l. l.state) links.old.items) }
+    requires early { AreEarly (map (λ l. l.state) links.old.items) }
+    ensures waited { (ecu : State) → Waited (state_at ecu links.old.items)
+        (state_at (elapse_each ecu (length links.old.items) count) links.new.items)
+        (length links.old.items) count }
+    ensures rest { quiet_of (map (λ l. l.state) links.old.items)
+        ≤ quiet_of (map (λ l. l.state) links.new.items) + count }
     ensures drained { AllDrained links.new.items }
 {
-    for index in 0..setup.testers() {
-        let Some(who) = setup.who(index) else {
-            unreachable!()
-        };
-        pass_at(&mut links[index], ecu, who, count);
+    for index in 0..links.len() {
+        pass_quiet(&mut links[index], count);
     }
-}
-
-/// Takes ticks at a link, in which it does nothing.
-fn pass_at(link: &mut Link, ecu: &mut Ecu, who: TesterId, ticks: TickCount)
-    requires drained { pending link.old.state ≡ 0 }
-    requires quiet { ticks < quiet link.old.state }
-    requires early { link.old.state.now ≤ closing_time }
-    ensures took { PortSettled link.old link.new who (AnEvent.Ticks ticks)
-        (Some (entry_of_ticks who ticks)) [] }
-    ensures drained { pending link.new.state ≡ 0 }
-    ensures ecu { ecu.new ≡ after ecu.old (entry_of_ticks who ticks ∷ []) }
-{
-    pass_quiet(link, ticks);
-    ecu.ticks(who, ticks);
 }
 
 /// Takes an event at a link, with the entry that it gives.

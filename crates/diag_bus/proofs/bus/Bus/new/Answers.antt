@@ -13,6 +13,7 @@ invariant_of-result c = (
     λ i link at. omega (arith, (c.in_ok-server.ensures.ports i link at).stands.now),
     subst (λ (clock : Clock). StartsBelow clock.start moment_end) (sym c.new-4.ensures) tt,
     tt,
+    omega arith,
   ),
   c.in_ok-ids.ensures,
   c.in_ok-writers.ensures,

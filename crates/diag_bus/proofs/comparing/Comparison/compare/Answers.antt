@@ -1,5 +1,5 @@
-use Rattle.std.proofs.Common.{◌≡◌, ◌∙◌, Bool, true, false, refl, ap₂, sym, subst}
-use Rattle.std.specs.Prelude.{bytes_eq, not}
+use Rattle.std.proofs.Common.{◌≡◌, ◌∙◌, true, false, ap₂, sym, subst}
+use Rattle.std.specs.Prelude.{bytes_eq}
 use Rattle.std.proofs.lemmas.Bool.{not-false, not-true}
 use Rattle.diag_bus.specs.Comparing.{Apart}
 use Rattle.diag_bus.proofs.Apart.{bytes_same, part_ends, part_on}

@@ -14,7 +14,7 @@ use Rattle.std.specs.Vec.{with_item}
 use Rattle.diag_bus.specs.Batch.{entry_added}
 use Rattle.diag_bus.specs.declared.mid_line.MidLine.{MidLine}
 use Rattle.diag_bus.proofs.Batches.{clock_told, drew_more, early_now, found_at}
-use Rattle.diag_bus.proofs.Filling.{links_moved, links_same, shape_after, shape_same}
+use Rattle.diag_bus.proofs.Filling.{links_moved, links_same, rest_stays, rest_unknown, shape_after, shape_same}
 use Rattle.diag_bus.proofs.Paces.{frame_time, sent_one, stays, went_on}
 use Rattle.diag_bus.proofs.mid_line.MidLine.give_entered.Goals as goal
 
@@ -37,6 +37,7 @@ returns-clause-ok c = λ setup base before M h.
           with_item old.drawn (c.from-index.result - 1) c.settle.new.out;
       filled = c.after-self.result;
       text = c.enter.new.text;
+      rest = 0;
     } in
     let drawn = old.drawn.items in
     let i = c.from-index.result - 1 in
@@ -105,6 +106,7 @@ returns-clause-shape c =
       filled =
           c.after-self.result;
       text = c.enter.new.text;
+      rest = 0;
     } in
     let within : i < length old.drawn.items =
     omega (arith, c.from-index.ensures, c.place.ensures.same, c.place.ensures.fits.0, c.requires.in_setup, c.requires.lists) in
@@ -114,7 +116,7 @@ returns-clause-shape c =
     c.in-Ok.ensures.same grew.holds in
     shape_after old new i c.settle.new.out c.is_empty.result
     (links_moved old.server c.settle.new.self c.args.who c.args.event.now asked grew.more settled) within refl refl c.after-self.ensures
-    c.is_empty.ensures
+    c.is_empty.ensures (λ known. rest_unknown c.settle.new.self)
 
 pub returns-in-Err-Memory-clause-shape : goal.returns-in-Err-Memory-clause-shape
 returns-in-Err-Memory-clause-shape c =
@@ -127,9 +129,11 @@ returns-in-Err-Memory-clause-shape c =
       filled =
           old.filled;
       text = old.text;
+      rest = old.rest;
     } in
     shape_same old new i c.ask.new.out c.index_mut-out.result.now
     (links_same old.server c.ask.new.self c.ask.ensures.same) refl c.index_mut-out.ensures.value c.ask.ensures.out refl refl
+    (rest_stays old.server c.ask.new.self old.rest c.ask.ensures.same)
 
 pub returns-in_err-enter-clause-shape : goal.returns-in_err-enter-clause-shape
 returns-in_err-enter-clause-shape c =
@@ -142,9 +146,11 @@ returns-in_err-enter-clause-shape c =
       filled =
           old.filled;
       text = c.enter.new.text;
+      rest = old.rest;
     } in
     shape_same old new i c.ask.new.out c.index_mut-out.result.now
     (links_same old.server c.ask.new.self c.in-Ok.ensures.same) refl c.index_mut-out.ensures.value c.in-Ok.ensures.out refl refl
+    (rest_stays old.server c.ask.new.self old.rest c.in-Ok.ensures.same)
 
 pub returns-clause-sent : goal.returns-clause-sent
 returns-clause-sent c =
@@ -156,6 +162,7 @@ returns-clause-sent c =
           with_item old.drawn (c.from-index.result - 1) c.settle.new.out;
       filled = c.after-self.result;
       text = c.enter.new.text;
+      rest = 0;
     } in
     let drawn = old.drawn.items in
     let i = c.from-index.result - 1 in

@@ -14,7 +14,7 @@ use Rattle.diag_bus.specs.declared.bus.Output.{Output}
 use Rattle.diag_bus.specs.declared.bus.Output.TheVariants as output
 use Rattle.diag_bus.specs.declared.mid_line.MidLine.{MidLine}
 use Rattle.diag_bus.proofs.Batches.{clock_told, drew_more, found_at, some_of}
-use Rattle.diag_bus.proofs.Filling.{links_moved, links_same, shape_after, shape_same}
+use Rattle.diag_bus.proofs.Filling.{links_moved, links_same, rest_after, rest_stays, shape_after, shape_same}
 use Rattle.diag_bus.proofs.Paces.{sent_one, stays, frame_time, went_on}
 use Rattle.diag_bus.proofs.mid_line.MidLine.give_straight.Goals as goal
 
@@ -35,6 +35,7 @@ returns-in-Ok-clause-ok c =
           with_item old.drawn (c.from-index.result - 1) c.event.new.out;
       filled = c.after-self.result;
       text = old.text;
+      rest = c.min-self.result;
     } in
     let drawn = old.drawn.items in
     let links = old.server.links in
@@ -90,6 +91,7 @@ returns-in-Ok-clause-sent c =
           with_item old.drawn (c.from-index.result - 1) c.event.new.out;
       filled = c.after-self.result;
       text = old.text;
+      rest = c.min-self.result;
     } in
     let drawn = old.drawn.items in
     let i = c.from-index.result - 1 in
@@ -117,6 +119,7 @@ returns-in-Ok-clause-shape c =
       filled =
           c.after-self.result;
       text = old.text;
+      rest = c.min-self.result;
     } in
     let within : i < length old.drawn.items =
     omega (arith, c.from-index.ensures, c.place.ensures.same, c.place.ensures.fits.0, c.requires.in_setup, c.requires.lists) in
@@ -124,6 +127,8 @@ returns-in-Ok-clause-shape c =
     shape_after old new i c.event.new.out c.is_empty.result
     (links_moved old.server c.event.new.self c.args.who c.args.event.now c.in-Ok.ensures.ok.0 grew.more grew.holds)
     within refl refl c.after-self.ensures c.is_empty.ensures
+    (rest_after old.server c.event.new.self c.args.who c.args.event.now c.in-Ok.ensures.ok.0 grew.more old.rest c.quiet_at.result c.min-self.result
+    grew.holds c.quiet_at.ensures.is c.min-self.ensures)
 
 pub returns-in-Err-Memory-clause-shape : goal.returns-in-Err-Memory-clause-shape
 returns-in-Err-Memory-clause-shape c =
@@ -136,6 +141,8 @@ returns-in-Err-Memory-clause-shape c =
       filled =
           old.filled;
       text = old.text;
+      rest = old.rest;
     } in
     shape_same old new i c.event.new.out c.index_mut-out.result.now
     (links_same old.server c.event.new.self c.in-Err-Memory.ensures.err.0) refl c.index_mut-out.ensures.value c.in-Err-Memory.ensures.err.1 refl refl
+    (rest_stays old.server c.event.new.self old.rest c.in-Err-Memory.ensures.err.0)

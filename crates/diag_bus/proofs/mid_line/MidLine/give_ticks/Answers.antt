@@ -12,7 +12,7 @@ use Rattle.diag_world.specs.Server.{closing_time, entry_of_ticks}
 use Rattle.diag_bus.specs.declared.mid_line.MidLine.{MidLine}
 use Rattle.diag_world.proofs.Worlds.{on_ok}
 use Rattle.diag_bus.proofs.Batches.{clock_told, drew_more, early_now, some_of}
-use Rattle.diag_bus.proofs.Filling.{links_moved, links_same, shape_after, shape_same}
+use Rattle.diag_bus.proofs.Filling.{links_moved, links_same, rest_stays, rest_unknown, shape_after, shape_same}
 use Rattle.diag_bus.proofs.Paces.{sent_one, stays, ticks_time, went_on}
 use Rattle.diag_bus.proofs.mid_line.MidLine.give_ticks.Goals as goal
 
@@ -34,6 +34,7 @@ returns-in-Ok-clause-ok c =
           with_item old.drawn (c.from-index.result - 1) c.ticks.new.out;
       filled = c.after-self.result;
       text = c.enter_ticks.new.text;
+      rest = 0;
     } in
     let drawn = old.drawn.items in
     let links = old.server.links in
@@ -85,6 +86,7 @@ returns-in-Ok-clause-sent c =
           with_item old.drawn (c.from-index.result - 1) c.ticks.new.out;
       filled = c.after-self.result;
       text = c.enter_ticks.new.text;
+      rest = 0;
     } in
     let drawn = old.drawn.items in
     let i = c.from-index.result - 1 in
@@ -114,13 +116,14 @@ returns-in-Ok-clause-shape c =
       filled =
           c.after-self.result;
       text = c.enter_ticks.new.text;
+      rest = 0;
     } in
     let within : i < length old.drawn.items =
     omega (arith, c.from-index.ensures, c.place.ensures.same, c.place.ensures.fits.0, c.requires.in_setup, c.requires.lists) in
     let grew = c.in-Ok.ensures.ok in
     shape_after old new i c.ticks.new.out c.is_empty.result
     (links_moved old.server c.ticks.new.self c.args.who (Ticks c.args.count) (Some (entry_of_ticks c.args.who c.args.count)) grew.more grew.holds)
-    within refl refl c.after-self.ensures c.is_empty.ensures
+    within refl refl c.after-self.ensures c.is_empty.ensures (λ known. rest_unknown c.ticks.new.self)
 
 pub returns-in-Err-Memory-clause-shape : goal.returns-in-Err-Memory-clause-shape
 returns-in-Err-Memory-clause-shape c =
@@ -133,6 +136,8 @@ returns-in-Err-Memory-clause-shape c =
       filled =
           old.filled;
       text = old.text;
+      rest = old.rest;
     } in
     shape_same old new i c.ticks.new.out c.index_mut-out.result.now
     (links_same old.server c.ticks.new.self c.in-Err-Memory.ensures.err.0) refl c.index_mut-out.ensures.value c.in-Err-Memory.ensures.err.1 refl refl
+    (rest_stays old.server c.ticks.new.self old.rest c.in-Err-Memory.ensures.err.0)

@@ -7,7 +7,7 @@ use Rattle.diag_bus.specs.Batch.{Gave}
 use Rattle.diag_bus.specs.Events.{to_each}
 use Rattle.diag_bus.proofs.Batches.{parts_more, rest_more, waited_whole, waited_rest, gave_none, gave_more, same_more, same_none}
 use Rattle.diag_bus.proofs.Paces.{has_left, sent_more, sent_none, took_more, took_none}
-use Rattle.diag_bus.proofs.mid_line.MidLine.pass.Goals as goal
+use Rattle.diag_bus.proofs.mid_line.MidLine.pass_parts.Goals as goal
 
 pub loop-part-init : goal.loop-part-init
 loop-part-init c = record {
@@ -22,6 +22,9 @@ give_each-requires-clause-in_setup c = c.loop-part.invariant.shape.links ∙ c.r
 
 pub give_each-requires-clause-lists : goal.give_each-requires-clause-lists
 give_each-requires-clause-lists c = c.loop-part.invariant.shape.lists ∙ c.requires.lists
+
+pub give_each-requires-clause-rest : goal.give_each-requires-clause-rest
+give_each-requires-clause-rest c = c.loop-part.invariant.shape.rest c.requires.rest
 
 -- one part more fits
 parts_fit : (part ms : ℕ) → part < ms / 60000 → 60000 * part + 60000 ≤ ms

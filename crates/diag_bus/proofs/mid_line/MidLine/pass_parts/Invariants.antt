@@ -4,7 +4,7 @@ use Rattle.std.specs.Prelude.{replicate}
 use Rattle.diag_can.specs.declared.frame.Event.TheVariants.{Ticks}
 use Rattle.diag_bus.specs.Batch.{Gave, SameShape, SentIn, TookTime}
 use Rattle.diag_bus.specs.Events.{to_each}
-use Rattle.diag_bus.proofs.mid_line.MidLine.pass.Given as goal
+use Rattle.diag_bus.proofs.mid_line.MidLine.pass_parts.Given as goal
 
 abbrev pub invariant-loop-part : goal.invariant-loop-part
 invariant-loop-part l = record {

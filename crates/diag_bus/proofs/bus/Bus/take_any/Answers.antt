@@ -9,7 +9,7 @@ use Rattle.diag_bus.specs.Text.{written}
 use Rattle.diag_bus.proofs.Taking.{sound_taken, sound_written, took_line}
 use Rattle.diag_bus.proofs.Paces.{sent_nothing}
 use Rattle.diag_bus.proofs.Stamps.{bus_line_low}
-use Rattle.diag_bus.proofs.bus.Bus.take_line.Goals as goal
+use Rattle.diag_bus.proofs.bus.Bus.take_any.Goals as goal
 
 pub returns-clause-took : goal.returns-clause-took
 returns-clause-took c =
@@ -28,7 +28,7 @@ returns-clause-took c =
           c.self.invariant.0.1
           c.begin.ensures.empty c.begin.ensures.text c.begin.ensures.server c.begin.ensures.shape
           c.in_ok-take_said.ensures.ok c.take_said.ensures.shape
-          (subst (λ (ls : List (Vec Sent Global)). TakesLine inside.setup inside.compared c.take_line.new.self c.in_ok-said.said
+          (λ judged. subst (λ (ls : List (Vec Sent Global)). TakesLine inside.setup inside.compared c.take_line.new.self c.in_ok-said.said
           (map (λ f. f.items) ls)) c.as_slice.ensures.value c.in_ok-take_line.ensures.ok)
           c.write.ensures.server c.write.ensures.shape
           (subst (λ (b : BusState). TookLines b lines) (sym c.self.view_is) h) in
@@ -43,6 +43,9 @@ take_said-requires-clause-early c = record {
   by = subst (λ (s : ServerView). IsBy s c.self.inside.clock.time) (sym c.begin.ensures.server) c.self.invariant.0.3;
   early = omega (arith, c.in_ok-said.ensures.time, c.in_ok-said.ensures.early);
 }
+
+pub take_said-requires-clause-rest : goal.take_said-requires-clause-rest
+take_said-requires-clause-rest c = c.begin.ensures.shape.rest c.self.invariant.0.6
 
 pub invariant_of-self : goal.invariant_of-self
 invariant_of-self c = (

@@ -1,0 +1,70 @@
+-- A line of the usual form: its time, and what holds behind it.
+use Rattle.std.proofs.Common.{◌≡◌, ◌<◌, ◌≤◌, ◌+◌, ℕ, List, ◌++◌, length, Option, Some, None, Ok, true, false, nat_lt, refl, ap, ◌∙◌, subst, sym, arith}
+use Rattle.std.proofs.lemmas.Bool.Decides.{nat_tests}
+use Rattle.std.specs.List.{flat_map}
+use Rattle.diag_can.specs.Bus.{bus_line}
+use Rattle.diag_can.specs.Log.{silence, waited}
+use Rattle.diag_can.specs.Usual.{usual_bytes, usual_moment, usual_said}
+use Rattle.diag_can.specs.declared.log.Timing.TheVariants.{Stamps}
+use Rattle.diag_can.specs.declared.bus.BusLine.TheVariants.{Stamped}
+use Rattle.diag_can.specs.declared.frame.Frame.{Frame}
+use Rattle.diag_setup.specs.declared.raw.RawSetup.{RawSetup}
+use Rattle.diag_tp.specs.Moments.{counted_from}
+use Rattle.diag_world.specs.Server.{closing_time}
+use Rattle.diag_bus.specs.Batch.{Gave, GoesOn, SameShape, StartsBelow, TookTime}
+use Rattle.diag_bus.specs.Bus.{AreSound}
+use Rattle.diag_bus.specs.Events.{fault_said, frame_to, said_gives, span_said, to_each}
+use Rattle.diag_bus.specs.declared.clock.Clock.{Clock}
+use Rattle.diag_bus.specs.declared.comparing.Comparisons.{Comparisons}
+use Rattle.diag_bus.specs.declared.mid_line.MidLine.{MidLine}
+use Rattle.diag_bus.proofs.Taking.{sound_taken}
+use Rattle.diag_bus.specs.declared.fault.BusFault.TheVariants.{Late}
+
+pub usual_well : (clock : Clock) (line usual : List ℕ) (id at time : ℕ) → bus_line line ≡ Ok (usual_said usual id at)
+    → time ≡ clock.time + silence Stamps clock.reference (Some (usual_moment usual)) → time ≤ closing_time
+    → fault_said (bus_line line) (clock.time + span_said clock.reference (bus_line line)) ≡ None
+usual_well clock line usual id at time says is early =
+    let on_time : nat_lt closing_time (clock.time + silence Stamps clock.reference (Some (usual_moment usual))) ≡ false = grind (arith, nat_tests) in
+    rw (says, on_time) refl
+
+pub usual_late : (clock : Clock) (line usual : List ℕ) (id at : ℕ) → bus_line line ≡ Ok (usual_said usual id at)
+    → closing_time < clock.time + silence Stamps clock.reference (Some (usual_moment usual))
+    → fault_said (bus_line line) (clock.time + span_said clock.reference (bus_line line)) ≡ Some Late
+usual_late clock line usual id at says past =
+    let late : nat_lt closing_time (clock.time + silence Stamps clock.reference (Some (usual_moment usual))) ≡ true = grind (arith, nat_tests) in
+    rw (says, late) refl
+
+-- the time that it gives, by its moment
+span_usual : (clock : Clock) (usual : List ℕ) (moment span : ℕ) → moment ≡ usual_moment usual → span ≡ silence Stamps clock.reference (Some moment)
+    → span ≡ silence Stamps clock.reference (Some (usual_moment usual))
+span_usual clock usual moment span same is = is ∙ ap (λ m. silence Stamps clock.reference (Some m)) same
+
+pub usual_on : (clock clock' : Clock) (usual : List ℕ) (id at moment : ℕ) → moment ≡ usual_moment usual
+    → ((frame : Option Frame) → GoesOn clock (Stamped moment frame) clock') → GoesOn clock (usual_said usual id at) clock'
+usual_on clock clock' usual id at moment same on =
+    let frame : Frame = record { id = id; bytes = usual_bytes usual at } in
+    subst (λ m. GoesOn clock (Stamped m (Some frame)) clock') same (on (Some frame))
+
+pub usual_gave : (setup : RawSetup) (clock : Clock) (begun taken : MidLine) (usual : List ℕ) (id at moment span : ℕ) → moment ≡ usual_moment usual
+    → span ≡ silence Stamps clock.reference (Some moment)
+    → Gave begun taken (flat_map (to_each (length setup.testers)) (waited span)
+    ++ flat_map (frame_to setup (Some (record { id = id; bytes = usual_bytes usual at }))) (counted_from 1 (length setup.testers)))
+    → Gave begun taken (said_gives setup clock.reference (usual_said usual id at))
+usual_gave setup clock begun taken usual id at moment span same is gave =
+    let frame : Frame = record { id = id; bytes = usual_bytes usual at } in
+    subst (λ ms. Gave begun taken (flat_map (to_each (length setup.testers)) (waited ms)
+    ++ flat_map (frame_to setup (Some frame)) (counted_from 1 (length setup.testers))))
+    (span_usual clock usual moment span same is) gave
+
+pub sound_usual : (setup : RawSetup) (line usual : List ℕ) (id at moment span : ℕ) (old begun taken : MidLine) (clock clock' : Clock)
+    (compared : Comparisons)
+    → AreSound setup old compared clock → bus_line line ≡ Ok (usual_said usual id at) → moment ≡ usual_moment usual
+    → span ≡ silence Stamps clock.reference (Some moment)
+    → ((frame : Option Frame) → GoesOn clock (Stamped moment frame) clock')
+    → ((most : ℕ) → StartsBelow clock.start most → moment < most → StartsBelow clock'.start most)
+    → begun.server ≡ old.server → SameShape old begun → SameShape begun taken → TookTime begun.server taken.server span
+    → AreSound setup taken compared clock'
+sound_usual setup line usual id at moment span old begun taken clock clock' compared sound says same is on start server first second took =
+    sound_taken setup line (usual_said usual id at) old begun taken clock clock' compared compared sound says
+    (usual_on clock clock' usual id at moment same on) (λ most low below. start most low (subst (λ m. m < most) (sym same) below))
+    server first second (subst (TookTime begun.server taken.server) (span_usual clock usual moment span same is) took) refl
