@@ -1,10 +1,8 @@
 //! A play that writes as it goes: the streaming server, the journal's text and each tester's reply lines.
 
-ghost use Rattle.std.specs.Prelude.{◌≡◌, ◌≤◌, ◌-◌, [], ◌∷◌, ◌++◌, ℕ, List, Err, IfOk, OnOk, length};
-ghost use Rattle.std.specs.List.{concat};
+ghost use Rattle.std.specs.Prelude.{◌≡◌, ◌≤◌, ◌-◌, [], ◌∷◌, ◌++◌, Err, IfOk, OnOk, length};
 ghost use Rattle.diag_can.specs.declared.frame.Event.{Event as AnEvent};
-ghost use Rattle.diag_tp.specs.Moments.{is_tick};
-ghost use Rattle.diag_run.specs.Playing.{EachPlay, IsFull, IsPaced, IsReady, Plays, Terms, Took, WroteTo, parts_text};
+ghost use Rattle.diag_run.specs.Playing.{EachPlay, IsFull, IsPaced, IsReady, Plays, Took, WroteTo, parts_text};
 ghost use Rattle.diag_run.specs.Run.{joined};
 
 use crate::entering::JournalLines;

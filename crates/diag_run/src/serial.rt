@@ -1,7 +1,6 @@
 //! All logs on one thread, one event of each in turn, with the text of the play as it goes.
 
-ghost use Rattle.std.specs.Prelude.{◌≡◌, ◌<◌, ◌++◌, List, ℕ, Err, IfOk, OnOk, length, map, drop};
-ghost use Rattle.diag_can.specs.declared.frame.Event.{Event as AnEvent};
+ghost use Rattle.std.specs.Prelude.{◌≡◌, ◌<◌, ◌++◌, Err, IfOk, OnOk, length, map, drop};
 ghost use Rattle.diag_desk.specs.Entry.{most_entries};
 ghost use Rattle.diag_setup.specs.Setup.{link_of};
 ghost use Rattle.diag_world.specs.Weaving.{first_of_each, longest, steps_of, turns};
