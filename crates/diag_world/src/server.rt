@@ -122,6 +122,7 @@ impl Server {
 
     /// Reads an event of a tester, makes room for it, and has the step that it gives answered. Nothing else changes, and
     /// what was asked needn't be settled.
+    #[inline(always)]
     pub fn ask(
         &mut self,
         who: TesterId,
@@ -322,6 +323,7 @@ fn shown(step: &Step) -> StepRef<'_>
 }
 
 /// Reads an event at a link, makes room for it, and has the step that it gives answered.
+#[inline(always)]
 fn ask_at(
     link: &mut Link,
     ecu: &Ecu,
