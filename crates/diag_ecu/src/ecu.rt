@@ -1,5 +1,5 @@
 //! The ECU: what it holds, and what it does with a request.
-ghost use Rattle.std.specs.Prelude.{◌≡◌, ◌≤◌, ◌+◌, ◌++◌, ℕ, List, None, Some, length, IfOk, IfNone, OnOk, OnErr, IsTrue};
+ghost use Rattle.std.specs.Prelude.{◌≡◌, ◌≤◌, ◌+◌, ◌++◌, [], ◌∷◌, ℕ, List, None, Some, length, IfOk, IfNone, OnOk, OnErr, IsTrue};
 ghost use Rattle.diag_setup.specs.Setup.{first_holding};
 ghost use Rattle.diag_ecu.specs.State.{State, opening, is_holder, is_held_by_another, is_open};
 ghost use Rattle.diag_ecu.specs.Respond.{common_checks, own_checks, checks, after_request, reply, outcome, served, effect, positive_reply, kept_alive, sent_negative};
@@ -207,15 +207,15 @@ impl Ecu {
     {
         match service {
             Service::DiagnosticSessionControl => Ok(Some(self.session_reply(p))),
-            Service::EcuReset => Ok(Some(say(&[0x51, sub_of(p)]))),
+            Service::EcuReset => Ok(Some(say_two(0x51, sub_of(p)))),
             Service::ClearDiagnosticInformation => Ok(Some(say(&[0x54]))),
             Service::ReadDtcInformation => Ok(Some(self.codes_reply(p)?)),
             Service::ReadDataByIdentifier => Ok(Some(self.data_reply(who, p)?)),
             Service::SecurityAccess => self.security_reply(who, p),
             Service::WriteDataByIdentifier => Ok(Some(write_reply(p))),
             Service::RoutineControl => self.routine_reply(p),
-            Service::TesterPresent => Ok(Some(say(&[0x7E, 0x00]))),
-            Service::ControlDtcSetting => Ok(Some(say(&[0xC5, sub_of(p)]))),
+            Service::TesterPresent => Ok(Some(say_two(0x7E, 0x00))),
+            Service::ControlDtcSetting => Ok(Some(say_two(0xC5, sub_of(p)))),
         }
     }
 
@@ -350,6 +350,14 @@ pub(crate) fn say(bytes: &[u8]) -> Message
     ensures { result ≡ bytes.now }
 {
     Message::in_place(FrameBytes::from_slice(bytes))
+}
+
+/// The reply of these two bytes, made in one piece.
+#[inline(always)]
+pub(crate) fn say_two(first: u8, second: u8) -> Message
+    ensures { result ≡ first ∷ second ∷ [] }
+{
+    Message::in_place(FrameBytes::new().behind(second).behind(first))
 }
 
 /// What is sent where a negative response code is the answer.

@@ -5,7 +5,7 @@ ghost use Rattle.diag_store.specs.Security.{level_of, is_delayed};
 ghost use Rattle.diag_ecu.specs.Respond.{own_outcome, security_checks, positive_reply, is_sub_function, sub, seed_refusal, key_refusal};
 
 use crate::bytes::sub_of;
-use crate::ecu::{Ecu, say};
+use crate::ecu::{Ecu, say_two};
 use crate::service::{Nrc, Service, SubFunctions};
 use diag_setup::TesterId;
 use diag_store::{KeyAnswer, SeedAnswer};
@@ -47,7 +47,7 @@ impl Ecu {
         {
             return self.say_with(&[0x67, sub], seed.as_slice());
         }
-        Ok(Some(say(&[0x67, sub])))
+        Ok(Some(say_two(0x67, sub)))
     }
 
     /// Gives a seed, or takes a key: what a key does that is wrong is here too.
