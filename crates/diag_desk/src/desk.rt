@@ -125,6 +125,7 @@ impl Desk {
 }
 
 /// The reply to a step, none for ticks.
+#[inline(always)]
 pub fn reply_of(ecu: &Ecu, who: TesterId, step: &Step) -> Result<Option<Message>, AllocError>
     ensures { IfOk result (λ reply. reply ≡ reply_to ecu.now who step.now) }
 {
@@ -138,6 +139,7 @@ pub fn reply_of(ecu: &Ecu, who: TesterId, step: &Step) -> Result<Option<Message>
 }
 
 /// Brings the ECU to the state after a step.
+#[inline(always)]
 pub fn settle_step(ecu: &mut Ecu, who: TesterId, step: &Step)
     ensures { ecu.new ≡ after_step ecu.old who step.now }
 {

@@ -93,6 +93,7 @@ impl Ecu {
     }
 
     /// The reply to a tester's request, or none where none is sent. Nothing changes.
+    #[inline(always)]
     pub fn reply(
         &self,
         who: TesterId,
@@ -105,6 +106,7 @@ impl Ecu {
     }
 
     /// The reply to a request of these bytes. Those that come most often are answered by one look.
+    #[inline(always)]
     pub fn reply_to(
         &self,
         who: TesterId,

@@ -151,6 +151,7 @@ impl Server {
     }
 
     /// The entry that an event of a tester gives, if any, after it was asked; it is lent.
+    #[inline(always)]
     pub fn entry<'a>(&'a self, who: TesterId, asked: &'a Asked) -> Option<EntryRef<'a>>
         requires in_setup { who ≤ length self.now.links }
         ensures { option_map entry_seen result ≡ entry_asked self.now who asked.now }
@@ -165,6 +166,7 @@ impl Server {
     }
 
     /// Takes an event of a tester with the entry that it gives, and hands out the frames that it draws.
+    #[inline(always)]
     pub fn settle(&mut self, who: TesterId, event: &Event, asked: Asked, out: &mut Vec<Sent>)
         requires in_setup { who ≤ length self.old.links }
         requires asked { IsAsked self.old who event.now asked
@@ -220,6 +222,7 @@ impl Server {
     }
 
     /// Takes an event of a tester, and hands out the frames that it draws. Refused, nothing has changed.
+    #[inline(always)]
     pub fn event(
         &mut self,
         who: TesterId,
@@ -296,6 +299,7 @@ impl Server {
 }
 
 /// Refuses where a link has come to its closing time.
+#[inline(always)]
 fn look_at_clock(link: &Link) -> Result<(), ServerFault>
     ensures open { OnOk result (link.now.state.now ≤ closing_time) }
     ensures closed { OnErr result (closing_time < link.now.state.now) }
@@ -307,6 +311,7 @@ fn look_at_clock(link: &Link) -> Result<(), ServerFault>
 }
 
 /// A step as the journal shows one; a message is the step's own bytes.
+#[inline(always)]
 fn shown(step: &Step) -> StepRef<'_>
     ensures { step_seen result ≡ step.now }
 {
@@ -345,6 +350,7 @@ fn ask_at(
 }
 
 /// What the ECU answers to the step that an event gives.
+#[inline(always)]
 fn reply_at(
     link: &Link,
     ecu: &Ecu,
@@ -360,6 +366,7 @@ fn reply_at(
 }
 
 /// Brings the ECU to the state after the step that an event gives.
+#[inline(always)]
 fn step_at(link: &Link, ecu: &mut Ecu, who: TesterId, prepared: &Prepared)
     ensures { ecu.new ≡ went_to ecu.old who (step_in link.now prepared.now) }
 {
@@ -369,6 +376,7 @@ fn step_at(link: &Link, ecu: &mut Ecu, who: TesterId, prepared: &Prepared)
 }
 
 /// Takes an event at a link. Refused, nothing has changed.
+#[inline(always)]
 fn event_at(
     link: &mut Link,
     ecu: &mut Ecu,
@@ -437,6 +445,7 @@ fn pass_each(links: &mut Vec<Link>, count: TickCount)
 }
 
 /// Takes an event at a link, with the entry that it gives.
+#[inline(always)]
 fn settle_at(
     link: &mut Link,
     ecu: &mut Ecu,
