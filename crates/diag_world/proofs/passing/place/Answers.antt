@@ -1,9 +1,8 @@
-use Rattle.std.proofs.Common.{◌≡◌, [], ◌∷◌, ◌++◌, refl, subst, ap, arith}
+use Rattle.std.proofs.Common.{◌≡◌, [], ◌∷◌, ◌++◌, refl, subst, arith}
 use Rattle.diag_tp.specs.declared.sent.Sent.{Sent}
 use Rattle.diag_tp.specs.Moments.{last_moment, last_time}
 use Rattle.diag_tp.specs.Link.{StandsFor}
 use Rattle.diag_tp.specs.Wire.{wire}
-use Rattle.diag_tp.specs.State.{LinkView}
 use Rattle.diag_world.specs.Port.{AreWithin}
 use Rattle.diag_world.proofs.Channels.{within_one, within_wider}
 use Rattle.diag_world.proofs.passing.place.Goals as goal
