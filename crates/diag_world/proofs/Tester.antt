@@ -20,6 +20,7 @@ use Rattle.diag_world.specs.Weaving.{items_of}
 use Rattle.diag_world.proofs.Serving.{port_at, server_went}
 use Rattle.diag_world.proofs.Worlds.{set_cases}
 
+-- a server of this ECU and these links
 abbrev view_of : State → List LinkView → ServerView
 view_of ecu links = record { ecu = ecu; links = links }
 
@@ -30,12 +31,24 @@ pub record IsAt (ecu : State) (links : List LinkView) (now : ServerView) (who i 
   pub found : slice_get links i ≡ Some link
 
 -- the tester's link stands where it was read
-module _ {ecu : State} {links : List LinkView} {now : ServerView} {who i : ℕ} {link : LinkView} (seen : view_of ecu links ≡ now)
-    (in_setup : who ≤ length now.links) (is : who ≡ i + 1) (read : link ≡ get_or links i link) where
-  pub link_at : IsAt ecu links now who i link
+module _ {ecu : State} {links : List LinkView} {now : ServerView} {who place at : ℕ} {link : LinkView} (seen : view_of ecu links ≡ now)
+    (in_setup : who ≤ length now.links) (same : place ≡ who) (fits : (1 ≤ place) × (place ≤ 8)) (index : at ≡ place)
+    (read : link ≡ get_or links (at - 1) link) where
+  pub link_at : IsAt ecu links now who (at - 1) link
   link_at =
-      let within : i < length links = omega (arith, in_setup, ap (λ (v : ServerView). length v.links) seen, is) in
-      record { seen = seen; is = is; found = slice_get_read links (length links) i link refl within read }
+      let within : at - 1 < length links = omega (
+        arith,
+        in_setup,
+        ap (λ (v : ServerView). length v.links) seen,
+        same,
+        fits.0,
+        index,
+      ) in
+      record {
+        seen = seen;
+        is = omega (arith, same, fits.0, index);
+        found = slice_get_read links (length links) (at - 1) link refl within read;
+      }
 
 -- no frame is due where a link was written that has none
 pub drained_set : (links : List LinkView) (i : ℕ) (link' : LinkView) → AllDrained links → pending link'.state ≡ 0 → AllDrained (slice_set links i link')

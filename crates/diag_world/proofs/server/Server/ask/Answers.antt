@@ -17,8 +17,7 @@ use Rattle.diag_world.proofs.server.Server.ask.Goals as goal
 -- the tester's link stands at its place
 here : (c : goal.After-self-1)
     → IsAt c.self.inside.ecu c.self.inside.links.items c.args.self.now c.args.who (c.from-index.result - 1) c.index_mut-link.result.now
-here c = link_at c.self.view_is c.requires.in_setup (omega (arith, c.from-index.ensures, c.place.ensures.same, c.place.ensures.fits.0))
-    c.index_mut-link.ensures.value
+here c = link_at c.self.view_is c.requires.in_setup c.place.ensures.same c.place.ensures.fits c.from-index.ensures c.index_mut-link.ensures.value
 
 -- the server with what the link has read
 asked_from : (c : goal.After-self-1) → ServerView

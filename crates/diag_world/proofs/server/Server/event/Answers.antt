@@ -1,4 +1,4 @@
-use Rattle.std.proofs.Common.{◌-◌, arith}
+use Rattle.std.proofs.Common.{◌-◌}
 use Rattle.diag_world.proofs.Tester.{IsAt, closed_here, drained_set, early_here, late_here, link_at, same_here, settled_here}
 use Rattle.diag_world.proofs.Worlds.{on_ok, on_err}
 use Rattle.diag_world.proofs.server.Server.event.Goals as goal
@@ -6,13 +6,11 @@ use Rattle.diag_world.proofs.server.Server.event.Goals as goal
 -- the tester's link stands at its place
 here : (c : goal.After-self-1)
     → IsAt c.self.inside.ecu c.self.inside.links.items c.args.self.now c.args.who (c.from-index.result - 1) c.index_mut-link.result.now
-here c = link_at c.self.view_is c.requires.in_setup (omega (arith, c.from-index.ensures, c.place.ensures.same, c.place.ensures.fits.0))
-    c.index_mut-link.ensures.value
+here c = link_at c.self.view_is c.requires.in_setup c.place.ensures.same c.place.ensures.fits c.from-index.ensures c.index_mut-link.ensures.value
 
 pub event_at-requires : goal.event_at-requires
 event_at-requires c =
-    let here = link_at c.self.view_is c.requires.in_setup (omega (arith, c.from-index.ensures, c.place.ensures.same, c.place.ensures.fits.0))
-    c.index_mut-link.ensures.value in
+    let here = link_at c.self.view_is c.requires.in_setup c.place.ensures.same c.place.ensures.fits c.from-index.ensures c.index_mut-link.ensures.value in
     record { drained = c.self.invariant _ _ here.found }
 
 pub invariant_of-self : goal.invariant_of-self

@@ -1,4 +1,4 @@
-use Rattle.std.proofs.Common.{◌-◌, subst, sym, arith}
+use Rattle.std.proofs.Common.{◌-◌, subst, sym}
 use Rattle.std.specs.Prelude.{Option, slice_set}
 use Rattle.diag_desk.specs.declared.entry.Entry.{Entry}
 use Rattle.diag_world.specs.Server.{Settled, entry_in, server_of, state_at}
@@ -8,14 +8,12 @@ use Rattle.diag_world.proofs.server.Server.settle.Goals as goal
 
 pub settle_at-requires-clause-drained : goal.settle_at-requires-clause-drained
 settle_at-requires-clause-drained c =
-    let here = link_at c.self.view_is c.requires.in_setup (omega (arith, c.from-index.ensures, c.place.ensures.same, c.place.ensures.fits.0))
-    c.index_mut-link.ensures.value in
+    let here = link_at c.self.view_is c.requires.in_setup c.place.ensures.same c.place.ensures.fits c.from-index.ensures c.index_mut-link.ensures.value in
     c.self.invariant _ _ here.found
 
 pub settle_at-requires-clause-asked : goal.settle_at-requires-clause-asked
 settle_at-requires-clause-asked c =
-    let here = link_at c.self.view_is c.requires.in_setup (omega (arith, c.from-index.ensures, c.place.ensures.same, c.place.ensures.fits.0))
-    c.index_mut-link.ensures.value in
+    let here = link_at c.self.view_is c.requires.in_setup c.place.ensures.same c.place.ensures.fits c.from-index.ensures c.index_mut-link.ensures.value in
     asked_here here c.args.event.now c.args.asked _ _ c.requires.asked
 
 pub invariant_of-self : goal.invariant_of-self
@@ -24,8 +22,7 @@ invariant_of-self c =
 
 pub returns : goal.returns
 returns c =
-    let here = link_at c.self.view_is c.requires.in_setup (omega (arith, c.from-index.ensures, c.place.ensures.same, c.place.ensures.fits.0))
-    c.index_mut-link.ensures.value in
+    let here = link_at c.self.view_is c.requires.in_setup c.place.ensures.same c.place.ensures.fits c.from-index.ensures c.index_mut-link.ensures.value in
     let next = state_at c.settle_at.new.ecu (slice_set c.self.inside.links.items (c.from-index.result - 1) c.settle_at.new.link) in
     let went = c.settle_at.ensures.went in
     let who = c.args.who in

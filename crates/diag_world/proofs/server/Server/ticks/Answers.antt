@@ -1,4 +1,4 @@
-use Rattle.std.proofs.Common.{◌-◌, Some, refl, subst, sym, arith}
+use Rattle.std.proofs.Common.{◌-◌, Some, refl, subst, sym}
 use Rattle.std.specs.Prelude.{slice_set}
 use Rattle.diag_can.specs.declared.frame.Event.TheVariants.{Ticks}
 use Rattle.diag_tp.proofs.Given.{gives_ticks}
@@ -11,13 +11,11 @@ use Rattle.diag_world.proofs.server.Server.ticks.Goals as goal
 -- the tester's link stands at its place
 here : (c : goal.After-self-1)
     → IsAt c.self.inside.ecu c.self.inside.links.items c.args.self.now c.args.who (c.from-index.result - 1) c.index_mut-link.result.now
-here c = link_at c.self.view_is c.requires.in_setup (omega (arith, c.from-index.ensures, c.place.ensures.same, c.place.ensures.fits.0))
-    c.index_mut-link.ensures.value
+here c = link_at c.self.view_is c.requires.in_setup c.place.ensures.same c.place.ensures.fits c.from-index.ensures c.index_mut-link.ensures.value
 
 pub ticks_at-requires : goal.ticks_at-requires
 ticks_at-requires c =
-    let here = link_at c.self.view_is c.requires.in_setup (omega (arith, c.from-index.ensures, c.place.ensures.same, c.place.ensures.fits.0))
-    c.index_mut-link.ensures.value in
+    let here = link_at c.self.view_is c.requires.in_setup c.place.ensures.same c.place.ensures.fits c.from-index.ensures c.index_mut-link.ensures.value in
     record { drained = c.self.invariant _ _ here.found }
 
 pub invariant_of-self : goal.invariant_of-self
