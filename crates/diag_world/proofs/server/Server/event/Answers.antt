@@ -34,7 +34,8 @@ pub returns-clause-early : goal.returns-clause-early
 returns-clause-early c = on_ok _ _ c.event_at.result (λ went. early_here (here c) went.1.holds.early) c.event_at.ensures.went
 
 pub returns-clause-err : goal.returns-clause-err
-returns-clause-err c = on_err _ _ c.event_at.result (λ err. (same_here (here c) c.event_at.new.ecu c.event_at.new.link err.0 err.1, err.2)) c.event_at.ensures.err
+returns-clause-err c =
+    on_err _ _ c.event_at.result (λ err. (same_here (here c) c.event_at.new.ecu c.event_at.new.link err.0 err.1, err.2)) c.event_at.ensures.err
 
 pub returns-clause-clock : goal.returns-clause-clock
 returns-clause-clock c = λ e. late_here (here c) (c.event_at.ensures.clock e)

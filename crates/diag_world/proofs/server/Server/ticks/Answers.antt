@@ -44,7 +44,8 @@ pub returns-clause-early : goal.returns-clause-early
 returns-clause-early c = on_ok _ _ c.ticks_at.result (λ early. early_here (here c) early) c.ticks_at.ensures.early
 
 pub returns-clause-err : goal.returns-clause-err
-returns-clause-err c = on_err _ _ c.ticks_at.result (λ err. (same_here (here c) c.ticks_at.new.ecu c.ticks_at.new.link err.0 err.1, err.2)) c.ticks_at.ensures.err
+returns-clause-err c =
+    on_err _ _ c.ticks_at.result (λ err. (same_here (here c) c.ticks_at.new.ecu c.ticks_at.new.link err.0 err.1, err.2)) c.ticks_at.ensures.err
 
 pub returns-clause-clock : goal.returns-clause-clock
 returns-clause-clock c = λ e. late_here (here c) (c.ticks_at.ensures.clock e)
