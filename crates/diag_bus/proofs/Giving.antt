@@ -49,56 +49,62 @@ module _ (old : MidLine) {who place at : ℕ} {list : Vec Sent Global} (in_setup
     read = read;
   }
 
--- what is known of the line behind the event
+-- a line with another list in its place
 module _ {old : MidLine} {who i : ℕ} {list : Vec Sent Global} (here : IsListAt old who i list) where
+  -- the frames that were drawn
   found : slice_get (lists_of old) i ≡ Some list.items
   found =
       let drawn = old.drawn.items in
       slice_get-map (λ f. f.items) drawn i
       ∙ ap (option_map (λ f. f.items)) (slice_get_read drawn (length drawn) i list refl here.within here.read)
 
+  -- and those with more behind them
   grown : (list' : Vec Sent Global) (more : List Sent) → list'.items ≡ list.items ++ more
       → map (λ f. f.items) (slice_set old.drawn.items i list') ≡ slice_set (lists_of old) i (list.items ++ more)
   grown list' more is =
       map-set (λ f. f.items) old.drawn.items i list' ∙ ap (λ (w : List Sent). slice_set (lists_of old) i w) is
 
-  -- the server took it, its entry is entered with what the tester's clock told, and the frames that it handed out are drawn
-  pub gave_one : (asked_of server : ServerView) (list' : Vec Sent Global) (filled : Filled) (text : Vec ℕ Global) (rest now : ℕ) (e : Event)
-      (asked : Option Entry) (more : List Sent)
-      → Settled (server_of old.server) (server_of server) who e asked more → list'.items ≡ list.items ++ more
-      → text.items ≡ old.text.items ++ entry_added old.output now asked → server_of asked_of ≡ server_of old.server
-      → IfSome (slice_get asked_of.links (who - 1)) (λ (l : LinkView). now ≡ l.state.now) → now ≤ closing_time → IfSome asked (λ k. k.who ≡ who)
-      → Gave old (line_with old server i list' filled text rest) ((who, e) ∷ [])
-  gave_one asked_of server list' filled text rest now e asked more settled grew entered same told early by = λ setup base before M h.
-      let place : who ≡ (who - 1) + 1 = omega (arith, here.is) in
-      let there : who - 1 < length asked_of.links = omega (arith, links_same old.server asked_of same, here.there) in
-      drew_more setup old (line_with old server i list' filled text rest) base before M who i now e asked list.items more
-      settled here.is found (grown list' more grew) refl entered
-      (λ K served. clock_told setup asked_of M K who (who - 1) now asked
-      (subst (λ (s : ServerState). Serves setup s M K) (sym same) served) place there told early by)
-      h
-
-  -- it sent no frame later than its time
-  pub sent_in_one : (server : ServerView) (list' : Vec Sent Global) (filled : Filled) (text : Vec ℕ Global) (rest span : ℕ) (e : Event)
-      (asked : Option Entry) (more : List Sent)
-      → Settled (server_of old.server) (server_of server) who e asked more → list'.items ≡ list.items ++ more
-      → ((now : ℕ) → time_after now e ≤ now + span) → OneSentIn old (line_with old server i list' filled text rest) (who - 1) span
-  sent_in_one server list' filled text rest span e asked more settled grew most =
-      sent_one old (line_with old server i list' filled text rest) (who - 1) i span e asked list.items more settled.moved most found (grown list' more grew)
-
-  -- the line has the shape that it had
-  pub shape_one : (server : ServerView) (list' : Vec Sent Global) (filled : Filled) (text : Vec ℕ Global) (rest : ℕ) (e : Event)
-      (asked : Option Entry) (more : List Sent) (is_empty : Bool)
-      → Settled (server_of old.server) (server_of server) who e asked more
-      → filled ≡ (if is_empty then old.filled else filled_at old.filled i) → is_empty ≡ (vec_len list' == 0)
-      → (IsRest old.server old.rest → IsRest server rest) → SameShape old (line_with old server i list' filled text rest)
-  shape_one server list' filled text rest e asked more is_empty settled fill tested known =
-      shape_after old (line_with old server i list' filled text rest) i list' is_empty (links_moved old.server server who e asked more settled)
-      here.within refl refl fill tested known
-
-  -- so has one in which it was refused
+  -- the shape that it had, where the event was refused
   pub shape_refused : (server : ServerView) (list' : Vec Sent Global) (text : Vec ℕ Global) → server_of server ≡ server_of old.server
       → list'.items ≡ list.items → SameShape old (line_with old server i list' old.filled text old.rest)
   shape_refused server list' text same kept =
       shape_same old (line_with old server i list' old.filled text old.rest) i list' list (links_same old.server server same) refl here.read kept refl refl
       (rest_stays old.server server old.rest same)
+
+-- what the server settled that was asked, and was as before
+module _ {asked_of old new : ServerState} {who : ℕ} {e : Event} {asked : Option Entry} {more : List Sent} (same : asked_of ≡ old)
+    (settled : Settled asked_of new who e asked more) where
+  pub settled_same : Settled old new who e asked more
+  settled_same = subst (λ (s : ServerState). Settled s new who e asked more) same settled
+
+-- a line in which the server took the event
+module _ {old : MidLine} {who i : ℕ} {list : Vec Sent Global} (here : IsListAt old who i list) (server : ServerView) (list' : Vec Sent Global)
+    (filled : Filled) (text : Vec ℕ Global) (rest : ℕ) {e : Event} {asked : Option Entry} {more : List Sent}
+    (settled : Settled (server_of old.server) (server_of server) who e asked more) where
+  -- its entry is entered with what the tester's clock told, and the frames that the server handed out are drawn
+  pub gave_one : list'.items ≡ list.items ++ more → (now : ℕ) → text.items ≡ old.text.items ++ entry_added old.output now asked
+      → (asked_of : ServerView) → server_of asked_of ≡ server_of old.server
+      → IfSome (slice_get asked_of.links (who - 1)) (λ (l : LinkView). now ≡ l.state.now) → now ≤ closing_time → IfSome asked (λ k. k.who ≡ who)
+      → Gave old (line_with old server i list' filled text rest) ((who, e) ∷ [])
+  gave_one grew now entered asked_of same told early by = λ setup base before M h.
+      let place : who ≡ (who - 1) + 1 = omega (arith, here.is) in
+      let there : who - 1 < length asked_of.links = omega (arith, links_same old.server asked_of same, here.there) in
+      drew_more setup old (line_with old server i list' filled text rest) base before M who i now e asked list.items more
+      settled here.is (found here) (grown here list' more grew) refl entered
+      (λ K served. clock_told setup asked_of M K who (who - 1) now asked
+      (subst (λ (s : ServerState). Serves setup s M K) (sym same) served) place there told early by)
+      h
+
+  -- no frame is later than its time
+  pub sent_in_one : list'.items ≡ list.items ++ more → (span : ℕ) → ((now : ℕ) → time_after now e ≤ now + span)
+      → OneSentIn old (line_with old server i list' filled text rest) (who - 1) span
+  sent_in_one grew span most =
+      sent_one old (line_with old server i list' filled text rest) (who - 1) i span e asked list.items more settled.moved most (found here)
+      (grown here list' more grew)
+
+  -- it has the shape that it had
+  pub shape_one : (is_empty : Bool) → filled ≡ (if is_empty then old.filled else filled_at old.filled i) → is_empty ≡ (vec_len list' == 0)
+      → (IsRest old.server old.rest → IsRest server rest) → SameShape old (line_with old server i list' filled text rest)
+  shape_one is_empty fill tested known =
+      shape_after old (line_with old server i list' filled text rest) i list' is_empty (links_moved old.server server who e asked more settled)
+      here.within refl refl fill tested known

@@ -4,12 +4,12 @@ use Rattle.diag_desk.specs.Entry.{entry_seen}
 use Rattle.diag_desk.specs.declared.entry.Entry.{Entry}
 use Rattle.std.specs.Option.{option_map}
 use Rattle.diag_world.specs.declared.server.ServerFault.TheVariants as fault
-use Rattle.diag_world.specs.Server.{ServerState, Settled, entry_asked, server_of}
+use Rattle.diag_world.specs.Server.{entry_asked}
 use Rattle.diag_world.proofs.Serving.{entry_found}
 use Rattle.diag_bus.specs.Batch.{entry_added}
 use Rattle.diag_bus.proofs.Batches.{early_now, found_at}
 use Rattle.diag_bus.proofs.Filling.{links_same, rest_unknown}
-use Rattle.diag_bus.proofs.Giving.{gave_one, list_at, sent_in_one, shape_one, shape_refused}
+use Rattle.diag_bus.proofs.Giving.{gave_one, list_at, sent_in_one, settled_same, shape_one, shape_refused}
 use Rattle.diag_bus.proofs.Paces.{frame_time, stays, went_on}
 use Rattle.diag_bus.proofs.mid_line.MidLine.give_entered.Goals as goal
 
@@ -33,8 +33,7 @@ returns-clause-ok c =
     c.index_mut-out.ensures.value in
     let grew = c.settle.ensures.took in
     let same = c.in-Ok.ensures.same in
-    let asked = entry_asked c.ask.new.self who c.in-Ok.asked in
-    let settled = subst (λ (s : ServerState). Settled s (server_of c.settle.new.self) who c.args.event.now asked grew.more) same grew.holds in
+    let settled = settled_same same grew.holds in
     let lent = ap (option_map entry_seen) c.as_ref.ensures.value ∙ c.entry-entry.ensures in
     let text = c.in_ok-enter.ensures ∙ ap (λ a. old.text.items ++ entry_added old.output c.now-now.result a) lent in
     let links = c.ask.new.self.links in
@@ -43,8 +42,8 @@ returns-clause-ok c =
     let early = early_now links (who - 1) c.now-now.result there c.now-now.ensures (λ l at. (c.in-Ok.ensures.asked l at).early) in
     let by = subst (λ (o : Option Entry). IfSome o (λ k. k.who ≡ who)) (sym (entry_found c.ask.new.self who c.in-Ok.asked link.0 link.1))
     (c.in-Ok.ensures.asked link.0 link.1).by in
-    gave_one here c.ask.new.self c.settle.new.self c.settle.new.out c.after-self.result c.enter.new.text 0 c.now-now.result c.args.event.now asked grew.more
-    settled (grew.grown ∙ ap (λ w. w ++ grew.more) c.in-Ok.ensures.out) text same c.now-now.ensures early by
+    gave_one here c.settle.new.self c.settle.new.out c.after-self.result c.enter.new.text 0 settled
+    (grew.grown ∙ ap (λ w. w ++ grew.more) c.in-Ok.ensures.out) c.now-now.result text c.ask.new.self same c.now-now.ensures early by
 
 pub unreachable-requires : goal.unreachable-requires
 unreachable-requires c =
@@ -57,8 +56,7 @@ pub returns-clause-pace : goal.returns-clause-pace
 returns-clause-pace c =
     let grew = c.settle.ensures.took in
     let asked = entry_asked c.ask.new.self c.args.who c.in-Ok.asked in
-    let settled = subst (λ (s : ServerState). Settled s (server_of c.settle.new.self) c.args.who c.args.event.now asked grew.more)
-    c.in-Ok.ensures.same grew.holds in
+    let settled = settled_same c.in-Ok.ensures.same grew.holds in
     went_on c.args.self.now.server c.settle.new.self (c.args.who - 1) 0 c.args.event.now asked grew.more settled.moved
     (frame_time c.args.event.now c.requires.frame)
 
@@ -75,10 +73,8 @@ returns-clause-shape c =
     let here = list_at c.args.self.now c.requires.in_setup c.requires.lists c.place.ensures.same c.place.ensures.fits c.from-index.ensures
     c.index_mut-out.ensures.value in
     let grew = c.settle.ensures.took in
-    let asked = entry_asked c.ask.new.self c.args.who c.in-Ok.asked in
-    let settled = subst (λ (s : ServerState). Settled s (server_of c.settle.new.self) c.args.who c.args.event.now asked grew.more)
-    c.in-Ok.ensures.same grew.holds in
-    shape_one here c.settle.new.self c.settle.new.out c.after-self.result c.enter.new.text 0 c.args.event.now asked grew.more c.is_empty.result settled
+    let settled = settled_same c.in-Ok.ensures.same grew.holds in
+    shape_one here c.settle.new.self c.settle.new.out c.after-self.result c.enter.new.text 0 settled c.is_empty.result
     c.after-self.ensures c.is_empty.ensures (λ known. rest_unknown c.settle.new.self)
 
 pub returns-in-Err-Memory-clause-shape : goal.returns-in-Err-Memory-clause-shape
@@ -98,8 +94,6 @@ returns-clause-sent c =
     let here = list_at c.args.self.now c.requires.in_setup c.requires.lists c.place.ensures.same c.place.ensures.fits c.from-index.ensures
     c.index_mut-out.ensures.value in
     let grew = c.settle.ensures.took in
-    let asked = entry_asked c.ask.new.self c.args.who c.in-Ok.asked in
-    let settled = subst (λ (s : ServerState). Settled s (server_of c.settle.new.self) c.args.who c.args.event.now asked grew.more)
-    c.in-Ok.ensures.same grew.holds in
-    sent_in_one here c.settle.new.self c.settle.new.out c.after-self.result c.enter.new.text 0 0 c.args.event.now asked grew.more settled
-    (grew.grown ∙ ap (λ w. w ++ grew.more) c.in-Ok.ensures.out) (frame_time c.args.event.now c.requires.frame)
+    let settled = settled_same c.in-Ok.ensures.same grew.holds in
+    sent_in_one here c.settle.new.self c.settle.new.out c.after-self.result c.enter.new.text 0 settled
+    (grew.grown ∙ ap (λ w. w ++ grew.more) c.in-Ok.ensures.out) 0 (frame_time c.args.event.now c.requires.frame)

@@ -37,8 +37,8 @@ returns-in-Ok-clause-ok c =
     some_of (λ (l : LinkView). l.state.now ≤ closing_time) (slice_get old.server.links at) link.0 link.1 c.in-Ok.ensures.early in
     let text : old.text.items ≡ old.text.items ++ entry_added old.output now asked =
     sym (ap (λ (w : List ℕ). old.text.items ++ w) (no_entry old.output now asked c.requires.silent) ∙ append-nil old.text.items) in
-    gave_one here old.server c.event.new.self c.event.new.out c.after-self.result old.text c.min-self.result now c.args.event.now asked grew.more
-    grew.holds grew.grown text refl told early c.in-Ok.ensures.ok.1
+    gave_one here c.event.new.self c.event.new.out c.after-self.result old.text c.min-self.result grew.holds
+    grew.grown now text old.server refl told early c.in-Ok.ensures.ok.1
 
 pub returns-in-Ok-clause-pace : goal.returns-in-Ok-clause-pace
 returns-in-Ok-clause-pace c =
@@ -60,10 +60,9 @@ pub returns-in-Ok-clause-sent : goal.returns-in-Ok-clause-sent
 returns-in-Ok-clause-sent c =
     let here = list_at c.args.self.now c.requires.in_setup c.requires.lists c.place.ensures.same c.place.ensures.fits c.from-index.ensures
     c.index_mut-out.ensures.value in
-    let asked = c.in-Ok.ensures.ok.0 in
     let grew = c.in-Ok.ensures.ok.2 in
-    sent_in_one here c.event.new.self c.event.new.out c.after-self.result c.args.self.now.text c.min-self.result 0 c.args.event.now asked grew.more
-    grew.holds grew.grown (frame_time c.args.event.now c.requires.frame)
+    sent_in_one here c.event.new.self c.event.new.out c.after-self.result c.args.self.now.text c.min-self.result grew.holds
+    grew.grown 0 (frame_time c.args.event.now c.requires.frame)
 
 -- ---- the lists
 
@@ -74,8 +73,8 @@ returns-in-Ok-clause-shape c =
     c.index_mut-out.ensures.value in
     let asked = c.in-Ok.ensures.ok.0 in
     let grew = c.in-Ok.ensures.ok.2 in
-    shape_one here c.event.new.self c.event.new.out c.after-self.result old.text c.min-self.result c.args.event.now asked grew.more c.is_empty.result
-    grew.holds c.after-self.ensures c.is_empty.ensures
+    shape_one here c.event.new.self c.event.new.out c.after-self.result old.text c.min-self.result grew.holds c.is_empty.result
+    c.after-self.ensures c.is_empty.ensures
     (rest_after old.server c.event.new.self c.args.who c.args.event.now asked grew.more old.rest c.quiet_at.result c.min-self.result
     grew.holds c.quiet_at.ensures.is c.min-self.ensures)
 

@@ -23,16 +23,14 @@ pub returns-in-Ok-clause-ok : goal.returns-in-Ok-clause-ok
 returns-in-Ok-clause-ok c =
     let links = c.args.self.now.server.links in
     let at = c.args.who - 1 in
-    let now = c.now-now.result in
-    let asked = Some (entry_of_ticks c.args.who c.args.count) in
     let here = list_at c.args.self.now c.requires.in_setup c.requires.lists c.place.ensures.same c.place.ensures.fits c.from-index.ensures
     c.index_mut-out.ensures.value in
     let grew = c.in-Ok.ensures.ok in
-    let early = early_now links at now here.there c.now-now.ensures
+    let early = early_now links at c.now-now.result here.there c.now-now.ensures
     (λ link there. some_of (λ (l : LinkView). l.state.now ≤ closing_time) (slice_get links at) link there c.in-Ok.ensures.early) in
     on_ok _ _ c.enter_ticks.result (λ entered.
-    gave_one here c.args.self.now.server c.ticks.new.self c.ticks.new.out c.after-self.result c.enter_ticks.new.text 0 now (Ticks c.args.count) asked grew.more
-    grew.holds grew.grown entered refl c.now-now.ensures early refl)
+    gave_one here c.ticks.new.self c.ticks.new.out c.after-self.result c.enter_ticks.new.text 0 grew.holds
+    grew.grown c.now-now.result entered c.args.self.now.server refl c.now-now.ensures early refl)
     c.enter_ticks.ensures
 
 pub returns-in-Ok-clause-pace : goal.returns-in-Ok-clause-pace
@@ -53,27 +51,23 @@ unreachable-requires c =
 
 pub returns-in-Ok-clause-sent : goal.returns-in-Ok-clause-sent
 returns-in-Ok-clause-sent c =
-    let n = c.args.count in
-    let asked = Some (entry_of_ticks c.args.who n) in
     let here = list_at c.args.self.now c.requires.in_setup c.requires.lists c.place.ensures.same c.place.ensures.fits c.from-index.ensures
     c.index_mut-out.ensures.value in
     let grew = c.in-Ok.ensures.ok in
     on_ok _ _ c.enter_ticks.result (λ entered.
-    sent_in_one here c.ticks.new.self c.ticks.new.out c.after-self.result c.enter_ticks.new.text 0 n (Ticks n) asked grew.more
-    grew.holds grew.grown (ticks_time n))
+    sent_in_one here c.ticks.new.self c.ticks.new.out c.after-self.result c.enter_ticks.new.text 0 grew.holds
+    grew.grown c.args.count (ticks_time c.args.count))
     c.enter_ticks.ensures
 
 -- ---- the lists
 
 pub returns-in-Ok-clause-shape : goal.returns-in-Ok-clause-shape
 returns-in-Ok-clause-shape c =
-    let n = c.args.count in
-    let asked = Some (entry_of_ticks c.args.who n) in
     let here = list_at c.args.self.now c.requires.in_setup c.requires.lists c.place.ensures.same c.place.ensures.fits c.from-index.ensures
     c.index_mut-out.ensures.value in
     let grew = c.in-Ok.ensures.ok in
-    shape_one here c.ticks.new.self c.ticks.new.out c.after-self.result c.enter_ticks.new.text 0 (Ticks n) asked grew.more c.is_empty.result
-    grew.holds c.after-self.ensures c.is_empty.ensures (λ known. rest_unknown c.ticks.new.self)
+    shape_one here c.ticks.new.self c.ticks.new.out c.after-self.result c.enter_ticks.new.text 0 grew.holds c.is_empty.result
+    c.after-self.ensures c.is_empty.ensures (λ known. rest_unknown c.ticks.new.self)
 
 pub returns-in-Err-Memory-clause-shape : goal.returns-in-Err-Memory-clause-shape
 returns-in-Err-Memory-clause-shape c =
