@@ -10,8 +10,8 @@ use Rattle.diag_tp.specs.declared.sent.Sent.{Sent}
 use Rattle.diag_tp.specs.State.{LinkView}
 use Rattle.diag_desk.specs.declared.entry.Entry.{Entry}
 use Rattle.diag_world.specs.Port.{time_after}
-use Rattle.diag_world.specs.Server.{ServerState, ServerView, Serves, Settled, closing_time, server_of}
-use Rattle.diag_bus.specs.Batch.{Gave, IsRest, OneSentIn, SameShape, entry_added, lists_of}
+use Rattle.diag_world.specs.Server.{IsClosed, ServerState, ServerView, Serves, Settled, closing_time, server_of}
+use Rattle.diag_bus.specs.Batch.{Gave, IsEarly, IsRest, OneSentIn, SameShape, entry_added, lists_of}
 use Rattle.diag_bus.specs.Requests.{filled_at}
 use Rattle.diag_bus.specs.declared.filled.Filled.{Filled}
 use Rattle.diag_bus.specs.declared.mid_line.MidLine.{MidLine}
@@ -48,6 +48,12 @@ module _ (old : MidLine) {who place at : ℕ} {list : Vec Sent Global} (in_setup
     within = omega (arith, in_setup, lists, same, fits.0, index);
     read = read;
   }
+
+-- a link that is early isn't closed
+pub never_closed : (server : ServerView) (place : ℕ) → IsEarly server place → IsClosed (server_of server).links place → ⊥
+never_closed server place early closed =
+    let told = early closed.link closed.found in
+    omega (arith, told, closed.late)
 
 -- a line with another list in its place
 module _ {old : MidLine} {who i : ℕ} {list : Vec Sent Global} (here : IsListAt old who i list) where

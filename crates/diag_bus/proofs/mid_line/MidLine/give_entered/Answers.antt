@@ -9,7 +9,7 @@ use Rattle.diag_world.proofs.Serving.{entry_found}
 use Rattle.diag_bus.specs.Batch.{entry_added}
 use Rattle.diag_bus.proofs.Batches.{early_now, found_at}
 use Rattle.diag_bus.proofs.Filling.{links_same, rest_unknown}
-use Rattle.diag_bus.proofs.Giving.{gave_one, list_at, sent_in_one, settled_same, shape_one, shape_refused}
+use Rattle.diag_bus.proofs.Giving.{gave_one, list_at, never_closed, sent_in_one, settled_same, shape_one, shape_refused}
 use Rattle.diag_bus.proofs.Paces.{frame_time, stays, went_on}
 use Rattle.diag_bus.proofs.mid_line.MidLine.give_entered.Goals as goal
 
@@ -48,9 +48,7 @@ returns-clause-ok c =
 pub unreachable-requires : goal.unreachable-requires
 unreachable-requires c =
     let is : c.ask.result ≡ Err fault.Clock = cc in
-    let closed = c.ask.ensures.closed is in
-    let early = c.requires.early closed.link closed.found in
-    omega (arith, early, closed.late)
+    never_closed c.args.self.now.server (c.args.who - 1) c.requires.early (c.ask.ensures.closed is)
 
 pub returns-clause-pace : goal.returns-clause-pace
 returns-clause-pace c =

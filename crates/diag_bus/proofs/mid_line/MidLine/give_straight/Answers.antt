@@ -1,4 +1,4 @@
-use Rattle.std.proofs.Common.{Err, ◌≡◌, ◌≢◌, ◌≤◌, ◌-◌, ◌++◌, [], ℕ, Option, List, refl, ap, subst, sym, ◌∙◌, arith}
+use Rattle.std.proofs.Common.{Err, ◌≡◌, ◌≢◌, ◌≤◌, ◌-◌, ◌++◌, [], ℕ, Option, List, refl, ap, subst, sym, ◌∙◌}
 use Rattle.std.proofs.lemmas.List.{append-nil}
 use Rattle.std.specs.Prelude.{IfSome, slice_get}
 use Rattle.diag_tp.specs.State.{LinkView}
@@ -10,7 +10,7 @@ use Rattle.diag_bus.specs.declared.bus.Output.{Output}
 use Rattle.diag_bus.specs.declared.bus.Output.TheVariants as output
 use Rattle.diag_bus.proofs.Batches.{found_at, some_of}
 use Rattle.diag_bus.proofs.Filling.{rest_after}
-use Rattle.diag_bus.proofs.Giving.{gave_one, list_at, sent_in_one, shape_one, shape_refused}
+use Rattle.diag_bus.proofs.Giving.{gave_one, list_at, never_closed, sent_in_one, shape_one, shape_refused}
 use Rattle.diag_bus.proofs.Paces.{stays, frame_time, went_on}
 use Rattle.diag_bus.proofs.mid_line.MidLine.give_straight.Goals as goal
 
@@ -52,9 +52,7 @@ returns-in-Err-Memory-clause-pace c = stays c.args.self.now.server c.event.new.s
 pub unreachable-requires : goal.unreachable-requires
 unreachable-requires c =
     let is : c.event.result ≡ Err fault.Clock = cc in
-    let closed = c.event.ensures.closed is in
-    let early = c.requires.early closed.link closed.found in
-    omega (arith, early, closed.late)
+    never_closed c.args.self.now.server (c.args.who - 1) c.requires.early (c.event.ensures.closed is)
 
 pub returns-in-Ok-clause-sent : goal.returns-in-Ok-clause-sent
 returns-in-Ok-clause-sent c =

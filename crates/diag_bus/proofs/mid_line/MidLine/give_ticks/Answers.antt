@@ -7,7 +7,7 @@ use Rattle.diag_world.specs.Server.{closing_time, entry_of_ticks}
 use Rattle.diag_world.proofs.Worlds.{on_ok}
 use Rattle.diag_bus.proofs.Batches.{early_now, some_of}
 use Rattle.diag_bus.proofs.Filling.{rest_unknown}
-use Rattle.diag_bus.proofs.Giving.{gave_one, list_at, sent_in_one, shape_one, shape_refused}
+use Rattle.diag_bus.proofs.Giving.{gave_one, list_at, never_closed, sent_in_one, shape_one, shape_refused}
 use Rattle.diag_bus.proofs.Paces.{stays, ticks_time, went_on}
 use Rattle.diag_bus.proofs.mid_line.MidLine.give_ticks.Goals as goal
 
@@ -45,9 +45,7 @@ returns-in-Err-Memory-clause-pace c = stays c.args.self.now.server c.ticks.new.s
 pub unreachable-requires : goal.unreachable-requires
 unreachable-requires c =
     let is : c.ticks.result ≡ Err fault.Clock = cc in
-    let closed = c.ticks.ensures.closed is in
-    let early = c.requires.early closed.link closed.found in
-    omega (arith, early, closed.late)
+    never_closed c.args.self.now.server (c.args.who - 1) c.requires.early (c.ticks.ensures.closed is)
 
 pub returns-in-Ok-clause-sent : goal.returns-in-Ok-clause-sent
 returns-in-Ok-clause-sent c =
