@@ -5,6 +5,7 @@ pub mod Ends
 pub mod Entries
 pub mod Faults
 pub mod Filling
+pub mod Giving
 pub mod Lines
 pub mod Examples
 pub mod Meaning

@@ -1,0 +1,116 @@
+-- A line in which the server was given an event of one tester.
+use Rattle.std.proofs.Common.{◌≡◌, ◌<◌, ◌≤◌, ℕ, ◌+◌, ◌-◌, Bool, Option, Some, Vec, Global, vec_len, List, [], ◌∷◌, ◌++◌, get_or, length, map, refl, ap, subst, sym, ◌∙◌, arith}
+use Rattle.std.proofs.lemmas.List.{map-set}
+use Rattle.std.proofs.lemmas.Option.{slice_get_read, slice_get-map}
+use Rattle.std.specs.Prelude.{◌==◌, IfSome, if◌then◌else◌, slice_get, slice_set}
+use Rattle.std.specs.Option.{option_map}
+use Rattle.std.specs.Vec.{with_item}
+use Rattle.diag_can.specs.declared.frame.Event.{Event}
+use Rattle.diag_tp.specs.declared.sent.Sent.{Sent}
+use Rattle.diag_tp.specs.State.{LinkView}
+use Rattle.diag_desk.specs.declared.entry.Entry.{Entry}
+use Rattle.diag_world.specs.Port.{time_after}
+use Rattle.diag_world.specs.Server.{IsClosed, ServerState, ServerView, Serves, Settled, closing_time, server_of}
+use Rattle.diag_bus.specs.Batch.{Gave, IsEarly, IsRest, OneSentIn, SameShape, entry_added, lists_of}
+use Rattle.diag_bus.specs.Requests.{filled_at}
+use Rattle.diag_bus.specs.declared.filled.Filled.{Filled}
+use Rattle.diag_bus.specs.declared.mid_line.MidLine.{MidLine}
+use Rattle.diag_bus.proofs.Batches.{clock_told, drew_more}
+use Rattle.diag_bus.proofs.Filling.{links_moved, links_same, rest_stays, shape_after, shape_same}
+use Rattle.diag_bus.proofs.Paces.{sent_one}
+
+-- the line with this list at a place
+abbrev pub line_with : MidLine → ServerView → ℕ → Vec Sent Global → Filled → Vec ℕ Global → ℕ → MidLine
+line_with old server i list filled text rest = record {
+  server = server;
+  output = old.output;
+  drawn = with_item old.drawn i list;
+  filled = filled;
+  text = text;
+  rest = rest;
+}
+
+-- the list of the tester `who` stands at its place i in the line
+pub record IsListAt (old : MidLine) (who i : ℕ) (list : Vec Sent Global) : Type 0 where
+  pub is : who ≡ i + 1
+  pub there : who - 1 < length old.server.links
+  pub within : i < length old.drawn.items
+  pub read : list ≡ get_or old.drawn.items i list
+
+-- the tester's list stands where it was read
+module _ (old : MidLine) {who place at : ℕ} {list : Vec Sent Global} (in_setup : who ≤ length old.server.links)
+    (lists : length old.drawn.items ≡ length old.server.links) (same : place ≡ who) (fits : (1 ≤ place) × (place ≤ 8)) (index : at ≡ place)
+    (read : list ≡ get_or old.drawn.items (at - 1) list) where
+  pub list_at : IsListAt old who (at - 1) list
+  list_at = record {
+    is = omega (arith, same, fits.0, index);
+    there = omega (arith, in_setup, same, fits.0);
+    within = omega (arith, in_setup, lists, same, fits.0, index);
+    read = read;
+  }
+
+-- a link that is early isn't closed
+pub never_closed : (server : ServerView) (place : ℕ) → IsEarly server place → IsClosed (server_of server).links place → ⊥
+never_closed server place early closed =
+    let told = early closed.link closed.found in
+    omega (arith, told, closed.late)
+
+-- a line with another list in its place
+module _ {old : MidLine} {who i : ℕ} {list : Vec Sent Global} (here : IsListAt old who i list) where
+  -- the frames that were drawn
+  found : slice_get (lists_of old) i ≡ Some list.items
+  found =
+      let drawn = old.drawn.items in
+      slice_get-map (λ f. f.items) drawn i
+      ∙ ap (option_map (λ f. f.items)) (slice_get_read drawn (length drawn) i list refl here.within here.read)
+
+  -- and those with more behind them
+  grown : (list' : Vec Sent Global) (more : List Sent) → list'.items ≡ list.items ++ more
+      → map (λ f. f.items) (slice_set old.drawn.items i list') ≡ slice_set (lists_of old) i (list.items ++ more)
+  grown list' more is =
+      map-set (λ f. f.items) old.drawn.items i list' ∙ ap (λ (w : List Sent). slice_set (lists_of old) i w) is
+
+  -- the shape that it had, where the event was refused
+  pub shape_refused : (server : ServerView) (list' : Vec Sent Global) (text : Vec ℕ Global) → server_of server ≡ server_of old.server
+      → list'.items ≡ list.items → SameShape old (line_with old server i list' old.filled text old.rest)
+  shape_refused server list' text same kept =
+      shape_same old (line_with old server i list' old.filled text old.rest) i list' list (links_same old.server server same) refl here.read kept refl refl
+      (rest_stays old.server server old.rest same)
+
+-- what the server settled that was asked, and was as before
+module _ {asked_of old new : ServerState} {who : ℕ} {e : Event} {asked : Option Entry} {more : List Sent} (same : asked_of ≡ old)
+    (settled : Settled asked_of new who e asked more) where
+  pub settled_same : Settled old new who e asked more
+  settled_same = subst (λ (s : ServerState). Settled s new who e asked more) same settled
+
+-- a line in which the server took the event
+module _ {old : MidLine} {who i : ℕ} {list : Vec Sent Global} (here : IsListAt old who i list) (server : ServerView) (list' : Vec Sent Global)
+    (filled : Filled) (text : Vec ℕ Global) (rest : ℕ) {e : Event} {asked : Option Entry} {more : List Sent}
+    (settled : Settled (server_of old.server) (server_of server) who e asked more) where
+  -- its entry is entered with what the tester's clock told, and the frames that the server handed out are drawn
+  pub gave_one : list'.items ≡ list.items ++ more → (now : ℕ) → text.items ≡ old.text.items ++ entry_added old.output now asked
+      → (asked_of : ServerView) → server_of asked_of ≡ server_of old.server
+      → IfSome (slice_get asked_of.links (who - 1)) (λ (l : LinkView). now ≡ l.state.now) → now ≤ closing_time → IfSome asked (λ k. k.who ≡ who)
+      → Gave old (line_with old server i list' filled text rest) ((who, e) ∷ [])
+  gave_one grew now entered asked_of same told early by = λ setup base before M h.
+      let place : who ≡ (who - 1) + 1 = omega (arith, here.is) in
+      let there : who - 1 < length asked_of.links = omega (arith, links_same old.server asked_of same, here.there) in
+      drew_more setup old (line_with old server i list' filled text rest) base before M who i now e asked list.items more
+      settled here.is (found here) (grown here list' more grew) refl entered
+      (λ K served. clock_told setup asked_of M K who (who - 1) now asked
+      (subst (λ (s : ServerState). Serves setup s M K) (sym same) served) place there told early by)
+      h
+
+  -- no frame is later than its time
+  pub sent_in_one : list'.items ≡ list.items ++ more → (span : ℕ) → ((now : ℕ) → time_after now e ≤ now + span)
+      → OneSentIn old (line_with old server i list' filled text rest) (who - 1) span
+  sent_in_one grew span most =
+      sent_one old (line_with old server i list' filled text rest) (who - 1) i span e asked list.items more settled.moved most (found here)
+      (grown here list' more grew)
+
+  -- it has the shape that it had
+  pub shape_one : (is_empty : Bool) → filled ≡ (if is_empty then old.filled else filled_at old.filled i) → is_empty ≡ (vec_len list' == 0)
+      → (IsRest old.server old.rest → IsRest server rest) → SameShape old (line_with old server i list' filled text rest)
+  shape_one is_empty fill tested known =
+      shape_after old (line_with old server i list' filled text rest) i list' is_empty (links_moved old.server server who e asked more settled)
+      here.within refl refl fill tested known

@@ -1,0 +1,114 @@
+-- What a call at a tester's link says of the server.
+use Rattle.std.proofs.Common.{◌≡◌, ◌<◌, ◌≤◌, ℕ, ◌+◌, ◌-◌, Option, Some, List, get_or, length, refl, ap, ap₂, subst, sym, ◌∙◌, arith, inl, inr}
+use Rattle.std.proofs.Math.Seq.{map-set_same}
+use Rattle.std.proofs.lemmas.Option.{get_or_from_slice_get, slice_get_read, slice_get-map}
+use Rattle.std.specs.Prelude.{slice_get, slice_set, IfSome}
+use Rattle.std.specs.Option.{option_map}
+use Rattle.diag_can.specs.declared.frame.Event.{Event}
+use Rattle.diag_tp.specs.declared.sent.Sent.{Sent}
+use Rattle.diag_tp.specs.Moments.{last_time}
+use Rattle.diag_tp.specs.State.{LinkState, LinkView}
+use Rattle.diag_tp.specs.Link.{pending}
+use Rattle.diag_setup.specs.Setup.{link_of}
+use Rattle.diag_ecu.specs.State.{State}
+use Rattle.diag_desk.specs.declared.entry.Entry.{Entry}
+use Rattle.diag_desk.specs.Entries.{own}
+use Rattle.diag_world.specs.declared.server.Asked.{Asked}
+use Rattle.diag_world.specs.Port.{PortStands}
+use Rattle.diag_world.specs.Server.{AllDrained, EachRun, IsAsked, IsClosed, PortAsked, PortWent, ServerState, ServerView, Settled, closing_time, server_of, state_at}
+use Rattle.diag_world.specs.Weaving.{items_of}
+use Rattle.diag_world.proofs.Serving.{port_at, server_went}
+use Rattle.diag_world.proofs.Worlds.{set_cases}
+
+-- a server of this ECU and these links
+abbrev view_of : State → List LinkView → ServerView
+view_of ecu links = record { ecu = ecu; links = links }
+
+-- a contract sees the server of these as `now`, and the link of the tester `who` stands at its place i
+pub record IsAt (ecu : State) (links : List LinkView) (now : ServerView) (who i : ℕ) (link : LinkView) : Type 0 where
+  pub seen : view_of ecu links ≡ now
+  pub is : who ≡ i + 1
+  pub found : slice_get links i ≡ Some link
+
+-- the tester's link stands where it was read
+module _ {ecu : State} {links : List LinkView} {now : ServerView} {who place at : ℕ} {link : LinkView} (seen : view_of ecu links ≡ now)
+    (in_setup : who ≤ length now.links) (same : place ≡ who) (fits : (1 ≤ place) × (place ≤ 8)) (index : at ≡ place)
+    (read : link ≡ get_or links (at - 1) link) where
+  pub link_at : IsAt ecu links now who (at - 1) link
+  link_at =
+      let within : at - 1 < length links = omega (
+        arith,
+        in_setup,
+        ap (λ (v : ServerView). length v.links) seen,
+        same,
+        fits.0,
+        index,
+      ) in
+      record {
+        seen = seen;
+        is = omega (arith, same, fits.0, index);
+        found = slice_get_read links (length links) (at - 1) link refl within read;
+      }
+
+-- no frame is due where a link was written that has none
+pub drained_set : (links : List LinkView) (i : ℕ) (link' : LinkView) → AllDrained links → pending link'.state ≡ 0 → AllDrained (slice_set links i link')
+drained_set links i link' drained none = λ j link at. elim (set_cases links i j link' link at) [
+  | inl p ↦ subst (λ (l : LinkView). pending l.state ≡ 0) (sym p.1) none
+  | inr p ↦ drained j link p.1
+]
+
+-- what is known of the tester there
+module _ {ecu : State} {links : List LinkView} {now : ServerView} {who i : ℕ} {link : LinkView} (here : IsAt ecu links now who i link) where
+  seen_at : slice_get now.links i ≡ Some link
+  seen_at = subst (λ (v : ServerView). slice_get v.links i ≡ Some link) here.seen here.found
+
+  -- the link stands at the tester's place in what the contract sees
+  pub seen_there : slice_get now.links (who - 1) ≡ Some link
+  seen_there =
+      let place : i ≡ who - 1 = omega (arith, here.is) in
+      subst (λ k. slice_get now.links k ≡ Some link) place seen_at
+
+  -- and stands for the tester's part of each run
+  pub port_here : EachRun (server_of now) (λ setup M K. PortStands (link_of setup who) link.state (items_of M who) (own K who))
+  port_here = λ setup M K h. port_at setup now M K who i link h here.is seen_at
+
+  -- where it is early, the tester's is
+  pub early_here : link.state.now ≤ closing_time → IfSome (slice_get now.links (who - 1)) (λ (l : LinkView). l.state.now ≤ closing_time)
+  early_here early = subst (λ (o : Option LinkView). IfSome o (λ (l : LinkView). l.state.now ≤ closing_time)) (sym seen_there) early
+
+  -- where it is late, so is the tester in each run
+  pub late_here : closing_time < link.state.now → EachRun (server_of now) (λ setup M K. closing_time < last_time (items_of M who))
+  late_here late = λ setup M K h.
+      let port = port_here setup M K h in
+      omega (arith, late, port.stands.now)
+
+  -- and the tester's link is closed
+  pub closed_here : closing_time < link.state.now → IsClosed (server_of now).links (who - 1)
+  closed_here late =
+      let state = λ (l : LinkView). l.state in
+      record {
+        link = link.state;
+        found = slice_get-map state now.links (who - 1) ∙ ap (option_map state) seen_there;
+        late = late;
+      }
+
+  -- what was asked of the tester was asked at the link
+  pub asked_here : (e : Event) (asked : Asked) (len capacity : ℕ) → IsAsked now who e asked len capacity → PortAsked ecu link who e asked len capacity
+  asked_here e asked len capacity h =
+      subst (λ (v : ServerView). PortAsked v.ecu link who e asked len capacity) (sym here.seen) (h link seen_there)
+
+  -- a link that stands for the same leaves the server what it was
+  pub same_here : (ecu' : State) (link' : LinkView) → link'.state ≡ link.state → ecu' ≡ ecu → state_at ecu' (slice_set links i link') ≡ server_of now
+  same_here ecu' link' same still =
+      let state = λ (l : LinkView). l.state in
+      let read : link ≡ get_or links i link = sym (get_or_from_slice_get links i link link here.found) in
+      let kept = map-set_same state links i link' link (same ∙ ap state read) in
+      ap₂ (λ ecu (ls : List LinkState). (let s : ServerState = record { ecu = ecu; links = ls } in s)) still kept ∙ ap server_of here.seen
+
+  -- the server took an event as the link did
+  pub settled_here : (ecu' : State) (link' : LinkView) (e : Event) (asked : Option Entry) (more : List Sent) → PortWent ecu ecu' link link' who e asked more
+      → Settled (server_of now) (state_at ecu' (slice_set links i link')) who e asked more
+  settled_here ecu' link' e asked more went =
+      let next = view_of ecu' (slice_set links i link') in
+      subst (λ (v : ServerView). Settled (server_of v) (server_of next) who e asked more) here.seen
+      (server_went (view_of ecu links) next who i e asked link link' more here.is here.found refl went)
