@@ -22,6 +22,9 @@ ghost use Rattle.std.specs.Prelude.{
   vec_len,
   vec_capacity,
   slice_get,
+  ◌↔◌,
+  IsTrue,
+  IsSome,
 };
 ghost use Rattle.diag_can.specs.declared.frame.Event.{Event as AnEvent};
 ghost use Rattle.diag_tp.specs.Gives.{gives};
@@ -39,7 +42,7 @@ ghost use Rattle.diag_world.specs.Port.{step_in};
 ghost use Rattle.diag_world.specs.Server.{answer_to, closing_time, entry_asked, entry_in, entry_of_ticks, quiet_of, server_of, state_at, went_to, AllDrained, AreEarly, EachRun, IsAsked, IsClosed, PortAsked, PortSettled, PortWent, Serves, Settled, Waited};
 
 use crate::passing::{let_pass, pass_quiet};
-use crate::port::{Prepared, prepare, settle, step};
+use crate::port::{Prepared, gives_step, prepare, settle, step};
 use diag_can::{Event, TickCount};
 use diag_desk::{EntryRef, StepRef, reply_of, settle_step};
 use diag_ecu::Ecu;
@@ -148,6 +151,17 @@ impl Server {
         let index = usize::from(who.place()) - 1;
         let link = &mut self.links[index];
         ask_at(link, &self.ecu, who, event, out)
+    }
+
+    /// Whether an event of a tester gives a step, and so an entry.
+    #[inline(always)]
+    pub fn gives_step(&self, who: TesterId, event: &Event) -> bool
+        requires in_setup { who ≤ length self.now.links }
+        ensures { EachRun (server_of self.now) (λ setup M K.
+            IsTrue result ↔ IsSome (gives (link_of setup who) (items_of M who) event.now)) }
+    {
+        let index = usize::from(who.place()) - 1;
+        gives_step(&self.links[index], event)
     }
 
     /// The entry that an event of a tester gives, if any, after it was asked; it is lent.
