@@ -3,7 +3,7 @@ use Rattle.std.proofs.Common.{◌≡◌, ◌≢◌, ◌≤◌, ◌<◌, ℕ, zer
 use Rattle.std.proofs.lemmas.Grind.{flat_map-append}
 use Rattle.std.proofs.lemmas.List.{append-nil, length-map, length-set, map-append}
 use Rattle.std.proofs.lemmas.Option.{slice_get-map, slice_get_within}
-use Rattle.std.specs.Prelude.{◌⊎◌, if◌then◌else◌, slice_get, slice_set, IfSome, IsSome}
+use Rattle.std.specs.Prelude.{◌⊎◌, if◌then◌else◌, slice_get, slice_set, IfSome, IsSome, IsTrue}
 use Rattle.std.specs.Global.{Vec}
 use Rattle.std.specs.List.{concat}
 use Rattle.std.specs.Option.{option_map, option_to_list}
@@ -15,6 +15,8 @@ use Rattle.diag_setup.specs.declared.raw.RawSetup.{RawSetup}
 use Rattle.diag_setup.specs.Setup.{link_of, name_of}
 use Rattle.diag_tp.proofs.CutFrames.{length-counted}
 use Rattle.diag_tp.proofs.Lists.{map-at}
+use Rattle.diag_tp.specs.Gives.{gives}
+use Rattle.diag_tp.specs.Link.{is_frame}
 use Rattle.diag_tp.specs.Moments.{counted_from}
 use Rattle.diag_tp.specs.State.{LinkState, LinkView}
 use Rattle.diag_tp.specs.declared.sent.Sent.{Sent}
@@ -30,9 +32,12 @@ use Rattle.diag_desk.specs.Text.{ended, entry_line, stamped_line, text_of, ticks
 use Rattle.diag_desk.proofs.ReadLemmas.{text_one}
 use Rattle.diag_world.specs.Port.{Grew}
 use Rattle.diag_world.specs.Server.{IsClosed, ServerState, ServerView, Serves, Settled, closing_time, sent_to, server_of}
+use Rattle.diag_world.specs.Weaving.{all_by, items_of, steps_of, steps_of_after}
 use Rattle.diag_world.specs.World.{Stands, WorldState}
+use Rattle.diag_world.proofs.Weaves.{steps_of_after-append}
 use Rattle.diag_world.proofs.Worlds.{other_place, set_cases}
 use Rattle.diag_bus.specs.Batch.{IsBy}
+use Rattle.diag_bus.proofs.Paces.{frame_time}
 use Rattle.diag_text.specs.Text.{end_text, journal_part, lines_from, lines_of}
 use Rattle.diag_text.proofs.Lines.{concat_more}
 use Rattle.diag_run.specs.Playing.{AreTexts, AreUnwritten, Enters, EntersMore, IsReady, Plays, Replies, Terms, Took, WroteTo, is_stamped, parts_text}
@@ -341,3 +346,55 @@ parts_whole terms playing M h =
     (h.each i tester at).text ∙ ap (λ k. lines_of (name_of setup k) (f k)) (omega arith)) in
     parts_said terms.only_journal terms.timing setup h.entries f lines playing.journal.text.items playing.server.ecu
     (h.journal.text ∙ journal_said terms.timing h.entries) h.serves.ecu all h.many
+
+-- ---- a frame that gives no step
+
+steps_none : (links : ℕ → LinkSetup) (M : List (ℕ × Event)) (t : ℕ) (e : Event) → gives (links t) (items_of M t) e ≡ None
+    → length (steps_of links (M ++ (t, e) ∷ [])) ≡ length (steps_of links M)
+steps_none links M t e is =
+    let none : steps_of_after links M ((t, e) ∷ []) ≡ [] = ap (λ o. all_by t (option_to_list o) ++ []) is in
+    ap length (steps_of_after-append links [] M ((t, e) ∷ []))
+    ∙ omega (arith, length-append (steps_of links M) (steps_of_after links M ((t, e) ∷ [])), ap length none)
+
+none_of : (asked : Option Entry) → length (option_to_list asked) ≡ 0 → asked ≡ None
+none_of None is = refl
+none_of (Some k) is = absurd (omega (arith, is))
+
+-- has no entry
+pub none_asked : (setup : RawSetup) (old new : ServerState) (M : List (ℕ × Event)) (K : List Entry) (who : ℕ) (e : Event) (asked : Option Entry)
+    → Serves setup old M K → Serves setup new (M ++ (who, e) ∷ []) (K ++ option_to_list asked)
+    → gives (link_of setup who) (items_of M who) e ≡ None → asked ≡ None
+none_asked setup old new M K who e asked before after is =
+    let links = link_of setup in
+    let by : Entry → ℕ × Step = λ k. (k.who, k.step) in
+    let L = option_to_list asked in
+    none_of asked (omega (
+      arith,
+      ap length before.run,
+      ap length after.run,
+      length-map K by,
+      length-map (K ++ L) by,
+      length-append K L,
+      steps_none links M who e is,
+    ))
+
+-- and lets no time pass
+pub paced_still : (old new : ServerView) (who time : ℕ) (e : Event) (asked : Option Entry) (more : List Sent)
+    → Settled (server_of old) (server_of new) who e asked more → IsTrue (is_frame e) → IsBy old time → IsBy new time
+paced_still old new who time e asked more settled frame by = λ i link at.
+    let moved = settled.moved in
+    elim (set_cases (server_of old).links (who - 1) i moved.after link (subst (λ ls. slice_get ls i ≡ Some link) moved.set at)) [
+      | inl p ↦ (
+          let same : link.now ≡ moved.after.now = ap (λ (l : LinkState). l.now) p.1 in
+          let low = by (who - 1) moved.before moved.found in
+          omega (arith, same, moved.time, frame_time e frame moved.before.now, low))
+      | inr p ↦ by i link p.1
+    ]
+
+-- where it isn't told that a step is given, none is
+pub none_given : (o : Option Step) (told : Bool) → told ≡ false → (IsSome o → IsTrue told) → o ≡ None
+none_given None told silent tells = refl
+none_given (Some x) told silent tells = absurd (never (subst IsTrue silent (tells (given_some (Some x) x refl))))
+  where
+    never : IsTrue false → ⊥
+    never h = cc

@@ -1,7 +1,12 @@
 //! A play that writes as it goes: the streaming server, the journal's text and each tester's reply lines.
 
-ghost use Rattle.std.specs.Prelude.{◌≡◌, ◌≤◌, ◌-◌, [], ◌∷◌, ◌++◌, Err, IfOk, OnOk, length};
+ghost use Rattle.std.specs.Prelude.{◌≡◌, ◌≤◌, ◌-◌, [], ◌∷◌, ◌++◌, None, Err, IfErr, IfOk, IsTrue, OnOk, length};
 ghost use Rattle.diag_can.specs.declared.frame.Event.{Event as AnEvent};
+ghost use Rattle.diag_setup.specs.Setup.{link_of};
+ghost use Rattle.diag_tp.specs.Gives.{gives};
+ghost use Rattle.diag_tp.specs.Link.{is_frame};
+ghost use Rattle.diag_world.specs.Server.{EachRun, server_of};
+ghost use Rattle.diag_world.specs.Weaving.{items_of};
 ghost use Rattle.diag_run.specs.Playing.{EachPlay, IsFull, IsPaced, IsReady, Plays, Took, WroteTo, parts_text};
 ghost use Rattle.diag_run.specs.Run.{joined};
 
@@ -116,8 +121,49 @@ impl Playing {
         }
     }
 
-    /// The same of any event.
+    /// The same of a frame.
     fn take_frame(&mut self, who: TesterId, event: &Event) -> Result<(), StepFault>
+        requires in_setup { (1 ≤ who) × (who ≤ length self.old.server.links) }
+        requires ready { IsReady self.old }
+        requires frame { IsTrue (is_frame event.now) }
+        ensures took { OnOk result (Took self.old self.new who event.now) }
+        ensures paced { OnOk result (IsPaced self.new) }
+        ensures links { OnOk result
+            (length self.new.server.links ≡ length self.old.server.links) }
+        ensures lines { self.new.lines ≡ self.old.lines }
+        ensures full { result ≡ Err StepFault.JournalFull → IsFull self.old who event.now }
+    {
+        if self.server.gives_step(who, event) {
+            self.take_request(who, event)
+        } else {
+            self.take_part(who, event)
+        }
+    }
+
+    /// The same of a frame that gives no step, and so no entry.
+    #[inline(always)]
+    fn take_part(&mut self, who: TesterId, event: &Event) -> Result<(), StepFault>
+        requires in_setup { (1 ≤ who) × (who ≤ length self.old.server.links) }
+        requires ready { IsReady self.old }
+        requires frame { IsTrue (is_frame event.now) }
+        requires stepless { EachRun (server_of self.old.server) (λ setup M K.
+            gives (link_of setup who) (items_of M who) event.now ≡ None) }
+        ensures took { OnOk result (Took self.old self.new who event.now) }
+        ensures paced { OnOk result (IsPaced self.new) }
+        ensures links { OnOk result
+            (length self.new.server.links ≡ length self.old.server.links) }
+        ensures lines { self.new.lines ≡ self.old.lines }
+        ensures memory { IfErr result (λ fault. fault ≡ StepFault.Memory) }
+    {
+        match self.server.event(who, event, &mut self.out) {
+            Ok(()) => Ok(()),
+            Err(ServerFault::Memory) => Err(StepFault::Memory),
+            Err(ServerFault::Clock) => unreachable!(),
+        }
+    }
+
+    /// The same of any event, as one that gives a step.
+    fn take_request(&mut self, who: TesterId, event: &Event) -> Result<(), StepFault>
         requires in_setup { (1 ≤ who) × (who ≤ length self.old.server.links) }
         requires ready { IsReady self.old }
         ensures took { OnOk result (Took self.old self.new who event.now) }
