@@ -3,11 +3,7 @@ use Rattle.std.proofs.lemmas.Bool.{eq-eqb}
 use Rattle.std.proofs.lemmas.Bool.Decides.{nat_tests}
 use Rattle.std.specs.Prelude.{if◌then◌else◌, ◌/◌, ◌%◌}
 use Rattle.diag_can.specs.Log.{waited}
-use Rattle.diag_can.specs.Bus.{frame_for}
-use Rattle.diag_can.specs.declared.frame.Ids.{Ids}
 use Rattle.diag_can.specs.declared.frame.Event.TheVariants.{Ticks}
-use Rattle.diag_setup.specs.Setup.{ids_of}
-use Rattle.diag_world.specs.Weaving.{all_by}
 use Rattle.std.proofs.Common.{◌≡◌, ◌≤◌, ◌<◌, min, None, Bool, ℕ, ◌+◌, false, zero, suc, Option, Some, List, [], ◌∷◌, ◌++◌, length, refl, ap, subst, sym, ◌∙◌, append_assoc, arith, inl, inr}
 use Rattle.std.proofs.lemmas.List.{append-nil, length-map, length-set}
 use Rattle.std.specs.Prelude.{◌==◌, replicate, slice_get, slice_set, IfSome}
@@ -17,7 +13,7 @@ use Rattle.diag_tp.specs.declared.sent.Sent.{Sent}
 use Rattle.diag_tp.specs.Moments.{counted_from, last_time}
 use Rattle.diag_setup.specs.declared.raw.RawSetup.{RawSetup}
 use Rattle.diag_desk.specs.declared.entry.Entry.{Entry}
-use Rattle.diag_world.specs.Server.{ServerView, Serves, Settled, closing_time, sent_to, server_of}
+use Rattle.diag_world.specs.Server.{ServerState, Serves, Settled, closing_time, sent_to, server_of}
 use Rattle.diag_world.proofs.Worlds.{set_cases, other_place}
 use Rattle.diag_world.proofs.Waiting.{counted_more}
 use Rattle.std.proofs.lemmas.Grind.{flat_map-append}
@@ -27,10 +23,9 @@ use Rattle.diag_bus.specs.Batch.{Drew, Gave, SameShape, entered, entry_added, li
 use Rattle.diag_bus.specs.declared.mid_line.MidLine.{MidLine}
 use Rattle.diag_bus.proofs.Entries.{entered_more}
 use Rattle.diag_desk.specs.Text.{ticks_of}
-use Rattle.diag_tp.specs.State.{LinkView}
+use Rattle.diag_tp.specs.State.{LinkState}
 use Rattle.diag_tp.specs.Link.{last_tick}
 use Rattle.diag_world.specs.Weaving.{items_of}
-use Rattle.diag_world.proofs.Serving.{port_at}
 use Rattle.diag_world.proofs.Times.{ticks_served}
 use Rattle.diag_bus.specs.Events.{frame_to, to_each}
 
@@ -114,51 +109,27 @@ waited_rest ms some =
 pub rest_more : (n : ℕ) (es : List Event) (e : Event) → flat_map (to_each n) (es ++ e ∷ []) ≡ flat_map (to_each n) es ++ to_each n e
 rest_more n es e = flat_map-append (to_each n) es (e ∷ []) ∙ ap (λ w. flat_map (to_each n) es ++ w) (append-nil (to_each n e))
 
--- what a frame is to a tester, where it is known
-pub frame_given : (setup : RawSetup) (frame : Frame) (who : ℕ) (ids : Ids) (r o : Option Event) → ids ≡ ids_of setup who
-    → r ≡ frame_for ids (Some frame) → r ≡ o
-    → frame_to setup (Some frame) who ≡ all_by who (option_to_list o)
-frame_given setup frame who ids r o same given is = ap (λ x. all_by who (option_to_list x)) (ap (λ i. frame_for i (Some frame)) (sym same) ∙ (sym given ∙ is))
-
 -- what stands at a place that there is
 pub found_at : {X : Type 0} (xs : List X) (i : ℕ) → i < length xs → (x : X) × (slice_get xs i ≡ Some x)
 found_at [] i h = absurd (omega (arith, h))
 found_at (x ∷ xs) zero h = (x, refl)
 found_at (x ∷ xs) (suc i) h = found_at xs i (omega (arith, h))
 
-pub some_of : {X : Type 0} (P : X → Type 0) (o : Option X) (x : X) → o ≡ Some x → IfSome o P → P x
-some_of P None x is h = absurd (clash is)
-  where
-    clash : None ≡ Some x → ⊥
-    clash e = cc
-some_of P (Some y) x is h = let same : y ≡ x = cc in subst P same h
-
--- a link's clock where an event was asked
-pub early_now : (links : List LinkView) (i now : ℕ) → i < length links → IfSome (slice_get links i) (λ link. now ≡ link.state.now)
-    → ((link : LinkView) → slice_get links i ≡ Some link → link.state.now ≤ closing_time) → now ≤ closing_time
-early_now links i now within is early =
-    let at = found_at links i within in
-    let same = some_of (λ (link : LinkView). now ≡ link.state.now) (slice_get links i) at.0 at.1 is in
-    let low = early at.0 at.1 in
-    omega (arith, same, low)
-
 whose : (asked : Option Entry) (who now : ℕ) (K : List Entry) → IfSome asked (λ k. k.who ≡ who) → now ≡ ticks_of who K
     → IfSome asked (λ k. now ≡ ticks_of k.who K)
 whose None who now K by is = tt
 whose (Some k) who now K by is = is ∙ ap (λ t. ticks_of t K) (sym by)
 
--- the link's clock tells the ticks that its tester has in the journal
-pub clock_told : (setup : RawSetup) (server : ServerView) (M : List (ℕ × Event)) (K : List Entry) (who i now : ℕ) (asked : Option Entry)
-    → Serves setup (server_of server) M K → who ≡ i + 1 → i < length server.links
-    → IfSome (slice_get server.links i) (λ link. now ≡ link.state.now) → now ≤ closing_time → IfSome asked (λ k. k.who ≡ who)
-    → IfSome asked (λ k. now ≡ ticks_of k.who K)
-clock_told setup server M K who i now asked h is within told early by =
-    let at = found_at server.links i within in
-    let same = some_of (λ (link : LinkView). now ≡ link.state.now) (slice_get server.links i) at.0 at.1 told in
-    let port = port_at setup server M K who i at.0 h is at.1 in
-    let time : at.0.state.now ≡ min (last_time (items_of M who)) last_tick = port.stands.now in
-    let exact : now ≡ last_time (items_of M who) = under now (last_time (items_of M who)) early (same ∙ time) in
-    whose asked who now K by (exact ∙ sym (ticks_served setup (server_of server) M K who h))
+-- a link's clock tells the ticks that its tester has in the journal
+pub clock_told : (setup : RawSetup) (server : ServerState) (M : List (ℕ × Event)) (K : List Entry) (who i : ℕ) (link : LinkState)
+    (asked : Option Entry)
+    → Serves setup server M K → who ≡ i + 1 → slice_get server.links i ≡ Some link → link.now ≤ closing_time → IfSome asked (λ k. k.who ≡ who)
+    → IfSome asked (λ k. link.now ≡ ticks_of k.who K)
+clock_told setup server M K who i link asked h is found early by =
+    let time : link.now ≡ min (last_time (items_of M who)) last_tick =
+    subst (λ t. link.now ≡ min (last_time (items_of M t)) last_tick) (sym is) (h.ports i link found).stands.now in
+    let exact : link.now ≡ last_time (items_of M who) = under link.now (last_time (items_of M who)) early time in
+    whose asked who link.now K by (exact ∙ sym (ticks_served setup server M K who h))
   where
     under : (now time : ℕ) → now ≤ closing_time → now ≡ min time last_tick → now ≡ time
     under now time early is = omega (arith, early, is)

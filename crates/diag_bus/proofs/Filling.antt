@@ -79,10 +79,6 @@ links_same old new same =
 
 -- ---- how long no link does anything
 
--- nothing needs be known of it
-pub rest_unknown : (server : ServerView) → IsRest server 0
-rest_unknown server = omega arith
-
 pub rest_stays : (old new : ServerView) (rest : ℕ) → server_of new ≡ server_of old → IsRest old rest → IsRest new rest
 rest_stays old new rest same known = subst (λ (s : ServerState). rest ≤ quiet_of s.links) (sym same) known
 

@@ -1,18 +1,20 @@
 -- A line in which the server was given an event of one tester.
-use Rattle.std.proofs.Common.{◌≡◌, ◌<◌, ◌≤◌, ℕ, ◌+◌, ◌-◌, Bool, Option, Some, Vec, Global, vec_len, List, [], ◌∷◌, ◌++◌, get_or, length, map, refl, ap, subst, sym, ◌∙◌, arith}
-use Rattle.std.proofs.lemmas.List.{map-set}
+use Rattle.std.proofs.Common.{◌≡◌, ◌<◌, ◌≤◌, ℕ, ◌+◌, ◌-◌, Bool, Option, Some, None, Vec, Global, vec_len, List, [], ◌∷◌, ◌++◌, get_or, length, map, refl, ap, sym, ◌∙◌, arith}
+use Rattle.std.proofs.lemmas.List.{append-nil, map-set}
 use Rattle.std.proofs.lemmas.Option.{slice_get_read, slice_get-map}
 use Rattle.std.specs.Prelude.{◌==◌, IfSome, if◌then◌else◌, slice_get, slice_set}
 use Rattle.std.specs.Option.{option_map}
 use Rattle.std.specs.Vec.{with_item}
 use Rattle.diag_can.specs.declared.frame.Event.{Event}
 use Rattle.diag_tp.specs.declared.sent.Sent.{Sent}
-use Rattle.diag_tp.specs.State.{LinkView}
 use Rattle.diag_desk.specs.declared.entry.Entry.{Entry}
-use Rattle.diag_world.specs.Port.{time_after}
-use Rattle.diag_world.specs.Server.{IsClosed, ServerState, ServerView, Serves, Settled, closing_time, server_of}
-use Rattle.diag_bus.specs.Batch.{Gave, IsEarly, IsRest, OneSentIn, SameShape, entry_added, lists_of}
+use Rattle.diag_world.specs.Server.{HasKept, IsClosed, ServerView, Settled, closing_time, server_of}
+use Rattle.diag_bus.specs.Batch.{Gave, IsEarly, IsRest, Lasts, OneSentIn, SameShape, entry_added, lists_of}
+use Rattle.diag_bus.specs.Entering.{EntersLine}
 use Rattle.diag_bus.specs.Requests.{filled_at}
+use Rattle.diag_bus.specs.declared.bus.Output.{Output}
+use Rattle.diag_bus.specs.declared.bus.Output.TheVariants as output
+use Rattle.diag_bus.specs.declared.entering.LineEntries.{LineEntries}
 use Rattle.diag_bus.specs.declared.filled.Filled.{Filled}
 use Rattle.diag_bus.specs.declared.mid_line.MidLine.{MidLine}
 use Rattle.diag_bus.proofs.Batches.{clock_told, drew_more}
@@ -33,7 +35,6 @@ line_with old server i list filled text rest = record {
 -- the list of the tester `who` stands at its place i in the line
 pub record IsListAt (old : MidLine) (who i : ℕ) (list : Vec Sent Global) : Type 0 where
   pub is : who ≡ i + 1
-  pub there : who - 1 < length old.server.links
   pub within : i < length old.drawn.items
   pub read : list ≡ get_or old.drawn.items i list
 
@@ -44,10 +45,23 @@ module _ (old : MidLine) {who place at : ℕ} {list : Vec Sent Global} (in_setup
   pub list_at : IsListAt old who (at - 1) list
   list_at = record {
     is = omega (arith, same, fits.0, index);
-    there = omega (arith, in_setup, same, fits.0);
     within = omega (arith, in_setup, lists, same, fits.0, index);
     read = read;
   }
+
+-- what is entered for an event, with or without an entry
+pub entered_asked : (old new : LineEntries) (now : ℕ) (asked : Option Entry) → HasKept EntersLine old new now asked
+    → new.text.now.items ≡ old.text.now.items ++ entry_added old.output now asked
+entered_asked old new now (Some k) kept = kept
+entered_asked old new now None kept =
+    ap (λ (l : LineEntries). l.text.now.items) kept
+    ∙ sym (ap (λ (w : List ℕ). old.text.now.items ++ w) (none_added old.output) ∙ append-nil old.text.now.items)
+  where
+    none_added : (o : Output) → entry_added o now None ≡ []
+    none_added output.Replies = refl
+    none_added output.Journal = refl
+    none_added output.End = refl
+    none_added output.Verdict = refl
 
 -- a link that is early isn't closed
 pub never_closed : (server : ServerView) (place : ℕ) → IsEarly server place → IsClosed (server_of server).links place → ⊥
@@ -77,32 +91,23 @@ module _ {old : MidLine} {who i : ℕ} {list : Vec Sent Global} (here : IsListAt
       shape_same old (line_with old server i list' old.filled text old.rest) i list' list (links_same old.server server same) refl here.read kept refl refl
       (rest_stays old.server server old.rest same)
 
--- what the server settled that was asked, and was as before
-module _ {asked_of old new : ServerState} {who : ℕ} {e : Event} {asked : Option Entry} {more : List Sent} (same : asked_of ≡ old)
-    (settled : Settled asked_of new who e asked more) where
-  pub settled_same : Settled old new who e asked more
-  settled_same = subst (λ (s : ServerState). Settled s new who e asked more) same settled
-
 -- a line in which the server took the event
 module _ {old : MidLine} {who i : ℕ} {list : Vec Sent Global} (here : IsListAt old who i list) (server : ServerView) (list' : Vec Sent Global)
     (filled : Filled) (text : Vec ℕ Global) (rest : ℕ) {e : Event} {asked : Option Entry} {more : List Sent}
     (settled : Settled (server_of old.server) (server_of server) who e asked more) where
   -- its entry is entered with what the tester's clock told, and the frames that the server handed out are drawn
-  pub gave_one : list'.items ≡ list.items ++ more → (now : ℕ) → text.items ≡ old.text.items ++ entry_added old.output now asked
-      → (asked_of : ServerView) → server_of asked_of ≡ server_of old.server
-      → IfSome (slice_get asked_of.links (who - 1)) (λ (l : LinkView). now ≡ l.state.now) → now ≤ closing_time → IfSome asked (λ k. k.who ≡ who)
+  pub gave_one : list'.items ≡ list.items ++ more → settled.moved.before.now ≤ closing_time → IfSome asked (λ k. k.who ≡ who)
+      → text.items ≡ old.text.items ++ entry_added old.output settled.moved.before.now asked
       → Gave old (line_with old server i list' filled text rest) ((who, e) ∷ [])
-  gave_one grew now entered asked_of same told early by = λ setup base before M h.
+  gave_one grew early by entered = λ setup base before M h.
       let place : who ≡ (who - 1) + 1 = omega (arith, here.is) in
-      let there : who - 1 < length asked_of.links = omega (arith, links_same old.server asked_of same, here.there) in
-      drew_more setup old (line_with old server i list' filled text rest) base before M who i now e asked list.items more
+      drew_more setup old (line_with old server i list' filled text rest) base before M who i settled.moved.before.now e asked list.items more
       settled here.is (found here) (grown here list' more grew) refl entered
-      (λ K served. clock_told setup asked_of M K who (who - 1) now asked
-      (subst (λ (s : ServerState). Serves setup s M K) (sym same) served) place there told early by)
+      (λ K served. clock_told setup (server_of old.server) M K who (who - 1) settled.moved.before asked served place settled.moved.found early by)
       h
 
   -- no frame is later than its time
-  pub sent_in_one : list'.items ≡ list.items ++ more → (span : ℕ) → ((now : ℕ) → time_after now e ≤ now + span)
+  pub sent_in_one : list'.items ≡ list.items ++ more → (span : ℕ) → Lasts e span
       → OneSentIn old (line_with old server i list' filled text rest) (who - 1) span
   sent_in_one grew span most =
       sent_one old (line_with old server i list' filled text rest) (who - 1) i span e asked list.items more settled.moved most (found here)

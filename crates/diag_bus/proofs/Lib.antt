@@ -20,4 +20,4 @@ pub mod Texts
 pub mod Verdicts
 mod VerdictExamples
 pub mod Usual
-pub mod Nobody
+pub mod Owners

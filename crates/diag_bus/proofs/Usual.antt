@@ -1,6 +1,5 @@
 -- A line of the usual form: its time, and what holds behind it.
-use Rattle.std.proofs.Common.{◌≡◌, ◌<◌, ◌≤◌, ◌+◌, ℕ, List, ◌++◌, length, Option, Some, None, Ok, true, false, nat_lt, refl, ap, ◌∙◌, subst, sym, arith}
-use Rattle.std.proofs.lemmas.Bool.Decides.{nat_tests}
+use Rattle.std.proofs.Common.{◌≡◌, ◌<◌, ℕ, List, ◌++◌, length, Option, Some, Ok, refl, ap, ◌∙◌, subst, sym}
 use Rattle.std.specs.List.{flat_map}
 use Rattle.diag_can.specs.Bus.{bus_line}
 use Rattle.diag_can.specs.Log.{silence, waited}
@@ -10,29 +9,13 @@ use Rattle.diag_can.specs.declared.bus.BusLine.TheVariants.{Stamped}
 use Rattle.diag_can.specs.declared.frame.Frame.{Frame}
 use Rattle.diag_setup.specs.declared.raw.RawSetup.{RawSetup}
 use Rattle.diag_tp.specs.Moments.{counted_from}
-use Rattle.diag_world.specs.Server.{closing_time}
 use Rattle.diag_bus.specs.Batch.{Gave, GoesOn, SameShape, StartsBelow, TookTime}
 use Rattle.diag_bus.specs.Bus.{AreSound}
-use Rattle.diag_bus.specs.Events.{fault_said, frame_to, said_gives, span_said, to_each}
+use Rattle.diag_bus.specs.Events.{frame_to, said_gives, to_each}
 use Rattle.diag_bus.specs.declared.clock.Clock.{Clock}
 use Rattle.diag_bus.specs.declared.comparing.Comparisons.{Comparisons}
 use Rattle.diag_bus.specs.declared.mid_line.MidLine.{MidLine}
 use Rattle.diag_bus.proofs.Taking.{sound_taken}
-use Rattle.diag_bus.specs.declared.fault.BusFault.TheVariants.{Late}
-
-pub usual_well : (clock : Clock) (line usual : List ℕ) (id at time : ℕ) → bus_line line ≡ Ok (usual_said usual id at)
-    → time ≡ clock.time + silence Stamps clock.reference (Some (usual_moment usual)) → time ≤ closing_time
-    → fault_said (bus_line line) (clock.time + span_said clock.reference (bus_line line)) ≡ None
-usual_well clock line usual id at time says is early =
-    let on_time : nat_lt closing_time (clock.time + silence Stamps clock.reference (Some (usual_moment usual))) ≡ false = grind (arith, nat_tests) in
-    rw (says, on_time) refl
-
-pub usual_late : (clock : Clock) (line usual : List ℕ) (id at : ℕ) → bus_line line ≡ Ok (usual_said usual id at)
-    → closing_time < clock.time + silence Stamps clock.reference (Some (usual_moment usual))
-    → fault_said (bus_line line) (clock.time + span_said clock.reference (bus_line line)) ≡ Some Late
-usual_late clock line usual id at says past =
-    let late : nat_lt closing_time (clock.time + silence Stamps clock.reference (Some (usual_moment usual))) ≡ true = grind (arith, nat_tests) in
-    rw (says, late) refl
 
 -- the time that it gives, by its moment
 span_usual : (clock : Clock) (usual : List ℕ) (moment span : ℕ) → moment ≡ usual_moment usual → span ≡ silence Stamps clock.reference (Some moment)

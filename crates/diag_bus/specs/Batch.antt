@@ -10,6 +10,7 @@ use Rattle.diag_tp.specs.State.{LinkState}
 use Rattle.diag_setup.specs.declared.raw.RawSetup.{RawSetup}
 use Rattle.diag_desk.specs.declared.entry.Entry.{Entry}
 use Rattle.diag_desk.specs.Text.{ended, entry_line, journal_text_at, stamped_line, ticks_in}
+use Rattle.diag_world.specs.Port.{time_after}
 use Rattle.diag_world.specs.Server.{ServerState, ServerView, Serves, closing_time, quiet_of, sent_to, server_of}
 use Rattle.diag_bus.specs.Events.{clock_of, events_of, moment_said, reference, span_said}
 use Rattle.diag_bus.specs.Requests.{AreFilled}
@@ -90,6 +91,10 @@ OneWentOn old new place span = (i : ℕ) (link : LinkState)
     → (before : LinkState)
     × (slice_get (server_of old).links i ≡ Some before)
     × (((i ≡ place) × (link.now ≤ before.now + span)) ⊎ (link.now ≤ before.now))
+
+-- the event lets at most so much pass
+abbrev pub Lasts : Event → ℕ → Type 0
+Lasts e span = (now : ℕ) → time_after now e ≤ now + span
 
 -- the clock at this place hasn't run out
 abbrev pub IsEarly : ServerView → ℕ → Type 0

@@ -1,6 +1,7 @@
 pub mod Batch
 pub mod Bus
 pub mod Comparing
+pub mod Entering
 pub mod Events
 pub mod Requests
 pub mod Text

@@ -1,18 +1,43 @@
--- The identifiers by which it is told for whom a frame is, and where the testers' lists have frames.
-use Rattle.std.specs.Prelude.{◌≡◌, ◌≢◌, ◌<◌, ◌==◌, if◌then◌else◌, ℕ, ◌+◌, List, [], length, Some, slice_get}
+-- Whose the frames of an identifier are, and where the testers' lists have frames.
+use Rattle.std.specs.Prelude.{◌≡◌, ◌≢◌, ◌≤◌, ◌<◌, ◌==◌, if◌then◌else◌, ℕ, ◌+◌, List, [], ◌∷◌, length, Some, slice_get}
+use Rattle.std.specs.List.{flat_map}
+use Rattle.diag_can.specs.declared.frame.Event.{Event}
+use Rattle.diag_can.specs.declared.frame.Event.TheVariants as event
 use Rattle.diag_setup.specs.declared.raw.RawSetup.{RawSetup}
 use Rattle.diag_setup.specs.Setup.{ids_of, name_of}
 use Rattle.diag_tp.specs.declared.sent.Sent.{Sent}
+use Rattle.diag_tp.specs.Moments.{counted_from}
+use Rattle.diag_bus.specs.Events.{frame_to, to_each}
 use Rattle.diag_bus.specs.declared.filled.Filled.{Filled}
 use Rattle.diag_bus.specs.declared.filled.Filled.TheVariants.{Nowhere, At, Anywhere}
+use Rattle.diag_bus.specs.declared.request_ids.Owner.{Owner}
+use Rattle.diag_bus.specs.declared.request_ids.Owner.TheVariants.{Nobody, Tester, Each}
 use Rattle.diag_bus.specs.declared.request_ids.RequestIds.{RequestIds}
 
--- these are the identifiers of the testers' requests
+-- what a frame with these bytes is to so many testers, by whose it is
+abbrev pub given : ℕ → Owner → List ℕ → List (ℕ × Event)
+given n Nobody bytes = []
+given n (Tester who) bytes = (who, event.Physical bytes) ∷ []
+given n Each bytes = to_each n (event.Functional bytes)
+
+-- the owner is that of the identifier, among so many testers
+abbrev pub IsAmong : RawSetup → ℕ → ℕ → Owner → Type 0
+IsAmong setup id n Nobody = id ≢ setup.functional
+IsAmong setup id n (Tester who) = (1 ≤ who) × (who ≤ n) × (id ≡ (ids_of setup who).request)
+IsAmong setup id n Each = id ≡ setup.functional
+
+-- the frames of this identifier are its, among so many testers
+pub record IsOwner (setup : RawSetup) (id n : ℕ) (owner : Owner) : Type 0 where
+  pub among : IsAmong setup id n owner
+  pub gives : (bytes : List ℕ)
+      → flat_map (frame_to setup (Some (record { id = id; bytes = bytes }))) (counted_from 1 n)
+      ≡ given n owner bytes
+
+-- there is one for each identifier
 pub record AreRequestsOf (setup : RawSetup) (ids : RequestIds) : Type 0 where
-  pub many : length ids.physical.items ≡ length setup.testers
-  pub each : (i id : ℕ) → slice_get ids.physical.items i ≡ Some id
-      → id ≡ (ids_of setup (i + 1)).request
-  pub functional : ids.functional ≡ setup.functional
+  pub many : length ids.owners.items ≡ 2048
+  pub each : (id : ℕ) (owner : Owner) → slice_get ids.owners.items id ≡ Some owner
+      → IsOwner setup id (length setup.testers) owner
 
 -- these are the testers' names
 pub record AreNamesOf (setup : RawSetup) (names : List (List ℕ)) : Type 0 where

@@ -1,68 +1,42 @@
 //! The entries of the run's journal, as they are written.
 
-ghost use Rattle.std.specs.Prelude.{◌≡◌, ◌≤◌, ◌++◌, Some, option_copied, option_map, OnOk};
-ghost use Rattle.diag_desk.specs.Entry.{entry_seen, step_seen};
-ghost use Rattle.diag_desk.specs.Text.{ticks_in};
-ghost use Rattle.diag_world.specs.Server.{closing_time, entry_of_ticks};
-ghost use Rattle.diag_bus.specs.Batch.{entry_added};
-
 use crate::bus::Output;
-use diag_can::TickCount;
-use diag_desk::{EntryRef, StepRef, write_entry_at};
+use diag_desk::StepFault;
 use diag_setup::TesterId;
-use std::alloc::AllocError;
+use diag_tp::{Message, Step};
+use diag_world::{Keeper, enter_step};
 
-/// Adds the line of an entry, where a journal is wanted; `now` is what its tester's clock tells before it.
-pub(crate) fn enter(
-    output: Output,
-    now: u64,
-    asked: Option<&EntryRef<'_>>,
-    text: &mut Vec<u8>,
-) -> Result<(), AllocError>
-    requires { now ≤ closing_time }
-    ensures { OnOk result (text.new.items ≡ text.old.items
-        ++ entry_added output now (option_map entry_seen (option_copied asked.entry))) }
-{
-    match (output, asked) {
-        (Output::Journal, Some(entry)) => {
-            write_entry_at(text, now + ticks_in(&entry.step), entry)
-        }
-        _ => Ok(()),
-    }
+/// The entries of a line: their text, as far as a journal is wanted.
+#[derive(Drop)]
+pub struct LineEntries<'a> {
+    /// What is wanted.
+    pub output: Output,
+    /// The text so far.
+    pub text: &'a mut Vec<u8>,
 }
 
-/// The same of the entry of ticks.
-pub(crate) fn enter_ticks(
-    output: Output,
-    now: u64,
-    who: TesterId,
-    count: TickCount,
-    text: &mut Vec<u8>,
-) -> Result<(), AllocError>
-    requires { now ≤ closing_time }
-    ensures { OnOk result (text.new.items
-        ≡ text.old.items ++ entry_added output now (Some (entry_of_ticks who count))) }
-{
-    match output {
-        Output::Journal => {
-            let entry = EntryRef {
-                who,
-                step: StepRef::Ticks(count),
-                reply: None,
-            };
-            enter(output, now, Some(&entry), text)
-        }
-        Output::Replies | Output::End | Output::Verdict => Ok(()),
-    }
-}
+impl<'a> Keeper for LineEntries<'a> {
+    ghost use Rattle.diag_bus.specs.Entering.{EntersLine};
 
-/// The ticks of a step.
-fn ticks_in(step: &StepRef<'_>) -> u64
-    ensures same { result ≡ ticks_in (step_seen step.now) }
-    ensures bound { result ≤ 60000 }
-{
-    match step {
-        StepRef::Request { .. } => 0,
-        StepRef::Ticks(count) => u64::from(count.get()),
+    ghost keeps = { EntersLine };
+
+    ghost is_full = { λ _. ⊥ };
+
+    ghost place = { λ entries. entries.text.ghost_name };
+
+    fn keep(
+        &mut self,
+        before: u64,
+        who: TesterId,
+        step: &Step,
+        reply: Option<&Message>,
+    ) -> Result<(), StepFault> {
+        match self.output {
+            Output::Journal => {
+                enter_step(self.text, true, before, who, step, reply)?;
+                Ok(())
+            }
+            Output::Replies | Output::End | Output::Verdict => Ok(()),
+        }
     }
 }

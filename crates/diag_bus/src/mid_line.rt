@@ -10,16 +10,16 @@ ghost use Rattle.diag_tp.specs.Moments.{counted_from};
 ghost use Rattle.diag_tp.specs.declared.sent.Sent.{Sent as ASent};
 ghost use Rattle.diag_world.specs.Server.{closing_time};
 ghost use Rattle.diag_bus.specs.Events.{frame_to, said_gives, span_said, to_each};
-ghost use Rattle.diag_bus.specs.Requests.{AreFilled, AreNamesOf, AreRequestsOf};
+ghost use Rattle.diag_bus.specs.Requests.{AreFilled, AreNamesOf, AreRequestsOf, IsOwner, given};
 ghost use Rattle.diag_bus.specs.Text.{drawn_text};
 
 use crate::bus::Output;
 use crate::clock::{Start, silence};
-use crate::entering::{enter, enter_ticks};
+use crate::entering::LineEntries;
 use crate::filled::Filled;
-use crate::request_ids::RequestIds;
+use crate::request_ids::{Owner, RequestIds};
 use crate::writing::{Drawn, write_drawn, write_one};
-use diag_can::{BusLine, CanId, Event, Frame, LineWriter, TickCount, usual_bytes};
+use diag_can::{BusLine, CanId, Event, FrameBytes, LineWriter, TickCount, usual_bytes};
 use diag_setup::{Setup, TesterId};
 use diag_tp::Sent;
 use diag_world::{Server, ServerFault};
@@ -43,7 +43,7 @@ pub struct MidLine {
 }
 
 impl MidLine {
-    ghost use Rattle.diag_bus.specs.Batch.{AreSentBy, Gave, HasTime, IsEarly, IsRest, OneSentIn, OneWentOn, SameShape, SentIn, StartsBelow, TookTime, added, lists_of, moment_end};
+    ghost use Rattle.diag_bus.specs.Batch.{AreSentBy, Gave, HasTime, IsEarly, IsRest, Lasts, OneSentIn, OneWentOn, SameShape, SentIn, StartsBelow, TookTime, added, lists_of, moment_end};
 
     /// Begins a line: nothing was drawn and nothing written.
     pub fn begin(&mut self)
@@ -61,6 +61,7 @@ impl MidLine {
 
     /// Adds what the line writes: its entries, or the reply lines of what it drew. The batch is room to work in, the
     /// writers are those of the testers' lines. Refused, the text is as it was.
+    #[inline(always)]
     pub fn write(
         &mut self,
         setup: &Setup,
@@ -82,13 +83,19 @@ impl MidLine {
         ensures shape { SameShape self.old self.new }
     {
         match self.output {
-            Output::Replies => self.write_replies(setup, start, writers, batch, text),
+            Output::Replies => match self.filled {
+                Filled::Nowhere => Ok(()),
+                Filled::At(_) | Filled::Anywhere => {
+                    self.write_replies(setup, start, writers, batch, text)
+                }
+            },
             Output::Journal => text.extend_from_slice(self.text.as_slice()),
             Output::End | Output::Verdict => Ok(()),
         }
     }
 
-    /// Adds the reply lines of what the line drew: mostly none, or one.
+    /// Adds the reply lines of what the line drew: mostly one.
+    #[inline(never)]
     fn write_replies(
         &mut self,
         setup: &Setup,
@@ -110,11 +117,10 @@ impl MidLine {
         ensures shape { SameShape self.old self.new }
     {
         match self.filled {
-            Filled::Nowhere => Ok(()),
             Filled::At(place) if self.drawn[place].len() == 1 => {
                 write_one(writers, start, place, &self.drawn[place][0], text)
             }
-            Filled::At(_) | Filled::Anywhere => self.write_sorted(setup, start, batch, text),
+            _ => self.write_sorted(setup, start, writers, batch, text),
         }
     }
 
@@ -123,12 +129,15 @@ impl MidLine {
         &mut self,
         setup: &Setup,
         start: Option<Start>,
+        writers: &mut Vec<LineWriter>,
         batch: &mut Vec<Drawn>,
         text: &mut Vec<u8>,
     ) -> Result<(), AllocError>
         requires lists { length self.old.drawn.items ≡ length setup.now.testers }
+        requires names { AreNamesOf setup.now writers.old.items }
         requires start { StartsBelow start moment_end }
         requires sent { AreSentBy (lists_of self.old) closing_time }
+        ensures names { writers.new.items ≡ writers.old.items }
         ensures ok { OnOk result (text.new.items ≡ text.old.items
             ++ drawn_text setup.now start (lists_of self.old)) }
         ensures err { OnErr result (text.new.items ≡ text.old.items) }
@@ -137,42 +146,36 @@ impl MidLine {
     {
         self.filled = Filled::Anywhere;
         self.text.clear();
-        write_drawn(setup, start, &mut self.drawn, batch, &mut self.text)?;
+        write_drawn(
+            setup,
+            start,
+            writers,
+            &mut self.drawn,
+            batch,
+            &mut self.text,
+        )?;
         text.extend_from_slice(self.text.as_slice())
     }
 
-    /// Gives the server a frame of a tester.
+    /// Gives the server an event of a tester.
     fn give(&mut self, who: TesterId, event: &Event) -> Result<(), AllocError>
         requires in_setup { who ≤ length self.old.server.links }
         requires lists { length self.old.drawn.items ≡ length self.old.server.links }
-        requires frame { IsTrue (is_frame event.now) }
         requires early { IsEarly self.old.server (who - 1) }
         ensures ok { OnOk result (Gave self.old self.new ((who, event.now) ∷ [])) }
         ensures shape { SameShape self.old self.new }
-        ensures pace { OneWentOn self.old.server self.new.server (who - 1) 0 }
-        ensures sent { OnOk result (OneSentIn self.old self.new (who - 1) 0) }
-    {
-        match self.output {
-            Output::Journal => self.give_entered(who, event),
-            Output::Replies | Output::End | Output::Verdict => self.give_straight(who, event),
-        }
-    }
-
-    /// The same where no entry is wanted.
-    fn give_straight(&mut self, who: TesterId, event: &Event) -> Result<(), AllocError>
-        requires in_setup { who ≤ length self.old.server.links }
-        requires lists { length self.old.drawn.items ≡ length self.old.server.links }
-        requires frame { IsTrue (is_frame event.now) }
-        requires early { IsEarly self.old.server (who - 1) }
-        requires silent { self.old.output ≢ Output.Journal }
-        ensures ok { OnOk result (Gave self.old self.new ((who, event.now) ∷ [])) }
-        ensures shape { SameShape self.old self.new }
-        ensures pace { OneWentOn self.old.server self.new.server (who - 1) 0 }
-        ensures sent { OnOk result (OneSentIn self.old self.new (who - 1) 0) }
+        ensures pace { (span : ℕ) → Lasts event.now span
+            → OneWentOn self.old.server self.new.server (who - 1) span }
+        ensures sent { OnOk result ((span : ℕ) → Lasts event.now span
+            → OneSentIn self.old self.new (who - 1) span) }
     {
         let index = usize::from(who.place()) - 1;
         let out = &mut self.drawn[index];
-        match self.server.event(who, event, out) {
+        let mut entries = LineEntries {
+            output: self.output,
+            text: &mut self.text,
+        };
+        match self.server.take(who, event, &mut entries, out) {
             Ok(()) => {
                 self.filled = self.filled.after(index, out.is_empty());
                 self.rest = self.rest.min(self.server.quiet_at(who));
@@ -180,57 +183,7 @@ impl MidLine {
             }
             Err(ServerFault::Memory) => Err(AllocError),
             Err(ServerFault::Clock) => unreachable!(),
-        }
-    }
-
-    /// The same with the entry that the frame gives.
-    fn give_entered(&mut self, who: TesterId, event: &Event) -> Result<(), AllocError>
-        requires in_setup { who ≤ length self.old.server.links }
-        requires lists { length self.old.drawn.items ≡ length self.old.server.links }
-        requires frame { IsTrue (is_frame event.now) }
-        requires early { IsEarly self.old.server (who - 1) }
-        ensures ok { OnOk result (Gave self.old self.new ((who, event.now) ∷ [])) }
-        ensures shape { SameShape self.old self.new }
-        ensures pace { OneWentOn self.old.server self.new.server (who - 1) 0 }
-        ensures sent { OnOk result (OneSentIn self.old self.new (who - 1) 0) }
-    {
-        let index = usize::from(who.place()) - 1;
-        let out = &mut self.drawn[index];
-        let asked = match self.server.ask(who, event, out) {
-            Ok(asked) => asked,
-            Err(ServerFault::Memory) => return Err(AllocError),
-            Err(ServerFault::Clock) => unreachable!(),
-        };
-        let now = self.server.now(who);
-        let entry = self.server.entry(who, &asked);
-        enter(self.output, now, entry.as_ref(), &mut self.text)?;
-        self.server.settle(who, event, asked, out);
-        self.filled = self.filled.after(index, out.is_empty());
-        self.rest = 0;
-        Ok(())
-    }
-
-    /// Gives the server ticks of a tester.
-    fn give_ticks(&mut self, who: TesterId, count: TickCount) -> Result<(), AllocError>
-        requires in_setup { who ≤ length self.old.server.links }
-        requires lists { length self.old.drawn.items ≡ length self.old.server.links }
-        requires early { IsEarly self.old.server (who - 1) }
-        ensures ok { OnOk result (Gave self.old self.new ((who, AnEvent.Ticks count) ∷ [])) }
-        ensures shape { SameShape self.old self.new }
-        ensures pace { OneWentOn self.old.server self.new.server (who - 1) count }
-        ensures sent { OnOk result (OneSentIn self.old self.new (who - 1) count) }
-    {
-        let index = usize::from(who.place()) - 1;
-        let now = self.server.now(who);
-        let out = &mut self.drawn[index];
-        match self.server.ticks(who, count, out) {
-            Ok(()) => {
-                self.filled = self.filled.after(index, out.is_empty());
-                self.rest = 0;
-                enter_ticks(self.output, now, who, count, &mut self.text)
-            }
-            Err(ServerFault::Memory) => Err(AllocError),
-            Err(ServerFault::Clock) => unreachable!(),
+            Err(ServerFault::JournalFull) => unreachable!(),
         }
     }
 
@@ -300,7 +253,7 @@ impl MidLine {
             let Some(who) = setup.who(index) else {
                 unreachable!()
             };
-            self.give_ticks(who, count)?;
+            self.give(who, &Event::Ticks(count))?;
         }
         Ok(())
     }
@@ -345,32 +298,47 @@ impl MidLine {
         }
     }
 
-    /// Gives the server a frame, for each tester that it is for.
+    /// Gives the server a frame with these bytes, by whose it is.
     fn give_frame(
         &mut self,
         setup: &Setup,
-        ids: &RequestIds,
-        frame: &Frame,
+        owner: Owner,
+        bytes: FrameBytes,
     ) -> Result<(), AllocError>
         requires in_setup { length self.old.server.links ≡ length setup.now.testers }
         requires lists { length self.old.drawn.items ≡ length setup.now.testers }
-        requires ids { AreRequestsOf setup.now ids.now }
+        requires owner { (id : ℕ) × IsOwner setup.now id (length setup.now.testers) owner }
         requires early { HasTime self.old.server 0 }
         ensures ok { OnOk result (Gave self.old self.new
-            (flat_map (frame_to setup.now (Some frame.now))
-            (counted_from 1 (length setup.now.testers)))) }
+            (given (length setup.now.testers) owner bytes)) }
+        ensures shape { SameShape self.old self.new }
+        ensures pace { TookTime self.old.server self.new.server 0 }
+        ensures sent { OnOk result (SentIn self.old self.new 0) }
+    {
+        match owner {
+            Owner::Nobody => Ok(()),
+            Owner::Tester(who) => self.give(who, &Event::Physical(bytes)),
+            Owner::Each => self.give_to_each(setup, &Event::Functional(bytes)),
+        }
+    }
+
+    /// Gives the server a frame of each tester, in order.
+    fn give_to_each(&mut self, setup: &Setup, event: &Event) -> Result<(), AllocError>
+        requires in_setup { length self.old.server.links ≡ length setup.now.testers }
+        requires lists { length self.old.drawn.items ≡ length setup.now.testers }
+        requires frame { IsTrue (is_frame event.now) }
+        requires early { HasTime self.old.server 0 }
+        ensures ok { OnOk result
+            (Gave self.old self.new (to_each (length setup.now.testers) event.now)) }
         ensures shape { SameShape self.old self.new }
         ensures pace { TookTime self.old.server self.new.server 0 }
         ensures sent { OnOk result (SentIn self.old self.new 0) }
     {
         for index in 0..setup.testers() {
-            let Some(event) = ids.event_at(index, frame) else {
-                continue;
-            };
             let Some(who) = setup.who(index) else {
                 unreachable!()
             };
-            self.give(who, &event)?;
+            self.give(who, event)?;
         }
         Ok(())
     }
@@ -402,11 +370,10 @@ impl MidLine {
         ensures sent { OnOk result (SentIn self.old self.new ms) }
     {
         self.pass(setup, ms)?;
-        if !ids.are_for(id) {
-            return Ok(());
+        match ids.owner(id) {
+            Owner::Nobody => Ok(()),
+            owner => self.give_frame(setup, owner, usual_bytes(line, at)),
         }
-        let bytes = usual_bytes(line, at);
-        self.give_frame(setup, ids, &Frame { id, bytes })
     }
 
     /// Gives the server what a line says.
@@ -435,7 +402,9 @@ impl MidLine {
             BusLine::Stamped { moment, frame } => {
                 self.pass(setup, silence(reference, *moment))?;
                 match frame {
-                    Some(frame) => self.give_frame(setup, ids, frame),
+                    Some(frame) => {
+                        self.give_frame(setup, ids.owner(frame.id), frame.bytes.copy())
+                    }
                     None => Ok(()),
                 }
             }

@@ -11,7 +11,7 @@ ghost use Rattle.diag_bus.specs.Requests.{AreNamesOf};
 ghost use Rattle.diag_bus.specs.Text.{bus_moment, drawn_for, drawn_text, gathered, line_of, time_of};
 
 use crate::clock::Start;
-use diag_can::{LineWriter, write_line};
+use diag_can::LineWriter;
 use diag_setup::{Setup, TesterId};
 use diag_tp::Sent;
 use std::alloc::{AllocError, Global};
@@ -84,27 +84,6 @@ fn gather(
     Ok(())
 }
 
-/// Writes a line for each frame of a batch, in the order of their times.
-fn write_batch(
-    setup: &Setup,
-    start: Option<Start>,
-    batch: &mut Vec<Drawn>,
-    text: &mut Vec<u8>,
-) -> Result<(), AllocError>
-    requires testers { All (λ drawn. drawn.who ≤ length setup.now.testers) batch.old.items }
-    requires start { StartsBelow start moment_end }
-    requires sent { All (λ drawn. drawn.sent.at ≤ closing_time) batch.old.items }
-    ensures { OnOk result (text.new.items ≡ text.old.items
-        ++ flat_map (line_of setup.now start) (in_order time_of batch.old.items)) }
-{
-    sort_batch(batch)?;
-    for drawn in batch.as_slice() {
-        let moment = bus_moment(start, drawn.sent.at);
-        write_line(text, setup.name(drawn.who), moment, &drawn.sent.frame)?;
-    }
-    Ok(())
-}
-
 /// A writer of reply lines for each tester of a setup.
 pub(crate) fn writers_of(alloc: Global, setup: &Setup) -> Result<Vec<LineWriter>, AllocError>
     ensures { IfOk result (λ writers. AreNamesOf setup.now writers.items) }
@@ -140,23 +119,49 @@ pub(crate) fn write_one(
     writers[place].write(text, moment, &sent.frame)
 }
 
+/// Writes a line for each frame of a batch, in the order of their times.
+fn write_batch(
+    writers: &mut Vec<LineWriter>,
+    start: Option<Start>,
+    batch: &mut Vec<Drawn>,
+    text: &mut Vec<u8>,
+) -> Result<(), AllocError>
+    requires testers { All (λ drawn. drawn.who ≤ length writers.old.items) batch.old.items }
+    requires start { StartsBelow start moment_end }
+    requires sent { All (λ drawn. drawn.sent.at ≤ closing_time) batch.old.items }
+    ensures ok { OnOk result ((setup : RawSetup) → AreNamesOf setup writers.old.items
+        → text.new.items ≡ text.old.items
+        ++ flat_map (line_of setup start) (in_order time_of batch.old.items)) }
+    ensures names { writers.new.items ≡ writers.old.items }
+{
+    sort_batch(batch)?;
+    for drawn in batch.as_slice() {
+        let place = usize::from(drawn.who.place()) - 1;
+        write_one(writers, start, place, &drawn.sent, text)?;
+    }
+    Ok(())
+}
+
 /// Adds the reply lines of the frames in the testers' lists, in the order of the bus. The batch is room to work in, and
 /// the lists are empty afterwards.
 pub(crate) fn write_drawn(
     setup: &Setup,
     start: Option<Start>,
+    writers: &mut Vec<LineWriter>,
     drawn: &mut Vec<Vec<Sent>>,
     batch: &mut Vec<Drawn>,
     text: &mut Vec<u8>,
 ) -> Result<(), AllocError>
     requires testers { length drawn.old.items ≡ length setup.now.testers }
+    requires names { AreNamesOf setup.now writers.old.items }
     requires start { StartsBelow start moment_end }
     requires sent { AreSentBy (map (λ f. f.items) drawn.old.items) closing_time }
     ensures ok { OnOk result (text.new.items ≡ text.old.items
         ++ drawn_text setup.now start (map (λ f. f.items) drawn.old.items)) }
     ensures lists { length drawn.new.items ≡ length drawn.old.items }
+    ensures names { writers.new.items ≡ writers.old.items }
 {
     batch.clear();
     gather(setup, drawn, batch)?;
-    write_batch(setup, start, batch, text)
+    write_batch(writers, start, batch, text)
 }

@@ -1,7 +1,6 @@
 -- What is written in upper-case hex.
-use Rattle.std.proofs.Common.{◌≡◌, ℕ, zero, suc, ◌+◌, ◌*◌, ◌/◌, ◌%◌, ◌<◌, true, cond, eqb, List, [], ◌∷◌, ◌++◌, map, length, take, drop, get_or, slice_get, slice_index, Some, refl, sym, ap, subst, ◌∙◌, append_assoc, append-nil, length-append, arith}
-use Rattle.std.proofs.lemmas.List.{take_all, take_at, take_more, take-append-drop}
-use Rattle.std.proofs.lemmas.Option.{slice_get_within, get_or_from_slice_get}
+use Rattle.std.proofs.Common.{◌≡◌, ℕ, zero, suc, ◌+◌, ◌-◌, ◌*◌, ◌/◌, ◌%◌, ◌<◌, ◌≤◌, true, cond, eqb, List, [], ◌∷◌, ◌++◌, map, length, take, drop, get_or, slice_index, refl, sym, ap, subst, ◌∙◌, append_assoc, append-nil, length-append, arith}
+use Rattle.std.proofs.lemmas.List.{take_all, take_at, take-append-drop, take-append-le, drop_at, length-take, length-drop}
 use Rattle.std.proofs.lemmas.Bool.{agree_below_at, eqb-true}
 use Rattle.std.proofs.lemmas.Simd.{swz_l, SwzOk, SwzOk-from_below, pick_l_whole}
 use Rattle.std.proofs.Math.Seq.{take-append-add}
@@ -13,6 +12,7 @@ use Rattle.std.specs.Fmt.{digits}
 use Rattle.std.specs.Prelude.{codes}
 use Rattle.std.specs.Str.{bytes_eq}
 use Rattle.hex.specs.Hex.{encode_upper, encode_with, upper_digits}
+use Rattle.hex.proofs.HexLemmas.{length-encode_with}
 use Rattle.diag_can.specs.Reply.{zero_filled, name_text}
 use Rattle.std.proofs.lemmas.Slice.{take-put_mid}
 use borrow.Rule.Slice.PartMut.{put_mid}
@@ -42,17 +42,33 @@ pub two_digits : (pair : List ℕ) (b : ℕ) → pair ≡ encode_upper (b ∷ []
 unfolding encode_with
 two_digits pair b is = rw is refl
 
--- the hex of one byte more, after a text
-pub upper_more : (old bytes text next pair : List ℕ) (i b : ℕ) → slice_get bytes i ≡ Some b → text ≡ old ++ encode_upper (take i bytes) → next ≡ text ++ pair
-    → pair ≡ encode_upper (b ∷ []) → next ≡ old ++ encode_upper (take (i + 1) bytes)
-upper_more old bytes text next pair i b at t n p =
-    let taken : take (i + 1) bytes ≡ take i bytes ++ b ∷ [] =
-    take_more bytes i b (slice_get_within bytes i b at) ∙ ap (λ x. take i bytes ++ x ∷ []) (get_or_from_slice_get bytes i b b at) in
-    n ∙ (λ j. t j ++ p j) ∙ append_assoc old (encode_upper (take i bytes)) _ ∙ ap (λ x. old ++ x) (sym (ap encode_upper taken ∙ upper-append (take i bytes) b))
+-- two bytes, and three, one by one
+pub two_written : (old first next x y bytes : List ℕ) → length bytes ≡ 2
+    → x ≡ encode_upper (get_or bytes 0 0 ∷ []) → y ≡ encode_upper (get_or bytes 1 0 ∷ [])
+    → first ≡ old ++ x → next ≡ first ++ y → next ≡ old ++ encode_upper bytes
+two_written old first next x y [] two p q f n = cc two
+two_written old first next x y (a ∷ []) two p q f n = absurd (omega (arith, two))
+two_written old first next x y (a ∷ b ∷ []) two p q f n =
+    n ∙ (λ i. (f i ++ y)) ∙ (λ i. (old ++ p i) ++ q i) ∙ append_assoc old (encode_upper (a ∷ [])) (encode_upper (b ∷ []))
+    ∙ ap (λ (t : List ℕ). old ++ t) (sym (upper-parts (a ∷ []) (b ∷ [])))
+two_written old first next x y (a ∷ b ∷ c ∷ rest) two p q f n = absurd (omega (arith, two))
 
-pub upper_none : (old : List ℕ) → old ≡ old ++ encode_upper []
+pub three_written : (old first second next x y z bytes : List ℕ) → length bytes ≡ 3
+    → x ≡ encode_upper (get_or bytes 0 0 ∷ []) → y ≡ encode_upper (get_or bytes 1 0 ∷ []) → z ≡ encode_upper (get_or bytes 2 0 ∷ [])
+    → first ≡ old ++ x → second ≡ first ++ y → next ≡ second ++ z → next ≡ old ++ encode_upper bytes
+three_written old first second next x y z [] three p q r f s n = cc three
+three_written old first second next x y z (a ∷ []) three p q r f s n = absurd (omega (arith, three))
+three_written old first second next x y z (a ∷ b ∷ []) three p q r f s n = absurd (omega (arith, three))
+three_written old first second next x y z (a ∷ b ∷ c ∷ []) three p q r f s n =
+    n ∙ (λ i. two_written old first second x y (a ∷ b ∷ []) refl p q f s i ++ r i)
+    ∙ append_assoc old (encode_upper (a ∷ b ∷ [])) (encode_upper (c ∷ []))
+    ∙ ap (λ (t : List ℕ). old ++ t) (sym (upper-parts (a ∷ b ∷ []) (c ∷ [])))
+three_written old first second next x y z (a ∷ b ∷ c ∷ d ∷ rest) three p q r f s n = absurd (omega (arith, three))
+
+pub none_written : (old bytes : List ℕ) → length bytes ≡ 0 → old ≡ old ++ encode_upper bytes
 unfolding encode_with
-upper_none old = sym (append-nil old)
+none_written old [] none = sym (append-nil old)
+none_written old (b ∷ bytes) none = cc none
 
 -- the table's digits of a byte
 pub digits_at : (b : ℕ) → b < 256 → get_or DIGITS b [] ≡ encode_upper (b ∷ [])
@@ -141,6 +157,30 @@ pub taken_back : (a b digits places bytes : List ℕ) (end : ℕ) → b ≡ a ++
 taken_back a b digits places bytes end p q r s =
     rw (s, p, q) (take-append-add a (encode_upper places) (2 * length bytes)
     ∙ ap (λ (t : List ℕ). a ++ t) (upper-take (length bytes) places ∙ ap encode_upper r))
+
+-- the first four bytes, of which what is too much is taken back, and then the last four
+pub ends_written : (old first cut all digits ends bytes : List ℕ) (end : ℕ) → 4 ≤ length bytes → length bytes ≤ 8
+    → ends ≡ take 4 bytes ++ drop (length bytes - 4) bytes → digits ≡ encode_upper ends → first ≡ old ++ take 8 digits
+    → end ≡ length old + 2 * (length bytes - 4) → cut ≡ take end first → all ≡ cut ++ take 8 (drop 8 digits) → all ≡ old ++ encode_upper bytes
+ends_written old first cut all digits ends bytes end some few e d f b c a =
+    let n : ℕ = length bytes - 4 in
+    let front = take 4 bytes in
+    let back = drop n bytes in
+    let four : length front ≡ 4 = omega (arith, length-take 4 bytes) in
+    let eight : length (encode_upper front) ≡ 8 = omega (arith, length-encode_with upper_digits front) in
+    let halves : digits ≡ encode_upper front ++ encode_upper back = d ∙ ap encode_upper e ∙ upper-parts front back in
+    let count : length (take n bytes) ≡ n = omega (arith, length-take n bytes) in
+    let kept : take (length (take n bytes)) front ≡ take n bytes =
+    ap (λ (i : ℕ). take i front) count ∙ sym (take-append-le n front (drop 4 bytes) (omega (arith, four)))
+    ∙ ap (λ (l : List ℕ). take n l) (take-append-drop 4 bytes) in
+    let cut_is = c ∙ taken_back old first (take 8 digits) front (take n bytes) end f
+    (ap (take 8) halves ∙ take_at (encode_upper front) (encode_upper back) 8 eight) kept (omega (arith, b, count)) in
+    let whole = take_all 8 (encode_upper back) (omega (arith, length-encode_with upper_digits back, length-drop n bytes)) in
+    let last_is = ap (λ (l : List ℕ). take 8 (drop 8 l)) halves
+    ∙ ap (λ (l : List ℕ). take 8 l) (drop_at (encode_upper front) (encode_upper back) 8 eight) ∙ whole in
+    a ∙ (λ i. cut_is i ++ last_is i)
+    ∙ append_assoc old (encode_upper (take n bytes)) (encode_upper back)
+    ∙ ap (λ (text : List ℕ). old ++ text) (sym (upper-parts (take n bytes) back) ∙ ap encode_upper (take-append-drop n bytes))
 
 -- ---- the front of a reply line behind its stamp
 

@@ -3,9 +3,9 @@ use Rattle.std.proofs.Common.{◌≡◌, ℕ, zero, suc, ◌+◌, ◌-◌, ◌*�
 use Rattle.std.specs.Prelude.{IsOk}
 use Rattle.std.specs.List.{AllPass}
 use Rattle.std.proofs.lemmas.Bool.{agree_below_at, eqb-true}
-use Rattle.std.proofs.lemmas.Simd.{length-chunk, pick_l_whole}
+use Rattle.std.proofs.lemmas.Simd.{Each1-get_or, pick_l_whole}
 use Rattle.std.proofs.lemmas.List.{take_all, get_or-drop}
-use lib.Lanes.{chunk, zip2, sel_l, top, pick_l}
+use lib.Lanes.{Each1, chunk, zip2, sel_l, top, pick_l}
 use Rattle.hex.specs.Hex.{is_hex_digit, hex_digit_value, decode_of, decode_pairs}
 use Rattle.hex.proofs.HexLemmas.{decode_of-even, decode_of-ok}
 use Rattle.diag_can.proofs.Pairs.{is_ok-value, pair_value-some, value-lt}
@@ -30,7 +30,7 @@ value_of : (o : Option ℕ) → is_some o ≡ true → (v : ℕ) × (o ≡ Some 
 value_of None is = cc is
 value_of (Some v) is = (v, refl)
 
-decode-both : (i : ℕ) (text : List ℕ) → length text % 2 ≡ 0 → AllPass is_hex_digit text → ((k : ℕ) → Fits w8 (get_or text k 0))
+decode-both : (i : ℕ) (text : List ℕ) → length text % 2 ≡ 0 → AllPass is_hex_digit text → ((k : ℕ) → k < length text → Fits w8 (get_or text k 0))
     → decode_pairs i text ≡ Ok (both text)
 unfolding decode_pairs
 decode-both i [] even all fits = refl
@@ -39,11 +39,11 @@ decode-both i (c ∷ d ∷ text) even all fits =
     let v = value_of (hex_digit_value c) (all 0 0 (omega arith)) in
     let w = value_of (hex_digit_value d) (all 1 0 (omega arith)) in
     let pair = pair_value-some c d i v.0 w.0 v.1 w.1 in
-    let rest = decode-both (i + 2) text (omega arith) (λ k x lt. all (suc (suc k)) x (omega arith)) (λ k. fits (suc (suc k))) in
-    let high = lane-is c v.0 (fits 0).fits v.1 in
-    let low = lane-is d w.0 (fits 1).fits w.1 in
-    let h = value-lt c (fits 0).fits v.0 v.1 in
-    let l = value-lt d (fits 1).fits w.0 w.1 in
+    let rest = decode-both (i + 2) text (omega arith) (λ k x lt. all (suc (suc k)) x (omega arith)) (λ k lt. fits (suc (suc k)) (omega arith)) in
+    let high = lane-is c v.0 (fits 0 (omega arith)).fits v.1 in
+    let low = lane-is d w.0 (fits 1 (omega arith)).fits w.1 in
+    let h = value-lt c (fits 0 (omega arith)).fits v.0 v.1 in
+    let l = value-lt d (fits 1 (omega arith)).fits w.0 w.1 in
     let byte : (lane c * 16 % 256 + lane d) % 256 ≡ v.0 * 16 + w.0 = rw (high, low) (omega arith) in
     rw (pair, rest, byte) refl
 
@@ -67,23 +67,30 @@ looked w =
 looked-is : (a b c d e f g h i j k l m n o p : ℕ) → let w : List ℕ = a ∷ b ∷ c ∷ d ∷ e ∷ f ∷ g ∷ h ∷ i ∷ j ∷ k ∷ l ∷ m ∷ n ∷ o ∷ p ∷ [] in looked w ≡ both w
 looked-is a b c d e f g h i j k l m n o p = refl
 
-pub digits_read : (line : List ℕ) → 16 ≤ length line → ((k : ℕ) → Fits w8 (get_or line k 0))
-    → (n : ℕ) → n ≤ 8 → IsOk (decode_of (drop (length line - 2 * n) line))
-    → decode_of (drop (length line - 2 * n) line) ≡ Ok (drop (8 - n) (looked (chunk (length line - 16) 16 line)))
-digits_read line long fits n few ok =
-    let at : ℕ = length line - 2 * n in
-    let text = drop at line in
+pub digits_read : (w : List ℕ) → length w ≡ 16 → Each1 (Fits w8) w
+    → (n : ℕ) → n ≤ 8 → IsOk (decode_of (drop (16 - 2 * n) w)) → decode_of (drop (16 - 2 * n) w) ≡ Ok (drop (8 - n) (looked w))
+digits_read w sixteen fits n few ok =
+    let at : ℕ = 16 - 2 * n in
+    let text = drop at w in
     let value = is_ok-value (decode_of text) ok in
     let all = decode_of-ok text value.0 value.1 in
-    let w = chunk (length line - 16) 16 line in
     let k : ℕ = 8 - n in
-    let sixteen : length w ≡ 16 = length-chunk (length line - 16) 16 line (omega arith) in
     let lanes : looked w ≡ both w = subst (λ (w : List ℕ). looked w ≡ both w) (pick_l_whole 0 w 16 sixteen) (looked-is _ _ _ _ _ _ _ _ _ _ _ _ _ _ _ _) in
-    let whole : w ≡ drop (length line - 16) line = take_all 16 (drop (length line - 16) line) (omega (arith, length-drop (length line - 16) line)) in
-    let start : length line - 16 + 2 * k ≡ at = omega arith in
-    let same : drop (2 * k) w ≡ text = ap (drop (2 * k)) whole ∙ drop-drop (2 * k) (length line - 16) line ∙ ap (λ (n : ℕ). drop n line) start in
-    decode_of-even text all.0 ∙ decode-both 0 text all.0 all.1 (λ j. subst (Fits w8) (sym (get_or-drop at line j 0)) (fits (at + j)))
+    let start : 2 * k ≡ at = omega arith in
+    let same : drop (2 * k) w ≡ text = ap (λ (n : ℕ). drop n w) start in
+    let fit : (j : ℕ) → j < length text → Fits w8 (get_or text j 0) = λ j lt.
+    subst (Fits w8) (sym (get_or-drop at w j 0)) (Each1-get_or (Fits w8) w (at + j) 0 (omega (arith, length-drop at w)) fits) in
+    decode_of-even text all.0 ∙ decode-both 0 text all.0 all.1 fit
     ∙ ap Ok (sym (ap (drop k) lanes ∙ drop-both k w ∙ ap both same))
+
+-- the last of a line are the last of its last sixteen bytes
+pub last_sixteen : (line : List ℕ) → 16 ≤ length line → (n : ℕ) → n ≤ 8
+    → drop (16 - 2 * n) (chunk (length line - 16) 16 line) ≡ drop (length line - 2 * n) line
+last_sixteen line long n few =
+    let from : ℕ = length line - 16 in
+    let start : from + (16 - 2 * n) ≡ length line - 2 * n = omega arith in
+    ap (drop (16 - 2 * n)) (take_all 16 (drop from line) (omega (arith, length-drop from line)))
+    ∙ drop-drop (16 - 2 * n) from line ∙ ap (λ (n : ℕ). drop n line) start
 
 -- the same, from a place on
 pub digits_from : (line eight bytes : List ℕ) (at : ℕ) → length eight ≡ 8 → at ≤ length line → length (drop at line) ≤ 16 → IsOk (decode_of (drop at line))

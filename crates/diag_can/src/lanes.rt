@@ -1,7 +1,7 @@
 //! Looks at many bytes of a text at once.
 
-ghost use Rattle.std.specs.Prelude.{◌≡◌, ℕ, ◌+◌, ◌-◌, ◌<◌, ◌≤◌, not, true, length, slice_index, IsTrue};
-ghost use Rattle.hex.specs.Hex.{is_hex_digit};
+ghost use Rattle.std.specs.Prelude.{◌≡◌, ℕ, ◌+◌, ◌-◌, ◌*◌, ◌<◌, ◌≤◌, not, true, length, drop, slice_index, IsTrue, IsOk, Ok};
+ghost use Rattle.hex.specs.Hex.{is_hex_digit, decode_of};
 ghost use Rattle.diag_can.specs.Lanes.{IsRunIn, IsWithin, first_set};
 ghost use Rattle.diag_can.specs.Log.{is_feed};
 ghost use Rattle.diag_can.specs.Stamp.{is_no_space};
@@ -64,4 +64,21 @@ pub fn ends_in_hex(text: &[u8], count: usize) -> bool
     let is_no_decimal = (v - u8x16::splat(b'0')).simd_ge(u8x16::splat(10));
     let is_no_letter = ((v | u8x16::splat(0x20)) - u8x16::splat(b'a')).simd_ge(u8x16::splat(6));
     (is_no_decimal & is_no_letter).to_bitmask() >> (16 - count) == 0
+}
+
+/// The bytes that sixteen hex digits of either case write, looked at together; as far as these are digits from the end. Of
+/// other bytes it makes some bytes.
+#[inline(always)]
+pub fn eight_of_digits(text: &[u8; 16]) -> [u8; 8]
+    ensures { (n : ℕ) → n ≤ 8 → IsOk (decode_of (drop (16 - 2 * n) text.now))
+        → decode_of (drop (16 - 2 * n) text.now) ≡ Ok (drop (8 - n) result) }
+{
+    let digits = u8x16::from_array(*text);
+    let letters = digits
+        .simd_ge(u8x16::splat(64))
+        .select(u8x16::splat(9), u8x16::splat(0));
+    let values = digits % u8x16::splat(16) + letters;
+    let high = values.swizzle([0, 2, 4, 6, 8, 10, 12, 14]);
+    let low = values.swizzle([1, 3, 5, 7, 9, 11, 13, 15]);
+    (high * u8x8::splat(16) + low).to_array()
 }

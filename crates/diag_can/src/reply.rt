@@ -7,7 +7,7 @@ ghost use Rattle.diag_can.specs.Reply.{zero_filled, seconds_text, thousandths_te
 
 use crate::frame::{CanId, Frame, FrameBytes};
 use crate::table::{decimals, digits};
-use crate::upper::digits_of_eight;
+use crate::upper::{add, digits_of_eight};
 use itoa::Buffer;
 use std::alloc::AllocError;
 use std::mem;
@@ -40,19 +40,6 @@ pub fn write_line(text: &mut Vec<u8>, name: &[u8], at: u64, frame: &Frame) -> Re
     add_frame(&mut line, frame);
     *text = line;
     Ok(())
-}
-
-/// Appends bytes for which there is room.
-#[inline(always)]
-pub(crate) fn add(text: &mut Vec<u8>, bytes: &[u8])
-    requires { vec_len text.old + length bytes.now ≤ vec_capacity text.old }
-    ensures items { text.new.items ≡ text.old.items ++ bytes.now }
-    ensures len { vec_len text.new ≡ vec_len text.old + length bytes.now }
-    ensures capacity { vec_capacity text.new ≡ vec_capacity text.old }
-{
-    for byte in bytes {
-        text.push_reserved(*byte);
-    }
 }
 
 /// The stamp of a time in milliseconds and a space, where there is room.

@@ -8,7 +8,7 @@ ghost use Rattle.diag_can.specs.Stamp.{is_digit};
 ghost use Rattle.diag_can.specs.Usual.{IsFramed, IsUsual, three_at, usual_moment};
 
 use crate::frame::{CanId, FrameBytes};
-use crate::lanes::{eight_of_word, ends_in_hex, is_within};
+use crate::lanes::{eight_of_digits, eight_of_word, ends_in_hex, is_within};
 use crate::line::short_id;
 use std::simd::prelude::*;
 
@@ -99,12 +99,5 @@ fn last_eight(line: &[u8]) -> [u8; 8]
     ensures { (n : ℕ) → n ≤ 8 → IsOk (decode_of (drop (length line.now - 2 * n) line.now))
         → decode_of (drop (length line.now - 2 * n) line.now) ≡ Ok (drop (8 - n) result) }
 {
-    let digits = u8x16::from_slice(&line[line.len() - 16..]);
-    let letters = digits
-        .simd_ge(u8x16::splat(64))
-        .select(u8x16::splat(9), u8x16::splat(0));
-    let values = digits % u8x16::splat(16) + letters;
-    let high = values.swizzle([0, 2, 4, 6, 8, 10, 12, 14]);
-    let low = values.swizzle([1, 3, 5, 7, 9, 11, 13, 15]);
-    (high * u8x8::splat(16) + low).to_array()
+    eight_of_digits(&u8x16::from_slice(&line[line.len() - 16..]).to_array())
 }

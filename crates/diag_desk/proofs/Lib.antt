@@ -9,6 +9,7 @@ pub mod FlatLemmas
 pub mod ReadLemmas
 pub mod Runs
 pub mod FollowLemmas
+pub mod Pieces
 pub mod UsualLemmas
 pub mod Unlocking
 pub mod Written

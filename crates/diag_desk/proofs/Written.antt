@@ -1,5 +1,6 @@
 -- Bytes that were compared, all lanes together, with others.
-use Rattle.std.proofs.Common.{◌≡◌, ℕ, zero, suc, ◌+◌, ◌*◌, ◌/◌, ◌%◌, ◌^◌, ◌≤◌, true, false, not, cond, List, [], ◌∷◌, map, length, take, refl, sym, ap, ap₂, ◌∙◌, arith, inl, inr}
+use Rattle.std.proofs.Common.{◌≡◌, ℕ, zero, suc, ◌+◌, ◌*◌, ◌/◌, ◌%◌, ◌^◌, ◌≤◌, true, false, not, cond, eqb, List, [], ◌∷◌, map, length, take, refl, sym, ap, ap₂, ◌∙◌, arith, inl, inr}
+use Rattle.std.proofs.lemmas.Bool.Decides.{nat_tests}
 use Rattle.std.proofs.lemmas.Bool.{cases_eq, eq-eqb, ne_eqb, cond-true, cond-false}
 use Rattle.std.proofs.lemmas.List.{length-map, length-take-le, take_all}
 use Rattle.std.proofs.lemmas.List.Sums.{prefix_len-le-length}
@@ -9,6 +10,13 @@ use lib.Lanes.{mask_l, top, zip2}
 use Rattle.hex.specs.Hex.{encode_upper}
 use Rattle.diag_can.specs.Lanes.{first_set}
 use Rattle.diag_desk.proofs.UsualLemmas.{upper-take}
+
+-- a lane is set where two bytes differ
+abbrev pub differs : ℕ → ℕ → ℕ
+differs a b = cond (not (eqb a b)) 255 0
+
+pub differs-same : (a b : ℕ) → top 7 (differs a b) ≡ false → a ≡ b
+differs-same a b is = grind (arith, nat_tests)
 
 -- of two lists, where a lane is set where they differ
 module _ (f : ℕ → ℕ → ℕ) (same : (a b : ℕ) → top 7 (f a b) ≡ false → a ≡ b) where

@@ -1,5 +1,5 @@
 -- Replaying a journal's text as it is read.
-use Rattle.std.specs.Prelude.{◌≡◌, ◌<◌, ◌≤◌, ℕ, Bool, false, List, [], ◌∷◌, ◌++◌, length, Some, None}
+use Rattle.std.specs.Prelude.{◌≡◌, ◌<◌, ◌≤◌, ℕ, Bool, true, false, List, [], ◌∷◌, ◌++◌, length, Some, None}
 use Rattle.diag_setup.specs.declared.raw.RawSetup.{RawSetup}
 use Rattle.hex.specs.Hex.{encode_upper}
 use Rattle.diag_ecu.specs.Respond.{after_request, reply}
@@ -7,13 +7,14 @@ use Rattle.diag_ecu.specs.State.{State, opening}
 use Rattle.diag_desk.specs.declared.entry.Entry.{Entry}
 use Rattle.diag_desk.specs.declared.following.Follower.{Follower}
 use Rattle.diag_desk.specs.declared.following.Play.{Play}
+use Rattle.diag_desk.specs.declared.following.TextReplay.{TextReplay}
 use Rattle.diag_desk.specs.Clocks.{Tells}
 use Rattle.diag_desk.specs.Entry.{IsEntry, IsJournal, IsMessage, IsReply, most_entries}
-use Rattle.diag_desk.specs.Fault.{IsTextOf}
+use Rattle.diag_desk.specs.Fault.{FaultAt, IsTextOf}
 use Rattle.diag_desk.specs.Legal.{after}
 use Rattle.diag_desk.specs.PartRead.{PartRead}
 use Rattle.diag_desk.specs.Replay.{DiffersAt, IsRun}
-use Rattle.diag_desk.specs.Text.{line_after, reply_text}
+use Rattle.diag_desk.specs.Text.{line_after, reply_text, text_of}
 
 -- the text is that of these entries, which are a run of the setup and leave this state
 pub record IsReplayed (setup : RawSetup) (text : List ℕ) (count : ℕ) (s : State) : Type 0 where
@@ -77,3 +78,19 @@ pub record FollowedIn (setup : RawSetup) (f new : Follower) (past : List Entry) 
   pub entry : Entry
   pub line : text ≡ line_after f.stamped past entry ++ 10 ∷ rest
   pub follows : Follows setup new (past ++ entry ∷ [])
+
+-- this is the text of the entries that were read and played so far
+pub record HasFollowed (setup : RawSetup) (f : Follower) (text : List ℕ) : Type 0 where
+  pub past : List Entry
+  pub follows : Follows setup f past
+  pub is : text ≡ text_of f.stamped past
+
+-- no line is at fault: nothing was taken before the header, and behind it the text of some entries
+pub record IsWell (setup : RawSetup) (r : TextReplay) (text : List ℕ) : Type 0 where
+  pub unheaded : r.headed ≡ false → (text ≡ []) × Follows setup r.follower []
+  pub headed : r.headed ≡ true → HasFollowed setup r.follower text
+
+-- these whole lines were taken: they are well, or a line is the first at fault, whatever follows them
+pub record HasTaken (setup : RawSetup) (r : TextReplay) (text : List ℕ) : Type 0 where
+  pub well : r.fault ≡ None → IsWell setup r text
+  pub fault : (n : ℕ) → r.fault ≡ Some n → (more : List ℕ) → FaultAt (text ++ more) n

@@ -10,4 +10,5 @@ pub mod PartRead
 pub mod Legal
 pub mod Replay
 pub mod Following
+pub mod Pieces
 pub mod Unlocking

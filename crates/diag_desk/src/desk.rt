@@ -1,5 +1,5 @@
 //! The desk: the ECU with its journal.
-ghost use Rattle.std.specs.Prelude.{◌≡◌, ◌<◌, ◌≤◌, ◌↔◌, [], length, IsTrue, OnErr, IfOk, IfErr, Err, None};
+ghost use Rattle.std.specs.Prelude.{◌≡◌, ◌<◌, ◌≤◌, ◌↔◌, [], length, option_copied, IsTrue, OnErr, IfOk, IfErr, Err, None};
 ghost use Rattle.diag_ecu.specs.State.{opening};
 ghost use Rattle.diag_desk.specs.Entries.{entry};
 ghost use Rattle.diag_desk.specs.Entry.{IsJournal, most_entries};
@@ -119,7 +119,7 @@ impl Desk {
         // (for its contract: a reply has at most 65535 bytes)
         let _len = len_of(reply.as_ref());
         self.journal.add(who, step, reply.as_ref());
-        settle_step(&mut self.ecu, who, step);
+        settle_answered(&mut self.ecu, who, step, reply.as_ref());
         Ok(reply)
     }
 }
@@ -138,16 +138,17 @@ pub fn reply_of(ecu: &Ecu, who: TesterId, step: &Step) -> Result<Option<Message>
     }
 }
 
-/// Brings the ECU to the state after a step.
+/// Brings the ECU to the state after a step, to which this is the reply.
 #[inline(always)]
-pub fn settle_step(ecu: &mut Ecu, who: TesterId, step: &Step)
+pub fn settle_answered(ecu: &mut Ecu, who: TesterId, step: &Step, reply: Option<&Message>)
+    requires { option_copied reply ≡ reply_to ecu.old who step.now }
     ensures { ecu.new ≡ after_step ecu.old who step.now }
 {
     match step {
         Step::Request {
             functional,
             message,
-        } => ecu.settle(who, *functional, message),
+        } => ecu.settle_answered(who, *functional, message.bytes(), reply),
         Step::Ticks(count) => ecu.ticks(who, *count),
     }
 }

@@ -8,8 +8,7 @@ ghost use Rattle.diag_desk.specs.Line.{HasHex, IsHex, IsHexReply, decoded, line_
 
 use crate::entry::{EntryRef, StepRef};
 use crate::line::{Line, LineStep};
-use crate::numerals::add;
-use diag_can::{TickCount, read_hex};
+use diag_can::{TickCount, add_bytes, read_hex};
 use diag_setup::TesterId;
 use diag_tp::{Message, Step};
 use std::alloc::AllocError;
@@ -100,7 +99,7 @@ fn append(bytes: &mut Vec<u8>, more: &[u8])
     ensures room { vec_capacity bytes.old ≤ vec_capacity bytes.new }
 {
     if more.len() <= FEW {
-        add(bytes, more);
+        add_bytes(bytes, more);
         return;
     }
     let _ = bytes.extend_from_slice(more);

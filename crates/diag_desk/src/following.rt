@@ -1,5 +1,5 @@
 //! Replaying a journal's text as it is read, entry by entry; none is kept.
-ghost use Rattle.std.specs.Prelude.{◌≡◌, ◌+◌, ◌++◌, ◌∷◌, ◌≤◌, ◌↔◌, [], false, true, ℕ, List, length, IfOk, IfErr, IfSome, IfNone, OnOk, IsTrue, option_copied, option_map};
+ghost use Rattle.std.specs.Prelude.{◌≡◌, ◌+◌, ◌++◌, ◌∷◌, ◌≤◌, ◌↔◌, ◌≢◌, [], false, true, ℕ, List, length, Err, None, IfOk, IfErr, IfSome, IfNone, OnOk, IsTrue, option_copied, option_map};
 ghost use Rattle.std.specs.Bool.{OnTrue, OnFalse};
 ghost use Rattle.hex.specs.Hex.{encode_upper};
 ghost use Rattle.diag_setup.specs.declared.raw.RawSetup.{RawSetup};
@@ -7,12 +7,14 @@ ghost use Rattle.diag_ecu.specs.State.{opening};
 ghost use Rattle.diag_ecu.specs.Respond as ecu;
 ghost use Rattle.diag_desk.specs.declared.entry.Entry.{Entry};
 ghost use Rattle.diag_desk.specs.Entry.{IsEntry, IsMessage};
-ghost use Rattle.diag_desk.specs.Fault.{FaultAt, IsTextOf};
-ghost use Rattle.diag_desk.specs.Following.{Answered, Followed, FollowedIn, Follows, IsReplayed, IsUsual, Plays, TextDiffers, read_so_far};
+ghost use Rattle.diag_desk.specs.Fault.{FaultAt};
+ghost use Rattle.diag_desk.specs.Following.{Answered, Followed, FollowedIn, Follows, HasFollowed, HasTaken, IsReplayed, IsUsual, Plays, TextDiffers, read_so_far};
 ghost use Rattle.diag_desk.specs.Legal.{after_step, reply_to};
 ghost use Rattle.diag_desk.specs.Line.{HasHex, IsHex, IsHexReply, decoded, fronted, kind_code, line_entry, request_kind};
 ghost use Rattle.diag_desk.specs.declared.line.Kind.TheVariants as kind;
 ghost use Rattle.diag_desk.specs.PartRead.{HasNoNext};
+ghost use Rattle.diag_desk.specs.Pieces.{TakesLines};
+ghost use Rattle.diag_can.specs.Bus.{HasNoFeed};
 
 use crate::clocks::Clocks;
 use crate::entry::MOST_ENTRIES;
@@ -153,7 +155,8 @@ impl Play {
         if !is_said(&mut self.bytes, reply, said.as_ref())? {
             return Ok(false);
         }
-        self.ecu.settle(who, functional, &message);
+        self.ecu
+            .settle_answered(who, functional, message.bytes(), said.as_ref());
         Ok(true)
     }
 
@@ -277,7 +280,7 @@ fn answers_bytes<'a>(
     let Some(rest) = behind(b'\n', text) else {
         return None;
     };
-    ecu.settle_to(who, functional, bytes);
+    ecu.settle_answered(who, functional, bytes, said.as_ref());
     Some(rest)
 }
 
@@ -314,12 +317,11 @@ fn is_said(
 
 impl Follower {
     /// Nothing was read so far.
-    fn new(alloc: Global, stamped: bool, ecu: Ecu) -> Follower
-        ensures stamped { result.stamped ≡ stamped }
-        ensures follows { (setup : RawSetup) → ecu ≡ opening setup → Follows setup result [] }
+    fn new(alloc: Global, ecu: Ecu) -> Follower
+        ensures { (setup : RawSetup) → ecu ≡ opening setup → Follows setup result [] }
     {
         Follower {
-            stamped,
+            stamped: false,
             clocks: Clocks::new(),
             count: 0,
             play: Play {
@@ -437,68 +439,169 @@ impl Follower {
         self.count = number;
         Ok(())
     }
-}
 
-/// Reads the header, and then reads and plays line by line.
-fn follow(alloc: Global, setup: &Setup, text: &[u8]) -> Result<Follower, JournalFault>
-    ensures ok { IfOk result (λ follower. (past : List Entry)
-        × Follows setup.now follower past
-        × IsTextOf text.now past) }
-    ensures line { IfErr result (λ fault.
-        (n : ℕ) → fault ≡ JournalFault.Line n → FaultAt text.now n) }
-{
-    let Some((first, mut rest)) = cut(text, b'\n') else {
-        return Err(JournalFault::Line(1));
-    };
-    let Some(stamped) = is_stamped(first) else {
-        return Err(JournalFault::Line(1));
-    };
-    let Ok(ecu) = Ecu::new(alloc, setup) else {
-        return Err(JournalFault::Memory);
-    };
-    let mut follower = Follower::new(alloc, stamped, ecu);
-    while !rest.is_empty() {
-        if let Some(after) = follower.take_usual(setup, rest) {
+    /// Takes the whole lines at the front of a text, and gives what is begun behind them.
+    fn take_lines<'a>(
+        &mut self,
+        alloc: Global,
+        setup: &Setup,
+        text: &'a [u8],
+    ) -> Result<&'a [u8], JournalFault>
+        requires { (seen : List ℕ) × HasFollowed setup.now self.old seen }
+        ensures ok { IfOk result (λ rest. TakesLines (HasFollowed setup.now self.old)
+            (HasFollowed setup.now self.new) text.now rest.now) }
+        ensures line { IfErr result (λ fault.
+            (n : ℕ) → fault ≡ JournalFault.Line n
+            → (seen : List ℕ) → HasFollowed setup.now self.old seen
+            → (more : List ℕ) → FaultAt (seen ++ (text.now ++ more)) n) }
+    {
+        let mut rest = text;
+        while !rest.is_empty() {
+            if let Some(after) = self.take_usual(setup, rest) {
+                rest = after;
+                continue;
+            }
+            let number = self.count + 2;
+            let Some((line, after)) = cut(rest, b'\n') else {
+                return Ok(rest);
+            };
+            match self.take(alloc, setup, line) {
+                Ok(()) => {}
+                Err(LineFault::Wrong) => return Err(JournalFault::Line(number)),
+                Err(LineFault::Memory) => return Err(JournalFault::Memory),
+            }
             rest = after;
-            continue;
         }
-        let number = follower.count + 2;
-        let Some((line, after)) = cut(rest, b'\n') else {
-            return Err(JournalFault::Line(number));
-        };
-        match follower.take(alloc, setup, line) {
-            Ok(()) => {}
-            Err(LineFault::Wrong) => return Err(JournalFault::Line(number)),
-            Err(LineFault::Memory) => return Err(JournalFault::Memory),
-        }
-        rest = after;
+        Ok(rest)
     }
-    Ok(follower)
 }
 
-/// Replays a journal's text of either version, in one pass and without keeping its entries.
+/// The replay of a journal's text of either version that comes in pieces, in one pass and without keeping its entries.
 ///
 /// It is `read_journal` and then `replay`: a line at fault comes first, wherever it stands, and then the first entry
 /// that differs. Memory can be refused at any line.
-pub fn replay_lines(alloc: Global, setup: &Setup, text: &[u8]) -> Result<Replayed, TextFault>
-    ensures ok { IfOk result (λ r. IsReplayed setup.now text.now r.entries r.ecu) }
-    ensures line { IfErr result (λ fault.
-        (n : ℕ) → fault ≡ TextFault.Line n → FaultAt text.now n) }
-    ensures differs { IfErr result (λ fault.
-        (n : ℕ) → fault ≡ TextFault.Differs n → TextDiffers setup.now text.now n) }
-{
-    let follower = match follow(alloc, setup, text) {
-        Ok(follower) => follower,
-        Err(JournalFault::Line(n)) => return Err(TextFault::Line(n)),
-        Err(JournalFault::Memory) => return Err(TextFault::Memory),
-    };
-    let Follower { count, play, .. } = follower;
-    let Play { ecu, differs, .. } = play;
-    match differs {
-        None => Ok(Replayed {
-            entries: count,
-            ecu,
-        }),
-        Some(n) => Err(TextFault::Differs(n)),
+#[derive(Drop)]
+pub struct TextReplay {
+    /// The first line at fault: what follows it is not looked at.
+    fault: Option<usize>,
+    /// Whether the header was taken.
+    headed: bool,
+    follower: Follower,
+}
+
+impl TextReplay {
+    /// The replay of a text of which nothing was taken.
+    ///
+    /// # Errors
+    /// `AllocError` where memory is refused.
+    pub fn new(alloc: Global, setup: &Setup) -> Result<TextReplay, AllocError>
+        ensures { IfOk result (λ replay. HasTaken setup.now replay []) }
+    {
+        let ecu = Ecu::new(alloc, setup)?;
+        Ok(TextReplay {
+            fault: None,
+            headed: false,
+            follower: Follower::new(alloc, ecu),
+        })
+    }
+
+    /// Takes the whole lines at the front of what follows in the text, and gives what is begun behind them. Behind a line
+    /// at fault nothing is looked at, and all is taken.
+    ///
+    /// # Errors
+    /// `AllocError` where memory is refused: the replay can't go on then.
+    pub fn take_lines<'a>(
+        &mut self,
+        alloc: Global,
+        setup: &Setup,
+        text: &'a [u8],
+    ) -> Result<&'a [u8], AllocError>
+        requires { (seen : List ℕ) × HasTaken setup.now self.old seen }
+        ensures { IfOk result (λ rest. TakesLines (HasTaken setup.now self.old)
+            (HasTaken setup.now self.new) text.now rest.now) }
+    {
+        if self.fault.is_some() {
+            return Ok(&[]);
+        }
+        if self.headed {
+            return self.take_entries(alloc, setup, text);
+        }
+        let Some((first, rest)) = cut(text, b'\n') else {
+            return Ok(text);
+        };
+        let Some(stamped) = is_stamped(first) else {
+            self.fault = Some(1);
+            return Ok(&[]);
+        };
+        self.headed = true;
+        self.follower.stamped = stamped;
+        self.take_entries(alloc, setup, rest)
+    }
+
+    /// The same behind the header, where no line is at fault.
+    fn take_entries<'a>(
+        &mut self,
+        alloc: Global,
+        setup: &Setup,
+        text: &'a [u8],
+    ) -> Result<&'a [u8], AllocError>
+        requires headed { self.old.headed ≡ true }
+        requires well { self.old.fault ≡ None }
+        requires taken { (seen : List ℕ) × HasTaken setup.now self.old seen }
+        ensures { IfOk result (λ rest. TakesLines (HasTaken setup.now self.old)
+            (HasTaken setup.now self.new) text.now rest.now) }
+    {
+        match self.follower.take_lines(alloc, setup, text) {
+            Ok(rest) => Ok(rest),
+            Err(JournalFault::Line(n)) => {
+                self.fault = Some(n);
+                Ok(&[])
+            }
+            Err(JournalFault::Memory) => Err(AllocError),
+        }
+    }
+
+    /// What the text comes to that ends with these bytes of a line, or with none.
+    ///
+    /// # Errors
+    /// `Line` and `Differs`.
+    pub fn finish(self, begun: &[u8]) -> Result<Replayed, TextFault>
+        requires taken { (setup : RawSetup) × (seen : List ℕ) × HasTaken setup self seen }
+        requires line { HasNoFeed begun.now }
+        ensures ok { IfOk result (λ r. (setup : RawSetup) (seen : List ℕ)
+            → HasTaken setup self seen
+            → IsReplayed setup (seen ++ begun.now) r.entries r.ecu) }
+        ensures line { IfErr result (λ fault. (n : ℕ) → fault ≡ TextFault.Line n
+            → (setup : RawSetup) (seen : List ℕ)
+            → HasTaken setup self seen
+            → FaultAt (seen ++ begun.now) n) }
+        ensures differs { IfErr result (λ fault. (n : ℕ) → fault ≡ TextFault.Differs n
+            → (setup : RawSetup) (seen : List ℕ)
+            → HasTaken setup self seen
+            → TextDiffers setup (seen ++ begun.now) n) }
+        ensures memory { result ≢ Err TextFault.Memory }
+    {
+        let TextReplay {
+            fault,
+            headed,
+            follower,
+        } = self;
+        let Follower { count, play, .. } = follower;
+        if let Some(n) = fault {
+            return Err(TextFault::Line(n));
+        }
+        if !headed {
+            return Err(TextFault::Line(1));
+        }
+        if !begun.is_empty() {
+            return Err(TextFault::Line(count + 2));
+        }
+        match play.differs {
+            None => Ok(Replayed {
+                entries: count,
+                ecu: play.ecu,
+            }),
+            Some(n) => Err(TextFault::Differs(n)),
+        }
     }
 }

@@ -18,9 +18,9 @@ mod table;
 mod text;
 mod usual;
 
-pub use desk::{Desk, StepFault, reply_of, settle_step};
+pub use desk::{Desk, StepFault, reply_of, settle_answered};
 pub use entry::{Entry, EntryRef, MOST_ENTRIES, StepRef};
-pub use following::{Replayed, TextFault, replay_lines};
+pub use following::{Replayed, TextFault, TextReplay};
 pub use journal::{Journal, JournalPush};
 pub use laws::{prefixes_are_legal, texts_have_one_journal, writes_follow_unlocking};
 pub use read::{JournalFault, read_journal};

@@ -2,20 +2,7 @@
 ghost use Rattle.std.specs.Prelude.{◌≡◌, ◌<◌, ◌≤◌, ◌+◌, ◌/◌, ◌%◌, ◌++◌, ◌∷◌, [], length, decimal, vec_len, vec_capacity};
 ghost use Rattle.diag_desk.specs.Text.{two_digits};
 
-use diag_can::decimal_pair;
-
-/// Appends bytes for which there is room.
-#[inline(always)]
-pub(crate) fn add(text: &mut Vec<u8>, bytes: &[u8])
-    requires { vec_len text.old + length bytes.now ≤ vec_capacity text.old }
-    ensures items { text.new.items ≡ text.old.items ++ bytes.now }
-    ensures len { vec_len text.new ≡ vec_len text.old + length bytes.now }
-    ensures capacity { vec_capacity text.new ≡ vec_capacity text.old }
-{
-    for byte in bytes {
-        text.push_reserved(*byte);
-    }
-}
+use diag_can::{add_bytes, decimal_pair};
 
 /// Appends a number: its digits come in groups of four, which are made two by two.
 #[tactic(auto, using(crate::proofs::DecimalText::four_joined))]
@@ -53,7 +40,7 @@ fn add_great(text: &mut Vec<u8>, number: u64)
         add_four(text, number % 10_000);
     } else {
         let mut buffer = itoa::Buffer::new();
-        add(text, buffer.format(number).as_bytes());
+        add_bytes(text, buffer.format(number).as_bytes());
     }
 }
 
@@ -71,7 +58,7 @@ fn add_first(text: &mut Vec<u8>, number: u64)
         add_few(text, number);
     } else {
         add_few(text, number / 100);
-        add(text, &decimal_pair(number % 100));
+        add_bytes(text, &decimal_pair(number % 100));
     }
 }
 
@@ -88,7 +75,7 @@ fn add_few(text: &mut Vec<u8>, number: u64)
     if number < 10 {
         text.push_reserved(b'0' + number as u8);
     } else {
-        add(text, &decimal_pair(number));
+        add_bytes(text, &decimal_pair(number));
     }
 }
 
@@ -102,6 +89,6 @@ fn add_four(text: &mut Vec<u8>, number: u64)
     ensures len { vec_len text.new ≡ vec_len text.old + 4 }
     ensures capacity { vec_capacity text.new ≡ vec_capacity text.old }
 {
-    add(text, &decimal_pair(number / 100));
-    add(text, &decimal_pair(number % 100));
+    add_bytes(text, &decimal_pair(number / 100));
+    add_bytes(text, &decimal_pair(number % 100));
 }

@@ -83,7 +83,7 @@ fn play(alloc: Global, ecu: &mut Ecu, entry: &EntryRef<'_>) -> Result<bool, Allo
             if !is_same(entry.reply, reply.as_ref()) {
                 return Ok(false);
             }
-            ecu.settle(entry.who, functional, &message);
+            ecu.settle_answered(entry.who, functional, message.bytes(), reply.as_ref());
             Ok(true)
         }
         StepRef::Ticks(count) => {

@@ -2,7 +2,7 @@
 ghost use Rattle.std.specs.Prelude.{◌≡◌, ◌*◌, length, take, IsTrue};
 ghost use Rattle.hex.specs.Hex.{encode_upper};
 
-use diag_can::{FrameBytes, digits_of_eight, first_set};
+use diag_can::{FrameBytes, digits_of_eight, eight_of_digits, first_set};
 use std::simd::prelude::*;
 
 /// The bytes whose upper-case hex stands at the front, as many as there are. What the text seems to say is written as
@@ -15,19 +15,6 @@ pub(crate) fn upper_front(text: &[u8; 16]) -> FrameBytes
     let differs = u8x16::from_array(digits_of_eight(&bytes)).simd_ne(u8x16::from_array(*text));
     let run = first_set(differs.to_bitmask(), 16);
     FrameBytes::full(bytes).part(0, run / 2)
-}
-
-/// The bytes that upper-case digits write; of a text that has other bytes some bytes.
-#[inline(always)]
-fn eight_of_digits(text: &[u8; 16]) -> [u8; 8] {
-    let digits = u8x16::from_array(*text);
-    let letters = digits
-        .simd_ge(u8x16::splat(64))
-        .select(u8x16::splat(9), u8x16::splat(0));
-    let values = digits % u8x16::splat(16) + letters;
-    let high = values.swizzle([0, 2, 4, 6, 8, 10, 12, 14]);
-    let low = values.swizzle([1, 3, 5, 7, 9, 11, 13, 15]);
-    (high * u8x8::splat(16) + low).to_array()
 }
 
 /// Whether the text is the upper-case hex of eight bytes.

@@ -1,5 +1,5 @@
 //! Writing the text of a journal, in one buffer.
-ghost use Rattle.std.specs.Prelude.{◌≡◌, ◌≤◌, ◌+◌, ◌*◌, ◌^◌, ◌++◌, [], true, length, OnOk, OnErr, IfOk, IfSome, codes, decimal, option_copied, unwrap_or, vec_len, vec_capacity};
+ghost use Rattle.std.specs.Prelude.{◌≡◌, ◌≤◌, ◌<◌, ◌+◌, ◌*◌, ◌^◌, ◌++◌, [], true, length, OnOk, OnErr, IfOk, IfSome, codes, decimal, option_copied, unwrap_or, vec_len, vec_capacity};
 ghost use Rattle.diag_desk.specs.Entries.{entry};
 ghost use Rattle.diag_desk.specs.Entry.{entry_seen, messages_len, step_seen};
 ghost use Rattle.diag_desk.specs.Text.{ended, entry_line, header, journal_text, journal_text_at, reply_text, stamped_line, text_of, ticks_in};
@@ -7,8 +7,8 @@ ghost use Rattle.diag_desk.specs.Text.{ended, entry_line, header, journal_text, 
 use crate::clocks::Clocks;
 use crate::entry::{EntryRef, StepRef};
 use crate::journal::Journal;
-use crate::numerals::{add, add_decimal};
-use diag_can::add_hex;
+use crate::numerals::add_decimal;
+use diag_can::{add_bytes, add_hex};
 use diag_setup::TesterId;
 use std::alloc::{AllocError, Global};
 use std::mem;
@@ -153,6 +153,9 @@ fn write_line(
 /// More bytes than a line has beside the hex of its messages.
 const LINE_ROOM: usize = 64;
 
+/// More bytes than the messages of a line have: so many that their hex has a length.
+const MOST_BYTES: usize = usize::MAX / 4;
+
 /// No fewer bytes than a line has.
 #[inline(always)]
 fn line_room(step: &StepRef<'_>, reply: Option<&[u8]>) -> Option<usize>
@@ -160,17 +163,22 @@ fn line_room(step: &StepRef<'_>, reply: Option<&[u8]>) -> Option<usize>
         ≡ 64 + 2 * messages_len (step_seen step.now) (option_copied reply.entry)) }
 {
     let bytes = match *step {
-        StepRef::Request { bytes, .. } => bytes.len().checked_add(reply_len(reply))?,
+        StepRef::Request { bytes, .. } => message_len(Some(bytes)) + message_len(reply),
         StepRef::Ticks(_) => 0,
     };
-    bytes.checked_mul(2)?.checked_add(LINE_ROOM)
+    if bytes > MOST_BYTES {
+        return None;
+    }
+    Some(2 * bytes + LINE_ROOM)
 }
 
+/// How many bytes a message has.
 #[inline(always)]
-fn reply_len(reply: Option<&[u8]>) -> usize
-    ensures { result ≡ length (unwrap_or (option_copied reply.entry) []) }
+fn message_len(message: Option<&[u8]>) -> usize
+    ensures len { result ≡ length (unwrap_or (option_copied message.entry) []) }
+    ensures fits { result < 2 ^ 63 }
 {
-    match reply {
+    match message {
         Some(bytes) => bytes.len(),
         None => 0,
     }
@@ -200,13 +208,13 @@ fn add_entry(text: &mut Vec<u8>, who: TesterId, step: &StepRef<'_>, reply: Optio
     match *step {
         StepRef::Request { functional, bytes } => {
             let kind = if functional { b'F' } else { b'P' };
-            add(text, &[b'0' + who.place(), b' ', kind, b' ']);
+            add_bytes(text, &[b'0' + who.place(), b' ', kind, b' ']);
             add_hex(text, bytes);
             text.push_reserved(b' ');
             add_reply(text, reply);
         }
         StepRef::Ticks(count) => {
-            add(text, &[b'0' + who.place(), b' ', b'T', b' ']);
+            add_bytes(text, &[b'0' + who.place(), b' ', b'T', b' ']);
             add_decimal(text, u64::from(count.get()));
         }
     }

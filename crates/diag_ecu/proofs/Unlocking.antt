@@ -337,7 +337,7 @@ negative_differs functional p rest nrc e =
       | false ↦ λ h. other_first 0x7F refl (ecu.sid p ∷ nrc_code nrc ∷ []) rest (ap (λ (o : Option (List ℕ)). unwrap_or o []) h)
     ] e
 
-positive_sent : (functional : Bool) (p reply whole : List ℕ) → ecu.sent functional p (Ok reply) ≡ Some whole → reply ≡ whole
+pub positive_sent : (functional : Bool) (p reply whole : List ℕ) → ecu.sent functional p (Ok reply) ≡ Some whole → reply ≡ whole
 positive_sent functional p reply whole e =
     elim (ecu.is_suppressed (service_of (ecu.sid p)) p) as (λ b. cond b None (Some reply) ≡ Some whole → reply ≡ whole) [
       | true ↦ λ h. cc h
@@ -355,7 +355,7 @@ dtc_first s p =
           [ true ↦ refl | false ↦ refl ]
     ]
 
-reply_first : (s : State) (service : Service) (p : List ℕ) → slice_index (ecu.positive_reply s service p) 0 ≡ (row service).identifier + 0x40
+pub reply_first : (s : State) (service : Service) (p : List ℕ) → slice_index (ecu.positive_reply s service p) 0 ≡ (row service).identifier + 0x40
 reply_first s ReadDtcInformation p = dtc_first s p
 reply_first s service p = refl
 

@@ -350,6 +350,13 @@ abbrev pub sent_negative : Bool → ℕ → Nrc → Option (List ℕ)
 sent_negative functional sid nrc =
     if functional && is_silent nrc then None else Some (0x7F ∷ sid ∷ nrc_code nrc ∷ [])
 
+-- whether a reply is a negative response, and whether such a one has the code of a wrong key
+abbrev pub is_negative : List ℕ → Bool
+is_negative reply = slice_index reply 0 == 0x7F
+
+abbrev pub is_to_wrong_key : List ℕ → Bool
+is_to_wrong_key reply = (slice_index reply 2 == 0x35) || (slice_index reply 2 == 0x36)
+
 -- what is sent of an answer
 abbrev pub sent : Bool → List ℕ → Result (List ℕ) Nrc → Option (List ℕ)
 sent functional p (Ok reply) = if is_suppressed (service_of (sid p)) p then None else Some reply

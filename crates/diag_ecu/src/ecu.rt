@@ -1,8 +1,8 @@
 //! The ECU: what it holds, and what it does with a request.
-ghost use Rattle.std.specs.Prelude.{◌≡◌, ◌≤◌, ◌+◌, ◌++◌, ◌∷◌, [], ℕ, List, None, Some, length, IfOk, IfNone, OnOk, OnErr, IsTrue};
+ghost use Rattle.std.specs.Prelude.{◌≡◌, ◌≤◌, ◌+◌, ◌++◌, ◌∷◌, [], ℕ, List, None, Some, length, option_copied, IfOk, IfNone, OnOk, OnErr, IsTrue};
 ghost use Rattle.diag_setup.specs.Setup.{first_holding};
 ghost use Rattle.diag_ecu.specs.State.{State, opening, is_holder, is_held_by_another, is_open};
-ghost use Rattle.diag_ecu.specs.Respond.{common_checks, own_checks, checks, after_request, reply, outcome, served, effect, positive_reply, kept_alive, sent_negative};
+ghost use Rattle.diag_ecu.specs.Respond.{common_checks, own_checks, checks, after_request, reply, outcome, served, effect, positive_reply, kept_alive, sent, sent_negative, is_negative, is_to_wrong_key};
 ghost use Rattle.diag_ecu.specs.Service.{row as row_of};
 
 use crate::bytes::sub_of;
@@ -124,20 +124,32 @@ impl Ecu {
     }
 
     /// Goes to the state after a tester's request, which is the same for a functional and a physical one. It takes no
-    /// memory.
+    /// memory, and asks the checks.
     pub fn settle(&mut self, who: TesterId, functional: bool, message: &Message)
         ensures { self.new ≡ after_request self.old who functional message.now }
     {
-        self.settle_to(who, functional, message.bytes());
+        let _ = functional;
+        let p = message.bytes();
+        if let Some(service) = Service::of(p[0]) {
+            self.change(who, service, p);
+        }
+        self.keep_alive(who);
     }
 
-    /// Goes to the state after a request of these bytes.
-    pub fn settle_to(&mut self, who: TesterId, functional: bool, p: &[u8])
-        requires { 1 ≤ length p.now }
+    /// The same of a request of these bytes, to which this is the reply, or none where none is sent: it tells whether a
+    /// check held.
+    pub fn settle_answered(
+        &mut self,
+        who: TesterId,
+        functional: bool,
+        p: &[u8],
+        answer: Option<&Message>,
+    )
+        requires some { 1 ≤ length p.now }
+        requires replied { option_copied answer ≡ reply self.old who functional p.now }
         ensures { self.new ≡ after_request self.old who functional p.now }
     {
-        let _ = functional;
-        self.serve(who, p);
+        self.serve(who, functional, p, answer);
         self.keep_alive(who);
     }
 
@@ -162,7 +174,7 @@ impl Ecu {
         ensures refused { OnErr result (self.new ≡ self.old) }
     {
         let reply = self.reply(who, functional, message)?;
-        self.settle(who, functional, message);
+        self.settle_answered(who, functional, message.bytes(), reply.as_ref());
         Ok(reply)
     }
 }
@@ -252,25 +264,63 @@ impl Ecu {
     }
 
     /// Does what a request does, but for S3.
-    fn serve(&mut self, who: TesterId, p: &[u8])
-        requires { 1 ≤ length p.now }
+    fn serve(&mut self, who: TesterId, functional: bool, p: &[u8], answer: Option<&Message>)
+        requires some { 1 ≤ length p.now }
+        requires replied { option_copied answer ≡ reply self.old who functional p.now }
         ensures { self.new ≡ (outcome self.old who p.now).state }
     {
         if let Some(service) = Service::of(p[0]) {
-            self.serve_known(who, service, p);
+            self.serve_known(who, functional, service, p, answer);
         }
     }
 
-    fn serve_known(&mut self, who: TesterId, service: Service, p: &[u8])
-        requires { 1 ≤ length p.now }
+    fn serve_known(
+        &mut self,
+        who: TesterId,
+        functional: bool,
+        service: Service,
+        p: &[u8],
+        answer: Option<&Message>,
+    )
+        requires some { 1 ≤ length p.now }
+        requires replied { option_copied answer
+            ≡ sent functional p.now (served self.old who (Some service) p.now).answer }
         ensures { self.new ≡ (served self.old who (Some service) p.now).state }
     {
-        if !changes_nothing(service) {
+        if changes_nothing(service) {
+            return;
+        }
+        match answer {
+            Some(answer) => self.change_by(who, functional, service, p, answer.bytes()),
+            None => self.change(who, service, p),
+        }
+    }
+
+    /// Does what a request does of a service that may change something, by what is sent: only of a wrong key the checks
+    /// are asked again.
+    #[inline(never)]
+    fn change_by(
+        &mut self,
+        who: TesterId,
+        functional: bool,
+        service: Service,
+        p: &[u8],
+        answer: &[u8],
+    )
+        requires some { 1 ≤ length p.now }
+        requires replied { Some answer.now
+            ≡ sent functional p.now (served self.old who (Some service) p.now).answer }
+        ensures { self.new ≡ (served self.old who (Some service) p.now).state }
+    {
+        let _ = functional;
+        if !is_negative(answer) {
+            self.take_effect(who, service, p);
+        } else if is_to_wrong_key(answer) {
             self.change(who, service, p);
         }
     }
 
-    /// Does what a request does of a service that may change something.
+    /// Does what a request does of a service that may change something, by its checks.
     #[inline(never)]
     fn change(&mut self, who: TesterId, service: Service, p: &[u8])
         requires { 1 ≤ length p.now }
@@ -392,6 +442,20 @@ pub(crate) fn negative_reply(functional: bool, sid: u8, nrc: Nrc) -> Option<Mess
         return None;
     }
     Some(say(&[0x7F, sid, nrc.code()]))
+}
+
+/// Whether a reply is a negative response.
+fn is_negative(reply: &[u8]) -> bool
+    ensures { result ≡ is_negative reply.now }
+{
+    matches!(reply, [0x7F, ..])
+}
+
+/// Whether a negative response has the code of a wrong key.
+fn is_to_wrong_key(reply: &[u8]) -> bool
+    ensures { result ≡ is_to_wrong_key reply.now }
+{
+    matches!(reply, [_, _, 0x35 | 0x36, ..])
 }
 
 /// Whether a service changes nothing but S3, whatever a request of it is answered.

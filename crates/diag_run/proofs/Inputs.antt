@@ -10,7 +10,7 @@ use Rattle.diag_text.specs.declared.fault.RunFault.TheVariants.{Files, Config, C
 use Rattle.diag_run.specs.declared.whole.Job.{Job}
 use Rattle.diag_run.specs.declared.whole.Job.TheVariants.{Serial, Play, Replay}
 use Rattle.diag_run.specs.Files.{Refusal, wrong_count, Fails, ConfigFails, ReadEach, SaysSetup, config_of, files_from}
-use Rattle.diag_run.specs.Run.{Inputs, HasRead, ReadingStops, RunStops, AnswersFault, wanted, limit, read_of, GivesRun}
+use Rattle.diag_run.specs.Run.{Inputs, inputs, HasRead, ReadingStops, RunStops, AnswersFault, wanted, limit, read_of, GivesRun}
 
 -- a fault stays where what is read is only put into another shape
 module _ {A B : Type 0} (f : A → B) where
@@ -37,10 +37,6 @@ module _ {A B : Type 0} (f : A → B) where
   Fails-map (Differs n) said h = absurd h
   Fails-map (Capture n fault) said h = absurd h
   Fails-map (Otherwise told) said h = absurd h
-
--- what was read, of these parts
-abbrev pub inputs : RawSetup → List (List ℕ) → Inputs
-inputs setup texts = record { setup = setup; texts = texts }
 
 module _ (job : Job) (bytes : List ℕ) (known : List (List ℕ)) (setup : RawSetup) (config : config_of bytes ≡ Ok setup) where
   pub miscounted : (wanted job setup ≡ length known → ⊥) → read_of job bytes known ≡ Err (wrong_count (wanted job setup) (length known))

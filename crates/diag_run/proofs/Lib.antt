@@ -1,5 +1,6 @@
 pub mod Following
 pub mod Inputs
+pub mod Known
 pub mod Order
 pub mod Pieces
 pub mod Plays

@@ -1,11 +1,7 @@
 -- A capture that comes piece by piece: what is kept of it stands for what was read and written.
-use Rattle.std.proofs.Common.{eqb-true, get_or, drop, take-append-drop, ◌≡◌, ◌⊎◌, ℕ, ◌+◌, ◌-◌, ◌<◌, ◌≤◌, nat_lt, true, List, [], ◌∷◌, ◌++◌, length, take, None, Some, Option, Result, Ok, Err, OnOk, IfSome, inl, inr, refl, sym, ap, subst, ◌∙◌, append_assoc, arith}
-use Rattle.memchr.specs.Find.{IsFirstByte}
-use Rattle.diag_can.specs.Log.{is_feed}
-use Rattle.std.proofs.lemmas.Grind.{get_or_default_zero}
-use Rattle.std.proofs.lemmas.Bool.{false_from_ne_true}
+use Rattle.std.proofs.Common.{◌≡◌, ◌⊎◌, ℕ, ◌+◌, ◌-◌, ◌<◌, ◌≤◌, nat_lt, true, List, [], ◌∷◌, ◌++◌, length, take, None, Some, Option, Result, Ok, Err, OnOk, IfSome, inl, inr, refl, sym, ap, subst, ◌∙◌, append_assoc, arith}
 use Rattle.std.proofs.KnownBytes.{Appends-trans}
-use Rattle.std.proofs.lemmas.List.{append-nil, drop_more, length-append}
+use Rattle.std.proofs.lemmas.List.{append-nil, length-append}
 use Rattle.diag_text.specs.Bytes.{Sends}
 use Rattle.std.proofs.lemmas.Bool.Decides.{nat_tests}
 use Rattle.std.proofs.Math.Seq.{take-append_seam}
@@ -574,17 +570,6 @@ module _ (old mid : Capture) (a b c : Option (List ℕ)) (piece rest : List ℕ)
     subst (λ (p : List ℕ). GoesOn old new p (so_far.sent ++ sends.0)) (sym so_far.is)
         (GoesOn-trans old mid new so_far.gone rest so_far.sent sends.0 so_far.on sends.2),
   )
-
--- what the first line feed of a text makes of it
-pub split_at_feed : (text : List ℕ) (end : ℕ) → IsFirstByte is_feed text (Some end) → text ≡ take end text ++ 10 ∷ drop (end + 1) text
-split_at_feed text end found =
-    let within : end < length text = omega (arith, found.0.high) in
-    let byte : get_or text end 0 ≡ 10 = eqb-true (get_or text end 0) 10 found.1 in
-    let rest : drop end text ≡ 10 ∷ drop (end + 1) text = drop_more text end 0 within ∙ ap (λ (c : ℕ). c ∷ drop (end + 1) text) byte in
-    sym (take-append-drop end text) ∙ ap (λ (r : List ℕ). take end text ++ r) rest
-
-pub no_feed : (text : List ℕ) → IsFirstByte is_feed text None → HasNoFeed text
-no_feed text none = λ k d lt. ap is_feed (get_or_default_zero text k d lt) ∙ false_from_ne_true _ (none k (omega arith) lt)
 
 -- what the bus makes of a line that it refuses
 pub give_halts : (capture : Capture) (bytes line text : List ℕ) (fault : CaptureFault) → HasNoFeed bytes → line ≡ capture.kept.items ++ bytes

@@ -1,12 +1,13 @@
 -- Reading files one after the other, as a loop does.
-use Rattle.std.proofs.Common.{suc, ◌≡◌, ℕ, ◌+◌, ◌≤◌, ◌<◌, length, take, drop, set, get_or, map, List, [], ◌∷◌, ◌++◌, Option, Some, Result, Ok, Err, refl, sym, ap, ◌∙◌, append_assoc, take-append-drop, length-append, arith, le-leb, nat_le, false}
-use Rattle.std.proofs.lemmas.List.{append-nil, map_push, drop_more, length-take-le, set_split, take_more, take_more_set, drop-map, drop-drop, length-map}
+use Rattle.std.proofs.Common.{subst, suc, ◌≡◌, ℕ, ◌+◌, ◌≤◌, ◌<◌, length, take, drop, set, get_or, map, List, [], ◌∷◌, ◌++◌, Option, Some, Result, Ok, Err, refl, sym, ap, ◌∙◌, append_assoc, take-append-drop, length-append, arith, le-leb, nat_le, false}
+use Rattle.std.proofs.lemmas.List.{drop_more, drop-set-lt, length-take-le, set_split, take_more, take_more_set, length-map}
 use Rattle.std.proofs.lemmas.Bool.Decides.{nat_tests}
 use Rattle.std.proofs.lemmas.List.Elements.{All-head, All-tail}
 use Rattle.std.specs.List.{All}
+use Rattle.std.proofs.KnownBytes.{Consumes-whole}
 use Rattle.diag_config.specs.Key.{◌>>=◌}
 use Rattle.diag_text.specs.Bytes.{ReadWhole, Takes}
-use Rattle.diag_run.specs.Files.{Refusal, file_long, AreKnown, EndsAt, ReadEach, files_from}
+use Rattle.diag_run.specs.Files.{Refusal, file_long, AreKnown, AreTaken, EndsAt, ReadEach, files_from}
 
 -- what was read before, and what is still read
 abbrev pub with_front : {A : Type 0} → List A → Result (List A) Refusal → Result (List A) Refusal
@@ -15,25 +16,17 @@ with_front front said = said >>= λ others. Ok (front ++ others)
 -- ---- the reader at a place, and what it has left
 
 module _ {R : Type 0} (remaining : R → Option (List ℕ)) where
-  head_known : (x : R) (rest : List R) (known : List (List ℕ)) → remaining x ∷ map remaining rest ≡ map Some known
+  pub head_known : (x : R) (rest : List R) (known : List (List ℕ)) → remaining x ∷ map remaining rest ≡ map Some known
       → (bytes : List ℕ) × (more : List (List ℕ)) × (remaining x ≡ Some bytes) × (known ≡ bytes ∷ more)
   head_known x rest [] e = cc
   head_known x rest (b ∷ more) e = (b, more, cc, refl)
 
-  AreKnown-drop : (readers : List R) (known : List (List ℕ)) (i : ℕ) → AreKnown remaining readers known → AreKnown remaining (drop i readers) (drop i known)
-  AreKnown-drop readers known i h = sym (drop-map remaining i readers) ∙ ap (drop i) h ∙ drop-map Some i known
-
   pub AreKnown-length : (readers : List R) (known : List (List ℕ)) → AreKnown remaining readers known → length readers ≡ length known
   AreKnown-length readers known h = simp length-map at (ap length h)
 
-  pub known_at : (readers now : List R) (known : List (List ℕ)) (i : ℕ) (d : R) → AreKnown remaining readers known → drop i now ≡ drop i readers
-      → i < length now
-      → (bytes : List ℕ) × (remaining (get_or now i d) ≡ Some bytes) × (drop i known ≡ bytes ∷ drop (i + 1) known)
-  known_at readers now known i d h same lt =
-      let here : drop i readers ≡ get_or now i d ∷ drop (i + 1) now = sym same ∙ drop_more now i d lt in
-      let found = head_known (get_or now i d) (drop (i + 1) now) (drop i known) (ap (map remaining) (sym here) ∙ AreKnown-drop readers known i h) in
-      let after : drop (i + 1) known ≡ found.1 = sym (drop-drop 1 i known) ∙ ap (drop 1) found.3 in
-      (found.0, found.2, found.3 ∙ ap (λ (more : List (List ℕ)). found.0 ∷ more) (sym after))
+-- all that was read of a reader is what it had left
+pub whole_known : (old new : Option (List ℕ)) (bytes text : List ℕ) → old ≡ Some bytes → ReadWhole old new text → text ≡ bytes
+whole_known old new bytes text is read = rw is at (Consumes-whole old new text (λ known. text ≡ known) read.0 read.1 refl)
 
 -- ---- one more file
 
@@ -57,17 +50,6 @@ module _ (limit : ℕ) (front : List (List ℕ)) (n : ℕ) (bytes : List ℕ) (m
       let no : nat_le (length bytes) limit ≡ false = grind (arith, nat_tests) in
       let one : with_front front (files_from limit n (bytes ∷ more)) ≡ Err (file_long n) = rw no refl in
       sym so_far ∙ one
-
--- a list of texts with one more, whose bytes are these
-pub one_more : {A : Type 0} (bytes_of : A → List ℕ) (texts texts' : List A) (text : A) (bytes : List ℕ) → texts' ≡ texts ++ text ∷ [] → bytes_of text ≡ bytes
-    → map bytes_of texts' ≡ map bytes_of texts ++ bytes ∷ []
-one_more bytes_of texts texts' text bytes grown same =
-    ap (map bytes_of) grown ∙ (map_push bytes_of texts text ∙ ap (λ (b : List ℕ). map bytes_of texts ++ b ∷ []) same)
-
-pub is_done : (limit : ℕ) (front : List (List ℕ)) (n : ℕ) (total : Result (List (List ℕ)) Refusal) → with_front front (files_from limit n []) ≡ total
-    → total ≡ Ok front
-unfolding files_from
-is_done limit front n total so_far = sym so_far ∙ ap (λ (xs : List (List ℕ)). Ok xs) (append-nil front)
 
 -- ---- what was read of each reader
 
@@ -94,6 +76,33 @@ module _ {R : Type 0} (remaining : R → Option (List ℕ)) where
       cc in
       rw (take_more olds i d lt', take_more_set files i new lt)
       (ReadEach-push (take i olds) (take i files) texts (get_or olds i d) new text each (rw (sym here) one))
+
+-- ---- what took them
+
+module _ {T : Type 0} (took : T → List ℕ → Type 0) where
+  AreTaken-push : (takers : List T) (texts : List (List ℕ)) (taker : T) (text : List ℕ) → AreTaken took takers texts → took taker text
+      → AreTaken took (takers ++ taker ∷ []) (texts ++ text ∷ [])
+  AreTaken-push [] [] taker text each one = (one, tt)
+  AreTaken-push (t ∷ takers) (x ∷ texts) taker text each one = (each.0, AreTaken-push takers texts taker text each.1 one)
+  AreTaken-push [] (x ∷ texts) taker text each one = absurd each
+  AreTaken-push (t ∷ takers) [] taker text each one = absurd each
+
+  -- taker i has taken its text behind those before it
+  pub one_taken_more : (takers : List T) (i : ℕ) (new : T) (texts : List (List ℕ)) (text : List ℕ) → i < length takers → AreTaken took (take i takers) texts
+      → took new text
+      → AreTaken took (take (i + 1) (set takers i new)) (texts ++ text ∷ [])
+  one_taken_more takers i new texts text lt each one = rw (take_more_set takers i new lt) (AreTaken-push (take i takers) texts new text each one)
+
+  -- and those from i on have taken nothing
+  pub next_begun : (takers : List T) (i : ℕ) (d : T) → i < length takers → All (λ taker. took taker []) (drop i takers) → took (get_or takers i d) []
+  next_begun takers i d lt begun =
+      All-head (λ taker. took taker []) (get_or takers i d) (drop (i + 1) takers) (subst (All (λ taker. took taker [])) (drop_more takers i d lt) begun)
+
+  pub others_begun : (takers : List T) (i : ℕ) (new d : T) → i < length takers → All (λ taker. took taker []) (drop i takers)
+      → All (λ taker. took taker []) (drop (i + 1) (set takers i new))
+  others_begun takers i new d lt begun =
+      subst (All (λ taker. took taker [])) (sym (drop-set-lt (i + 1) takers i new (omega arith)))
+      (All-tail (λ taker. took taker []) (get_or takers i d) (drop (i + 1) takers) (subst (All (λ taker. took taker [])) (drop_more takers i d lt) begun))
 
 -- texts that are all within the limit are read as they are
 pub all_within : (limit n : ℕ) (texts : List (List ℕ)) → All (λ text. length text ≤ limit) texts → files_from limit n texts ≡ Ok texts

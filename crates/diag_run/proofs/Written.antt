@@ -2,11 +2,11 @@
 use Rattle.std.proofs.Common.{◌≡◌, ◌≢◌, ◌≤◌, ◌<◌, ℕ, zero, suc, ◌+◌, ◌-◌, ◌*◌, Bool, true, false, Option, Some, None, List, [], ◌∷◌, ◌++◌, length, length-append, map, refl, ap, ap₂, subst, sym, ◌∙◌, arith, add-one, append_assoc, inl, inr}
 use Rattle.std.proofs.lemmas.Grind.{flat_map-append}
 use Rattle.std.proofs.lemmas.List.{append-nil, length-map, length-set, map-append}
-use Rattle.std.proofs.lemmas.Option.{slice_get-map, slice_get_within}
-use Rattle.std.specs.Prelude.{◌⊎◌, if◌then◌else◌, slice_get, slice_set, IfSome, IsSome, IsTrue}
+use Rattle.std.proofs.lemmas.Option.{slice_get_within}
+use Rattle.std.specs.Prelude.{◌⊎◌, if◌then◌else◌, slice_get, slice_set}
 use Rattle.std.specs.Global.{Vec}
 use Rattle.std.specs.List.{concat}
-use Rattle.std.specs.Option.{option_map, option_to_list}
+use Rattle.std.specs.Option.{option_to_list}
 use Rattle.diag_can.specs.declared.frame.Event.{Event}
 use Rattle.diag_can.specs.Reply.{reply_line}
 use Rattle.diag_can.specs.declared.log.Timing.{Timing}
@@ -15,32 +15,27 @@ use Rattle.diag_setup.specs.declared.raw.RawSetup.{RawSetup}
 use Rattle.diag_setup.specs.Setup.{link_of, name_of}
 use Rattle.diag_tp.proofs.CutFrames.{length-counted}
 use Rattle.diag_tp.proofs.Lists.{map-at}
-use Rattle.diag_tp.specs.Gives.{gives}
-use Rattle.diag_tp.specs.Link.{is_frame}
 use Rattle.diag_tp.specs.Moments.{counted_from}
-use Rattle.diag_tp.specs.State.{LinkState, LinkView}
+use Rattle.diag_tp.specs.State.{LinkState}
 use Rattle.diag_tp.specs.declared.sent.Sent.{Sent}
 use Rattle.diag_tp.specs.declared.setup.LinkSetup.{LinkSetup}
 use Rattle.diag_tp.specs.Placing.{drawn}
 use Rattle.diag_tp.specs.Wire.{grant, sendings, wire}
-use Rattle.diag_tp.specs.declared.step.Step.{Step}
 use Rattle.diag_ecu.specs.State.{State, opening}
 use Rattle.diag_desk.specs.declared.entry.Entry.{Entry}
 use Rattle.diag_desk.specs.Entry.{most_entries}
 use Rattle.diag_desk.specs.Legal.{after}
-use Rattle.diag_desk.specs.Text.{ended, entry_line, stamped_line, text_of, ticks_in, ticks_of}
+use Rattle.diag_desk.specs.Text.{ended, entry_line, stamped_line, text_of, ticks_in}
 use Rattle.diag_desk.proofs.ReadLemmas.{text_one}
 use Rattle.diag_world.specs.Port.{Grew}
-use Rattle.diag_world.specs.Server.{IsClosed, ServerState, ServerView, Serves, Settled, closing_time, sent_to, server_of}
-use Rattle.diag_world.specs.Weaving.{all_by, items_of, steps_of, steps_of_after}
+use Rattle.diag_world.specs.Server.{HasKept, IsClosed, ServerState, ServerTook, ServerView, Serves, Settled, sent_to, server_of}
 use Rattle.diag_world.specs.World.{Stands, WorldState}
-use Rattle.diag_world.proofs.Weaves.{steps_of_after-append}
 use Rattle.diag_world.proofs.Worlds.{other_place, set_cases}
 use Rattle.diag_bus.specs.Batch.{IsBy}
-use Rattle.diag_bus.proofs.Paces.{frame_time}
+use Rattle.diag_bus.proofs.Batches.{clock_told}
 use Rattle.diag_text.specs.Text.{end_text, journal_part, lines_from, lines_of}
 use Rattle.diag_text.proofs.Lines.{concat_more}
-use Rattle.diag_run.specs.Playing.{AreTexts, AreUnwritten, Enters, EntersMore, IsReady, Plays, Replies, Terms, Took, WroteTo, is_stamped, parts_text}
+use Rattle.diag_run.specs.Playing.{AreTexts, AreUnwritten, Enters, EntersMore, EntersOne, IsReady, Plays, Replies, Terms, Took, WroteTo, is_stamped, parts_text}
 use Rattle.diag_run.specs.Run.{played_text}
 use Rattle.diag_run.specs.declared.entering.JournalLines.{JournalLines}
 use Rattle.diag_run.specs.declared.replies.ReplyLines.{ReplyLines}
@@ -58,9 +53,20 @@ enters_more old new before k version count text = λ stamped K h told. record {
   number = omega (arith, count, h.number, length-append K (k ∷ []));
 }
 
--- none
-pub enters_none : (lines : JournalLines) (before : ℕ) → EntersMore lines lines before None
-enters_none lines before = λ stamped K h told. subst (Enters lines stamped) (sym (append-nil K)) h
+-- what is kept of an event, with or without an entry
+module _ (old new : JournalLines) (now : ℕ) where
+  enters_asked : (asked : Option Entry) → HasKept EntersOne old new now asked → EntersMore old new now asked
+  enters_asked None kept = λ stamped K h told.
+      subst (Enters new stamped) (sym (append-nil K)) (subst (λ (l : JournalLines). Enters l stamped K) (sym kept) h)
+  enters_asked (Some k) kept = kept.0
+
+  pub count_asked : (asked : Option Entry) → HasKept EntersOne old new now asked → new.count ≡ old.count + length (option_to_list asked)
+  count_asked None kept = omega (arith, ap (λ (l : JournalLines). l.count) kept)
+  count_asked (Some k) kept = omega (arith, kept.1)
+
+  pub few_asked : (asked : Option Entry) → HasKept EntersOne old new now asked → old.count ≤ most_entries → new.count ≤ most_entries
+  few_asked None kept few = omega (arith, ap (λ (l : JournalLines). l.count) kept, few)
+  few_asked (Some k) kept few = kept.2
 
 -- ---- the clocks
 
@@ -78,18 +84,7 @@ paced_more old new who n m e asked more settled by count = λ i link at.
       | inr p ↦ (let low = by i link p.1 in omega (arith, low, count))
     ]
 
--- clocks that are as before
-pub by_same : (old new : ServerView) (time : ℕ) → server_of new ≡ server_of old → IsBy old time → IsBy new time
-by_same old new time same by = λ i link at. by i link (subst (λ (s : ServerState). slice_get s.links i ≡ Some link) same at)
-
 -- so no clock runs out
-pub early_link : (server : ServerView) (n i : ℕ) (link : LinkView) → n ≤ most_entries → IsBy server (60000 * n) → slice_get server.links i ≡ Some link
-    → link.state.now ≤ closing_time
-early_link server n i link few by at =
-    let there = slice_get-map (λ (l : LinkView). l.state) server.links i ∙ ap (option_map (λ (l : LinkView). l.state)) at in
-    let low = by i link.state there in
-    omega (arith, low, few)
-
 pub not_closed : (server : ServerView) (n i : ℕ) → n ≤ most_entries → IsBy server (60000 * n) → IsClosed (server_of server).links i → ⊥
 not_closed server n i few by closed =
     let low = by i closed.link closed.found in
@@ -97,37 +92,27 @@ not_closed server n i few by closed =
 
 -- ---- an event
 
--- what was settled and entered
-pub took_more : (old new : Playing) (who before : ℕ) (e : Event) (asked : Option Entry)
-    → Settled (server_of old.server) (server_of new.server) who e asked new.out.items
-    → ((setup : RawSetup) (M : List (ℕ × Event)) (K : List Entry) → Serves setup (server_of old.server) M K → IfSome asked (λ k. before ≡ ticks_of k.who K))
-    → EntersMore old.journal new.journal before asked
-    → Took old new who e
-took_more old new who before e asked settled told enters = λ setup stamped M K serves h. record {
-  asked = asked;
-  served = settled.served setup M K serves;
-  enters = enters stamped K h (told setup M K serves);
-}
-
 -- what an event drew into an empty list is all that is there
-pub settled_out : (old new : ServerView) (who : ℕ) (e : Event) (asked : Option Entry) (before after : List Sent) → before ≡ []
-    → Grew before after (λ more. Settled (server_of old) (server_of new) who e asked more)
-    → Settled (server_of old) (server_of new) who e asked after
+settled_out : (old new : ServerState) (who : ℕ) (e : Event) (asked : Option Entry) (before after : List Sent) → before ≡ []
+    → Grew before after (λ more. Settled old new who e asked more)
+    → Settled old new who e asked after
 settled_out old new who e asked before after none grew =
     let all : after ≡ grew.more = grew.grown ∙ ap (λ fs. fs ++ grew.more) none in
-    subst (λ fs. Settled (server_of old) (server_of new) who e asked fs) (sym all) grew.holds
+    subst (λ fs. Settled old new who e asked fs) (sym all) grew.holds
 
--- a step that is asked for has an entry
-pub step_asked : (o : Option Entry) (s : Option Step) → option_map (λ (k : Entry). k.step) o ≡ s → IsSome o → IsSome s
-step_asked None s is some = absurd (clash None refl some)
-  where
-    clash : (o : Option Entry) → o ≡ None → IsSome o → ⊥
-    clash None is h = cc
-    clash (Some k) is h = cc
-step_asked (Some k) s is some = subst IsSome is refl
-
-pub given_some : (o : Option Step) (x : Step) → o ≡ Some x → IsSome o
-given_some o x is = subst IsSome (sym is) refl
+-- what the server took and the journal's text keeps
+pub took_more : (old new : Playing) (who : ℕ) (e : Event) → 1 ≤ who → old.out.items ≡ []
+    → ServerTook EntersOne (server_of old.server) (server_of new.server) old.journal new.journal who e old.out.items new.out.items
+    → Took old new who e
+took_more old new who e some none took = λ setup stamped M K serves h.
+    let moved = took.sent.holds.moved in
+    let place : who ≡ (who - 1) + 1 = omega (arith, some) in
+    record {
+      asked = took.asked;
+      served = (settled_out (server_of old.server) (server_of new.server) who e took.asked old.out.items new.out.items none took.sent).served setup M K serves;
+      enters = enters_asked old.journal new.journal moved.before.now took.asked took.kept stamped K h
+          (clock_told setup (server_of old.server) M K who (who - 1) moved.before took.asked serves place moved.found took.early took.by);
+    }
 
 same_or_not : (i j : ℕ) → (i ≡ j) ⊎ (i ≢ j)
 same_or_not zero zero = inl refl
@@ -346,55 +331,3 @@ parts_whole terms playing M h =
     (h.each i tester at).text ∙ ap (λ k. lines_of (name_of setup k) (f k)) (omega arith)) in
     parts_said terms.only_journal terms.timing setup h.entries f lines playing.journal.text.items playing.server.ecu
     (h.journal.text ∙ journal_said terms.timing h.entries) h.serves.ecu all h.many
-
--- ---- a frame that gives no step
-
-steps_none : (links : ℕ → LinkSetup) (M : List (ℕ × Event)) (t : ℕ) (e : Event) → gives (links t) (items_of M t) e ≡ None
-    → length (steps_of links (M ++ (t, e) ∷ [])) ≡ length (steps_of links M)
-steps_none links M t e is =
-    let none : steps_of_after links M ((t, e) ∷ []) ≡ [] = ap (λ o. all_by t (option_to_list o) ++ []) is in
-    ap length (steps_of_after-append links [] M ((t, e) ∷ []))
-    ∙ omega (arith, length-append (steps_of links M) (steps_of_after links M ((t, e) ∷ [])), ap length none)
-
-none_of : (asked : Option Entry) → length (option_to_list asked) ≡ 0 → asked ≡ None
-none_of None is = refl
-none_of (Some k) is = absurd (omega (arith, is))
-
--- has no entry
-pub none_asked : (setup : RawSetup) (old new : ServerState) (M : List (ℕ × Event)) (K : List Entry) (who : ℕ) (e : Event) (asked : Option Entry)
-    → Serves setup old M K → Serves setup new (M ++ (who, e) ∷ []) (K ++ option_to_list asked)
-    → gives (link_of setup who) (items_of M who) e ≡ None → asked ≡ None
-none_asked setup old new M K who e asked before after is =
-    let links = link_of setup in
-    let by : Entry → ℕ × Step = λ k. (k.who, k.step) in
-    let L = option_to_list asked in
-    none_of asked (omega (
-      arith,
-      ap length before.run,
-      ap length after.run,
-      length-map K by,
-      length-map (K ++ L) by,
-      length-append K L,
-      steps_none links M who e is,
-    ))
-
--- and lets no time pass
-pub paced_still : (old new : ServerView) (who time : ℕ) (e : Event) (asked : Option Entry) (more : List Sent)
-    → Settled (server_of old) (server_of new) who e asked more → IsTrue (is_frame e) → IsBy old time → IsBy new time
-paced_still old new who time e asked more settled frame by = λ i link at.
-    let moved = settled.moved in
-    elim (set_cases (server_of old).links (who - 1) i moved.after link (subst (λ ls. slice_get ls i ≡ Some link) moved.set at)) [
-      | inl p ↦ (
-          let same : link.now ≡ moved.after.now = ap (λ (l : LinkState). l.now) p.1 in
-          let low = by (who - 1) moved.before moved.found in
-          omega (arith, same, moved.time, frame_time e frame moved.before.now, low))
-      | inr p ↦ by i link p.1
-    ]
-
--- where it isn't told that a step is given, none is
-pub none_given : (o : Option Step) (told : Bool) → told ≡ false → (IsSome o → IsTrue told) → o ≡ None
-none_given None told silent tells = refl
-none_given (Some x) told silent tells = absurd (never (subst IsTrue silent (tells (given_some (Some x) x refl))))
-  where
-    never : IsTrue false → ⊥
-    never h = cc

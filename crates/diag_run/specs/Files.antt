@@ -128,6 +128,20 @@ ReadEach remaining (r ∷ rs) (r' ∷ rs') (text ∷ texts) =
     ReadWhole (remaining r) (remaining r') text × ReadEach remaining rs rs' texts
 ReadEach remaining olds news texts = ⊥
 
+-- each of these has taken its text
+abbrev pub AreTaken : {T : Type 0} → (T → List ℕ → Type 0) → List T → List (List ℕ) → Type 0
+AreTaken took [] [] = Unit {0}
+AreTaken took (t ∷ ts) (text ∷ texts) = took t text × AreTaken took ts texts
+AreTaken took ts texts = ⊥
+
+-- each file was read whole, none is longer than the limit, and P holds of their texts
+pub record FilesRead {R : Type 0} (remaining : R → Option (List ℕ)) (limit : ℕ) (old new : List R)
+    (P : List (List ℕ) → Type 0) : Type 0 where
+  pub texts : List (List ℕ)
+  pub each : ReadEach remaining old new texts
+  pub within : files_from limit 1 texts ≡ Ok texts
+  pub holds : P texts
+
 -- The reading ended at file n: those before it were read whole and are within the limit, of it bytes were read of which
 -- P holds, and those behind it were not touched.
 pub record EndsAt {R : Type 0} (remaining : R → Option (List ℕ)) (limit n : ℕ) (old new : List R)

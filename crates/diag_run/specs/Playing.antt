@@ -47,6 +47,12 @@ EntersMore old new before asked = (stamped : Bool) (K : List Entry)
     → IfSome asked (λ k. before ≡ ticks_of k.who K)
     → Enters new stamped (K ++ option_to_list asked)
 
+-- the text has this entry more, and no more than a journal may have
+abbrev pub EntersOne : JournalLines → ℕ → Entry → JournalLines → Type 0
+EntersOne old before k new = EntersMore old new before (Some k)
+    × (new.count ≡ old.count + 1)
+    × (new.count ≤ most_entries)
+
 -- ---- the reply lines
 
 -- the lines of the tester of this name, who was sent these frames

@@ -11,6 +11,8 @@ use Rattle.diag_tp.specs.declared.sent.Sent.{Sent}
 use Rattle.diag_ecu.specs.State.{opening}
 use Rattle.diag_desk.specs.declared.entry.Entry.{Entry}
 use Rattle.diag_desk.specs.Entry.{IsJournal, most_entries}
+use Rattle.diag_desk.specs.Following.{HasTaken}
+use Rattle.diag_desk.specs.declared.following.TextReplay.{TextReplay}
 use Rattle.diag_desk.specs.Fault.{IsTextOf, FaultAt}
 use Rattle.diag_desk.specs.Legal.{Run, after}
 use Rattle.diag_desk.specs.Replay.{IsRun, DiffersAt}
@@ -19,12 +21,12 @@ use Rattle.diag_world.specs.Weaving.{steps_of, turns, weave}
 use Rattle.diag_config.specs.Key.{◌>>=◌}
 use Rattle.diag_text.specs.Bytes.{AppendsFront, ReadWhole}
 use Rattle.diag_text.specs.Faults.{fault_text, status}
-use Rattle.diag_run.specs.Files.{Refusal, Fails, AreKnown, ConfigEnds, FilesEnd, ReadEach, SaysSetup, config_of, counted, files_from, or_bad_log}
+use Rattle.diag_text.specs.Taking.{LinesTaken}
+use Rattle.diag_run.specs.Files.{Refusal, Fails, AreKnown, ConfigEnds, FilesEnd, FilesRead, ReadEach, SaysSetup, config_of, counted, files_from, or_bad_log}
 use Rattle.diag_workers.specs.Play.{logs_of}
 use Rattle.diag_text.specs.Text.{journal_part, whole_text, replay_text}
 use Rattle.diag_text.specs.declared.fault.RunFault.{RunFault}
 use Rattle.diag_text.specs.declared.fault.RunFault.TheVariants.{Files, JournalLine, Memory, JournalFull, Read, Write, Differs}
-use Rattle.diag_run.specs.declared.whole.Given.{Given}
 use Rattle.diag_run.specs.declared.whole.Outcome.{Outcome}
 use Rattle.diag_run.specs.declared.whole.Outcome.TheVariants as outcome
 use Rattle.diag_run.specs.declared.whole.Alone.{Alone}
@@ -56,16 +58,15 @@ pub record Inputs : Type 0 where
   pub setup : RawSetup
   pub texts : List (List ℕ)
 
--- what the code keeps of it
-abbrev pub inputs_of : Given → Inputs
-inputs_of given = record { setup = given.setup; texts = map (λ text. text.items) given.texts.items }
+abbrev pub inputs : RawSetup → List (List ℕ) → Inputs
+inputs setup texts = record { setup = setup; texts = texts }
 
 unfoldable pub read_of : Job → List ℕ → List (List ℕ) → Result Inputs Refusal
 read_of job config files = do
   setup ← config_of config
   _ ← counted (wanted job setup) (length files)
   texts ← files_from (limit job) 1 files
-  Ok (record { setup = setup; texts = texts })
+  Ok (inputs setup texts)
 
 -- the config and each file were read whole, and P holds of what the bytes say that were read
 pub record HasRead {R : Type 0} (remaining : R → Option (List ℕ)) (job : Job) (config config' : R)
@@ -165,6 +166,11 @@ GivesReplayed setup bytes (Err (Differs n)) = Differ setup bytes n
 GivesReplayed setup bytes (Err Memory) = Unit {0}
 GivesReplayed setup bytes (Err fault) = ⊥
 
+-- the one text was taken up to these bytes of a line that no line feed ended
+abbrev pub IsReplayedTo : RawSetup → TextReplay → List ℕ → List (List ℕ) → Type 0
+IsReplayedTo setup replay begun texts =
+    (text : List ℕ) × (texts ≡ text ∷ []) × LinesTaken (HasTaken setup replay) begun text
+
 abbrev pub first_text : List (List ℕ) → List ℕ
 first_text [] = []
 first_text (text ∷ texts) = text
@@ -176,6 +182,16 @@ GivesText (Serial only_journal timing) i answer =
 GivesText (Play only_journal timing) i answer =
     GivesWoven only_journal timing i.setup (or_bad_log (logs_of i.setup timing i.texts)) answer
 GivesText Replay i answer = GivesReplayed i.setup (first_text i.texts) answer
+
+-- A text for the files, each of which was read whole. Or the fault came in reading them; or they were read whole, and it is
+-- that of what they say, and no failed read.
+abbrev pub FilesGive : {R : Type 0} → (R → Option (List ℕ)) → Job → RawSetup → List R → List R
+    → Result (List ℕ) RunFault → Type 0
+FilesGive remaining job setup old new (Ok text) =
+    FilesRead remaining (limit job) old new (λ texts. GivesText job (inputs setup texts) (Ok text))
+FilesGive remaining job setup old new (Err fault) = FilesEnd remaining (limit job) old new fault
+    ⊎ (((n : ℕ) → fault ≢ Read n)
+    × FilesRead remaining (limit job) old new (λ texts. GivesText job (inputs setup texts) (Err fault)))
 
 -- a text for what was read; a fault of the reading, or of what was read
 abbrev pub GivesRun : Job → Result Inputs Refusal → Result (List ℕ) RunFault → Type 0

@@ -1,20 +1,50 @@
 //! What a run writes for what it has read: the text of a play, or of a replay.
 
-ghost use Rattle.std.specs.Prelude.{◌≡◌, ◌≢◌, ℕ, length, map, IfOk, IfErr, Err};
+ghost use Rattle.std.specs.Prelude.{◌≡◌, ◌≢◌, ◌++◌, ℕ, List, length, map, IfOk, IfErr, Err};
+ghost use Rattle.diag_can.specs.Bus.{HasNoFeed};
+ghost use Rattle.diag_desk.specs.Following.{HasTaken};
 ghost use Rattle.diag_workers.specs.Play.{logs_of};
-ghost use Rattle.diag_run.specs.Files.{or_bad_log};
-ghost use Rattle.diag_run.specs.Run.{GivesPlayed, GivesWoven, GivesReplayed, played_text, answered, joined};
+ghost use Rattle.diag_run.specs.Files.{FilesEnd, FilesRead, or_bad_log};
+ghost use Rattle.diag_run.specs.Run.{FilesGive, GivesPlayed, GivesWoven, GivesReplayed, IsReplayedTo, played_text, answered, joined};
 
+use crate::files::read_each;
 use crate::serial::serial_text;
+use crate::whole::Job;
 use diag_can::Timing;
-use diag_desk::{TextFault, replay_lines};
+use diag_desk::{TextFault, TextReplay};
 use diag_setup::Setup;
-use diag_text::{RunFault, counted_text, journal_part, one_part, play_parts_beside};
+use diag_text::{
+    LineTaker, RunFault, TakeLines, counted_text, journal_part, one_part, play_parts_beside,
+};
 use diag_workers::{NoWatch, play, read_logs};
 use diag_world::Played;
-use std::alloc::Global;
+use std::alloc::{AllocError, Global};
+use std::io::Read;
 use std::sync::Wait;
 use std::thread::Threads;
+
+/// The most bytes of a log.
+const LOG_LIMIT: usize = 67_108_864;
+
+/// The most bytes of a journal.
+const JOURNAL_LIMIT: usize = 268_435_456;
+
+/// The bytes of each file.
+pub(crate) fn read_texts<R: Read>(alloc: Global, files: &mut [R]) -> Result<Vec<Vec<u8>>, RunFault>
+    ensures read { IfOk result (λ texts. FilesRead R.remaining 67108864 files.old files.new
+        (λ read. read ≡ map (λ text. text.items) texts.items)) }
+    ensures count { IfOk result (λ texts. length texts.items ≡ length files.old) }
+    ensures ends { IfErr result (FilesEnd R.remaining 67108864 files.old files.new) }
+{
+    let mut texts = Vec::new(alloc);
+    while texts.len() < files.len() {
+        texts.push(Vec::new(alloc))?;
+    }
+    match read_each(files, texts.as_mut_slice(), LOG_LIMIT) {
+        Ok(()) => Ok(texts),
+        Err(fault) => Err(fault),
+    }
+}
 
 /// Plays the logs on one thread, and says what the play writes. The memory of their texts takes the reply lines.
 pub(crate) fn played_text(
@@ -78,17 +108,86 @@ fn parts_beside<R: Threads + Sync>(
     Ok(parts)
 }
 
-/// Replays the journal that these bytes say, and says what the replay writes.
-pub(crate) fn replayed_text(
+/// A journal that is replayed as its lines come.
+#[derive(Drop)]
+struct Replaying<'a> {
+    alloc: Global,
+    setup: &'a Setup,
+    replay: TextReplay,
+}
+
+impl TakeLines for Replaying<'_> {
+    ghost use Rattle.diag_desk.specs.Following.{HasTaken};
+    ghost use Rattle.diag_setup.specs.declared.raw.RawSetup.{RawSetup};
+
+    ghost Aim = { RawSetup };
+
+    ghost aim = { λ lines. lines.setup.now };
+
+    ghost took = { λ lines seen. HasTaken lines.setup.now lines.replay seen };
+
+    fn take_lines<'b>(&mut self, text: &'b [u8]) -> Result<&'b [u8], AllocError> {
+        self.replay.take_lines(self.alloc, self.setup, text)
+    }
+}
+
+/// Has the journal of the one file replayed, up to a last line that no LF ends.
+fn read_journal<'a, R: Read>(
+    alloc: Global,
+    setup: &'a Setup,
+    files: &mut [R],
+) -> Result<LineTaker<Replaying<'a>>, RunFault>
+    requires { length files.old ≡ 1 }
+    ensures read { IfOk result (λ taker. FilesRead R.remaining 268435456 files.old files.new
+        (IsReplayedTo setup.now taker.lines.replay taker.begun.items)) }
+    ensures ends { IfErr result (FilesEnd R.remaining 268435456 files.old files.new) }
+{
+    let replay = TextReplay::new(alloc, setup)?;
+    let mut takers = Vec::new(alloc);
+    takers.push(LineTaker {
+        lines: Replaying {
+            alloc,
+            setup,
+            replay,
+        },
+        begun: Vec::new(alloc),
+    })?;
+    match read_each(files, takers.as_mut_slice(), JOURNAL_LIMIT) {
+        Ok(()) => Ok(takers.remove(0)),
+        Err(fault) => Err(fault),
+    }
+}
+
+/// Replays the journal of the one file as it is read, and says what the replay writes.
+pub(crate) fn replayed_text<R: Read>(
     alloc: Global,
     setup: &Setup,
-    bytes: &[u8],
+    files: &mut [R],
 ) -> Result<Vec<Vec<u8>>, RunFault>
-    ensures gives { GivesReplayed setup.now bytes.now
-        (answered result) }
+    requires { length files.old ≡ 1 }
+    ensures { FilesGive R.remaining Job.Replay setup.now files.old files.new (answered result) }
+{
+    let taker = match read_journal(alloc, setup, files) {
+        Ok(taker) => taker,
+        Err(fault) => return Err(fault),
+    };
+    told_replay(alloc, setup, taker.lines.replay, taker.begun.as_slice())
+}
+
+/// What the replay of a journal writes that ends with these bytes of a line, or with none.
+fn told_replay(
+    alloc: Global,
+    setup: &Setup,
+    replay: TextReplay,
+    begun: &[u8],
+) -> Result<Vec<Vec<u8>>, RunFault>
+    requires taken { (seen : List ℕ) × HasTaken setup.now replay seen }
+    requires line { HasNoFeed begun.now }
+    ensures gives { (seen : List ℕ) → HasTaken setup.now replay seen
+        → GivesReplayed setup.now (seen ++ begun.now) (answered result) }
     ensures device { (n : ℕ) → result ≢ Err (RunFault.Read n) }
 {
-    match replay_lines(alloc, setup, bytes) {
+    match replay.finish(begun) {
         Ok(replayed) => {
             let text = counted_text(alloc, setup, replayed.entries, &replayed.ecu)?;
             Ok(one_part(alloc, text)?)

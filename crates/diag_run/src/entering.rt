@@ -1,13 +1,13 @@
 //! The text of a play's journal, as it is written entry by entry.
 
-ghost use Rattle.std.specs.Prelude.{◌≡◌, ◌≤◌, ◌+◌, [], length, Err, Some, IfOk, IsSome, OnOk, option_copied, option_map};
-ghost use Rattle.std.specs.Option.{option_to_list};
-ghost use Rattle.diag_desk.specs.Entry.{entry_seen, most_entries};
-ghost use Rattle.diag_world.specs.Server.{closing_time};
-ghost use Rattle.diag_run.specs.Playing.{Enters, EntersMore, is_stamped};
+ghost use Rattle.std.specs.Prelude.{◌≡◌, [], IfOk};
+ghost use Rattle.diag_run.specs.Playing.{Enters, is_stamped};
 
 use diag_can::Timing;
-use diag_desk::{EntryRef, MOST_ENTRIES, StepFault, write_entry, write_header};
+use diag_desk::{MOST_ENTRIES, StepFault, write_header};
+use diag_setup::TesterId;
+use diag_tp::{Message, Step};
+use diag_world::{Keeper, enter_step};
 use std::alloc::{AllocError, Global};
 
 /// The journal's text, and how many entries it has.
@@ -39,50 +39,30 @@ impl JournalLines {
             count: 0,
         })
     }
+}
 
-    /// Adds the line of the entry that an event gives, if any; `before` is the ticks of its tester before it.
-    ///
-    /// # Errors
-    /// `JournalFull` where there is an entry and 1,000,000 came before it, `Memory` where memory is refused.
-    pub fn enter_asked(
+impl Keeper for JournalLines {
+    ghost use Rattle.std.specs.Prelude.{◌≤◌};
+    ghost use Rattle.diag_desk.specs.Entry.{most_entries};
+    ghost use Rattle.diag_run.specs.Playing.{EntersOne};
+
+    ghost keeps = { EntersOne };
+
+    ghost is_full = { λ lines. most_entries ≤ lines.count };
+
+    ghost place = { λ _. 0 };
+
+    fn keep(
         &mut self,
         before: u64,
-        asked: Option<&EntryRef<'_>>,
-    ) -> Result<(), StepFault>
-        requires early { before ≤ closing_time }
-        requires few { self.old.count ≤ most_entries }
-        ensures entered { OnOk result (EntersMore self.old self.new before
-            (option_map entry_seen (option_copied asked.entry))) }
-        ensures count { OnOk result (self.new.count ≡ self.old.count
-            + length (option_to_list (option_map entry_seen (option_copied asked.entry)))) }
-        ensures few { OnOk result (self.new.count ≤ most_entries) }
-        ensures full { result ≡ Err StepFault.JournalFull
-            → (self.old.count ≡ most_entries)
-            × IsSome (option_map entry_seen (option_copied asked.entry)) }
-    {
-        match asked {
-            Some(entry) => self.enter(before, entry),
-            None => Ok(()),
-        }
-    }
-
-    /// Adds the line of an entry; `before` is the ticks of its tester before it.
-    ///
-    /// # Errors
-    /// `JournalFull` where 1,000,000 entries came before it, `Memory` where memory is refused.
-    pub fn enter(&mut self, before: u64, entry: &EntryRef<'_>) -> Result<(), StepFault>
-        requires early { before ≤ closing_time }
-        requires few { self.old.count ≤ most_entries }
-        ensures entered { OnOk result
-            (EntersMore self.old self.new before (Some (entry_seen entry.now))) }
-        ensures count { OnOk result (self.new.count ≡ self.old.count + 1) }
-        ensures few { OnOk result (self.new.count ≤ most_entries) }
-        ensures full { result ≡ Err StepFault.JournalFull → self.old.count ≡ most_entries }
-    {
-        if self.count == MOST_ENTRIES {
+        who: TesterId,
+        step: &Step,
+        reply: Option<&Message>,
+    ) -> Result<(), StepFault> {
+        if self.count >= MOST_ENTRIES {
             return Err(StepFault::JournalFull);
         }
-        write_entry(&mut self.text, self.stamped, before, entry)?;
+        enter_step(&mut self.text, self.stamped, before, who, step, reply)?;
         self.count += 1;
         Ok(())
     }

@@ -1,12 +1,13 @@
 //! Reading the files of a run, in order.
 
-ghost use Rattle.std.specs.Prelude.{◌≡◌, ◌≤◌, ℕ, ◌<◌, ◌^◌, List, map, length, IfOk, IfErr, IfSome, Ok};
+ghost use Rattle.std.specs.Prelude.{◌≡◌, ℕ, ◌<◌, ◌^◌, [], map, length, IfOk, IfErr, IfSome, OnOk};
 ghost use Rattle.std.specs.Io.KnownBytes.{IsAtEnd};
-ghost use Rattle.diag_run.specs.Files.{AreKnown, ConfigEnds, FailsAt, FilesEnd, Gives, ReadEach, SaysSetup, config_of, files_from};
+ghost use Rattle.std.specs.List.{All};
+ghost use Rattle.diag_run.specs.Files.{AreTaken, ConfigEnds, FilesEnd, FilesRead, Gives, SaysSetup, config_of};
 
 use diag_config::{ConfigFault, read_setup};
 use diag_setup::Setup;
-use diag_text::{ReadFault, RunFault, read_whole};
+use diag_text::{ReadFault, RunFault, TakePieces, read_into, read_whole};
 use std::alloc::Global;
 use std::io::Read;
 
@@ -36,34 +37,28 @@ pub fn read_config<R: Read>(alloc: Global, config: &mut R) -> Result<Setup, RunF
     }
 }
 
-/// The bytes of each file, or the first fault.
-pub fn read_files<R: Read>(
-    alloc: Global,
+/// Reads each file, in order: its taker takes all that it has.
+pub(crate) fn read_each<R: Read, P: TakePieces>(
     files: &mut [R],
+    takers: &mut [P],
     limit: usize,
-) -> Result<Vec<Vec<u8>>, RunFault>
-    requires { limit < 2 ^ 32 }
-    ensures count { IfOk result (λ v. length v.items ≡ length files.old) }
-    ensures read { (known : List (List ℕ)) → AreKnown R.remaining files.old known
-        → Gives (λ v. map (λ bytes. bytes.items) v.items) result (files_from limit 1 known) }
-    ensures device { (n : ℕ)
-        → result ≡ Err (RunFault.Read n)
-        → FailsAt R.remaining limit n files.old files.new }
-    ensures each { IfOk result (λ v.
-        ReadEach R.remaining files.old files.new (map (λ bytes. bytes.items) v.items)) }
-    ensures within { IfOk result (λ v. let texts = map (λ bytes. bytes.items) v.items in
-        files_from limit 1 texts ≡ Ok texts) }
+) -> Result<(), RunFault>
+    requires limit { limit < 2 ^ 32 }
+    requires count { length takers.old ≡ length files.old }
+    requires begun { All (λ taker. P.took taker []) takers.old }
+    ensures read { OnOk result (FilesRead R.remaining limit files.old files.new (λ texts.
+        AreTaken P.took takers.new texts)) }
+    ensures aims { OnOk result (map P.aim takers.new ≡ map P.aim takers.old) }
+    ensures as_many { length takers.new ≡ length takers.old }
     ensures ends { IfErr result (FilesEnd R.remaining limit files.old files.new) }
 {
-    let mut texts = Vec::new(alloc);
     for (index, file) in files.iter_mut().enumerate() {
-        let text = match read_whole(alloc, file, limit) {
-            Ok(text) => text,
+        match read_into(file, &mut takers[index], limit) {
+            Ok(()) => {}
             Err(ReadFault::Long) => return Err(RunFault::FileLong(index + 1)),
             Err(ReadFault::Memory) => return Err(RunFault::Memory),
             Err(ReadFault::Device) => return Err(RunFault::Read(index + 1)),
-        };
-        texts.push(text)?;
+        }
     }
-    Ok(texts)
+    Ok(())
 }

@@ -1,19 +1,13 @@
 //! A play that writes as it goes: the streaming server, the journal's text and each tester's reply lines.
 
-ghost use Rattle.std.specs.Prelude.{◌≡◌, ◌≤◌, ◌-◌, [], ◌∷◌, ◌++◌, None, Err, IfErr, IfOk, IsTrue, OnOk, length};
-ghost use Rattle.diag_can.specs.declared.frame.Event.{Event as AnEvent};
-ghost use Rattle.diag_setup.specs.Setup.{link_of};
-ghost use Rattle.diag_tp.specs.Gives.{gives};
-ghost use Rattle.diag_tp.specs.Link.{is_frame};
-ghost use Rattle.diag_world.specs.Server.{EachRun, server_of};
-ghost use Rattle.diag_world.specs.Weaving.{items_of};
+ghost use Rattle.std.specs.Prelude.{◌≡◌, ◌≤◌, ◌-◌, [], ◌∷◌, ◌++◌, Err, IfOk, OnOk, length};
 ghost use Rattle.diag_run.specs.Playing.{EachPlay, IsFull, IsPaced, IsReady, Plays, Took, WroteTo, parts_text};
 ghost use Rattle.diag_run.specs.Run.{joined};
 
 use crate::entering::JournalLines;
 use crate::replies::{ReplyLines, add_at, first_lines, texts_of};
-use diag_can::{Event, TickCount, Timing};
-use diag_desk::{EntryRef, StepFault, StepRef};
+use diag_can::{Event, Timing};
+use diag_desk::StepFault;
 use diag_setup::{Setup, TesterId};
 use diag_text::end_text;
 use diag_tp::Sent;
@@ -89,100 +83,15 @@ impl Playing {
         ensures lines { self.new.lines ≡ self.old.lines }
         ensures full { result ≡ Err StepFault.JournalFull → IsFull self.old who event.now }
     {
-        match event {
-            Event::Ticks(count) => self.take_ticks(who, *count),
-            Event::Physical(_) | Event::Functional(_) => self.take_frame(who, event),
-        }
-    }
-
-    /// The same of ticks, whose entry has no reply.
-    fn take_ticks(&mut self, who: TesterId, count: TickCount) -> Result<(), StepFault>
-        requires in_setup { (1 ≤ who) × (who ≤ length self.old.server.links) }
-        requires ready { IsReady self.old }
-        ensures took { OnOk result (Took self.old self.new who (AnEvent.Ticks count)) }
-        ensures paced { OnOk result (IsPaced self.new) }
-        ensures links { OnOk result
-            (length self.new.server.links ≡ length self.old.server.links) }
-        ensures lines { self.new.lines ≡ self.old.lines }
-        ensures full { result ≡ Err StepFault.JournalFull
-            → IsFull self.old who (AnEvent.Ticks count) }
-    {
-        let before = self.server.now(who);
-        let entry = EntryRef {
-            who,
-            step: StepRef::Ticks(count),
-            reply: None,
-        };
-        self.journal.enter(before, &entry)?;
-        match self.server.ticks(who, count, &mut self.out) {
+        match self
+            .server
+            .take(who, event, &mut self.journal, &mut self.out)
+        {
             Ok(()) => Ok(()),
             Err(ServerFault::Memory) => Err(StepFault::Memory),
+            Err(ServerFault::JournalFull) => Err(StepFault::JournalFull),
             Err(ServerFault::Clock) => unreachable!(),
         }
-    }
-
-    /// The same of a frame.
-    fn take_frame(&mut self, who: TesterId, event: &Event) -> Result<(), StepFault>
-        requires in_setup { (1 ≤ who) × (who ≤ length self.old.server.links) }
-        requires ready { IsReady self.old }
-        requires frame { IsTrue (is_frame event.now) }
-        ensures took { OnOk result (Took self.old self.new who event.now) }
-        ensures paced { OnOk result (IsPaced self.new) }
-        ensures links { OnOk result
-            (length self.new.server.links ≡ length self.old.server.links) }
-        ensures lines { self.new.lines ≡ self.old.lines }
-        ensures full { result ≡ Err StepFault.JournalFull → IsFull self.old who event.now }
-    {
-        if self.server.gives_step(who, event) {
-            self.take_request(who, event)
-        } else {
-            self.take_part(who, event)
-        }
-    }
-
-    /// The same of a frame that gives no step, and so no entry.
-    #[inline(always)]
-    fn take_part(&mut self, who: TesterId, event: &Event) -> Result<(), StepFault>
-        requires in_setup { (1 ≤ who) × (who ≤ length self.old.server.links) }
-        requires ready { IsReady self.old }
-        requires frame { IsTrue (is_frame event.now) }
-        requires stepless { EachRun (server_of self.old.server) (λ setup M K.
-            gives (link_of setup who) (items_of M who) event.now ≡ None) }
-        ensures took { OnOk result (Took self.old self.new who event.now) }
-        ensures paced { OnOk result (IsPaced self.new) }
-        ensures links { OnOk result
-            (length self.new.server.links ≡ length self.old.server.links) }
-        ensures lines { self.new.lines ≡ self.old.lines }
-        ensures memory { IfErr result (λ fault. fault ≡ StepFault.Memory) }
-    {
-        match self.server.event(who, event, &mut self.out) {
-            Ok(()) => Ok(()),
-            Err(ServerFault::Memory) => Err(StepFault::Memory),
-            Err(ServerFault::Clock) => unreachable!(),
-        }
-    }
-
-    /// The same of any event, as one that gives a step.
-    fn take_request(&mut self, who: TesterId, event: &Event) -> Result<(), StepFault>
-        requires in_setup { (1 ≤ who) × (who ≤ length self.old.server.links) }
-        requires ready { IsReady self.old }
-        ensures took { OnOk result (Took self.old self.new who event.now) }
-        ensures paced { OnOk result (IsPaced self.new) }
-        ensures links { OnOk result
-            (length self.new.server.links ≡ length self.old.server.links) }
-        ensures lines { self.new.lines ≡ self.old.lines }
-        ensures full { result ≡ Err StepFault.JournalFull → IsFull self.old who event.now }
-    {
-        let asked = match self.server.ask(who, event, &mut self.out) {
-            Ok(asked) => asked,
-            Err(ServerFault::Memory) => return Err(StepFault::Memory),
-            Err(ServerFault::Clock) => unreachable!(),
-        };
-        let before = self.server.now(who);
-        let entry = self.server.entry(who, &asked);
-        self.journal.enter_asked(before, entry.as_ref())?;
-        self.server.settle(who, event, asked, &mut self.out);
-        Ok(())
     }
 
     /// Writes the lines of the frames that a tester's event drew, where its lines are wanted, and lets the frames go.

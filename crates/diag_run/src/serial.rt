@@ -3,7 +3,7 @@
 ghost use Rattle.std.specs.Prelude.{◌≡◌, ◌<◌, ◌++◌, Err, IfOk, OnOk, length, map, drop};
 ghost use Rattle.diag_desk.specs.Entry.{most_entries};
 ghost use Rattle.diag_setup.specs.Setup.{link_of};
-ghost use Rattle.diag_world.specs.Weaving.{first_of_each, longest, steps_of, turns};
+ghost use Rattle.diag_world.specs.Weaving.{first_of_each, steps_of, turns};
 ghost use Rattle.diag_run.specs.Playing.{EachPlay, IsReady, Plays};
 ghost use Rattle.diag_run.specs.Run.{IsPlayedText, in_turn, joined};
 
@@ -11,7 +11,7 @@ use crate::playing::Playing;
 use diag_can::{Event, Timing};
 use diag_desk::StepFault;
 use diag_setup::Setup;
-use diag_world::{interleaving_law, turns_law};
+use diag_world::{interleaving_law, longest, turns_law};
 use std::alloc::Global;
 
 /// Plays the testers' logs: one event of each in turn, in the testers' order, a log that has ended being skipped. What the
@@ -42,19 +42,6 @@ pub(crate) fn serial_text(
     turns_law();
     let parts = playing.into_parts(alloc, setup, only_journal)?;
     Ok(parts)
-}
-
-/// The length of the longest log.
-fn longest(logs: &[Vec<Event>]) -> usize
-    ensures { result ≡ longest (map (λ log. log.items) logs.now) }
-{
-    let mut most = 0;
-    for log in logs {
-        if log.len() > most {
-            most = log.len();
-        }
-    }
-    most
 }
 
 /// Takes one event of each log that has so many.

@@ -1,12 +1,12 @@
 //! A whole run: the config and the files in, one text out.
 
-ghost use Rattle.std.specs.Prelude.{◌≡◌, ◌≢◌, ◌≤◌, ◌<◌, ◌⊎◌, ◌^◌, ℕ, List, length, map, IfOk, IfErr, OnOk, Some, Ok, Err};
+ghost use Rattle.std.specs.Prelude.{◌≡◌, ◌≢◌, ℕ, List, length, IfOk, IfErr, OnOk, Some, Ok, Err};
 ghost use Rattle.std.specs.Io.KnownBytes.{Keeps};
-ghost use Rattle.diag_run.specs.Files.{AreKnown, Gives};
-ghost use Rattle.diag_run.specs.Run.{NamesAFile, ReadsConfigFirst, TextStops, WhereKnown, Writes, joined, job_of, wanted, limit, read_of, HasRead, ReadingStops, RunStops, GivesText, GivesRun, Wrote, WroteFront, IsFaultOf, TellsOf, inputs_of, answered};
+ghost use Rattle.diag_run.specs.Files.{AreKnown, Fails, SaysSetup};
+ghost use Rattle.diag_run.specs.Run.{NamesAFile, ReadsConfigFirst, TextStops, WhereKnown, Writes, joined, job_of, wanted, read_of, FilesGive, HasRead, ReadingStops, RunStops, GivesRun, Wrote, WroteFront, IsFaultOf, TellsOf, answered};
 
-use crate::answer::{played_text, replayed_text, woven_text};
-use crate::files::{read_config, read_files};
+use crate::answer::{played_text, read_texts, replayed_text, woven_text};
+use crate::files::read_config;
 use diag_can::Timing;
 use diag_setup::Setup;
 use diag_text::{RunFault, fault_text, status, write_whole};
@@ -34,17 +34,6 @@ impl Job {
         match self {
             Job::Serial { .. } | Job::Play { .. } => setup.testers(),
             Job::Replay => 1,
-        }
-    }
-
-    /// The most bytes of a file.
-    fn limit(self) -> usize
-        ensures is { result ≡ limit self }
-        ensures bound { result < 2 ^ 32 }
-    {
-        match self {
-            Job::Serial { .. } | Job::Play { .. } => 67_108_864,
-            Job::Replay => 268_435_456,
         }
     }
 }
@@ -76,33 +65,23 @@ impl Alone {
     }
 }
 
-/// What a run has read.
-#[derive(Drop)]
-struct Given {
-    setup: Setup,
-    texts: Vec<Vec<u8>>,
-}
-
-/// Reads the config, counts the files, and reads them in order.
+/// Reads the config, and counts the files.
 #[tactic(auto, unfolding(crate::specs::Run::read_of))]
-fn read_all<R: Read>(
+fn read_counted<R: Read>(
     alloc: Global,
     job: Job,
     config: &mut R,
-    files: &mut [R],
-) -> Result<Given, RunFault>
-    ensures read { (bytes : List ℕ) (known : List (List ℕ))
+    files: &[R],
+) -> Result<Setup, RunFault>
+    ensures says { IfOk result (SaysSetup (R.remaining config.old) (R.remaining config.new)) }
+    ensures count { IfOk result (λ setup. wanted job setup ≡ length files.now) }
+    ensures fails { IfErr result (λ fault. (bytes : List ℕ) (known : List (List ℕ))
         → R.remaining config.old ≡ Some bytes
-        → AreKnown R.remaining files.old known
-        → Gives inputs_of result (read_of job bytes known) }
-    ensures device { NamesAFile (length files.old) result }
-    ensures config { ReadsConfigFirst (R.remaining config.new) result }
-    ensures wanted { IfOk result (λ given. length given.texts.items ≡ wanted job given.setup) }
-    ensures reads { IfOk result (λ given.
-        HasRead R.remaining job config.old config.new files.old files.new
-        (λ said. said ≡ Ok (inputs_of given))) }
+        → AreKnown R.remaining files.now known
+        → Fails fault (read_of job bytes known)) }
+    ensures device { (n : ℕ) → result ≡ Err (RunFault.Read n) → n ≡ 0 }
     ensures stops { IfErr result
-        (ReadingStops R.remaining job config.old config.new files.old files.new) }
+        (ReadingStops R.remaining job config.old config.new files.now files.now) }
 {
     let setup = match read_config(alloc, config) {
         Ok(setup) => setup,
@@ -113,38 +92,43 @@ fn read_all<R: Read>(
     if wanted != given {
         return Err(RunFault::Files { wanted, given });
     }
-    match read_files(alloc, files, job.limit()) {
-        Ok(texts) => Ok(Given { setup, texts }),
-        Err(fault) => Err(fault),
-    }
+    Ok(setup)
 }
 
-/// The text that is written for what was read, in parts.
-fn text_alone(alloc: Global, job: Alone, given: Given) -> Result<Vec<Vec<u8>>, RunFault>
-    requires { length given.texts.items ≡ wanted (job_of job) given.setup }
-    ensures gives { GivesText (job_of job) (inputs_of given) (answered result) }
-    ensures device { (n : ℕ) → result ≢ Err (RunFault.Read n) }
+/// The text that is written for the files, in parts.
+#[tactic(auto, using(crate::proofs::Known::texts_give))]
+fn text_alone<R: Read>(
+    alloc: Global,
+    job: Alone,
+    setup: &Setup,
+    files: &mut [R],
+) -> Result<Vec<Vec<u8>>, RunFault>
+    requires { wanted (job_of job) setup.now ≡ length files.old }
+    ensures { FilesGive R.remaining (job_of job) setup.now files.old files.new (answered result) }
 {
-    let Given { setup, texts } = given;
     match job {
         Alone::Serial {
             only_journal,
             timing,
-        } => played_text(alloc, &setup, texts, only_journal, timing),
-        Alone::Replay => replayed_text(alloc, &setup, texts[0].as_slice()),
+        } => match read_texts(alloc, files) {
+            Ok(texts) => played_text(alloc, setup, texts, only_journal, timing),
+            Err(fault) => Err(fault),
+        },
+        Alone::Replay => replayed_text(alloc, setup, files),
     }
 }
 
-/// The text that is written for what was read, in parts.
-fn text_of<T: Threads + Wait + Sync>(
+/// The text that is written for the files, in parts.
+#[tactic(auto, using(crate::proofs::Known::texts_give))]
+fn text_of<T: Threads + Wait + Sync, R: Read>(
     rt: &T,
     alloc: Global,
     job: Job,
-    given: Given,
+    setup: &Setup,
+    files: &mut [R],
 ) -> Result<Vec<Vec<u8>>, RunFault>
-    requires { length given.texts.items ≡ wanted job given.setup }
-    ensures gives { GivesText job (inputs_of given) (answered result) }
-    ensures device { (n : ℕ) → result ≢ Err (RunFault.Read n) }
+    requires { wanted job setup.now ≡ length files.old }
+    ensures { FilesGive R.remaining job setup.now files.old files.new (answered result) }
 {
     match job {
         Job::Serial {
@@ -156,16 +140,17 @@ fn text_of<T: Threads + Wait + Sync>(
                 only_journal,
                 timing,
             },
-            given,
+            setup,
+            files,
         ),
         Job::Play {
             only_journal,
             timing,
-        } => {
-            let texts = given.texts.as_slice();
-            woven_text(rt, alloc, &given.setup, texts, only_journal, timing)
-        }
-        Job::Replay => text_alone(alloc, Alone::Replay, given),
+        } => match read_texts(alloc, files) {
+            Ok(texts) => woven_text(rt, alloc, setup, texts.as_slice(), only_journal, timing),
+            Err(fault) => Err(fault),
+        },
+        Job::Replay => text_alone(alloc, Alone::Replay, setup, files),
     }
 }
 
@@ -186,8 +171,8 @@ fn whole_alone<R: Read>(
     ensures stops { IfErr result
         (TextStops R.remaining (job_of job) config.old config.new files.old files.new) }
 {
-    match read_all(alloc, job.job(), config, files) {
-        Ok(given) => text_alone(alloc, job, given),
+    match read_counted(alloc, job.job(), config, files) {
+        Ok(setup) => text_alone(alloc, job, &setup, files),
         Err(fault) => Err(fault),
     }
 }
@@ -214,8 +199,8 @@ pub fn run_text<T: Threads + Wait + Sync, R: Read>(
     ensures stops { IfErr result
         (TextStops R.remaining job config.old config.new files.old files.new) }
 {
-    match read_all(alloc, job, config, files) {
-        Ok(given) => text_of(rt, alloc, job, given),
+    match read_counted(alloc, job, config, files) {
+        Ok(setup) => text_of(rt, alloc, job, &setup, files),
         Err(fault) => Err(fault),
     }
 }

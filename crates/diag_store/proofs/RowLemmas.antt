@@ -116,5 +116,13 @@ take_over (x ∷ xs) zero h = absurd (omega arith)
 take_over (x ∷ xs) (suc n) h = ap (λ zs. x ∷ zs) (take_over xs n (omega arith))
 
 -- what a loop that pushes f of each row has made at its end
-pub made_of_all : {X Y : Type 0} (f : X → Y) (xs : List X) (ys : List Y) (n : ℕ) → ys ≡ map f (take n xs) → length xs ≤ n → ys ≡ map f xs
+made_of_all : {X Y : Type 0} (f : X → Y) (xs : List X) (ys : List Y) (n : ℕ) → ys ≡ map f (take n xs) → length xs ≤ n → ys ≡ map f xs
 made_of_all f xs ys n e h = e ∙ ap (map f) (take_over xs n h)
+
+-- rows that a loop has made of rows that rise, of which there are few, are few and rise
+pub made_rise : {X Y : Type 0} (key : Y → ℕ) (other : X → ℕ) (f : X → Y) → ((x : X) → key (f x) ≡ other x) → (most : ℕ) (xs : List X) (ys : List Y) (n : ℕ)
+    → ys ≡ map f (take n xs) → length xs ≤ n → length xs ≤ most → is_rising other xs ≡ true → (length ys ≤ most) × (is_rising key ys ≡ true)
+made_rise key other f same most xs ys n e h few rise =
+    let all : ys ≡ map f xs = made_of_all f xs ys n e h in
+    let count : length ys ≡ length xs = ap length all ∙ simp length-map in
+    (omega arith, rw all (map_rises key other f same xs rise))

@@ -1,8 +1,6 @@
 -- No change of a table changes its keys, so its rows keep rising.
 use Rattle.std.proofs.Common.{◌≡◌, ℕ, true, List, refl, false, cond, ap, [], ◌∷◌, Some, is_some}
 use Rattle.std.specs.Prelude.{map, find, option_map}
-use Rattle.diag_setup.specs.declared.raw.RawSetup.{RawSetup}
-use Rattle.diag_setup.specs.declared.raw.RawLevel.{RawLevel}
 use Rattle.diag_store.specs.declared.levels.Level.{Level}
 use Rattle.diag_store.specs.Rows.{change_first}
 use Rattle.diag_store.specs.Security.{has_sub, sub_of, moved_on}
@@ -10,8 +8,6 @@ use Rattle.diag_store.specs.declared.dids.DidRow.{DidRow}
 use Rattle.diag_store.specs.declared.dtcs.Dtc.{Dtc}
 use Rattle.diag_store.specs.declared.routines.Routine.{Routine}
 use Rattle.diag_setup.specs.Rows.{is_rising}
-use Rattle.diag_setup.specs.Setup.{did_id, dtc_code, routine_id, level_sub}
-use Rattle.diag_store.specs.Opening.{did_row, dtc_row, routine_row, level_row, opening_dids, opening_codes, opening_routines}
 use Rattle.diag_store.specs.Dids as dids
 use Rattle.diag_store.specs.Dtcs as dtcs
 use Rattle.diag_store.specs.Routines as routines
@@ -44,20 +40,8 @@ after_tick_rises rows h = map_rises routines.id_of routines.id_of routines.tick_
 pub later_rises : (n : ℕ) (rows : List Routine) → is_rising routines.id_of rows ≡ true → is_rising routines.id_of (routines.rows_later n rows) ≡ true
 later_rises n rows h = map_rises routines.id_of routines.id_of (routines.row_later n) (λ row. refl) rows h
 
-pub opening_dids_rise : (setup : RawSetup) → is_rising did_id setup.dids ≡ true → is_rising dids.id_of (opening_dids setup) ≡ true
-opening_dids_rise setup h = map_rises dids.id_of did_id did_row (λ row. refl) setup.dids h
-
-pub opening_codes_rise : (setup : RawSetup) → is_rising dtc_code setup.dtcs ≡ true → is_rising dtcs.code_of (opening_codes setup) ≡ true
-opening_codes_rise setup h = map_rises dtcs.code_of dtc_code dtc_row (λ row. refl) setup.dtcs h
-
-pub opening_routines_rise : (setup : RawSetup) → is_rising routine_id setup.routines ≡ true → is_rising routines.id_of (opening_routines setup) ≡ true
-opening_routines_rise setup h = map_rises routines.id_of routine_id routine_row (λ row. refl) setup.routines h
-
 pub moved_on_rises : (rows : List Level) (sub : ℕ) → is_rising sub_of rows ≡ true → is_rising sub_of (change_first (has_sub sub) moved_on rows) ≡ true
 moved_on_rises rows sub h = change_first_rises sub_of (has_sub sub) moved_on (λ row. refl) rows h
-
-pub opening_levels_rise : (levels : List RawLevel) → is_rising level_sub levels ≡ true → is_rising sub_of (map level_row levels) ≡ true
-opening_levels_rise levels h = map_rises sub_of level_sub level_row (λ row. refl) levels h
 
 -- an unknown code changes nothing
 pub with_status_unknown : (rows : List Dtc) (code status : ℕ) → is_some (dtcs.status_of rows code) ≡ false → dtcs.with_status rows code status ≡ rows

@@ -26,7 +26,7 @@ pub fn two_testers(alloc: Global) -> Result<Setup, AllocError>
 }
 
 /// The same before it is checked.
-pub fn raw_two_testers(alloc: Global) -> Result<RawSetup, AllocError>
+fn raw_two_testers(alloc: Global) -> Result<RawSetup, AllocError>
     ensures { IfOk result (λ raw. raw ≡ two_testers) }
 {
     let testers = [
@@ -57,12 +57,7 @@ pub fn raw_two_testers(alloc: Global) -> Result<RawSetup, AllocError>
 }
 
 /// A tester.
-pub fn tester(
-    alloc: Global,
-    name: &[u8],
-    request: u32,
-    response: u32,
-) -> Result<RawTester, AllocError>
+fn tester(alloc: Global, name: &[u8], request: u32, response: u32) -> Result<RawTester, AllocError>
     ensures { IfOk result (λ made. made ≡ tester name.now request response) }
 {
     Ok(RawTester {
@@ -117,7 +112,7 @@ fn level(alloc: Global) -> Result<RawLevel, AllocError>
 }
 
 /// A seed with its key.
-pub fn key_row(alloc: Global, seed: &[u8], key: &[u8]) -> Result<RawKeyRow, AllocError>
+fn key_row(alloc: Global, seed: &[u8], key: &[u8]) -> Result<RawKeyRow, AllocError>
     ensures { IfOk result (λ made. made ≡ key_row seed.now key.now) }
 {
     Ok(RawKeyRow {
@@ -127,7 +122,7 @@ pub fn key_row(alloc: Global, seed: &[u8], key: &[u8]) -> Result<RawKeyRow, Allo
 }
 
 /// These bytes.
-pub fn bytes(alloc: Global, bytes: &[u8]) -> Result<Items<u8>, AllocError>
+fn bytes(alloc: Global, bytes: &[u8]) -> Result<Items<u8>, AllocError>
     ensures { IfOk result (λ made. made ≡ bytes.now) }
 {
     Ok(Items::from_vec(Vec::from_slice(alloc, bytes)?))

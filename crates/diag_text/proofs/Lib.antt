@@ -1,4 +1,5 @@
 pub mod Codes
 pub mod Lines
+pub mod Pieces
 pub mod Testers
 pub mod Writing

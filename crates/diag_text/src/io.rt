@@ -5,7 +5,8 @@ ghost use Rattle.std.specs.Io.KnownBytes.{Appends, Consumes, IsAtEnd, Keeps};
 ghost use Rattle.std.specs.List.{concat};
 ghost use Rattle.diag_text.specs.Bytes.{AppendsFront, Takes};
 
-use std::alloc::{AllocError, Global};
+use crate::taking::TakePieces;
+use std::alloc::Global;
 use std::io;
 use std::io::{Read, Write};
 use thiserror::Error;
@@ -28,6 +29,49 @@ pub enum ReadFault {
 #[derive(Clone, Copy, Debug, PartialEq, Eq, Error)]
 #[error("cannot write")]
 pub struct WriteFault;
+
+/// Has a taker take all that a reader has left, in at most limit + 1 reads.
+///
+/// # Errors
+/// `Long` where more than the limit was read, and only then; `Device` where a read failed before; `Memory`.
+pub fn read_into<R: Read, P: TakePieces>(
+    reader: &mut R,
+    taker: &mut P,
+    limit: usize,
+) -> Result<(), ReadFault>
+    requires limit { limit < 2 ^ 32 }
+    requires taken { (seen : List ℕ) × P.took taker.old seen }
+    ensures read { OnOk result (Takes (R.remaining reader.old) (R.remaining reader.new) (λ bytes.
+        (length bytes ≤ limit)
+        × ((seen : List ℕ) → P.took taker.old seen → P.took taker.new (seen ++ bytes)))) }
+    ensures end { OnOk result (IsAtEnd (R.remaining reader.new)) }
+    ensures aim { OnOk result (P.aim taker.new ≡ P.aim taker.old) }
+    ensures seen { result ≡ Err ReadFault.Long
+        → Takes (R.remaining reader.old) (R.remaining reader.new) (λ bytes. limit < length bytes) }
+    ensures unread { result ≡ Err ReadFault.Device
+        → Takes (R.remaining reader.old) (R.remaining reader.new) (λ bytes. length bytes ≤ limit) }
+    ensures refused { result ≡ Err ReadFault.Memory
+        → Takes (R.remaining reader.old) (R.remaining reader.new) (λ bytes. length bytes ≤ limit) }
+{
+    let mut buffer = [0u8; 65_536];
+    let mut taken = 0;
+    for turn in 0..limit + 1 {
+        let Ok(count) = reader.read(&mut buffer) else {
+            return Err(ReadFault::Device);
+        };
+        if count == 0 {
+            return Ok(());
+        }
+        if count > limit - taken {
+            return Err(ReadFault::Long);
+        }
+        match taker.take_piece(&buffer[..count]) {
+            Ok(()) => taken += count,
+            Err(_) => return Err(ReadFault::Memory),
+        }
+    }
+    Err(ReadFault::Long)
+}
 
 /// All that a reader has left, in at most limit + 1 reads.
 ///
@@ -54,38 +98,8 @@ pub fn read_whole<R: Read>(
         → Takes (R.remaining reader.old) (R.remaining reader.new) (λ bytes. length bytes ≤ limit) }
 {
     let mut bytes = Vec::new(alloc);
-    let mut buffer = [0u8; 65_536];
-    for turn in 0..limit + 1 {
-        let Ok(count) = reader.read(&mut buffer) else {
-            return Err(ReadFault::Device);
-        };
-        if count == 0 {
-            return Ok(bytes);
-        }
-        if count > limit - bytes.len() {
-            return Err(ReadFault::Long);
-        }
-        if append(&mut bytes, &buffer[..count]).is_err() {
-            return Err(ReadFault::Memory);
-        }
-    }
-    Err(ReadFault::Long)
-}
-
-/// The bytes that are copied at once: so few that a copy moves vectors, and not byte by byte.
-const COPIED: usize = 2048;
-
-/// Appends bytes, part by part.
-fn append(bytes: &mut Vec<u8>, piece: &[u8]) -> Result<(), AllocError>
-    ensures { OnOk result (bytes.new.items ≡ bytes.old.items ++ piece.now) }
-{
-    let mut done = 0;
-    while done < piece.len() {
-        let end = done + COPIED.min(piece.len() - done);
-        bytes.extend_from_slice(&piece[done..end])?;
-        done = end;
-    }
-    Ok(())
+    read_into(reader, &mut bytes, limit)?;
+    Ok(bytes)
 }
 
 /// Writes the parts of a text, one behind the other, and flushes. After a fault a front of the text went out.

@@ -3,11 +3,13 @@
 
 mod fault;
 mod io;
+mod taking;
 mod text;
 mod told;
 
 pub use fault::{RunFault, fault_text, status};
-pub use io::{ReadFault, WriteFault, read_whole, write_text, write_whole};
+pub use io::{ReadFault, WriteFault, read_into, read_whole, write_text, write_whole};
+pub use taking::{LineTaker, TakeLines, TakePieces};
 pub use text::{
     counted_text, end_text, journal_part, one_part, play_parts, play_parts_beside, play_text,
     replay_text,

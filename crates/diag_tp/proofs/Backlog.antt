@@ -16,8 +16,7 @@ use Rattle.diag_tp.specs.State.{LinkState, due}
 use Rattle.diag_tp.specs.Sender.{SenderState, Settled, frame_count, frames_of, fields_left, current_left, one_on, once_gone, begun_sending, started, settled_in, settled}
 use Rattle.diag_tp.specs.Link.{StandsFor, is_flow, IsFlow, message_frames, frames_left}
 use Rattle.diag_tp.proofs.Lists.{Each}
-use Rattle.diag_tp.proofs.CutFrames.{filled-cons}
-use Rattle.diag_tp.proofs.CutParts.{frames-count}
+use Rattle.diag_tp.proofs.CutFrames.{filled-cons, frames-count}
 use Rattle.diag_tp.proofs.Numbers.{left, settled-total}
 use Rattle.diag_tp.proofs.History.{frames-left}
 

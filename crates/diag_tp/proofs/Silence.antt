@@ -138,7 +138,7 @@ sender-rest : (s : LinkSetup) (n : ℕ) (o : Option Current) → n < sender_quie
 sender-rest s n None few = omega arith
 sender-rest s n (Some c) few = phase-rest s n c c.phase few
 
-quiet-none-due : (link : LinkState) → length (due link) ≡ 0
+pub quiet-none-due : (link : LinkState) → length (due link) ≡ 0
     → quiet link ≡ max (min (reception_quiet link.setup.n_cr link.partial) (sender_quiet link.sender.current)) 1
 unfolding quiet
 quiet-none-due link none = rw none refl

@@ -67,10 +67,11 @@ ghost use Rattle.diag_tp.specs.Link.{
 };
 
 use crate::frames::lone_frame;
-use crate::kind::single_size;
+use crate::kind::{consecutive_part, is_of_no_kind, single_size};
 use crate::link::Link;
 use crate::message::Message;
 use crate::pci::Pci;
+use crate::reception::go_on;
 use crate::step::{Request, Step};
 use crate::taken::Taken;
 use diag_can::{Event, Frame, FrameBytes};
@@ -141,8 +142,11 @@ impl Link {
         ensures ticks { IsTrue result → IsTrue (is_frame event.now) }
     {
         match event {
-            Event::Physical(bytes) => self.receiver.completes(&self.kind(bytes)),
-            Event::Functional(bytes) => matches!(self.kind(bytes), Pci::Single(_)),
+            Event::Physical(bytes) => match consecutive_part(bytes) {
+                Some((number, part)) => self.receiver.completes(number, part),
+                None => single_size(bytes) > 0,
+            },
+            Event::Functional(bytes) => single_size(bytes) > 0,
             Event::Ticks(_) => false,
         }
     }
@@ -154,19 +158,13 @@ impl Link {
             asked_of request ≡ step_after self.now.state.setup self.now.state.partial event.now) }
     {
         match event {
-            Event::Physical(bytes) => self.peek_kind(&self.kind(bytes)),
+            Event::Physical(bytes) => {
+                let kind = self.kind(bytes);
+                Ok(asked(false, self.receiver.peek(&kind)?))
+            }
             Event::Functional(bytes) => Ok(asked(true, single_of(self.kind(bytes)))),
             Event::Ticks(_) => Ok(None),
         }
-    }
-
-    /// What feeding a frame of this kind would answer that has the tester's own identifier.
-    fn peek_kind(&self, kind: &Pci) -> Result<Option<Request>, AllocError>
-        requires read { IsRead 65535 kind.now }
-        ensures { IfOk result (λ request. asked_of request
-            ≡ ask_of false (completed_by self.now.state.partial kind.now)) }
-    {
-        Ok(asked(false, self.receiver.peek(kind)?))
     }
 
     /// Reads a frame and makes room for it, from the fields.
@@ -186,15 +184,20 @@ impl Link {
         match event {
             Event::Physical(bytes) => self.take_up_own(bytes),
             Event::Functional(bytes) => {
-                let kind = self.kind(bytes);
                 self.sender.make_room()?;
-                Ok(Taken::Functional(self.notes(kind)))
+                let size = single_size(bytes);
+                if size == 0 {
+                    return Ok(Taken::Ignored);
+                }
+                self.note(true, bytes.part(1, size));
+                Ok(Taken::Functional)
             }
             Event::Ticks(_) => unreachable!(),
         }
     }
 
-    /// Reads a frame with the tester's own identifier and makes room for it. A SingleFrame, as most are, makes no `Pci`.
+    /// Reads a frame with the tester's own identifier and makes room for it. No `Pci` is made but of a FirstFrame.
+    #[tactic(auto, using(crate::proofs::Takings::taken_read))]
     #[inline(always)]
     fn take_up_own(&mut self, bytes: &FrameBytes) -> Result<Taken, AllocError>
         ensures same { self.new.state ≡ self.old.state }
@@ -210,83 +213,36 @@ impl Link {
         ensures reply_kept { self.old.reply_room ≤ self.new.reply_room }
     {
         let size = single_size(bytes);
-        if size == 0 {
-            return self.take_up_any(bytes);
+        if size > 0 {
+            self.sender.make_room()?;
+            self.note(false, bytes.part(1, size));
+            return Ok(Taken::Single);
         }
+        self.make_room_for(bytes)?;
         self.sender.make_room()?;
-        self.note(false, bytes.part(1, size));
-        Ok(Taken::Single)
+        match consecutive_part(bytes) {
+            Some((number, part)) if self.receiver.stage(number, part) => Ok(Taken::Last),
+            _ => Ok(Taken::Read(bytes.copy())),
+        }
     }
 
-    /// The same of a frame of any kind.
-    #[inline(never)]
-    fn take_up_any(&mut self, bytes: &FrameBytes) -> Result<Taken, AllocError>
-        ensures same { self.new.state ≡ self.old.state }
-        ensures room { OnOk result
-            ((needed self.new.state.setup (AnEvent.Physical bytes.now) ≤ self.new.room)
-            × (0 < self.new.reply_room)) }
-        ensures request { IfOk result (λ taken. asked_in self.new taken
-            ≡ step_after self.old.state.setup self.old.state.partial (AnEvent.Physical bytes.now)) }
-        ensures taken { IfOk result (λ taken.
-            IsTaken self.old.state (AnEvent.Physical bytes.now) taken) }
-        ensures fits { IfOk result (λ taken. FitsIn self.new taken) }
+    /// Makes room for the message of a frame with the tester's own identifier: a FirstFrame alone needs some.
+    #[tactic(auto, unfolding(crate::specs::Kind::kind))]
+    #[inline(always)]
+    pub(crate) fn make_room_for(&mut self, bytes: &FrameBytes) -> Result<(), AllocError>
+        ensures ok { OnOk result
+            (needed self.new.state.setup (AnEvent.Physical bytes.now) ≤ self.new.room) }
+        ensures read { IsReadHere self.new.state.setup (AnEvent.Physical bytes.now) }
         ensures kept { self.old.room ≤ self.new.room }
-        ensures reply_kept { self.old.reply_room ≤ self.new.reply_room }
-    {
-        let kind = self.kind(bytes);
-        self.receiver.make_room(&kind)?;
-        self.sender.make_room()?;
-        Ok(self.left_of(kind))
-    }
-
-    /// What is left of a frame of this kind that has the tester's own identifier. The request that it completes is made.
-    fn left_of(&mut self, kind: Pci) -> Taken
-        requires read { IsRead self.old.state.setup.max_request kind }
         ensures same { self.new.state ≡ self.old.state }
-        ensures room { self.new.room ≡ self.old.room }
-        ensures reply_room { self.new.reply_room ≡ self.old.reply_room }
-        ensures request { asked_in self.new result
-            ≡ ask_of false (completed_by self.old.state.partial kind) }
-        ensures is { result ≡ left_of_kind self.old.state.partial kind }
-    {
-        match kind {
-            Pci::Single(payload) => {
-                self.note(false, payload);
-                Taken::Single
-            }
-            Pci::Consecutive {
-                sequence_number,
-                part,
-            } => {
-                if self.receiver.stage(sequence_number, part.as_slice()) {
-                    Taken::Last
-                } else {
-                    Taken::Read(Pci::Consecutive {
-                        sequence_number,
-                        part,
-                    })
-                }
-            }
-            kind => Taken::Read(kind),
-        }
-    }
-
-    /// Notes the request of a functional SingleFrame; whether this is one.
-    fn notes(&mut self, kind: Pci) -> bool
-        requires read { IsRead 65535 kind }
-        ensures is { result ≡ is_some (completed_by None (single_only kind)) }
-        ensures noted { (if result then Some self.new.noted else None)
-            ≡ ask_of true (completed_by None (single_only kind)) }
-        ensures same { self.new.state ≡ self.old.state }
-        ensures room { self.new.room ≡ self.old.room }
         ensures reply_room { self.new.reply_room ≡ self.old.reply_room }
     {
-        match kind {
-            Pci::Single(payload) => {
-                self.note(true, payload);
-                true
+        match bytes.as_slice() {
+            [control, ..] if *control / 16 == 1 => {
+                let kind = self.kind(bytes);
+                self.receiver.make_room(&kind)
             }
-            _ => false,
+            _ => Ok(()),
         }
     }
 
@@ -322,8 +278,8 @@ impl Link {
         ensures { option_copied result ≡ asked_in self.now taken.now }
     {
         match taken {
-            Taken::Functional(false) | Taken::Read(_) => None,
-            Taken::Functional(true) | Taken::Single => Some(&self.noted),
+            Taken::Ignored | Taken::Read(_) => None,
+            Taken::Functional | Taken::Single => Some(&self.noted),
             Taken::Last => self.receiver.staged(),
         }
     }
@@ -333,7 +289,7 @@ impl Link {
     pub(crate) fn finish(&mut self, taken: &Taken)
         requires fits { FitsIn self.old taken.now }
         ensures partial { self.new.state.partial
-            ≡ reception_after self.old.state.partial taken.now }
+            ≡ reception_after self.old.state.setup self.old.state.partial taken.now }
         ensures grant { self.new.state.grant
             ≡ granted_after self.old.state.setup self.old.state.partial taken.now }
         ensures reply_room { self.new.reply_room ≡ self.old.reply_room }
@@ -343,12 +299,26 @@ impl Link {
             taken.now self.old.state.sender.current self.old.state.sender.waiting }
     {
         match taken {
-            Taken::Functional(_) => self.grant = None,
+            Taken::Functional | Taken::Ignored => self.grant = None,
             Taken::Single | Taken::Last => {
                 self.receiver.end();
                 self.grant = None;
             }
-            Taken::Read(kind) => self.take_kind(kind),
+            Taken::Read(bytes) => match consecutive_part(bytes) {
+                Some((number, part)) => {
+                    let grants = self.receiver.consecutive(&self.setup, number, part);
+                    self.grant = if grants {
+                        Some(go_on(&self.setup))
+                    } else {
+                        None
+                    };
+                }
+                None if is_of_no_kind(bytes) => self.grant = None,
+                None => {
+                    let kind = self.kind(bytes);
+                    self.take_kind(&kind);
+                }
+            },
         }
     }
 
@@ -383,6 +353,7 @@ impl Link {
     }
 
     /// Takes a frame of this kind with the tester's own identifier, whose message, if any, was handed over.
+    #[inline(never)]
     fn take_kind(&mut self, kind: &Pci)
         requires read { IsRead self.old.state.setup.max_request kind.now }
         requires room { needed_for kind.now ≤ self.old.room }

@@ -181,11 +181,13 @@ impl Sending {
         ensures fields { (if result then Some self.new else None) ≡ one_gone self.old }
         ensures sound { IsSound self.new }
     {
-        let count = frames_of(&self.message);
-        if self.next + 1 == count {
+        let len = self.message.bytes().len();
+        prove!(len <= 65535);
+        let next = self.next + 1;
+        if self.due == 1 && next == frames_of(&self.message) {
             return false;
         }
-        self.next += 1;
+        self.next = next;
         self.due -= 1;
         true
     }

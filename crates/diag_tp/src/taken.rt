@@ -1,17 +1,19 @@
 //! A frame between the two halves in which a link takes it.
 
-use crate::pci::Pci;
+use diag_can::FrameBytes;
 
 /// A frame that a link has read and made room for: where its request stands, and what the link has still to do with it.
 #[derive(Debug, Drop)]
 pub enum Taken {
-    /// A functional frame, and whether it is a SingleFrame, whose request its link has noted. Nothing is left to do.
-    Functional(bool),
+    /// A functional SingleFrame, whose request its link has noted. Nothing is left to do.
+    Functional,
+    /// Any other functional frame. Nothing is left to do.
+    Ignored,
     /// A SingleFrame with the tester's own identifier, whose request its link has noted. It ends the reception that is
     /// open.
     Single,
     /// The ConsecutiveFrame that completes a message, which its link has staged. It ends the reception.
     Last,
-    /// Any other frame with the tester's own identifier: one of this kind.
-    Read(Pci),
+    /// Any other frame with the tester's own identifier: its bytes.
+    Read(FrameBytes),
 }

@@ -1,9 +1,9 @@
 -- How a server goes on with one event more.
 use Rattle.std.proofs.Common.{◌≡◌, ◌≤◌, ℕ, zero, suc, ◌+◌, ◌-◌, ◌*◌, false, Option, Some, None, List, [], ◌∷◌, ◌++◌, length, map, refl, ap, ap₂, subst, sym, ◌∙◌, arith, inl, inr}
 use Rattle.std.proofs.lemmas.List.{map-append, append-nil, length-set, map-set}
-use Rattle.std.specs.Prelude.{◌==◌, slice_get, slice_set, IfSome, IsSome, IsTrue, Result, Ok, Err, IfOk}
+use Rattle.std.specs.Prelude.{◌==◌, slice_get, slice_set, IfSome, IsSome, IsTrue}
 use Rattle.std.proofs.lemmas.Option.{slice_get-map}
-use Rattle.std.specs.Option.{option_and_then, option_map, option_to_list}
+use Rattle.std.specs.Option.{option_map, option_to_list}
 use Rattle.diag_can.specs.declared.frame.Event.{Event}
 use Rattle.diag_can.specs.declared.frame.Event.TheVariants.{Physical, Functional, Ticks}
 use Rattle.diag_tp.specs.declared.setup.LinkSetup.{LinkSetup}
@@ -23,9 +23,8 @@ use Rattle.diag_desk.specs.declared.entry.Entry.{Entry}
 use Rattle.diag_desk.specs.Entries.{asked_by, own, replies}
 use Rattle.diag_desk.specs.Legal.{Legal, after, reply_to}
 use Rattle.diag_desk.proofs.Runs.{legal_more, after_more}
-use Rattle.diag_world.specs.declared.server.Asked.{Asked}
 use Rattle.diag_world.specs.Port.{AreWithin, PortStands, PortTook, entries_of, time_after}
-use Rattle.diag_world.specs.Server.{PortSettled, PortWent, ServerState, ServerView, answer_to, closing_time, entry_asked, entry_in, entry_of, server_of, sent_to, went_to, Serves, Served, Settled}
+use Rattle.diag_world.specs.Server.{PortSettled, PortWent, ServerState, ServerView, answer_to, closing_time, entry_of, server_of, sent_to, went_to, Serves, Served, Settled}
 use Rattle.diag_world.specs.Weaving.{items_of, all_by}
 use Rattle.diag_world.proofs.Weaves.{steps_of_after-append}
 use Rattle.diag_world.proofs.Worlds.{set_cases, own-append, own_mine, own_none, items_mine, items_other, other_place}
@@ -125,14 +124,6 @@ paced (Ticks n) None now next time most ticks = absurd (clash None refl (ticks r
     clash None is h = cc
     clash (Some k) is h = cc
 
--- what stands at a place that was written
-pub set_here : {X : Type 0} (xs : List X) (i j : ℕ) (v x : X) → j ≡ i → slice_get (slice_set xs i v) j ≡ Some x → x ≡ v
-set_here xs i j v x same at = elim (set_cases xs i j v x at) [ inl p ↦ p.1 | inr p ↦ absurd (p.0 same) ]
-
-pub if_ok : {X Y : Type 0} (P Q : X → Type 0) (r : Result X Y) → ((x : X) → P x → Q x) → IfOk r P → IfOk r Q
-if_ok P Q (Ok x) f h = f x h
-if_ok P Q (Err y) f h = h
-
 -- a server settles an event as the link of the tester does
 pub server_settles : (old new : ServerView) (who i : ℕ) (e : Event) (asked : Option Entry) (link link' : LinkView) (more : List Sent)
     → who ≡ i + 1 → slice_get old.links i ≡ Some link → new.links ≡ slice_set old.links i link' → new.ecu ≡ after old.ecu (option_to_list asked)
@@ -163,15 +154,6 @@ server_settles old new who i e asked link link' more is found links ecu ticks st
           (took.stands (link_of setup who) (items_of M who) (own K who) port);
     }
 
--- what was written at a place stands there
-pub get_set_here : {X : Type 0} (xs : List X) (i : ℕ) (v x : X) → slice_get xs i ≡ Some x → slice_get (slice_set xs i v) i ≡ Some v
-get_set_here [] i v x h = absurd (clash h)
-  where
-    clash : None ≡ Some x → ⊥
-    clash h = cc
-get_set_here (y ∷ xs) zero v x h = refl
-get_set_here (y ∷ xs) (suc i) v x h = get_set_here xs i v x h
-
 -- ---- what a link has read: its step, and the entry of that
 
 pub entry_step : (who : ℕ) (o : Option Step) (reply : Option (List ℕ)) → option_map (λ k. k.step) (entry_of who o reply) ≡ o
@@ -194,10 +176,6 @@ entry_answer ecu who (Some x) reply h = h
 entry_some : (who : ℕ) (o : Option Step) (reply : Option (List ℕ)) → IsSome o → IsSome (entry_of who o reply)
 entry_some who None reply h = cc
 entry_some who (Some x) reply h = refl
-
-pub step_some : (who : ℕ) (o : Option Step) (reply : Option (List ℕ)) → IsSome (entry_of who o reply) → IsSome o
-step_some who None reply h = cc
-step_some who (Some x) reply h = refl
 
 entry_after : (ecu : State) (who : ℕ) (o : Option Step) (reply : Option (List ℕ)) → went_to ecu who o ≡ after ecu (option_to_list (entry_of who o reply))
 entry_after ecu who None reply = refl
@@ -264,8 +242,3 @@ pub server_went : (old new : ServerView) (who i : ℕ) (e : Event) (asked : Opti
     → Settled (server_of old) (server_of new) who e asked more
 server_went old new who i e asked link link' more is found links h =
     server_settles old new who i e asked link link' more is found links h.goes_on h.ticks h.step h.by h.answer h.settled
-
--- the entry that the tester's link has read
-pub entry_found : (server : ServerView) (who : ℕ) (asked : Asked) (link : LinkView) → slice_get server.links (who - 1) ≡ Some link
-    → entry_asked server who asked ≡ entry_in link who asked
-entry_found server who asked link found = ap (option_and_then (λ (l : LinkView). entry_in l who asked)) found

@@ -13,9 +13,8 @@ use Rattle.diag_setup.specs.Setup.{link_of}
 use Rattle.diag_ecu.specs.State.{State}
 use Rattle.diag_desk.specs.declared.entry.Entry.{Entry}
 use Rattle.diag_desk.specs.Entries.{own}
-use Rattle.diag_world.specs.declared.server.Asked.{Asked}
 use Rattle.diag_world.specs.Port.{PortStands}
-use Rattle.diag_world.specs.Server.{AllDrained, EachRun, IsAsked, IsClosed, PortAsked, PortWent, ServerState, ServerView, Settled, closing_time, server_of, state_at}
+use Rattle.diag_world.specs.Server.{AllDrained, EachRun, HasKept, IsClosed, LinkTook, PortWent, ServerState, ServerTook, ServerView, Settled, closing_time, server_of, state_at}
 use Rattle.diag_world.specs.Weaving.{items_of}
 use Rattle.diag_world.proofs.Serving.{port_at, server_went}
 use Rattle.diag_world.proofs.Worlds.{set_cases}
@@ -50,6 +49,10 @@ module _ {ecu : State} {links : List LinkView} {now : ServerView} {who place at 
         found = slice_get_read links (length links) (at - 1) link refl within read;
       }
 
+-- what stands at one place is one
+same_item : {X : Type 0} (x y : X) (o : Option X) → o ≡ Some x → o ≡ Some y → x ≡ y
+same_item x y o at at' = cc
+
 -- no frame is due where a link was written that has none
 pub drained_set : (links : List LinkView) (i : ℕ) (link' : LinkView) → AllDrained links → pending link'.state ≡ 0 → AllDrained (slice_set links i link')
 drained_set links i link' drained none = λ j link at. elim (set_cases links i j link' link at) [
@@ -72,9 +75,9 @@ module _ {ecu : State} {links : List LinkView} {now : ServerView} {who i : ℕ} 
   pub port_here : EachRun (server_of now) (λ setup M K. PortStands (link_of setup who) link.state (items_of M who) (own K who))
   port_here = λ setup M K h. port_at setup now M K who i link h here.is seen_at
 
-  -- where it is early, the tester's is
-  pub early_here : link.state.now ≤ closing_time → IfSome (slice_get now.links (who - 1)) (λ (l : LinkView). l.state.now ≤ closing_time)
-  early_here early = subst (λ (o : Option LinkView). IfSome o (λ (l : LinkView). l.state.now ≤ closing_time)) (sym seen_there) early
+  -- and so does its state
+  state_there : slice_get (server_of now).links (who - 1) ≡ Some link.state
+  state_there = slice_get-map (λ (l : LinkView). l.state) now.links (who - 1) ∙ ap (option_map (λ (l : LinkView). l.state)) seen_there
 
   -- where it is late, so is the tester in each run
   pub late_here : closing_time < link.state.now → EachRun (server_of now) (λ setup M K. closing_time < last_time (items_of M who))
@@ -84,18 +87,7 @@ module _ {ecu : State} {links : List LinkView} {now : ServerView} {who i : ℕ} 
 
   -- and the tester's link is closed
   pub closed_here : closing_time < link.state.now → IsClosed (server_of now).links (who - 1)
-  closed_here late =
-      let state = λ (l : LinkView). l.state in
-      record {
-        link = link.state;
-        found = slice_get-map state now.links (who - 1) ∙ ap (option_map state) seen_there;
-        late = late;
-      }
-
-  -- what was asked of the tester was asked at the link
-  pub asked_here : (e : Event) (asked : Asked) (len capacity : ℕ) → IsAsked now who e asked len capacity → PortAsked ecu link who e asked len capacity
-  asked_here e asked len capacity h =
-      subst (λ (v : ServerView). PortAsked v.ecu link who e asked len capacity) (sym here.seen) (h link seen_there)
+  closed_here late = record { link = link.state; found = state_there; late = late }
 
   -- a link that stands for the same leaves the server what it was
   pub same_here : (ecu' : State) (link' : LinkView) → link'.state ≡ link.state → ecu' ≡ ecu → state_at ecu' (slice_set links i link') ≡ server_of now
@@ -105,10 +97,26 @@ module _ {ecu : State} {links : List LinkView} {now : ServerView} {who i : ℕ} 
       let kept = map-set_same state links i link' link (same ∙ ap state read) in
       ap₂ (λ ecu (ls : List LinkState). (let s : ServerState = record { ecu = ecu; links = ls } in s)) still kept ∙ ap server_of here.seen
 
-  -- the server took an event as the link did
-  pub settled_here : (ecu' : State) (link' : LinkView) (e : Event) (asked : Option Entry) (more : List Sent) → PortWent ecu ecu' link link' who e asked more
+  -- the server settled an event as the link took it
+  settled_here : (ecu' : State) (link' : LinkView) (e : Event) (asked : Option Entry) (more : List Sent) → PortWent ecu ecu' link link' who e asked more
       → Settled (server_of now) (state_at ecu' (slice_set links i link')) who e asked more
   settled_here ecu' link' e asked more went =
       let next = view_of ecu' (slice_set links i link') in
       subst (λ (v : ServerView). Settled (server_of v) (server_of next) who e asked more) here.seen
       (server_went (view_of ecu links) next who i e asked link link' more here.is here.found refl went)
+
+  -- and took it for a keeper
+  pub took_here : {X : Type 0} (keeps : X → ℕ → Entry → X → Type 0) (keeper keeper' : X) (ecu' : State) (link' : LinkView) (e : Event) (out out' : List Sent)
+      → LinkTook keeps ecu ecu' link link' keeper keeper' who e out out'
+      → ServerTook keeps (server_of now) (state_at ecu' (slice_set links i link')) keeper keeper' who e out out'
+  took_here keeps keeper keeper' ecu' link' e out out' took =
+      let went = took.sent.holds in
+      let settled = settled_here ecu' link' e took.asked took.sent.more went in
+      let before : link.state ≡ settled.moved.before = same_item link.state settled.moved.before _ state_there settled.moved.found in
+      record {
+        asked = took.asked;
+        by = went.by;
+        sent = record { more = took.sent.more; grown = took.sent.grown; holds = settled };
+        early = subst (λ (S : LinkState). S.now ≤ closing_time) before went.early;
+        kept = subst (λ (S : LinkState). HasKept keeps keeper keeper' S.now took.asked) before took.kept;
+      }

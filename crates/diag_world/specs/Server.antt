@@ -1,6 +1,6 @@
 -- What a server stands for: an interleaving of the testers' events, and the journal of its run. It keeps neither.
 use Rattle.std.specs.Prelude.{◌≡◌, ◌<◌, ◌≤◌, ◌-◌, ◌^◌, ℕ, ◌+◌, ◌*◌, ◌==◌, false, min, List, [], ◌∷◌, ◌++◌, length, map, Option, Some, None, IfSome, IsSome, IsTrue, slice_get, slice_set}
-use Rattle.std.specs.Option.{option_and_then, option_map, option_to_list}
+use Rattle.std.specs.Option.{option_map, option_to_list}
 use Rattle.diag_can.specs.declared.frame.Event.{Event}
 use Rattle.diag_can.specs.declared.frame.Event.TheVariants.{Ticks}
 use Rattle.diag_tp.specs.declared.setup.LinkSetup.{LinkSetup}
@@ -19,8 +19,7 @@ use Rattle.diag_ecu.specs.State.{State, opening}
 use Rattle.diag_desk.specs.declared.entry.Entry.{Entry}
 use Rattle.diag_desk.specs.Entries.{asked_by, entry, own, replies}
 use Rattle.diag_desk.specs.Legal.{Legal, after, after_step, reply_to}
-use Rattle.diag_world.specs.declared.server.Asked.{Asked}
-use Rattle.diag_world.specs.Port.{AreWithin, HasRoomFor, PortStands, step_in, time_after}
+use Rattle.diag_world.specs.Port.{AreWithin, Grew, PortStands, time_after}
 use Rattle.diag_world.specs.Weaving.{items_of, steps_of}
 
 -- what a contract sees of a server: the ECU, and the testers' links in order, with the room that was made in them
@@ -78,15 +77,6 @@ abbrev pub entry_of : ℕ → Option Step → Option (List ℕ) → Option Entry
 entry_of who None reply = None
 entry_of who (Some step) reply = Some (entry who step reply)
 
--- the entry that an event gives which a tester's link has read
-abbrev pub entry_in : LinkView → ℕ → Asked → Option Entry
-entry_in link who asked = entry_of who (step_in link asked.prepared) asked.reply
-
--- the same of the tester, in a server
-abbrev pub entry_asked : ServerView → ℕ → Asked → Option Entry
-entry_asked server who asked =
-    option_and_then (λ link. entry_in link who asked) (slice_get server.links (who - 1))
-
 -- what the ECU answers to a step, and the state after it, where there is one
 abbrev pub answer_to : State → ℕ → Option Step → Option (List ℕ)
 answer_to ecu who None = None
@@ -95,20 +85,6 @@ answer_to ecu who (Some step) = reply_to ecu who step
 abbrev pub went_to : State → ℕ → Option Step → State
 went_to ecu who None = ecu
 went_to ecu who (Some step) = after_step ecu who step
-
--- At this link the tester's event asks this entry, its reply being what the ECU answers; all room for it is made.
-pub record PortAsked (ecu : State) (link : LinkView) (who : ℕ) (e : Event) (asked : Asked)
-    (len capacity : ℕ) : Type 0 where
-  pub room : HasRoomFor link e asked.prepared len capacity
-  pub early : link.state.now ≤ closing_time
-  pub ticks : IsTrue (is_tick e) → IsSome (entry_in link who asked)
-  pub step : EachHistory link.state (λ s E A Q.
-      option_map (λ k. k.step) (entry_in link who asked) ≡ gives s E e)
-  pub by : IfSome (entry_in link who asked) (λ k. k.who ≡ who)
-  pub answer : IfSome (entry_in link who asked) (λ k. k.reply ≡ reply_to ecu k.who k.step)
-  pub framed : IfSome (entry_in link who asked) (λ k. IsSome k.reply → IsTrue (is_frame e))
-  -- and there is no reply but that to its step
-  pub reply : asked.reply ≡ answer_to ecu who (step_in link asked.prepared)
 
 -- the entry of so many ticks, which have no reply
 abbrev pub entry_of_ticks : ℕ → ℕ → Entry
@@ -125,12 +101,6 @@ pub record PortSettled (old new : LinkView) (who : ℕ) (e : Event) (asked : Opt
       × (drawn s (E ++ e ∷ []) (replies (K ++ option_to_list asked))
       ≡ drawn s E (replies K) ++ more)
 
--- the same at the link of the tester, in a server
-abbrev pub IsAsked : ServerView → ℕ → Event → Asked → ℕ → ℕ → Type 0
-IsAsked server who e asked len capacity = (link : LinkView)
-    → slice_get server.links (who - 1) ≡ Some link
-    → PortAsked server.ecu link who e asked len capacity
-
 -- a link took a tester's event with this entry, which it gives, and the ECU answered it
 pub record PortWent (ecu ecu' : State) (old new : LinkView) (who : ℕ) (e : Event)
     (asked : Option Entry) (more : List Sent) : Type 0 where
@@ -141,6 +111,19 @@ pub record PortWent (ecu ecu' : State) (old new : LinkView) (who : ℕ) (e : Eve
   pub answer : IfSome asked (λ k. k.reply ≡ reply_to ecu k.who k.step)
   pub goes_on : ecu' ≡ after ecu (option_to_list asked)
   pub settled : PortSettled old new who e asked more
+
+-- a keeper has the entry of an event more, where the event asks one, before which its tester's clock told this
+abbrev pub HasKept : {X : Type 0} → (X → ℕ → Entry → X → Type 0) → X → X → ℕ → Option Entry → Type 0
+HasKept keeps old new before None = new ≡ old
+HasKept keeps old new before (Some k) = keeps old before k new
+
+-- a link took a tester's event, whose entry a keeper has, and these frames were handed out behind those before
+pub record LinkTook {X : Type 0} (keeps : X → ℕ → Entry → X → Type 0) (ecu ecu' : State)
+    (old new : LinkView) (keeper keeper' : X) (who : ℕ) (e : Event) (out out' : List Sent)
+    : Type 0 where
+  pub asked : Option Entry
+  pub kept : HasKept keeps keeper keeper' old.state.now asked
+  pub sent : Grew out out' (λ more. PortWent ecu ecu' old new who e asked more)
 
 -- The link at this place took the event, by which it moved on in time, and sent these frames; the others are as before.
 -- A clock goes on by at most 60000 with an entry, and without one not at all: ticks always ask an entry.
@@ -181,6 +164,16 @@ pub record Settled (old new : ServerState) (who : ℕ) (e : Event) (asked : Opti
   pub ecu : new.ecu ≡ after old.ecu (option_to_list asked)
   pub moved : MovedOn old.links new.links (who - 1) e asked more
   pub served : EachRun old (λ setup M K. Served setup new M K who e asked more)
+
+-- A server took a tester's event, and these frames were handed out behind those before; a keeper has its entry, before
+-- which the tester's clock told what it did.
+pub record ServerTook {X : Type 0} (keeps : X → ℕ → Entry → X → Type 0) (old new : ServerState)
+    (keeper keeper' : X) (who : ℕ) (e : Event) (out out' : List Sent) : Type 0 where
+  pub asked : Option Entry
+  pub by : IfSome asked (λ k. k.who ≡ who)
+  pub sent : Grew out out' (λ more. Settled old new who e asked more)
+  pub early : sent.holds.moved.before.now ≤ closing_time
+  pub kept : HasKept keeps keeper keeper' sent.holds.moved.before.now asked
 
 -- an event to each of so many testers, in order
 abbrev pub each_of : ℕ → Event → List (ℕ × Event)

@@ -2,6 +2,7 @@
 #![tactic(auto)]
 
 mod channel;
+mod keeper;
 mod laws;
 mod passing;
 mod port;
@@ -10,8 +11,9 @@ mod server;
 mod world;
 
 pub use channel::Channel;
+pub use keeper::{Keeper, enter_step};
 pub use laws::{interleaving_law, turns_law, weaving_law};
 pub use port::Prepared;
-pub use serial_play::{Played, serial};
-pub use server::{Asked, Server, ServerFault};
+pub use serial_play::{Played, longest, serial};
+pub use server::{Server, ServerFault};
 pub use world::World;

@@ -11,8 +11,6 @@ ghost use Rattle.std.specs.Prelude.{
   ◌∷◌,
   ◌++◌,
   IsTrue,
-  OnOk,
-  OnErr,
   None,
   min,
   vec_len,
@@ -30,35 +28,8 @@ ghost use Rattle.diag_world.specs.Port.{AreWithin, Grew, HandedOut, Passed};
 
 use diag_can::{Event, TickCount};
 use diag_tp::{Link, Message, Sent, Taken, moments_law, time_law};
-use std::alloc::AllocError;
 
-/// Lets so many ticks pass, and hands out what falls due. Refused, nothing has changed: room is asked for where a frame may
-/// fall due.
-pub(crate) fn let_pass(
-    link: &mut Link,
-    count: TickCount,
-    out: &mut Vec<Sent>,
-) -> Result<(), AllocError>
-    requires drained { pending link.old.state ≡ 0 }
-    ensures passed { OnOk result
-        (Grew out.old.items out.new.items (Passed link.old.state link.new.state count)) }
-    ensures time { OnOk result
-        (link.new.state.now ≡ min (link.old.state.now + count) last_tick) }
-    ensures most { count ≤ 60000 }
-    ensures drained { pending link.new.state ≡ 0 }
-    ensures err { OnErr result
-        ((link.new.state ≡ link.old.state) × (out.new.items ≡ out.old.items)) }
-{
-    if is_quiet_for(link, count) {
-        pass_quiet(link, count);
-        return Ok(());
-    }
-    out.reserve(link.backlog() as usize)?;
-    pass_in_moves(link, count, out);
-    Ok(())
-}
-
-/// The same with room for the frames.
+/// Lets so many ticks pass, and hands out what falls due.
 #[inline(always)]
 pub(crate) fn pass(link: &mut Link, count: TickCount, out: &mut Vec<Sent>)
     requires drained { pending link.old.state ≡ 0 }

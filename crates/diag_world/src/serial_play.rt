@@ -48,8 +48,8 @@ pub fn serial(alloc: Global, setup: &Setup, logs: &[Vec<Event>]) -> Result<Playe
     Ok(played)
 }
 
-/// The length of the longest log.
-fn longest(logs: &[Vec<Event>]) -> usize
+/// The length of the longest log: the number of rounds in which each log that hasn't ended gives one event.
+pub fn longest(logs: &[Vec<Event>]) -> usize
     ensures { result ≡ longest (map (λ log. log.items) logs.now) }
 {
     let mut most = 0;

@@ -28,7 +28,7 @@ ghost use Rattle.std.specs.Prelude.{
 };
 ghost use Rattle.diag_can.specs.declared.frame.Event.{Event as AnEvent};
 ghost use Rattle.diag_tp.specs.Gives.{gives};
-ghost use Rattle.diag_tp.specs.Link.{pending, quiet};
+ghost use Rattle.diag_tp.specs.Link.{EachHistory, pending, quiet};
 ghost use Rattle.diag_tp.specs.Moments.{last_time};
 ghost use Rattle.diag_setup.specs.Setup.{link_of};
 ghost use Rattle.diag_ecu.specs.State.{State};
@@ -36,15 +36,14 @@ ghost use Rattle.diag_ecu.specs.Elapse.{elapse_each};
 ghost use Rattle.diag_desk.specs.declared.entry.Entry.{Entry as AnEntry};
 ghost use Rattle.diag_desk.specs.Legal.{after, reply_to};
 ghost use Rattle.diag_world.specs.Weaving.{items_of};
-ghost use Rattle.diag_world.specs.Port.{Grew};
-ghost use Rattle.diag_desk.specs.Entry.{entry_seen, step_seen};
 ghost use Rattle.diag_world.specs.Port.{step_in};
-ghost use Rattle.diag_world.specs.Server.{answer_to, closing_time, entry_asked, entry_in, entry_of_ticks, quiet_of, server_of, state_at, went_to, AllDrained, AreEarly, EachRun, IsAsked, IsClosed, PortAsked, PortSettled, PortWent, Serves, Settled, Waited};
+ghost use Rattle.diag_world.specs.Server.{answer_to, closing_time, entry_of, quiet_of, server_of, state_at, went_to, AllDrained, AreEarly, EachRun, HasKept, IsClosed, LinkTook, Serves, ServerTook, Waited};
 
-use crate::passing::{let_pass, pass_quiet};
-use crate::port::{Prepared, gives_step, prepare, settle, step};
+use crate::keeper::Keeper;
+use crate::passing::{pass, pass_quiet};
+use crate::port::{Prepared, prepare, settle, step};
 use diag_can::{Event, TickCount};
-use diag_desk::{EntryRef, StepRef, reply_of, settle_step};
+use diag_desk::{StepFault, reply_of, settle_answered};
 use diag_ecu::Ecu;
 use diag_setup::{Setup, TesterId};
 use diag_tp::{Link, Message, Sent, Step};
@@ -61,36 +60,19 @@ pub enum ServerFault {
     /// The tester's link has come to its closing time.
     #[error("the clock has run out")]
     Clock,
-}
-
-impl From<AllocError> for ServerFault {
-    ghost use Rattle.diag_world.specs.declared.server.ServerFault.TheVariants as fault;
-
-    ghost from_gives = { λ e f. f ≡ fault.Memory };
-
-    fn from(_refused: AllocError) -> ServerFault {
-        ServerFault::Memory
-    }
+    /// The event gives a step, whose entry can't be kept.
+    #[error("the journal is full")]
+    JournalFull,
 }
 
 /// The last time of a link, in ticks, at which an event is taken.
 const CLOSING_TIME: u64 = 1 << 63;
 
-/// What an event asks that a tester's link has read, and the reply to it. `Server::entry` lends the entry.
-#[derive(Drop)]
-pub struct Asked {
-    /// The event; the step that it gives is lent.
-    pub prepared: Prepared,
-    /// What the ECU answers to that step, if there is a reply.
-    pub reply: Option<Message>,
-}
-
 /// The ECU and each tester's link.
 ///
 /// It keeps no history: its contract is the relation `Serves`, from each interleaving and journal that it stands for to
-/// those with one event more. An event goes through in two halves. `ask` makes all growths and has the event answered;
-/// whoever keeps a journal enters the entry that `entry` lends; `settle` takes the event, and can't fail. `event` does
-/// both for who keeps none.
+/// those with one event more. `take` makes all growths, has the event answered and its entry kept by whoever keeps the
+/// journal, and only then takes the event, which can't fail.
 #[derive(Drop)]
 pub struct Server {
     ecu: Ecu,
@@ -123,102 +105,38 @@ impl Server {
         Ok(Server { ecu, links })
     }
 
-    /// Reads an event of a tester, makes room for it, and has the step that it gives answered. Nothing else changes, and
-    /// what was asked needn't be settled.
+    /// Takes an event of a tester, has the entry that it gives kept, and hands out the frames that it draws.
+    ///
+    /// # Errors
+    /// `Clock` where the tester's link has come to its closing time, `JournalFull` where the keeper can't keep the entry,
+    /// `Memory` where memory is refused. The server and the frames are then as before.
     #[inline(always)]
-    pub fn ask(
+    pub fn take<K: Keeper>(
         &mut self,
         who: TesterId,
         event: &Event,
-        out: &mut Vec<Sent>,
-    ) -> Result<Asked, ServerFault>
-        requires in_setup { who ≤ length self.old.links }
-        ensures same { server_of self.new ≡ server_of self.old }
-        ensures out { out.new.items ≡ out.old.items }
-        ensures asked { IfOk result (λ asked.
-            IsAsked self.new who event.now asked (vec_len out.new) (vec_capacity out.new)) }
-        ensures step { IfOk result (λ asked. EachRun (server_of self.old) (λ setup M K.
-            option_map (λ k. k.step) (entry_asked self.new who asked)
-            ≡ gives (link_of setup who) (items_of M who) event.now)) }
-        ensures answer { IfOk result (λ asked. IfSome (entry_asked self.new who asked) (λ k.
-            k.reply ≡ reply_to self.old.ecu k.who k.step)) }
-        ensures clock { result ≡ Err ServerFault.Clock
-            → EachRun (server_of self.old) (λ setup M K.
-            closing_time < last_time (items_of M who)) }
-        ensures closed { result ≡ Err ServerFault.Clock
-            → IsClosed (server_of self.old).links (who - 1) }
-    {
-        let index = usize::from(who.place()) - 1;
-        let link = &mut self.links[index];
-        ask_at(link, &self.ecu, who, event, out)
-    }
-
-    /// Whether an event of a tester gives a step, and so an entry.
-    #[inline(always)]
-    pub fn gives_step(&self, who: TesterId, event: &Event) -> bool
-        requires in_setup { who ≤ length self.now.links }
-        ensures { EachRun (server_of self.now) (λ setup M K.
-            IsTrue result ↔ IsSome (gives (link_of setup who) (items_of M who) event.now)) }
-    {
-        let index = usize::from(who.place()) - 1;
-        gives_step(&self.links[index], event)
-    }
-
-    /// The entry that an event of a tester gives, if any, after it was asked; it is lent.
-    #[inline(always)]
-    pub fn entry<'a>(&'a self, who: TesterId, asked: &'a Asked) -> Option<EntryRef<'a>>
-        requires in_setup { who ≤ length self.now.links }
-        ensures { option_map entry_seen result ≡ entry_asked self.now who asked.now }
-    {
-        let index = usize::from(who.place()) - 1;
-        let step = step(&self.links[index], &asked.prepared)?;
-        Some(EntryRef {
-            who,
-            step: shown(step),
-            reply: asked.reply.as_ref().map(Message::bytes),
-        })
-    }
-
-    /// Takes an event of a tester with the entry that it gives, and hands out the frames that it draws.
-    #[inline(always)]
-    pub fn settle(&mut self, who: TesterId, event: &Event, asked: Asked, out: &mut Vec<Sent>)
-        requires in_setup { who ≤ length self.old.links }
-        requires asked { IsAsked self.old who event.now asked
-            (vec_len out.old) (vec_capacity out.old) }
-        ensures took { Grew out.old.items out.new.items (λ more.
-            Settled (server_of self.old) (server_of self.new) who event.now
-            (entry_asked self.old who asked) more) }
-    {
-        let index = usize::from(who.place()) - 1;
-        let link = &mut self.links[index];
-        settle_at(link, &mut self.ecu, who, event, asked, out);
-    }
-
-    /// Takes ticks of a tester, and hands out the frames that fall due. The entry that they give has no reply, and isn't
-    /// made: whoever keeps a journal enters it. Refused, nothing has changed.
-    pub fn ticks(
-        &mut self,
-        who: TesterId,
-        count: TickCount,
+        keeper: &mut K,
         out: &mut Vec<Sent>,
     ) -> Result<(), ServerFault>
         requires in_setup { who ≤ length self.old.links }
-        ensures ok { OnOk result (Grew out.old.items out.new.items (λ more.
-            Settled (server_of self.old) (server_of self.new) who (AnEvent.Ticks count)
-            (Some (entry_of_ticks who count)) more)) }
-        ensures early { OnOk result (IfSome (slice_get self.old.links (who - 1)) (λ link.
-            link.state.now ≤ closing_time)) }
+        ensures took { OnOk result (ServerTook K.keeps (server_of self.old) (server_of self.new)
+            keeper.old keeper.new who event.now out.old.items out.new.items) }
+        ensures place { K.place keeper.new ≡ K.place keeper.old }
         ensures err { OnErr result
             ((server_of self.new ≡ server_of self.old) × (out.new.items ≡ out.old.items)) }
+        ensures full { result ≡ Err ServerFault.JournalFull
+            → K.is_full keeper.old
+            × EachRun (server_of self.old) (λ setup M journal.
+            IsSome (gives (link_of setup who) (items_of M who) event.now)) }
         ensures clock { result ≡ Err ServerFault.Clock
-            → EachRun (server_of self.old) (λ setup M K.
+            → EachRun (server_of self.old) (λ setup M journal.
             closing_time < last_time (items_of M who)) }
         ensures closed { result ≡ Err ServerFault.Clock
             → IsClosed (server_of self.old).links (who - 1) }
     {
         let index = usize::from(who.place()) - 1;
         let link = &mut self.links[index];
-        ticks_at(link, &mut self.ecu, who, count, out)
+        take_at(link, &mut self.ecu, who, event, keeper, out)
     }
 
     /// Takes so many ticks of each tester, in order, in which no link does anything. The entries that they give have no
@@ -233,34 +151,6 @@ impl Server {
     {
         pass_each(&mut self.links, count);
         self.ecu.ticks_each(setup, count);
-    }
-
-    /// Takes an event of a tester, and hands out the frames that it draws. Refused, nothing has changed.
-    #[inline(always)]
-    pub fn event(
-        &mut self,
-        who: TesterId,
-        event: &Event,
-        out: &mut Vec<Sent>,
-    ) -> Result<(), ServerFault>
-        requires in_setup { who ≤ length self.old.links }
-        ensures ok { OnOk result ((asked : Option AnEntry)
-            × IfSome asked (λ k. k.who ≡ who)
-            × Grew out.old.items out.new.items (λ more.
-            Settled (server_of self.old) (server_of self.new) who event.now asked more)) }
-        ensures early { OnOk result (IfSome (slice_get self.old.links (who - 1)) (λ link.
-            link.state.now ≤ closing_time)) }
-        ensures err { OnErr result
-            ((server_of self.new ≡ server_of self.old) × (out.new.items ≡ out.old.items)) }
-        ensures clock { result ≡ Err ServerFault.Clock
-            → EachRun (server_of self.old) (λ setup M K.
-            closing_time < last_time (items_of M who)) }
-        ensures closed { result ≡ Err ServerFault.Clock
-            → IsClosed (server_of self.old).links (who - 1) }
-    {
-        let index = usize::from(who.place()) - 1;
-        let link = &mut self.links[index];
-        event_at(link, &mut self.ecu, who, event, out)
     }
 
     /// What a tester's clock tells, in ticks of its link.
@@ -312,133 +202,126 @@ impl Server {
     }
 }
 
-/// Refuses where a link has come to its closing time.
+/// Takes an event at a link, and has its entry kept. Refused, link, ECU and frames are as before.
 #[inline(always)]
-fn look_at_clock(link: &Link) -> Result<(), ServerFault>
-    ensures open { OnOk result (link.now.state.now ≤ closing_time) }
-    ensures closed { OnErr result (closing_time < link.now.state.now) }
+fn take_at<K: Keeper>(
+    link: &mut Link,
+    ecu: &mut Ecu,
+    who: TesterId,
+    event: &Event,
+    keeper: &mut K,
+    out: &mut Vec<Sent>,
+) -> Result<(), ServerFault>
+    requires drained { pending link.old.state ≡ 0 }
+    ensures took { OnOk result (LinkTook K.keeps ecu.old ecu.new link.old link.new keeper.old keeper.new
+        who event.now out.old.items out.new.items) }
+    ensures place { K.place keeper.new ≡ K.place keeper.old }
+    ensures drained { pending link.new.state ≡ 0 }
+    ensures err { OnErr result ((link.new.state ≡ link.old.state)
+        × (ecu.new ≡ ecu.old)
+        × (out.new.items ≡ out.old.items)) }
+    ensures full { result ≡ Err ServerFault.JournalFull
+        → K.is_full keeper.old
+        × EachHistory link.old.state (λ s E A Q. IsSome (gives s E event.now)) }
+    ensures clock { result ≡ Err ServerFault.Clock → closing_time < link.old.state.now }
 {
     if link.now() > CLOSING_TIME {
         return Err(ServerFault::Clock);
     }
-    Ok(())
-}
-
-/// A step as the journal shows one; a message is the step's own bytes.
-#[inline(always)]
-fn shown(step: &Step) -> StepRef<'_>
-    ensures { step_seen result ≡ step.now }
-{
-    match step {
-        Step::Request {
-            functional,
-            message,
-        } => StepRef::Request {
-            functional: *functional,
-            bytes: message.bytes(),
-        },
-        Step::Ticks(count) => StepRef::Ticks(*count),
+    match take_early(link, ecu, who, event, keeper, out) {
+        Ok(()) => Ok(()),
+        Err(StepFault::Memory) => Err(ServerFault::Memory),
+        Err(StepFault::JournalFull) => Err(ServerFault::JournalFull),
     }
 }
 
-/// Reads an event at a link, makes room for it, and has the step that it gives answered.
+/// The same before the link's closing time.
 #[inline(always)]
-fn ask_at(
-    link: &mut Link,
-    ecu: &Ecu,
-    who: TesterId,
-    event: &Event,
-    out: &mut Vec<Sent>,
-) -> Result<Asked, ServerFault>
-    requires drained { pending link.old.state ≡ 0 }
-    ensures same { link.new.state ≡ link.old.state }
-    ensures out { out.new.items ≡ out.old.items }
-    ensures asked { IfOk result (λ asked.
-        PortAsked ecu.now link.new who event.now asked (vec_len out.new) (vec_capacity out.new)) }
-    ensures clock { result ≡ Err ServerFault.Clock → closing_time < link.old.state.now }
-{
-    look_at_clock(link)?;
-    let prepared = prepare(link, event, out)?;
-    let reply = reply_at(link, ecu, who, &prepared)?;
-    Ok(Asked { prepared, reply })
-}
-
-/// What the ECU answers to the step that an event gives.
-#[inline(always)]
-fn reply_at(
-    link: &Link,
-    ecu: &Ecu,
-    who: TesterId,
-    prepared: &Prepared,
-) -> Result<Option<Message>, AllocError>
-    ensures { IfOk result (λ reply. reply ≡ answer_to ecu.now who (step_in link.now prepared.now)) }
-{
-    match step(link, prepared) {
-        Some(step) => reply_of(ecu, who, step),
-        None => Ok(None),
-    }
-}
-
-/// Brings the ECU to the state after the step that an event gives.
-#[inline(always)]
-fn step_at(link: &Link, ecu: &mut Ecu, who: TesterId, prepared: &Prepared)
-    ensures { ecu.new ≡ went_to ecu.old who (step_in link.now prepared.now) }
-{
-    if let Some(step) = step(link, prepared) {
-        settle_step(ecu, who, step);
-    }
-}
-
-/// Takes an event at a link. Refused, nothing has changed.
-#[inline(always)]
-fn event_at(
+fn take_early<K: Keeper>(
     link: &mut Link,
     ecu: &mut Ecu,
     who: TesterId,
     event: &Event,
+    keeper: &mut K,
     out: &mut Vec<Sent>,
-) -> Result<(), ServerFault>
+) -> Result<(), StepFault>
     requires drained { pending link.old.state ≡ 0 }
-    ensures went { OnOk result ((asked : Option AnEntry) × Grew out.old.items out.new.items (λ more.
-        PortWent ecu.old ecu.new link.old link.new who event.now asked more)) }
+    requires early { link.old.state.now ≤ closing_time }
+    ensures took { OnOk result (LinkTook K.keeps ecu.old ecu.new link.old link.new keeper.old keeper.new
+        who event.now out.old.items out.new.items) }
+    ensures place { K.place keeper.new ≡ K.place keeper.old }
     ensures drained { pending link.new.state ≡ 0 }
     ensures err { OnErr result ((link.new.state ≡ link.old.state)
         × (ecu.new ≡ ecu.old)
         × (out.new.items ≡ out.old.items)) }
-    ensures clock { result ≡ Err ServerFault.Clock → closing_time < link.old.state.now }
+    ensures full { result ≡ Err StepFault.JournalFull
+        → K.is_full keeper.old
+        × EachHistory link.old.state (λ s E A Q. IsSome (gives s E event.now)) }
 {
-    look_at_clock(link)?;
+    if let Event::Ticks(count) = event {
+        return pass_at(link, ecu, who, *count, keeper, out);
+    }
     let prepared = prepare(link, event, out)?;
-    let reply = reply_at(link, ecu, who, &prepared)?;
-    step_at(link, ecu, who, &prepared);
+    let reply = answer_at(link, ecu, who, &prepared, keeper)?;
     settle(link, event, &prepared, reply, out);
     Ok(())
 }
 
-/// Takes ticks at a link. Refused, nothing has changed.
-fn ticks_at(
+/// The same of ticks, whose entry has no reply.
+#[inline(always)]
+fn pass_at<K: Keeper>(
     link: &mut Link,
     ecu: &mut Ecu,
     who: TesterId,
     count: TickCount,
+    keeper: &mut K,
     out: &mut Vec<Sent>,
-) -> Result<(), ServerFault>
+) -> Result<(), StepFault>
     requires drained { pending link.old.state ≡ 0 }
-    ensures took { OnOk result (Grew out.old.items out.new.items (λ more.
-        PortSettled link.old link.new who (AnEvent.Ticks count) (Some (entry_of_ticks who count))
-        more)) }
-    ensures early { OnOk result (link.old.state.now ≤ closing_time) }
+    requires early { link.old.state.now ≤ closing_time }
+    ensures took { OnOk result (LinkTook K.keeps ecu.old ecu.new link.old link.new keeper.old keeper.new
+        who (AnEvent.Ticks count) out.old.items out.new.items) }
+    ensures place { K.place keeper.new ≡ K.place keeper.old }
     ensures drained { pending link.new.state ≡ 0 }
-    ensures ecu { OnOk result (ecu.new ≡ after ecu.old (entry_of_ticks who count ∷ [])) }
     ensures err { OnErr result ((link.new.state ≡ link.old.state)
         × (ecu.new ≡ ecu.old)
         × (out.new.items ≡ out.old.items)) }
-    ensures clock { result ≡ Err ServerFault.Clock → closing_time < link.old.state.now }
+    ensures full { result ≡ Err StepFault.JournalFull → K.is_full keeper.old }
 {
-    look_at_clock(link)?;
-    let_pass(link, count, out)?;
+    out.reserve(link.backlog() as usize)?;
+    keeper.keep(link.now(), who, &Step::Ticks(count), None)?;
+    pass(link, count, out);
     ecu.ticks(who, count);
     Ok(())
+}
+
+/// What the ECU answers to the step that an event gives, once the entry is kept; the ECU goes on to the state after it.
+#[inline(always)]
+fn answer_at<K: Keeper>(
+    link: &Link,
+    ecu: &mut Ecu,
+    who: TesterId,
+    prepared: &Prepared,
+    keeper: &mut K,
+) -> Result<Option<Message>, StepFault>
+    requires early { link.now.state.now ≤ closing_time }
+    ensures reply { IfOk result (λ reply.
+        reply ≡ answer_to ecu.old who (step_in link.now prepared.now)) }
+    ensures kept { IfOk result (λ reply. HasKept K.keeps keeper.old keeper.new link.now.state.now
+        (entry_of who (step_in link.now prepared.now) reply)) }
+    ensures ecu { OnOk result (ecu.new ≡ went_to ecu.old who (step_in link.now prepared.now)) }
+    ensures place { K.place keeper.new ≡ K.place keeper.old }
+    ensures err { OnErr result (ecu.new ≡ ecu.old) }
+    ensures full { result ≡ Err StepFault.JournalFull
+        → K.is_full keeper.old × IsSome (step_in link.now prepared.now) }
+{
+    let Some(step) = step(link, prepared) else {
+        return Ok(None);
+    };
+    let reply = reply_of(ecu, who, step)?;
+    keeper.keep(link.now(), who, step, reply.as_ref())?;
+    settle_answered(ecu, who, step, reply.as_ref());
+    Ok(reply)
 }
 
 /// Lets so many ticks pass at each link, in which it does nothing.
@@ -456,26 +339,4 @@ fn pass_each(links: &mut Vec<Link>, count: TickCount)
     for index in 0..links.len() {
         pass_quiet(&mut links[index], count);
     }
-}
-
-/// Takes an event at a link, with the entry that it gives.
-#[inline(always)]
-fn settle_at(
-    link: &mut Link,
-    ecu: &mut Ecu,
-    who: TesterId,
-    event: &Event,
-    asked: Asked,
-    out: &mut Vec<Sent>,
-)
-    requires drained { pending link.old.state ≡ 0 }
-    requires asked { PortAsked ecu.old link.old who event.now asked
-        (vec_len out.old) (vec_capacity out.old) }
-    ensures went { Grew out.old.items out.new.items (λ more. PortWent
-        ecu.old ecu.new link.old link.new who event.now (entry_in link.old who asked) more) }
-    ensures drained { pending link.new.state ≡ 0 }
-{
-    let Asked { prepared, reply } = asked;
-    step_at(link, ecu, who, &prepared);
-    settle(link, event, &prepared, reply, out);
 }

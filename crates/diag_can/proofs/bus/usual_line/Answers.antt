@@ -1,4 +1,4 @@
-use Rattle.std.proofs.Common.{◌≡◌, ◌≤◌, length, arith}
+use Rattle.std.proofs.Common.{◌≤◌, length, arith}
 use Rattle.diag_can.proofs.UsualLines.{says-usual}
 use Rattle.diag_can.proofs.bus.usual_line.Goals as goal
 

@@ -5,10 +5,10 @@ use Rattle.diag_can.proofs.upper.add_hex.Goals as goal
 pub loop-eight-preserved : goal.loop-eight-preserved
 loop-eight-preserved c =
     let parts = c.in-Some.ensures.cases in
-    let more = c.add_sixteen.ensures.items ∙ ap (λ (digits : List ℕ). c.loop-eight.text.items ++ digits) c.digits_of_eight.ensures in
+    let more = c.add.ensures.items ∙ ap (λ (digits : List ℕ). c.loop-eight.text.items ++ digits) c.digits_of_eight.ensures in
     record {
-      written = upper_eight c.loop-eight.text.items c.add_sixteen.new.text.items c.loop-eight.rest.now c.in-Some.eight.now c.in-Some.tail.now _
+      written = upper_eight c.loop-eight.text.items c.add.new.text.items c.loop-eight.rest.now c.in-Some.eight.now c.in-Some.tail.now _
           c.loop-eight.invariant.written parts.0 parts.1 more;
-      len = omega (arith, c.loop-eight.invariant.len, c.add_sixteen.ensures.len, parts.2);
-      capacity = c.add_sixteen.ensures.capacity ∙ c.loop-eight.invariant.capacity;
+      len = omega (arith, c.loop-eight.invariant.len, c.add.ensures.len, parts.2);
+      capacity = c.add.ensures.capacity ∙ c.loop-eight.invariant.capacity;
     }

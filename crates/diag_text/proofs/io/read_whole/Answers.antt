@@ -1,21 +1,20 @@
-use Rattle.std.proofs.Common.{◌++◌, take, arith, length-append}
-use Rattle.std.proofs.KnownBytes.{Consumes-trans}
+use Rattle.std.proofs.Common.{◌≡◌, [], rules}
+use Rattle.std.proofs.KnownBytes.{Consumes-whole}
 use Rattle.diag_text.proofs.io.read_whole.Goals as goal
 
-pub returns-then-count-limit-clause-seen : goal.returns-then-count-limit-clause-seen
-returns-then-count-limit-clause-seen g c _ =
-    let bytes = c.loop-turn.bytes.items in
-    let piece = take c.in-Ok.count c.read.new.buf in (
-      bytes ++ piece,
-      Consumes-trans _ _ _ bytes piece c.loop-turn.invariant.consumed c.in-Ok.ensures.bytes.0,
-      omega (arith, length-append bytes piece, c.in-Ok.ensures.bound.1, c.if-count-limit.true, c.len.ensures),
-    )
+pub returns-clause-whole : goal.returns-clause-whole
+returns-clause-whole g c =
+    let read = c.in_ok-read_into.ensures.read in
+    Consumes-whole _ _ read.0 (λ known. c.read_into.new.taker.items ≡ known) read.1 c.in_ok-read_into.ensures.end (read.2.1 [] (search rules))
 
-pub returns-then-is_err-clause-refused : goal.returns-then-is_err-clause-refused
-returns-then-is_err-clause-refused g c _ =
-    let bytes = c.loop-turn.bytes.items in
-    let piece = take c.in-Ok.count c.read.new.buf in (
-      bytes ++ piece,
-      Consumes-trans _ _ _ bytes piece c.loop-turn.invariant.consumed c.in-Ok.ensures.bytes.0,
-      omega (arith, length-append bytes piece, c.in-Ok.ensures.bound.1, c.if-count-limit.false, c.len.ensures),
-    )
+pub returns-clause-within : goal.returns-clause-within
+returns-clause-within g c =
+    let read = c.in_ok-read_into.ensures.read in
+    let same : c.read_into.new.taker.items ≡ read.0 = read.2.1 [] (search rules) in
+    rw same read.2.0
+
+pub returns-clause-read : goal.returns-clause-read
+returns-clause-read g c =
+    let read = c.in_ok-read_into.ensures.read in
+    let same : c.read_into.new.taker.items ≡ read.0 = read.2.1 [] (search rules) in
+    rw same read.1

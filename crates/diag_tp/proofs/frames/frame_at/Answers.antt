@@ -1,5 +1,5 @@
 use Rattle.std.proofs.Common.{refl, arith, length, ◌≤◌, ◌<◌}
-use Rattle.diag_tp.proofs.CutParts.{cut-single_at, cut-first_at, cut-part_at}
+use Rattle.diag_tp.proofs.CutFrames.{cut-single_at, cut-first_at, cut-part_at}
 use Rattle.diag_tp.proofs.frames.frame_at.Goals as goal
 
 pub returns-then-len-le7 : goal.returns-then-len-le7

@@ -4,7 +4,7 @@ use Rattle.diag_tp.specs.Receiver.{kept_bytes}
 use Rattle.diag_tp.specs.Held.{IsHeld}
 use Rattle.diag_tp.specs.declared.step.Step.TheVariants as step
 use Rattle.diag_tp.specs.declared.reception.Held.TheVariants as held
-use Rattle.diag_tp.proofs.Held.{set-over}
+use Rattle.diag_tp.proofs.Partials.{set-over}
 use Rattle.diag_tp.proofs.reception.set_last.Goals as goal
 
 pub returns-clause-staged : goal.returns-clause-staged

@@ -5,6 +5,7 @@ use Rattle.diag_tp.specs.Moments.{counted_from}
 use Rattle.diag_bus.specs.Events.{frame_to, span_said, to_each}
 use Rattle.diag_world.proofs.Worlds.{on_ok}
 use Rattle.diag_bus.specs.Batch.{Gave, HasTime, SentIn, TookTime}
+use Rattle.diag_bus.specs.Requests.{given}
 use Rattle.diag_bus.proofs.Batches.{gave_more, gave_none}
 use Rattle.diag_bus.proofs.Lines.{said_empty, said_frame, said_ticks, said_quiet}
 use Rattle.diag_bus.proofs.Paces.{has_left, sent_more, sent_none, took_more, took_none}
@@ -29,15 +30,22 @@ returns-in-None-clause-ok c =
     (timed ∙ said_quiet c.args.setup.now c.args.reference c.args.said.now c.in-Stamped.moment c.in-Stamped.frame c.in-Stamped.is c.in-None.is)
     c.in_ok-pass-in-Stamped.ensures.ok
 
+pub give_frame-requires-clause-owner : goal.give_frame-requires-clause-owner
+give_frame-requires-clause-owner c = (c.in-Some.frame.id, c.owner.ensures c.args.setup.now c.requires.ids)
+
 pub returns-in-Some-clause-ok : goal.returns-in-Some-clause-ok
 returns-in-Some-clause-ok c =
-    let n = length c.args.setup.now.testers in
+    let setup = c.args.setup.now in
+    let n = length setup.testers in
+    let frame = c.in-Some.frame in
     let timed = ap (λ ms. flat_map (to_each n) (waited ms)) c.silence.ensures in
+    let given' = ap (given n c.owner.result) c.copy.ensures ∙ sym ((c.owner.ensures setup c.requires.ids).gives frame.bytes) in
     on_ok _ _ c.give_frame.result (λ gave.
     subst (λ L. Gave c.args.self.now c.give_frame.new.self L)
-    (ap (λ T. T ++ flat_map (frame_to c.args.setup.now (Some c.in-Some.frame)) (counted_from 1 n)) timed
-    ∙ said_frame c.args.setup.now c.args.reference c.args.said.now c.in-Stamped.moment c.in-Stamped.frame c.in-Some.frame c.in-Stamped.is c.in-Some.is)
-    (gave_more c.args.self.now c.pass.new.self c.give_frame.new.self _ _ c.in_ok-pass-in-Stamped.ensures.ok gave))
+    (ap (λ T. T ++ flat_map (frame_to setup (Some frame)) (counted_from 1 n)) timed
+    ∙ said_frame setup c.args.reference c.args.said.now c.in-Stamped.moment c.in-Stamped.frame frame c.in-Stamped.is c.in-Some.is)
+    (gave_more c.args.self.now c.pass.new.self c.give_frame.new.self _ _ c.in_ok-pass-in-Stamped.ensures.ok
+    (subst (λ L. Gave c.pass.new.self c.give_frame.new.self L) given' gave)))
     c.give_frame.ensures.ok
 
 -- ---- time

@@ -1,5 +1,5 @@
 use Rattle.std.proofs.Common.{◌≡◌, ◌≤◌, ◌<◌, ◌++◌, Some, Vec, Global, length, refl, ap, subst, sym, ◌∙◌, arith}
-use Rattle.std.proofs.lemmas.List.{append-nil, length-map}
+use Rattle.std.proofs.lemmas.List.{length-map}
 use Rattle.std.proofs.lemmas.Option.{slice_get-map, slice_get_read}
 use Rattle.std.specs.Option.{option_map}
 use Rattle.std.specs.Prelude.{slice_get}
@@ -10,15 +10,8 @@ use Rattle.diag_bus.specs.Batch.{lists_of}
 use Rattle.diag_bus.specs.Requests.{AreFilled}
 use Rattle.diag_bus.specs.declared.filled.Filled.{Filled}
 use Rattle.diag_bus.specs.declared.filled.Filled.TheVariants.{At}
-use Rattle.diag_bus.proofs.Filling.{list_written, none_written}
+use Rattle.diag_bus.proofs.Filling.{list_written}
 use Rattle.diag_bus.proofs.mid_line.MidLine.write_replies.Goals as goal
-
-pub returns-in-Nowhere-clause-ok : goal.returns-in-Nowhere-clause-ok
-returns-in-Nowhere-clause-ok c =
-    let text = c.args.text.now.items in
-    let lists = lists_of c.args.self.now in
-    sym (append-nil text) ∙ ap (λ w. text ++ w)
-    (none_written c.args.setup.now c.args.start lists (subst (λ (f : Filled). AreFilled f lists) c.in-Nowhere.is c.requires.filled))
 
 filled : (c : goal.After-write_one-arg-in-At-1) → AreFilled (At c.in-At.place) (lists_of c.args.self.now)
 filled c = subst (λ (f : Filled). AreFilled f (lists_of c.args.self.now)) c.in-At.is c.requires.filled

@@ -1,29 +1,29 @@
-use Rattle.std.proofs.Common.{◌≡◌, ◌+◌, ◌∷◌, ◌++◌, [], length, ap, ◌∙◌, arith, inl, inr, length-append}
-use Rattle.diag_can.specs.declared.frame.Ids.{Ids}
-use Rattle.diag_setup.specs.Setup.{ids_of}
-use Rattle.diag_world.proofs.Worlds.{push_cases, who_found}
+use Rattle.std.proofs.Common.{◌≡◌, ◌∷◌, ◌++◌, ℕ, [], length, ap, subst, sym, ◌∙◌, arith, inl, inr, length-append}
+use Rattle.diag_bus.specs.Requests.{IsOwner}
+use Rattle.diag_bus.specs.declared.request_ids.Owner.{Owner}
+use Rattle.diag_world.proofs.Worlds.{push_cases}
 use Rattle.diag_bus.proofs.request_ids.RequestIds.new.Goals as goal
 
-pub loop-index-preserved : goal.loop-index-preserved
-loop-index-preserved c =
-    let inv = c.loop-index.invariant in
-    let before = c.loop-index.physical.items in
-    let setup = c.args.setup.now in
-    let grown : c.push.new.self.items ≡ before ++ c.ids.result.request ∷ [] = c.in_ok-push.ensures.items in
-    let who = who_found setup c.loop-index.index c.in-Some.who c.in-Some.ensures in
+pub loop-number-preserved : goal.loop-number-preserved
+loop-number-preserved c =
+    let inv = c.loop-number.invariant in
+    let before = c.loop-number.owners.items in
+    let n = length c.args.setup.now.testers in
+    let owner = c.owner_of.result in
+    let grown : c.push.new.self.items ≡ before ++ owner ∷ [] = c.in_ok-push.ensures.items in
     record {
-      many = ap length grown ∙ omega (arith, length-append before (c.ids.result.request ∷ []), inv.many);
-      each = λ i id at. elim (push_cases before i c.ids.result.request id (rw grown at at)) [
+      many = ap length grown ∙ omega (arith, length-append before (owner ∷ []), inv.many);
+      each = λ id other at. elim (push_cases before id owner other (rw grown at at)) [
         | inl p ↦ (
-            let place : c.in-Some.who ≡ i + 1 = omega (arith, p.0, inv.many, who) in
-            p.1 ∙ (ap (λ (ids : Ids). ids.request) c.ids.ensures ∙ ap (λ t. (ids_of setup t).request) place))
-        | inr p ↦ inv.each i id p
+            let place : c.in-Some.id ≡ id = omega (arith, p.0, inv.many, c.in-Some.ensures.value) in
+            subst (λ (o : Owner). IsOwner c.args.setup.now id n o) (sym p.1)
+            (subst (λ (i : ℕ). IsOwner c.args.setup.now i n owner) place c.owner_of.ensures))
+        | inr p ↦ inv.each id other p
       ];
     }
 
 pub returns : goal.returns
 returns c = record {
-  many = omega (arith, c.loop-index.invariant.many, c.loop-index-test.false, c.loop-index.auto.index-end, c.testers-index-end.ensures.same);
-  each = c.loop-index.invariant.each;
-  functional = c.functional.ensures;
+  many = omega (arith, c.loop-number.invariant.many, c.loop-number-test.false);
+  each = c.loop-number.invariant.each;
 }

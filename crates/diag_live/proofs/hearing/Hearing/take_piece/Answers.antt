@@ -1,7 +1,7 @@
 use Rattle.std.proofs.Common.{◌≡◌, ◌+◌, ◌-◌, ◌∷◌, [], ◌++◌, List, ℕ, length, take, drop, arith, length-drop, sym, subst, append_assoc, ◌∙◌}
 use Rattle.std.proofs.lemmas.List.{append-nil, take_all}
 use Rattle.std.proofs.lemmas.Result.{IfErr-weaker, on_ok_weaker}
-use Rattle.diag_run.proofs.Pieces.{no_feed, split_at_feed}
+use Rattle.diag_text.proofs.Pieces.{no_feed, split_at_feed}
 use Rattle.diag_live.specs.Hearing.{Refuses}
 use Rattle.diag_live.proofs.Hearings.{keep_refuses, line_more, so_far_hears, so_far_refuses}
 use Rattle.diag_live.proofs.hearing.Hearing.take_piece.Goals as goal

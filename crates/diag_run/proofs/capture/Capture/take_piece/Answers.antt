@@ -1,7 +1,8 @@
 use Rattle.std.proofs.Common.{◌≡◌, ◌+◌, ◌-◌, ◌∷◌, [], ◌++◌, length, take, drop, arith, length-append, length-drop, sym, refl, append_assoc, ◌∙◌}
 use Rattle.std.proofs.lemmas.List.{take_all, append-nil}
 use Rattle.std.proofs.lemmas.Result.{IfErr-weaker, on_ok_weaker}
-use Rattle.diag_run.proofs.Pieces.{no_feed, one_line_more, so_far_done, so_far_halts, split_at_feed}
+use Rattle.diag_text.proofs.Pieces.{no_feed, split_at_feed}
+use Rattle.diag_run.proofs.Pieces.{one_line_more, so_far_done, so_far_halts}
 use Rattle.diag_run.proofs.capture.Capture.take_piece.Goals as goal
 
 pub loop-end-preserved : goal.loop-end-preserved

@@ -2,7 +2,7 @@ use Rattle.std.proofs.Common.{◌≡◌, ◌∙◌, ◌++◌, ◌∷◌, [], ℕ
 use Rattle.diag_can.specs.declared.frame.Event.TheVariants.{Ticks}
 use Rattle.diag_tp.specs.State.{due}
 use Rattle.diag_tp.specs.Link.{pending, StandsFor}
-use Rattle.diag_tp.proofs.Lists.{length-zero}
+use Rattle.std.proofs.lemmas.List.{nil_from_length}
 use Rattle.diag_tp.proofs.History.{drained_parts}
 use Rattle.diag_tp.proofs.Silence.{quiet-rest, stands_ticks, silent}
 use Rattle.diag_tp.proofs.link.Link.advance.Goals as goal
@@ -16,7 +16,7 @@ returns-clause-stands c = λ s E A Q h.
     let few = c.requires.quiet in
     let done = c.pass.ensures in
     subst (λ (n : ℕ). StandsFor s c.pass.new.self.state (E ++ Ticks n ∷ []) A Q) same
-    (stands_ticks s old c.pass.new.self.state E A Q c.get.result (omega arith) (omega arith) (length-zero (due old) c.requires.drained)
+    (stands_ticks s old c.pass.new.self.state E A Q c.get.result (omega arith) (omega arith) (nil_from_length (due old) c.requires.drained)
     (done.grant ∙ (drained_parts old.grant _ c.requires.drained).0) done.sender done.partial done.setup done.now h)
 
 pub returns-clause-silent : goal.returns-clause-silent
@@ -26,7 +26,7 @@ returns-clause-silent c = λ few.
     let same : c.get.result ≡ c.args.count = c.get.ensures.value in
     let some = c.get.ensures.in_range.0 in
     let done = c.pass.ensures in
-    silent c.get.result old c.pass.new.self.state (omega arith) (length-zero (due old) c.requires.drained) (omega arith)
+    silent c.get.result old c.pass.new.self.state (omega arith) (nil_from_length (due old) c.requires.drained) (omega arith)
     (done.grant ∙ (drained_parts old.grant _ c.requires.drained).0) done.setup done.sender
 
 pub returns-clause-rest : goal.returns-clause-rest
@@ -37,7 +37,7 @@ returns-clause-rest c = λ few.
     let same : c.get.result ≡ c.args.count = c.get.ensures.value in
     let some = c.get.ensures.in_range.0 in
     let done = c.pass.ensures in
-    let none = length-zero (due old) c.requires.drained in
+    let none = nil_from_length (due old) c.requires.drained in
     let none' = silent c.get.result old new (omega arith) none (omega arith)
     (done.grant ∙ (drained_parts old.grant _ c.requires.drained).0) done.setup done.sender in
     let left = quiet-rest c.get.result old new (omega arith) none (omega arith) none' done.setup done.sender done.partial in

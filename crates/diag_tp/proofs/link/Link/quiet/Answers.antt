@@ -1,17 +1,14 @@
-use Rattle.std.proofs.Common.{◌≡◌, ap, length, true, false, arith, refl}
+use Rattle.std.proofs.Common.{◌≡◌, ◌∙◌, sym, length, false, arith, refl}
 use Rattle.std.specs.Prelude.{◌==◌}
 use Rattle.std.proofs.lemmas.Bool.Decides.{nat_tests}
 use Rattle.diag_tp.specs.State.{due}
 use Rattle.diag_tp.specs.Link.{quiet}
+use Rattle.diag_tp.proofs.Silence.{quiet-none-due}
 use Rattle.diag_tp.proofs.link.Link.quiet.Goals as goal
 
 pub returns-then-has_none_due-clause-is : goal.returns-then-has_none_due-clause-is
-unfolding quiet
 returns-then-has_none_due-clause-is c =
-    let now = c.args.self.now.state in
-    let size = c.has_none_due.ensures.0 c.if-has_none_due.true in
-    let none : (length (due now) == 0) ≡ true = ap (λ n. n == 0) size in
-    rw none c.quiet_ticks.ensures
+    c.quiet_ticks.ensures ∙ sym (quiet-none-due c.args.self.now.state (c.has_none_due.ensures.0 c.if-has_none_due.true))
 
 pub returns-else-has_none_due-clause-is : goal.returns-else-has_none_due-clause-is
 unfolding quiet

@@ -1,0 +1,35 @@
+use Rattle.std.proofs.Common.{◌≡◌, ◌∷◌, [], ◌++◌, None, refl, rules}
+use Rattle.std.proofs.lemmas.Result.{IfOk-weaker}
+use Rattle.diag_desk.proofs.Pieces.{behind_fault, fault_taken, headed_taken, header_taken, no_header, none_before, none_taken}
+use Rattle.diag_desk.proofs.following.TextReplay.take_lines.Goals as goal
+
+pub returns-then-is_some : goal.returns-then-is_some
+returns-then-is_some c = behind_fault c.args.setup.now c.args.self.now c.args.text.now (λ none. search rules)
+
+pub returns-in_default : goal.returns-in_default
+returns-in_default c = none_taken _ c.args.text.now c.in_default.ensures
+
+pub returns-in_default-is_stamped : goal.returns-in_default-is_stamped
+returns-in_default-is_stamped c =
+    fault_taken c.args.setup.now c.args.self.now _ c.args.text.now 1 refl (λ seen h more.
+    no_header c.args.setup.now c.args.self.now (search rules) (search rules) seen h c.args.text.now c.in-Some.first.now c.in-Some.rest.now c.in-Some.ensures
+    (λ stamped is. c.in_default-is_stamped.ensures.none stamped is) more)
+
+pub take_entries-requires-2-clause-taken : goal.take_entries-requires-2-clause-taken
+take_entries-requires-2-clause-taken c = (
+  c.in-Some.first.now ++ 10 ∷ [],
+  header_taken c.args.setup.now c.args.self.now (search rules) (search rules) c.requires.0 c.requires.1 _ c.in-Some.first.now (search rules) refl refl refl
+      refl
+      c.in-Some-is_stamped.ensures.some,
+)
+
+pub returns : goal.returns
+returns c =
+    let none : c.args.self.now.fault ≡ None = search rules in
+    IfOk-weaker c.take_entries-2.result _ _
+    (λ rest t. headed_taken c.args.setup.now c.args.self.now _ c.take_entries-2.new.self c.args.text.now c.in-Some.first.now c.in-Some.rest.now rest.now
+    c.in-Some.ensures
+    (λ seen h. (
+      none_before c.args.setup.now c.args.self.now (search rules) none seen h,
+      header_taken c.args.setup.now c.args.self.now (search rules) none seen h _ c.in-Some.first.now none refl refl refl refl c.in-Some-is_stamped.ensures.some,
+    )) t) c.take_entries-2.ensures

@@ -1,6 +1,0 @@
-use Rattle.std.proofs.Common.{arith}
-use Rattle.std.proofs.lemmas.Simd.{Each1-all, Each2-splat}
-use Rattle.diag_desk.proofs.sixteen.eight_of_digits.Goals as goal
-
-pub nonzero_rem-values : goal.nonzero_rem-values
-nonzero_rem-values c = Each2-splat _ c.args.text.now 16 16 (Each1-all _ (λ a. omega arith) _)

@@ -1,0 +1,23 @@
+use Rattle.std.proofs.Common.{◌∙◌, ap, arith, slice_index_or}
+use Rattle.std.proofs.lemmas.Result.{err_from_is_err_and}
+use Rattle.diag_run.proofs.Known.{FilesRead-map, journal_read, refused_before, take_seam}
+use Rattle.diag_run.proofs.answer.read_journal.Goals as goal
+
+pub returns-in_err-replay-clause-ends : goal.returns-in_err-replay-clause-ends
+returns-in_err-replay-clause-ends g c =
+    let p = err_from_is_err_and c.from_residual.result c.from_residual.ensures.1 in
+    rw (p.1, p.2) (refused_before g.R.Read.remaining 268435456 c.args.files.now (omega (arith, c.requires)))
+
+pub returns-in_err-push-clause-ends : goal.returns-in_err-push-clause-ends
+returns-in_err-push-clause-ends g c =
+    let p = err_from_is_err_and c.from_residual-in_err-push.result c.from_residual-in_err-push.ensures.1 in
+    rw (p.1, p.2) (refused_before g.R.Read.remaining 268435456 c.args.files.now (omega (arith, c.requires)))
+
+pub returns-in-Ok-clause-read : goal.returns-in-Ok-clause-read
+returns-in-Ok-clause-read g c =
+    FilesRead-map g.R.Read.remaining 268435456 _ _ _ _
+    (journal_read c.read_each.new.takers c.as_mut_slice.result.now c.new-takers.result.items _ c.remove.result c.in-Ok.ensures.aims
+    (c.as_mut_slice.ensures.value ∙ c.in_ok-push.ensures.items) c.new-takers.ensures.items
+    (c.remove.ensures.value
+    ∙ ap (λ l. slice_index_or l 0 c.remove.result) (take_seam _ c.read_each.new.takers _ (c.in-Ok.ensures.as_many ∙ c.as_mut_slice.ensures.len))))
+    c.in-Ok.ensures.read

@@ -1,0 +1,15 @@
+use Rattle.std.proofs.Common.{◌∙◌, ap, map, rules, sym}
+use Rattle.std.proofs.lemmas.Result.{err_from_is_err_and}
+use Rattle.diag_run.proofs.Known.{FilesRead-map, kept_texts, refused_before, take_seam}
+use Rattle.diag_run.proofs.answer.read_texts.Goals as goal
+
+pub returns-in_err-push-clause-ends : goal.returns-in_err-push-clause-ends
+returns-in_err-push-clause-ends g c =
+    let p = err_from_is_err_and c.from_residual.result c.from_residual.ensures.1 in
+    rw (p.1, p.2) (refused_before g.R.Read.remaining 67108864 c.args.files.now (search rules))
+
+pub returns-in-Ok-clause-read : goal.returns-in-Ok-clause-read
+returns-in-Ok-clause-read g c =
+    FilesRead-map g.R.Read.remaining 67108864 _ _ _ _
+    (λ read taken. kept_texts _ read taken
+    ∙ ap (map (λ text. text.items)) (sym (take_seam _ _ _ (c.in-Ok.ensures.as_many ∙ c.as_mut_slice.ensures.len)))) c.in-Ok.ensures.read

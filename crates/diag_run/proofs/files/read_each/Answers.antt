@@ -1,0 +1,67 @@
+use Rattle.std.proofs.Common.{◌≡◌, ◌+◌, ◌<◌, ◌≤◌, ◌++◌, ◌∷◌, [], length, ◌∙◌, arith, rules}
+use Rattle.std.proofs.Math.Seq.{map-set_same}
+use Rattle.std.proofs.lemmas.List.Elements.{All-push}
+use Rattle.std.proofs.lemmas.List.{drop-set-lt, length-set, take_all}
+use Rattle.std.proofs.lemmas.Grind.{drop_more_same}
+use Rattle.diag_run.proofs.Reading.{all_within, ends_at, next_begun, one_read_more, one_taken_more, others_begun}
+use Rattle.diag_run.proofs.files.read_each.Goals as goal
+
+pub read_into-requires-clause-taken : goal.read_into-requires-clause-taken
+read_into-requires-clause-taken g c = (
+  [],
+  next_begun g.P.TakePieces.took c.loop-index.takers c.loop-index.index _ (omega (arith, c.loop-index.invariant.takers, c.loop-index.invariant.same))
+      c.loop-index.invariant.begun,
+)
+
+pub loop-index-preserved : goal.loop-index-preserved
+loop-index-preserved g c =
+    let so_far = c.loop-index.invariant in
+    let read = c.in-Ok.ensures.read in
+    let index = c.loop-index.index in
+    let lt : index < length c.loop-index.takers = omega (arith, so_far.takers, so_far.same) in
+    record {
+      same = length-set _ index _ ∙ so_far.same;
+      takers = length-set _ index _ ∙ so_far.takers;
+      rest = drop-set-lt (index + 1) c.loop-index.files index _ (omega arith) ∙ drop_more_same _ _ index so_far.rest;
+      texts = so_far.texts ++ read.0 ∷ [];
+      each = one_read_more g.R.Read.remaining c.args.files.now c.loop-index.files index _ _ _ so_far.same so_far.rest _ (omega (arith, so_far.same))
+          so_far.each (read.1, c.in-Ok.ensures.end);
+      within = All-push (λ text. length text ≤ c.args.limit) _ read.0 so_far.within read.2.0;
+      taken = one_taken_more g.P.TakePieces.took c.loop-index.takers index _ so_far.texts read.0 lt so_far.taken
+          (read.2.1 [] (next_begun g.P.TakePieces.took c.loop-index.takers index _ lt so_far.begun));
+      begun = others_begun g.P.TakePieces.took c.loop-index.takers index _ c.read_into.new.taker lt so_far.begun;
+      aims = map-set_same g.P.TakePieces.aim c.loop-index.takers index _ _ c.in-Ok.ensures.aim ∙ so_far.aims;
+    }
+
+pub returns-clause-read : goal.returns-clause-read
+returns-clause-read g c =
+    let so_far = c.loop-index.invariant in
+    let old = take_all c.loop-index.index c.args.files.now (omega (arith, so_far.same)) in
+    let new = take_all c.loop-index.index c.loop-index.files (omega arith) in
+    let takers = take_all c.loop-index.index c.loop-index.takers (omega (arith, so_far.takers, so_far.same)) in
+    record {
+      texts = so_far.texts;
+      each = rw (old, new) at so_far.each;
+      within = all_within c.args.limit 1 so_far.texts so_far.within;
+      holds = rw takers at so_far.taken;
+    }
+
+pub returns-in-Err-Long-clause-ends : goal.returns-in-Err-Long-clause-ends
+returns-in-Err-Long-clause-ends g c =
+    ends_at g.R.Read.remaining c.args.limit c.args.files.now c.loop-index.files c.loop-index.index _ _ c.loop-index.invariant.same
+    c.loop-index.invariant.rest _ (omega (arith, c.loop-index.invariant.same)) c.loop-index.invariant.each c.loop-index.invariant.within _
+    (c.in-Err-Long.ensures.seen (search rules))
+
+pub returns-in-Err-Device-clause-ends : goal.returns-in-Err-Device-clause-ends
+returns-in-Err-Device-clause-ends g c =
+    ends_at g.R.Read.remaining c.args.limit c.args.files.now c.loop-index.files c.loop-index.index _ _ c.loop-index.invariant.same
+    c.loop-index.invariant.rest _ (omega (arith, c.loop-index.invariant.same)) c.loop-index.invariant.each c.loop-index.invariant.within _
+    (c.in-Err-Device.ensures.unread (search rules))
+
+pub returns-in-Err-Memory-clause-ends : goal.returns-in-Err-Memory-clause-ends
+returns-in-Err-Memory-clause-ends g c = (
+  c.loop-index.index + 1,
+  ends_at g.R.Read.remaining c.args.limit c.args.files.now c.loop-index.files c.loop-index.index _ _ c.loop-index.invariant.same
+      c.loop-index.invariant.rest _ (omega (arith, c.loop-index.invariant.same)) c.loop-index.invariant.each c.loop-index.invariant.within _
+      (c.in-Err-Memory.ensures.refused (search rules)),
+)

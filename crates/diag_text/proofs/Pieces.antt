@@ -1,0 +1,103 @@
+-- Taking the lines of a file: the line that is begun at the end of a piece, and what ends it.
+use Rattle.std.proofs.Common.{eqb-true, get_or, drop, take, take-append-drop, ◌≡◌, ℕ, ◌+◌, ◌<◌, ◌==◌, true, false, List, [], ◌∷◌, ◌++◌, length, None, Some, refl, sym, ap, subst, ◌∙◌, append_assoc, append-nil, arith, length-append}
+use Rattle.std.specs.Prelude.{Result, Ok, Err, OnOk, is_ok, if◌then◌else◌}
+use Rattle.memchr.specs.Find.{IsFirstByte}
+use Rattle.std.proofs.lemmas.Bool.{false_from_ne_true}
+use Rattle.std.proofs.lemmas.Grind.{get_or_default_zero}
+use Rattle.std.proofs.lemmas.List.{drop_more, take_more}
+use Rattle.std.proofs.lemmas.List.Elements.{All-append, All-head, All-tail}
+use Rattle.diag_can.specs.Bus.{HasNoFeed}
+use Rattle.diag_can.specs.Log.{is_feed}
+use Rattle.diag_desk.specs.Pieces.{TakesLines}
+use Rattle.diag_text.specs.Taking.{LinesTaken}
+
+-- ---- the first line feed of a text
+
+feed_there : (text : List ℕ) (end : ℕ) → IsFirstByte is_feed text (Some end) → (end < length text) × (get_or text end 0 ≡ 10)
+feed_there text end found = (omega (arith, found.0.high), eqb-true (get_or text end 0) 10 found.1)
+
+pub split_at_feed : (text : List ℕ) (end : ℕ) → IsFirstByte is_feed text (Some end) → text ≡ take end text ++ 10 ∷ drop (end + 1) text
+split_at_feed text end found =
+    let there = feed_there text end found in
+    let rest : drop end text ≡ 10 ∷ drop (end + 1) text = drop_more text end 0 there.0 ∙ ap (λ (c : ℕ). c ∷ drop (end + 1) text) there.1 in
+    sym (take-append-drop end text) ∙ ap (λ (r : List ℕ). take end text ++ r) rest
+
+pub ends_at_feed : (text : List ℕ) (end : ℕ) → IsFirstByte is_feed text (Some end) → take (end + 1) text ≡ take end text ++ 10 ∷ []
+ends_at_feed text end found =
+    let there = feed_there text end found in
+    take_more text end 0 there.0 ∙ ap (λ (c : ℕ). take end text ++ c ∷ []) there.1
+
+pub no_feed : (text : List ℕ) → IsFirstByte is_feed text None → HasNoFeed text
+no_feed text none = λ k d lt. ap is_feed (get_or_default_zero text k d lt) ∙ false_from_ne_true _ (none k (omega arith) lt)
+
+-- ---- what a line feed ends
+
+fed : (xs : List ℕ) → HasNoFeed (xs ++ 10 ∷ []) → ⊥
+fed [] h =
+    let no : (10 == 10) ≡ false = All-head (λ c. is_feed c ≡ false) 10 [] h in
+    cc no
+fed (x ∷ xs) h = fed xs (All-tail (λ c. is_feed c ≡ false) x (xs ++ 10 ∷ []) h)
+
+-- no line is begun behind a line feed
+no_rest : (xs front rest : List ℕ) → xs ++ 10 ∷ [] ≡ front ++ rest → HasNoFeed rest → rest ≡ []
+no_rest xs [] rest is none = absurd (fed xs (subst HasNoFeed (sym is) none))
+no_rest [] (f ∷ fs) [] is none = refl
+no_rest [] (f ∷ fs) (r ∷ rest) is none =
+    let long = ap length is in
+    absurd (omega (arith, long, length-append fs (r ∷ rest)))
+no_rest (x ∷ xs) (f ∷ fs) rest is none = no_rest xs fs rest (ap (drop 1) is) none
+
+-- ---- what is taken
+
+module _ (P Q : List ℕ → Type 0) where
+  -- a text, where no line was begun
+  pub text_taken : (text rest begun : List ℕ) → TakesLines P Q text rest → begun ≡ rest → (seen : List ℕ) → P seen → LinesTaken Q begun (seen ++ text)
+  text_taken text rest begun t same seen h = record {
+    lines = seen ++ t.front;
+    took = t.takes seen h;
+    is = ap (λ (x : List ℕ). seen ++ x) t.is ∙ sym (append_assoc seen t.front rest) ∙ ap (λ (r : List ℕ). (seen ++ t.front) ++ r) (sym same);
+    unended = subst HasNoFeed (sym same) t.begun;
+  }
+
+  -- the line that was begun, and that these bytes end
+  pub line_taken : (line bytes kept whole rest : List ℕ) → bytes ≡ line ++ 10 ∷ [] → whole ≡ kept ++ bytes → TakesLines P Q whole rest
+      → (seen : List ℕ) → P seen → Q (seen ++ (kept ++ bytes))
+  line_taken line bytes kept whole rest ends is t seen h =
+      let all : (kept ++ line) ++ 10 ∷ [] ≡ t.front ++ rest =
+      append_assoc kept line (10 ∷ []) ∙ ap (λ (b : List ℕ). kept ++ b) (sym ends) ∙ sym is ∙ t.is in
+      let none : rest ≡ [] = no_rest (kept ++ line) t.front rest all t.begun in
+      let same : kept ++ bytes ≡ t.front = sym is ∙ t.is ∙ ap (λ (r : List ℕ). t.front ++ r) none ∙ append-nil t.front in
+      subst (λ (x : List ℕ). Q (seen ++ x)) (sym same) (t.takes seen h)
+
+  -- a piece behind which the line that was begun still is
+  begun_more : (begun seen piece new : List ℕ) → HasNoFeed piece → new ≡ begun ++ piece → LinesTaken P begun seen → LinesTaken P new (seen ++ piece)
+  begun_more begun seen piece new none is h = record {
+    lines = h.lines;
+    took = h.took;
+    is = ap (λ (s : List ℕ). s ++ piece) h.is ∙ append_assoc h.lines begun piece ∙ ap (λ (b : List ℕ). h.lines ++ b) (sym is);
+    unended = subst HasNoFeed (sym is) (All-append (λ c. is_feed c ≡ false) begun piece h.unended none);
+  }
+
+  -- the same where there is room for it
+  pub begun_on : {T E : Type 0} (r : Result T E) (begun piece new : List ℕ) → HasNoFeed piece → new ≡ (if is_ok r then begun ++ piece else begun)
+      → OnOk r ((seen : List ℕ) → LinesTaken P begun seen → LinesTaken P new (seen ++ piece))
+  begun_on (Ok u) begun piece new none is = λ seen h. begun_more begun seen piece new none is h
+  begun_on (Err e) begun piece new none is = tt
+
+  -- a piece where no line was begun
+  pub piece_alone : (begun seen piece new : List ℕ) → begun ≡ [] → ((lines : List ℕ) → P lines → LinesTaken Q new (lines ++ piece))
+      → LinesTaken P begun seen → LinesTaken Q new (seen ++ piece)
+  piece_alone begun seen piece new none on h =
+      let same : seen ≡ h.lines = h.is ∙ ap (λ (b : List ℕ). h.lines ++ b) none ∙ append-nil h.lines in
+      subst (λ (s : List ℕ). LinesTaken Q new (s ++ piece)) (sym same) (on h.lines h.took)
+
+-- a piece whose front ends the line that was begun
+pub piece_behind : (P Q R : List ℕ → Type 0) (begun seen piece front back new : List ℕ) → front ++ back ≡ piece
+    → ((lines : List ℕ) → P lines → Q (lines ++ (begun ++ front)))
+    → ((lines : List ℕ) → Q lines → LinesTaken R new (lines ++ back))
+    → LinesTaken P begun seen → LinesTaken R new (seen ++ piece)
+piece_behind P Q R begun seen piece front back new is first second h =
+    let same : (h.lines ++ (begun ++ front)) ++ back ≡ seen ++ piece =
+    ap (λ (x : List ℕ). x ++ back) (sym (append_assoc h.lines begun front)) ∙ append_assoc (h.lines ++ begun) front back
+    ∙ ap (λ (x : List ℕ). (h.lines ++ begun) ++ x) is ∙ ap (λ (x : List ℕ). x ++ piece) (sym h.is) in
+    subst (LinesTaken R new) same (second (h.lines ++ (begun ++ front)) (first h.lines h.took))

@@ -1,0 +1,86 @@
+//! Who keeps the journal of what a server takes.
+
+ghost use Rattle.std.specs.Prelude.{◌≡◌, ◌≤◌, ◌+◌, ◌++◌, Err, OnOk, option_copied};
+ghost use Rattle.diag_desk.specs.Entries.{entry};
+ghost use Rattle.diag_desk.specs.Entry.{step_seen};
+ghost use Rattle.diag_desk.specs.Text.{ended, entry_line, stamped_line, ticks_in};
+ghost use Rattle.diag_world.specs.Server.{closing_time};
+
+use diag_desk::{EntryRef, StepFault, StepRef, write_entry};
+use diag_setup::TesterId;
+use diag_tp::{Message, Step};
+use std::alloc::AllocError;
+
+/// Keeps the entries of what a server takes, or passes them over.
+pub trait Keeper {
+    ghost use Rattle.std.specs.Prelude.{ℕ};
+    ghost use Rattle.diag_desk.specs.declared.entry.Entry.{Entry};
+
+    /// What is kept with this entry more, before which its tester's clock told this time.
+    ghost keeps: { Self → ℕ → Entry → Self → Type 0 };
+
+    /// No further entry can be kept.
+    ghost is_full: { Self → Type 0 };
+
+    /// The name of what is written to, where that is borrowed.
+    ghost place: { Self → ℕ };
+
+    /// Keeps the entry of a step and its reply; `before` is the ticks of its tester before it.
+    ///
+    /// # Errors
+    /// `JournalFull` where no further entry can be kept, `Memory` where memory is refused.
+    fn keep(
+        &mut self,
+        before: u64,
+        who: TesterId,
+        step: &Step,
+        reply: Option<&Message>,
+    ) -> Result<(), StepFault>
+        requires early { before ≤ closing_time }
+        ensures kept { OnOk result
+            (keeps self.old before (entry who step.now (option_copied reply.entry)) self.new) }
+        ensures full { result ≡ Err StepFault.JournalFull → is_full self.old }
+        ensures place { place self.new ≡ place self.old };
+}
+
+/// Appends the line of the entry of a step and its reply: in version 2 where the text is stamped, else in version 1;
+/// `before` is the ticks of its tester before it.
+#[inline(always)]
+pub fn enter_step(
+    text: &mut Vec<u8>,
+    stamped: bool,
+    before: u64,
+    who: TesterId,
+    step: &Step,
+    reply: Option<&Message>,
+) -> Result<(), AllocError>
+    requires early { before ≤ closing_time }
+    ensures { OnOk result (text.new.items ≡ text.old.items
+        ++ ended (stamped_line stamped (before + ticks_in step.now)
+        (entry_line (entry who step.now (option_copied reply.entry))))) }
+{
+    let entry = EntryRef {
+        who,
+        step: show_step(step),
+        reply: reply.map(Message::bytes),
+    };
+    write_entry(text, stamped, before, &entry)?;
+    Ok(())
+}
+
+/// A step as a journal shows one; a message is the step's own bytes.
+#[inline(always)]
+fn show_step(step: &Step) -> StepRef<'_>
+    ensures { step_seen result ≡ step.now }
+{
+    match step {
+        Step::Request {
+            functional,
+            message,
+        } => StepRef::Request {
+            functional: *functional,
+            bytes: message.bytes(),
+        },
+        Step::Ticks(count) => StepRef::Ticks(*count),
+    }
+}
