@@ -134,17 +134,44 @@ def long_replies():
     asked = ["7E0#0322F190"] * 1000 + ["tick 1000"] * 3
     ticks = "1 T 1000\n" * 3
     plays("thousand-replies", log(asked), f"{firsts}diag-journal 1\n{READ * 1000}{ticks}{DEFAULT}")
-    value = "00" * 255
-    reply = "62" + f"0100{value}" * 16
-    parts = [reply[4:][at : at + 14].ljust(14, "C") for at in range(0, len(reply) - 4, 14)]
-    sent = "".join(f"(0000000000.000000) A 7E8#2{(at + 1) % 16:X}{it}\n" for at, it in enumerate(parts))
-    told(len(parts) == 588 and sent.endswith("7E8#2C0000CCCCCCCCCC\n"), "long-message-reply: 588 consecutive frames")
-    lines = ["7E0#1021220100010001", "7E0#2100010001000100", "7E0#2201000100010001"]
-    lines += ["7E0#2300010001000100", "7E0#24010001000100", "7E0#300000"]
-    first = "(0000000000.000000) A 7E8#1000000010116201\n"
-    journal = f"diag-journal 1\n1 P 22{'0100' * 16} {reply}\n"
-    table = f'\n[[did]]\nid = 0x0100\nvalue = "{value}"\n'
-    plays("long-message-reply", log(lines), f"{GRANT}{first}{sent}{journal}{DEFAULT}", tables=table)
+    read_of("long-message-reply", ["0100"] * 16, 4113, "2C0000CCCCCCCCCC")
+
+
+def framed(reply):
+    """The frames of a reply in hex, filled."""
+    size = len(reply) // 2
+    if size <= 7:
+        return [f"{size:02X}{reply}".ljust(16, "C")]
+    head = f"1{size:03X}" if size <= 4095 else f"1000{size:08X}"
+    room = 16 - len(head)
+    parts = [reply[at : at + 14].ljust(14, "C") for at in range(room, len(reply), 14)]
+    return [f"{head}{reply[:room]}", *(f"2{(at + 1) % 16:X}{it}" for at, it in enumerate(parts))]
+
+
+# identifiers, each with as many bytes of value
+SIZES = {"0004": 4, "0005": 5, "00ED": 237, "00EE": 238, "0100": 255}
+
+
+def read_of(name, asked, length, last):
+    """A read of these identifiers, whose reply has so many bytes, and whose last frame this is."""
+    tables = "".join(f'\n[[did]]\nid = 0x{it}\nvalue = "{"00" * size}"\n' for it, size in SIZES.items())
+    request = "22" + "".join(asked)
+    reply = "62" + "".join(it + "00" * SIZES[it] for it in asked)
+    frames = framed(reply)
+    told(len(reply) == 2 * length and frames[-1] == last, f"{name}: {len(frames)} frames", f": {frames[-1]}")
+    lines = [*of_requests(read_setup(SETUP), [request]), *["7E0#300000"] * (length > 7)]
+    sent = GRANT * (len(request) > 14) + "".join(f"(0000000000.000000) A 7E8#{it}\n" for it in frames)
+    plays(name, log(lines), f"{sent}diag-journal 1\n1 P {request} {reply}\n{DEFAULT}", tables=tables)
+
+
+def many_reads():
+    """Replies at the limits of their forms, and the longest."""
+    read_of("a reply of 7 bytes", ["0004"], 7, "0762000400000000")
+    read_of("a reply of 8 bytes", ["0005"], 8, "210000CCCCCCCCCC")
+    read_of("many-identifiers, 15 of them", ["0100"] * 15, 3856, "2600000000000000")
+    read_of("a reply of 4095 bytes", ["0100"] * 15 + ["00ED"], 4095, "2900CCCCCCCCCCCC")
+    read_of("a reply of 4096 bytes", ["0100"] * 15 + ["00EE"], 4096, "29000000000000CC")
+    read_of("many-identifiers", ["0100"] * 254, 65279, "2E0000CCCCCCCCCC")
 
 
 def two_routines():
@@ -160,7 +187,7 @@ def two_routines():
 
 
 def of_requests(setup, messages):
-    """Requests in hex, or tick lines, as the lines of the first tester's log; no reply of them needs flow control."""
+    """Requests in hex, or tick lines, as the lines of the first tester's log, without flow control for their replies."""
     lines = []
     for it in messages:
         lines += [it] if it.startswith("tick") else [f"7E0#{frame.hex().upper()}" for frame in cut(setup, bytes.fromhex(it))]
@@ -344,7 +371,7 @@ def main():
     if not os.access(PROGRAM, os.X_OK):
         print(f"examples: {PROGRAM} isn't built\n0 passed, 1 failed")
         return 1
-    groups = [run_file, refusals, long_requests, long_replies, two_routines, largest_setup, log_faults, a_million_events]
+    groups = [run_file, refusals, long_requests, long_replies, many_reads, two_routines, largest_setup, log_faults, a_million_events]
     for group in [*groups, replays, config_faults, read_while_written]:
         group()
     print(f"{counts[True]} passed, {counts[False]} failed")

@@ -1,10 +1,13 @@
-//! Tests of runs: devices that fail at each call, captures in pieces, the order of faults, and threads that mix; and of
-//! live runs: a scripted bench with a clock of its own, devices that fail, and the record run again.
+//! Tests of what no run of the program shows: writers whose flush fails, faults that no file brings about, and live runs on
+//! a scripted bench with a clock of its own, with devices that fail and the record run again. (`tools/devices.py` runs the
+//! built program with each read and each write failing in turn.)
 #![tactic(auto)]
 
 #[cfg(test)]
 mod ending;
 #[cfg(test)]
-mod live;
+mod faults;
 #[cfg(test)]
-mod tests;
+mod flushing;
+#[cfg(test)]
+mod live;

@@ -1,7 +1,7 @@
 //! The gate and the doors: seats that step in an order, seats in threads, and doors.
 
 mod doors;
-mod given;
+pub(crate) mod given;
 mod seating;
 mod seats;
 mod threads;

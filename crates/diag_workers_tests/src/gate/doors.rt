@@ -2,7 +2,7 @@
 
 ghost use Rattle.std.specs.Prelude.{◌≡◌};
 
-use crate::gate::given::{and, desk_of_two, is_told, request, says, tester};
+use crate::gate::given::{and, desk_of_two, request, says, tester};
 use crate::gate::seating::{gate_of_two, seat_of, tries};
 use crate::trouble::{Trouble, holds};
 use diag_desk::{Desk, StepFault};
@@ -48,34 +48,6 @@ fn lets_go<R: Wait>(rt: &R, alloc: Global) -> Result<bool, Trouble> {
 #[test]
 fn door_lets_go(rt: HostRuntime) -> Result<(), Trouble> {
     holds(lets_go(&rt, rt.alloc()))
-}
-
-fn are_answered<R: Wait>(rt: &R, alloc: Global, desk: &Mutex<Desk>) -> Result<bool, Trouble> {
-    let (one, two) = (tester(1)?, tester(2)?);
-    let mut a = LockDoor::new(rt, alloc, desk, one);
-    let mut b = LockDoor::new(rt, alloc, desk, two);
-    let is_placed = a.who().place() == 1 && b.who().place() == 2;
-    let taken = answers(
-        alloc,
-        &mut a,
-        &[0x10, 0x03],
-        &[0x50, 0x03, 0x00, 0x32, 0x01, 0xF4],
-    );
-    let refused = answers(alloc, &mut b, &[0x10, 0x03], &[0x7F, 0x10, 0x21]);
-    and(and(taken, refused), Ok(is_placed))
-}
-
-const TOLD: &[u8] = b"diag-journal 1\n1 P 1003 5003003201F4\n2 P 1003 7F1021\n";
-
-fn locked_steps<R: Wait>(rt: &R, alloc: Global) -> Result<bool, Trouble> {
-    let desk = Mutex::new(desk_of_two(alloc)?);
-    let answered = are_answered(rt, alloc, &desk);
-    and(answered, is_told(alloc, &desk.into_inner(), TOLD))
-}
-
-#[test]
-fn doors_over_a_lock(rt: HostRuntime) -> Result<(), Trouble> {
-    holds(locked_steps(&rt, rt.alloc()))
 }
 
 /// Whether each step of a door over a lock adds one entry, and a step that was refused for want of memory none.

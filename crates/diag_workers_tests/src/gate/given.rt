@@ -1,7 +1,7 @@
 //! What the tests of the gate begin with.
 
 use crate::trouble::Trouble;
-use diag_desk::{Desk, journal_text};
+use diag_desk::Desk;
 use diag_setup::TesterId;
 use diag_stored::two_testers;
 use diag_tp::{Message, Step};
@@ -41,9 +41,4 @@ pub(crate) fn says(reply: &Option<Message>, bytes: &[u8]) -> bool {
         Some(message) => message.bytes() == bytes,
         None => false,
     }
-}
-
-/// Whether the journal's text is this one.
-pub(crate) fn is_told(alloc: Global, desk: &Desk, text: &[u8]) -> Result<bool, Trouble> {
-    Ok(journal_text(alloc, desk.journal())?.as_slice() == text)
 }

@@ -69,30 +69,7 @@ fn is_silent(answer: Result<Option<Message>, StepFault>) -> Result<bool, StepFau
     }
 }
 
-/// What a step came to that is taken once more where memory was refused.
-#[derive(Clone, Copy)]
-struct Outcome {
-    right: bool,
-    refused: bool,
-}
-
-/// A step that was answered at once.
-fn at_once(right: bool) -> Outcome {
-    Outcome {
-        right,
-        refused: false,
-    }
-}
-
-/// A step that was answered when it was taken once more.
-fn once_more(right: bool) -> Outcome {
-    Outcome {
-        right,
-        refused: true,
-    }
-}
-
-/// The same, once more where memory was refused: the desk was then not kept from a third seat.
+/// The same, once more where memory was refused: the desk was then not kept from a third seat, whose tick tells of it.
 fn step_held_again(
     alloc: Global,
     gate: &Gate,
@@ -100,7 +77,7 @@ fn step_held_again(
     other: &mut Seat,
     third: &mut Seat,
     step: &Step,
-) -> Result<(Seat, Outcome), Trouble>
+) -> Result<(Seat, bool), Trouble>
     requires seat { seat.gate ≡ gate.now }
     requires other { other.old.gate ≡ gate.now }
     requires third { third.old.gate ≡ gate.now }
@@ -110,13 +87,12 @@ fn step_held_again(
 {
     let (seat, silent) = step_held(alloc, gate, seat, other, step)?;
     match silent {
-        Ok(silent) => Ok((seat, at_once(silent))),
         Err(StepFault::Memory) => {
             tick(gate, third)?;
             let (seat, silent) = step_held(alloc, gate, seat, other, step)?;
-            Ok((seat, once_more(silent?)))
+            Ok((seat, silent?))
         }
-        Err(fault) => Err(fault.into()),
+        silent => Ok((seat, silent?)),
     }
 }
 
@@ -125,34 +101,6 @@ const BUSY: [u8; 3] = [0x7F, 0x10, 0x21];
 
 /// The reply with the value of F190.
 const VALUE: &[u8] = b"\x62\xF1\x90TESTVIN0123456789";
-
-/// How a seat comes to its step.
-#[derive(Clone, Copy)]
-enum Way {
-    Tries,
-    Waits,
-}
-
-/// A physical request of a seat, and the bytes of its reply.
-struct Asked {
-    way: Way,
-    request: &'static [u8],
-    reply: &'static [u8],
-}
-
-/// The extended session, which another tester holds.
-const SESSION: Asked = Asked {
-    way: Way::Tries,
-    request: &[0x10, 0x03],
-    reply: &BUSY,
-};
-
-/// A read of F190.
-const READ: Asked = Asked {
-    way: Way::Waits,
-    request: &[0x22, 0xF1, 0x90],
-    reply: VALUE,
-};
 
 /// Whether a seat that waits for its step is answered so.
 fn waits<R: Wait>(
@@ -171,48 +119,32 @@ fn waits<R: Wait>(
     Ok(says(&reply, wanted))
 }
 
-/// Whether a seat is answered as it must be.
-fn asks<R: Wait>(
-    rt: &R,
-    alloc: Global,
-    gate: &Gate,
-    seat: &mut Seat,
-    asked: &Asked,
-) -> Result<bool, Trouble>
-    requires { seat.old.gate ≡ gate.now }
-    ensures { seat.new.gate ≡ seat.old.gate }
-{
-    match asked.way {
-        Way::Tries => tries(alloc, gate, seat, asked.request, asked.reply),
-        Way::Waits => waits(rt, alloc, gate, seat, asked.request, asked.reply),
-    }
-}
-
-/// The same, once more where memory was refused: the desk was then not kept from a third seat.
-fn asks_again<R: Wait>(
-    rt: &R,
+/// Whether a seat that tries a request is answered so, once more where memory was refused: the desk was then not kept
+/// from a third seat, whose tick tells of it.
+fn tries_again(
     alloc: Global,
     gate: &Gate,
     seat: &mut Seat,
     third: &mut Seat,
-    asked: &Asked,
-) -> Result<Outcome, Trouble>
+    bytes: &[u8],
+    wanted: &[u8],
+) -> Result<bool, Trouble>
     requires seat { seat.old.gate ≡ gate.now }
     requires third { third.old.gate ≡ gate.now }
     ensures seat { seat.new.gate ≡ seat.old.gate }
     ensures third { third.new.gate ≡ third.old.gate }
 {
-    match asks(rt, alloc, gate, seat, asked) {
-        Ok(right) => Ok(at_once(right)),
+    match tries(alloc, gate, seat, bytes, wanted) {
         Err(Trouble::Memory) => {
             tick(gate, third)?;
-            Ok(once_more(asks(rt, alloc, gate, seat, asked)?))
+            tries(alloc, gate, seat, bytes, wanted)
         }
-        Err(trouble) => Err(trouble),
+        answer => answer,
     }
 }
 
 /// An entry of a physical request: its tester's place, its bytes and the bytes of its reply.
+#[derive(Drop)]
 struct Wanted {
     place: u8,
     request: &'static [u8],
@@ -261,14 +193,6 @@ fn has_requests(journal: &Journal, wanted: &[Wanted]) -> bool {
     next == wanted.len()
 }
 
-/// What steps came to one after another.
-fn all(first: Outcome, second: Outcome, last: Outcome) -> Outcome {
-    Outcome {
-        right: first.right && second.right && last.right,
-        refused: first.refused || second.refused || last.refused,
-    }
-}
-
 /// Three seats step one after another, the first comes home.
 fn first_steps<R: Wait>(
     rt: &R,
@@ -278,7 +202,7 @@ fn first_steps<R: Wait>(
     second: &mut Seat,
     third: &mut Seat,
     silent: &Step,
-) -> Result<Outcome, Trouble>
+) -> Result<bool, Trouble>
     requires host { host.old.gate ≡ gate.now }
     requires second { second.old.gate ≡ gate.now }
     requires third { third.old.gate ≡ gate.now }
@@ -288,77 +212,10 @@ fn first_steps<R: Wait>(
 {
     let seat = seat_of(gate, host, 1)?;
     let (mut seat, held) = step_held_again(alloc, gate, seat, second, third, silent)?;
-    let session = asks_again(rt, alloc, gate, second, third, &SESSION);
-    let value = asks_again(rt, alloc, gate, &mut seat, third, &READ);
+    let session = tries_again(alloc, gate, second, third, &[0x10, 0x03], &BUSY);
+    let value = waits(rt, alloc, gate, &mut seat, &[0x22, 0xF1, 0x90], VALUE);
     bring_home(gate, host, seat);
-    Ok(all(held, session?, value?))
-}
-
-/// The second seat steps among them and comes home.
-fn second_steps<R: Wait>(
-    rt: &R,
-    alloc: Global,
-    gate: &Gate,
-    host: &mut Host,
-    third: &mut Seat,
-    silent: &Step,
-) -> Result<Outcome, Trouble>
-    requires host { host.old.gate ≡ gate.now }
-    requires third { third.old.gate ≡ gate.now }
-    ensures host { host.new.gate ≡ host.old.gate }
-    ensures third { third.new.gate ≡ third.old.gate }
-{
-    let mut seat = seat_of(gate, host, 2)?;
-    let outcome = first_steps(rt, alloc, gate, host, &mut seat, third, silent);
-    bring_home(gate, host, seat);
-    outcome
-}
-
-/// The third seat ticks where memory was refused, and comes home.
-fn all_step<R: Wait>(
-    rt: &R,
-    alloc: Global,
-    gate: &Gate,
-    host: &mut Host,
-    silent: &Step,
-) -> Result<Outcome, Trouble>
-    requires { host.old.gate ≡ gate.now }
-    ensures { host.new.gate ≡ host.old.gate }
-{
-    let mut seat = seat_of(gate, host, 8)?;
-    let outcome = second_steps(rt, alloc, gate, host, &mut seat, silent);
-    bring_home(gate, host, seat);
-    outcome
-}
-
-/// Whether the desk of a gate whose seats are home has all entries.
-fn has_entries(gate: Gate, host: Host) -> Result<bool, Trouble>
-    requires { host.gate ≡ gate }
-{
-    let desk = closed(gate, host)?;
-    Ok(has_requests(desk.journal(), &WANTED))
-}
-
-/// The calls go on to their end where memory was refused on the way, which is then the error.
-fn calls_hold<R: Wait>(rt: &R, alloc: Global, silent: &Step) -> Result<bool, Trouble> {
-    let (gate, mut host) = gate_of_two(alloc)?;
-    let steps = all_step(rt, alloc, &gate, &mut host, silent)?;
-    let is_out = is_out(&gate, &mut host, 1);
-    let is_right = has_entries(gate, host)? && is_out && steps.right;
-    if is_right && steps.refused {
-        return Err(Trouble::Memory);
-    }
-    Ok(is_right)
-}
-
-fn gate_calls_hold<R: Wait>(rt: &R, alloc: Global) -> Result<bool, Trouble> {
-    let silent = request(alloc, &[0x10, 0x83])?;
-    calls_hold(rt, alloc, &silent)
-}
-
-#[test]
-fn gate_calls(rt: HostRuntime) -> Result<(), Trouble> {
-    holds(gate_calls_hold(&rt, rt.alloc()))
+    Ok(session? && value? && held)
 }
 
 /// Whether a seat is given the desk; it puts the desk back.
@@ -372,35 +229,73 @@ fn takes(gate: &Gate, seat: Seat) -> (Seat, bool)
     }
 }
 
-/// Whether a seat that takes the desk keeps another seat from it, until the desk is put back.
-fn keeps_from(gate: &Gate, seat: Seat, other: Seat) -> bool
-    requires seat { seat.gate ≡ gate.now }
-    requires other { other.gate ≡ gate.now }
+/// The second seat takes the desk and puts it back, steps among them and comes home.
+fn second_steps<R: Wait>(
+    rt: &R,
+    alloc: Global,
+    gate: &Gate,
+    host: &mut Host,
+    third: &mut Seat,
+    silent: &Step,
+) -> Result<bool, Trouble>
+    requires host { host.old.gate ≡ gate.now }
+    requires third { third.old.gate ≡ gate.now }
+    ensures host { host.new.gate ≡ host.old.gate }
+    ensures third { third.new.gate ≡ third.old.gate }
 {
-    let Ok(held) = gate.try_take(seat) else {
-        return false;
-    };
-    let (other, early) = takes(gate, other);
-    let seat = held.put_back();
-    let (other, late) = takes(gate, other);
-    !early && late && seat.who().place() == 1 && other.who().place() == 2
+    let seat = seat_of(gate, host, 2)?;
+    let (mut seat, taken) = takes(gate, seat);
+    let outcome = first_steps(rt, alloc, gate, host, &mut seat, third, silent);
+    bring_home(gate, host, seat);
+    Ok(outcome? && taken)
 }
 
-fn one_keeps(gate: &Gate, host: &mut Host) -> Result<bool, Trouble>
+/// The third seat ticks where memory was refused, and comes home.
+fn all_step<R: Wait>(
+    rt: &R,
+    alloc: Global,
+    gate: &Gate,
+    host: &mut Host,
+    silent: &Step,
+) -> Result<bool, Trouble>
     requires { host.old.gate ≡ gate.now }
+    ensures { host.new.gate ≡ host.old.gate }
 {
-    let a = seat_of(gate, host, 1)?;
-    let b = seat_of(gate, host, 2)?;
-    Ok(keeps_from(gate, a, b))
+    let mut seat = seat_of(gate, host, 8)?;
+    let outcome = second_steps(rt, alloc, gate, host, &mut seat, silent);
+    bring_home(gate, host, seat);
+    outcome
 }
 
-fn one_takes(alloc: Global) -> Result<bool, Trouble> {
+/// Whether what went before was right, and the desk of a gate whose seats are home has all entries. A tick beside them
+/// tells that memory was refused on the way, which is then the error.
+fn has_entries(gate: Gate, host: Host, went: bool) -> Result<bool, Trouble>
+    requires { host.gate ≡ gate }
+{
+    let desk = closed(gate, host)?;
+    let right = went && has_requests(desk.journal(), &WANTED);
+    let refused = desk.journal().len() > WANTED.len();
+    if right && refused {
+        Err(Trouble::Memory)
+    } else {
+        Ok(right)
+    }
+}
+
+/// The calls go on to their end where memory was refused on the way.
+fn calls_hold<R: Wait>(rt: &R, alloc: Global, silent: &Step) -> Result<bool, Trouble> {
     let (gate, mut host) = gate_of_two(alloc)?;
-    one_keeps(&gate, &mut host)
+    let right = all_step(rt, alloc, &gate, &mut host, silent)?;
+    let is_out = is_out(&gate, &mut host, 1);
+    has_entries(gate, host, right && is_out)
 }
 
-/// One seat at a time has the desk, and the others get their seat back.
+fn gate_calls_hold<R: Wait>(rt: &R, alloc: Global) -> Result<bool, Trouble> {
+    let silent = request(alloc, &[0x10, 0x83])?;
+    calls_hold(rt, alloc, &silent)
+}
+
 #[test]
-fn one_takes_at_a_time(rt: HostRuntime) -> Result<(), Trouble> {
-    holds(one_takes(rt.alloc()))
+fn gate_calls(rt: HostRuntime) -> Result<(), Trouble> {
+    holds(gate_calls_hold(&rt, rt.alloc()))
 }

@@ -1,0 +1,146 @@
+//! Writers whose flush fails: what was written is flushed. (The program's own standard output has nothing to flush.)
+
+use crate::ending::{End, Trouble, WELL, holds, is_end};
+use diag_bus::Output;
+use diag_can::Timing;
+use diag_run::{Job, run_and_tell, run_bus_and_tell};
+use diag_stored::{CONFIG, END, LOG_A, LOG_B, PLAYED};
+use std::alloc::{AllocError, Global};
+use std::io;
+use std::io::{Error, ErrorKind, Write};
+use std::sync::Wait;
+use std::thread::Threads;
+
+/// A writer that takes all. Its flush at `fails_at`, from 1, fails.
+#[derive(Drop)]
+struct Flushed {
+    taken: Vec<u8>,
+    flushes: usize,
+    fails_at: usize,
+}
+
+impl Flushed {
+    /// A writer with room for a run's text.
+    fn failing(alloc: Global, fails_at: usize) -> Result<Flushed, AllocError> {
+        Ok(Flushed {
+            taken: Vec::with_capacity(alloc, 4096)?,
+            flushes: 0,
+            fails_at,
+        })
+    }
+}
+
+impl Write for Flushed {
+    fn write(&mut self, buf: &[u8]) -> io::Result<usize> {
+        self.taken.extend_from_slice(buf)?;
+        Ok(buf.len())
+    }
+
+    fn flush(&mut self) -> io::Result<()> {
+        self.flushes = self.flushes.saturating_add(1);
+        if self.flushes == self.fails_at {
+            return Err(Error::from(ErrorKind::Other));
+        }
+        Ok(())
+    }
+}
+
+const CANNOT_WRITE: End<'static> = End {
+    line: b"uds_play: cannot write\n",
+    status: 7,
+};
+
+/// A job, its files, and the text of its run in two parts.
+#[derive(Clone, Copy)]
+struct Given {
+    job: Job,
+    files: &'static [&'static str],
+    text: [&'static str; 2],
+}
+
+const GIVEN: [Given; 3] = [
+    Given {
+        job: Job::Serial {
+            only_journal: false,
+            timing: Timing::Lines,
+        },
+        files: &[LOG_A, LOG_B],
+        text: [PLAYED, END],
+    },
+    Given {
+        job: Job::Play {
+            only_journal: true,
+            timing: Timing::Lines,
+        },
+        files: &["tick 5\n", ""],
+        text: ["diag-journal 1\n", "1 T 5\n"],
+    },
+    Given {
+        job: Job::Replay,
+        files: &["diag-journal 1\n1 P 1083 -\n"],
+        text: ["entries 1\n", END],
+    },
+];
+
+/// Whether the parts are the whole of what was written.
+fn is_whole(written: &[u8], text: [&str; 2]) -> bool {
+    let [front, rest] = text;
+    written.len() == front.len().saturating_add(rest.len())
+        && written.starts_with(front.as_bytes())
+        && written.ends_with(rest.as_bytes())
+}
+
+/// Whether a run whose flush at this call fails, 0 for none, ends so when its whole text was written.
+fn ends<T: Threads + Wait + Sync + AllocGlobal>(
+    rt: &T,
+    given: &Given,
+    fails_at: usize,
+    end: End<'_>,
+) -> Result<bool, AllocError> {
+    let mut files = Vec::with_capacity(rt.alloc(), 2)?;
+    for text in given.files {
+        files.push(text.as_bytes())?;
+    }
+    let mut out = Flushed::failing(rt.alloc(), fails_at)?;
+    let config = CONFIG.as_bytes();
+    let outcome = run_and_tell(rt, rt.alloc(), given.job, config, files, &mut out);
+    Ok(is_end(&outcome, end)? && is_whole(out.taken.as_slice(), given.text))
+}
+
+/// The flush of a run fails, and no other is made.
+#[test]
+fn a_flush_fails(rt: HostRuntime) -> Result<(), Trouble> {
+    for given in &GIVEN {
+        holds(ends(&rt, given, 1, CANNOT_WRITE))?;
+        holds(ends(&rt, given, 2, WELL))?;
+    }
+    Ok(())
+}
+
+/// A line with its end, and one whose reply the capture's end brings.
+const CAPTURE: &[u8] = b"(0.000000) can0 7E0#023E00\n(0.000000) can0 7E1#023E00";
+
+const FIRST: &str = "(0000000000.000000) A 7E8#027E00CCCCCCCCCC\n";
+
+const SECOND: &str = "(0000000000.000000) B 7E9#027E00CCCCCCCCCC\n";
+
+/// Whether a run over the capture whose flush at this call fails ends so, and has written this.
+fn follows(
+    alloc: Global,
+    fails_at: usize,
+    end: End<'_>,
+    text: [&str; 2],
+) -> Result<bool, AllocError> {
+    let mut out = Flushed::failing(alloc, fails_at)?;
+    let outcome = run_bus_and_tell(alloc, Output::Replies, CONFIG.as_bytes(), CAPTURE, &mut out);
+    Ok(is_end(&outcome, end)? && is_whole(out.taken.as_slice(), text))
+}
+
+/// Each of the two flushes over a capture fails in turn, and no other is made.
+#[test]
+fn each_flush_over_a_capture_fails_in_turn(rt: HostRuntime) -> Result<(), Trouble> {
+    let alloc = rt.alloc();
+    holds(follows(alloc, 1, CANNOT_WRITE, [FIRST, ""]))?;
+    holds(follows(alloc, 2, CANNOT_WRITE, [FIRST, SECOND]))?;
+    holds(follows(alloc, 3, WELL, [FIRST, SECOND]))
+}

@@ -1,5 +1,0 @@
-mod captures;
-mod devices;
-mod faults;
-mod given;
-mod threads;

@@ -1,0 +1,42 @@
+//! The most that a desk's journal holds.
+
+use crate::gate::given::{desk_of_two, tester};
+use crate::trouble::{Trouble, holds};
+use diag_can::{FrameBytes, TickCount};
+use diag_desk::{Desk, MOST_ENTRIES, StepFault};
+use diag_setup::TesterId;
+use diag_tp::{Message, Step};
+
+/// Takes so many steps of one tick.
+fn fill(desk: &mut Desk, who: TesterId) -> Result<(), Trouble> {
+    let step = Step::Ticks(TickCount::new(1).ok_or(Trouble::Wrong)?);
+    for _ in 0..MOST_ENTRIES {
+        desk.step(who, &step)?;
+    }
+    Ok(())
+}
+
+/// Whether the journal is full, and nobody is the holder.
+fn is_full(desk: &Desk) -> bool {
+    let journal = desk.journal();
+    journal.is_full() && journal.len() == MOST_ENTRIES && desk.ecu().holder().is_none()
+}
+
+/// Whether a full journal takes no step, and what is refused leaves the journal and the ECU as they are.
+fn stays_full(desk: &mut Desk, who: TesterId) -> bool {
+    let session = Step::Request {
+        functional: false,
+        message: Message::in_place(FrameBytes::from_slice(b"\x10\x03")),
+    };
+    let was_full = is_full(desk);
+    let is_refused = matches!(desk.step(who, &session), Err(StepFault::JournalFull));
+    was_full && is_refused && is_full(desk)
+}
+
+#[test]
+fn full_journal(rt: HostRuntime) -> Result<(), Trouble> {
+    let who = tester(1)?;
+    let mut desk = desk_of_two(rt.alloc())?;
+    fill(&mut desk, who)?;
+    holds(Ok(stays_full(&mut desk, who)))
+}

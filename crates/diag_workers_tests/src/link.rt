@@ -1,0 +1,113 @@
+//! A link by the calls that no run of the program makes: what a frame asks, told before it comes and as it comes, ticks
+//! one by one, and how much waits.
+
+use crate::trouble::{Trouble, holds};
+use diag_can::{Event, FrameBytes};
+use diag_stored::two_testers;
+use diag_tp::{Link, Message, Pci, Request, frame_of};
+use std::alloc::Global;
+
+/// The link of the first tester.
+fn opened(alloc: Global) -> Result<Link, Trouble> {
+    let setup = two_testers(alloc)?;
+    match setup.who(0) {
+        Some(who) => Ok(Link::new(alloc, setup.link(who))),
+        None => Err(Trouble::Wrong),
+    }
+}
+
+/// The reply with the value of F190.
+const VALUE: &[u8] = b"\x62\xF1\x90TESTVIN0123456789";
+
+/// Whether this is the physical request that reads F190.
+fn is_read(asked: &Option<Request>) -> bool {
+    match asked {
+        Some(request) => !request.functional
+            && request.message.bytes() == b"\x22\xF1\x90".as_slice(),
+        None => false,
+    }
+}
+
+/// Whether the read is told before its frame comes, and as it comes; then its reply is placed.
+fn reads(alloc: Global, link: &mut Link) -> Result<bool, Trouble> {
+    let event = Event::Physical(FrameBytes::from_slice(b"\x03\x22\xF1\x90"));
+    link.make_room(&event)?;
+    let told = is_read(&link.peek(&event)?);
+    if !link.is_drained() {
+        return Ok(false);
+    }
+    let asked = is_read(&link.feed(&event));
+    link.answer(Message::new(alloc, VALUE)?);
+    Ok(told && asked)
+}
+
+/// Hands out the frames that are due.
+fn drain(link: &mut Link) {
+    for _ in 0..u32::MAX {
+        if link.next_frame().is_none() {
+            return;
+        }
+    }
+}
+
+/// So many ticks, one by one, and the frames that fall due.
+fn wait(link: &mut Link, count: u16) -> Result<(), Trouble> {
+    for _ in 0..count {
+        if !link.is_drained() {
+            return Err(Trouble::Wrong);
+        }
+        link.tick();
+        drain(link);
+    }
+    Ok(())
+}
+
+/// Whether four replies have begun after a thousand reads, and three times N_Bs without flow control.
+fn four_begin(alloc: Global, link: &mut Link) -> Result<bool, Trouble> {
+    for _ in 0..1000u32 {
+        if !reads(alloc, link)? {
+            return Ok(false);
+        }
+        drain(link);
+    }
+    wait(link, 3000)?;
+    Ok(link.waiting() == 996 && link.backlog() == 2990 && link.now() == 3000)
+}
+
+#[test]
+fn thousand_replies(rt: HostRuntime) -> Result<(), Trouble> {
+    let mut link = opened(rt.alloc())?;
+    holds(four_begin(rt.alloc(), &mut link))
+}
+
+const LONG: [u8; 5001] = [0x22; 5001];
+
+/// Whether the last frame of the message is this one, and is read as what it is.
+fn ends_in_one_byte(message: &Message) -> bool {
+    match frame_of(message, 715, Some(0xCC)) {
+        Some(frame) => {
+            let kind = Pci::read(frame.as_slice(), 4095);
+            frame.as_slice() == b"\x2B\x22\xCC\xCC\xCC\xCC\xCC\xCC".as_slice()
+                && matches!(
+                    kind,
+                    Pci::Consecutive {
+                        sequence_number: 11,
+                        ..
+                    }
+                )
+        }
+        None => false,
+    }
+}
+
+/// Whether the copy of a message has its bytes and its last frame.
+fn is_copied(alloc: Global) -> Result<bool, Trouble> {
+    let message = Message::new(alloc, &LONG)?;
+    let copy = message.try_copy()?;
+    Ok(copy.bytes() == LONG.as_slice() && ends_in_one_byte(&copy))
+}
+
+#[test]
+fn copied_message(rt: HostRuntime) -> Result<(), Trouble> {
+    holds(is_copied(rt.alloc()))
+}
