@@ -124,7 +124,8 @@ const FIRST: &str = "(0000000000.000000) A 7E8#027E00CCCCCCCCCC\n";
 
 const SECOND: &str = "(0000000000.000000) B 7E9#027E00CCCCCCCCCC\n";
 
-/// Whether a run over the capture whose flush at this call fails ends so, and has written this.
+/// Whether a run over the capture whose flush at this call fails ends so, and has written this. One that is refused memory
+/// for a line may end by the flush of what the lines before it wrote: a text that is too short is an error.
 fn follows(
     alloc: Global,
     fails_at: usize,
@@ -133,6 +134,9 @@ fn follows(
 ) -> Result<bool, AllocError> {
     let mut out = Flushed::failing(alloc, fails_at)?;
     let outcome = run_bus_and_tell(alloc, Output::Replies, CONFIG.as_bytes(), CAPTURE, &mut out);
+    if out.taken.len() < text[0].len().saturating_add(text[1].len()) {
+        return Err(AllocError);
+    }
     Ok(is_end(&outcome, end)? && is_whole(out.taken.as_slice(), text))
 }
 
