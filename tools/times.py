@@ -1,15 +1,15 @@
 #!/usr/bin/env python3
 """Where the time of the gate goes, crate by crate and edit by edit, in processor seconds.
 
-Usage: tools/times.py COMMAND WORD..    as in tools/times.py ./check
-                                        or    tools/times.py rt ci --anew
-                                        or    tools/times.py rt must-fail --anew diag_can
+Usage: tools/times.py [--to FILE] COMMAND WORD..    as in tools/times.py rt ci
+                                                    or    tools/times.py rt must-fail --anew diag_can
 
 It runs the command in this folder and, twice a second, looks at the processes below it: each run of the prover names its
 crate, and works in a folder that tells what it is for. `rt` itself prints no times. Processor seconds are those of a run
 and of all that it started; they say nearly the same beside other work, where the time of day doesn't. At the end it prints
-a table for the crates, one for the wrong edits, dearest first, and what is left: `rt`, the linker and the tools. A run's last
-half second may be missed, so the sum of all is taken from the system. The status is the command's.
+a table for the crates, one for the wrong edits, dearest first, and what is left: `rt`, the linker and the tools; with --to they
+go into that file. A run's last half second may be missed, so the sum of all is taken from the system. The status is the
+command's.
 """
 import os
 import subprocess
@@ -115,30 +115,33 @@ class Watch:
         return [(*self.kinds[key], used) for key, used in self.used.items()]
 
 
-def table(crates, rows, whole):
-    print("\n| Crate | Proof | Tests, proved | Edits | Seconds of edits | Program and tests, run | All |\n|---|---|---|---|---|---|---|")
+def table(crates, rows, whole, out):
+    print("| Crate | Proof | Tests, proved | Edits | Seconds of edits | Program and tests, run | All |\n|---|---|---|---|---|---|---|", file=out)
     sums = {}
     for crate, part, _, used in rows:
         sums[crate, part] = sums.get((crate, part), 0.0) + used
     for crate in [it for it in crates if any((it, part) in sums for part in PARTS)]:
         proof, tests, edits, runs = (sums.get((crate, part), 0.0) for part in PARTS)
         many = len({edit for name, _, edit, _ in rows if name == crate and "/" in edit})
-        print(f"| `{crate}` | {proof:.0f} | {tests:.0f} | {many} | {edits:.0f} | {runs:.0f} | {proof + tests + edits + runs:.0f} |")
-    print(f"\nAll: {whole:.0f} processor seconds, {whole - sum(sums.values()):.0f} of them not in the table.")
+        print(f"| `{crate}` | {proof:.0f} | {tests:.0f} | {many} | {edits:.0f} | {runs:.0f} | {proof + tests + edits + runs:.0f} |", file=out)
+    print(f"\nAll: {whole:.0f} processor seconds, {whole - sum(sums.values()):.0f} of them not in the table.", file=out)
 
 
-def table_of_edits(rows):
+def table_of_edits(rows, out):
     sums = {}
     for _, _, edit, used in rows:
         if edit:
             sums[edit] = sums.get(edit, 0.0) + used
     if sums:
-        print("\n| Edit | Seconds |\n|---|---|")
+        print("\n| Edit | Seconds |\n|---|---|", file=out)
         for edit, used in sorted(sums.items(), key=lambda it: -it[1]):
-            print(f"| `{edit}` | {used:.0f} |")
+            print(f"| `{edit}` | {used:.0f} |", file=out)
 
 
 def main(words):
+    file = "/dev/stdout"
+    if words[:1] == ["--to"]:
+        file, words = words[1], words[2:]
     if not words or words[0] in ("-h", "--help"):
         sys.exit(__doc__)
     crates = names_of_crates()
@@ -156,8 +159,9 @@ def main(words):
     over.set()
     looking.join()
     rows = watch.rows()
-    table(crates, rows, used.ru_utime + used.ru_stime)
-    table_of_edits(rows)
+    with open(file, "a", encoding="utf-8") as out:
+        table(crates, rows, used.ru_utime + used.ru_stime, out)
+        table_of_edits(rows, out)
     return made.returncode
 
 
