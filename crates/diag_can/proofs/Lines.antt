@@ -7,7 +7,7 @@ use Rattle.std.proofs.lemmas.List.{drop_more, map-append, take_more}
 use Rattle.memchr.specs.Find.{IsFirstByte}
 use Rattle.diag_can.specs.Bus.{HasNoFeed, begun_line, bus_lines, whole_pieces}
 use Rattle.diag_can.specs.Log.{is_feed, without_return, lines_of_pieces, lines_of}
-use Rattle.diag_can.proofs.BusLines.{begun_line-line, bus_lines-ended, bus_lines-first, bus_lines-last, bus_lines-more}
+use Rattle.diag_can.proofs.BusLines.{bus_lines-ended, bus_lines-first, bus_lines-last, bus_lines-more}
 
 -- ---- the first line feed
 

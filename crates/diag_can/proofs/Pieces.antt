@@ -1,7 +1,7 @@
 -- A log that comes in pieces: what one line more makes of it, and where a line is at fault.
-use Rattle.std.proofs.Common.{◌≡◌, ℕ, false, List, [], ◌∷◌, ◌++◌, Some, None, Err, refl, sym, ap, subst, ◌∙◌, append_assoc, append-nil}
+use Rattle.std.proofs.Common.{◌≡◌, ℕ, false, arith, length, List, [], ◌∷◌, ◌++◌, Some, None, Err, refl, sym, ap, subst, ◌∙◌, append_assoc, append-nil}
 use Rattle.std.proofs.lemmas.List.Elements.{All-nil}
-use Rattle.diag_can.specs.Bus.{HasNoFeed}
+use Rattle.diag_can.specs.Bus.{HasNoFeed, begun_line}
 use Rattle.diag_can.specs.HasRead.{AreRead, HasLines, HasRead}
 use Rattle.diag_can.specs.Log.{is_feed, lines_of, without_return, fault_after, events}
 use Rattle.diag_can.specs.Pieces.{TakesLines}
@@ -11,6 +11,18 @@ use Rattle.diag_can.specs.declared.log.Timing.{Timing}
 use Rattle.diag_can.specs.declared.log_reader.LogReader.{LogReader}
 use Rattle.diag_can.proofs.Lines.{lines_of-first}
 use Rattle.diag_can.proofs.Reading.{fault_next, one_more}
+
+-- nothing was read
+pub nothing_read : (ids : Ids) (timing : Timing) (r : LogReader) → r.fault ≡ None → r.lines ≡ 0 → r.reading.events.items ≡ [] → r.reading.reference ≡ None
+    → HasRead ids timing r []
+unfolding begun_line
+nothing_read ids timing r well none empty timeless = record {
+  well = λ _. record {
+    whole = refl;
+    read = record { well = refl; count = none; events_are = empty; reference_is = λ _. timeless; few = omega (arith, ap length empty) };
+  };
+  fault = λ fault some. cc (sym well ∙ some);
+}
 
 -- a front of the text was read
 pub record FrontRead (ids : Ids) (timing : Timing) (old new : LogReader) (text rest : List ℕ) : Type 0 where

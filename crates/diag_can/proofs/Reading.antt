@@ -118,7 +118,7 @@ module _ {ids : Ids} {timing : Timing} {old : LogReader} {past : List (List ℕ)
     count = one ∙ ap (λ (n : ℕ). n + 1) h.count ∙ sym (length-append past (line ∷ []));
     events_are = took.grown.events ∙ ap (λ (events : List Event). events ++ line_gives timing old.reading.reference ids line) h.events_are
         ∙ ap (λ (given : List Event). events_after timing ids [] past ++ given)
-          (gives-same timing ids line old.reading.reference (reference ids past) h.reference_is)
+        (gives-same timing ids line old.reading.reference (reference ids past) h.reference_is)
         ∙ sym (events-more timing ids [] past line);
     reference_is = λ stamps. took.grown.reference stamps
         ∙ ap (λ (moment : Option ℕ). later moment (frame_moment ids line)) (h.reference_is stamps)
@@ -156,8 +156,9 @@ module _ {ids : Ids} {timing : Timing} {r : LogReader} {seen : List ℕ} (h : Ha
   }
 
   -- the log ends
-  pub ended : events seen ids timing ≡ Ok r.reading.events.items
-  ended = all_read ids timing r seen h.read
+  pub ended : (begun : List ℕ) → length begun ≡ 0 → events (seen ++ begun) ids timing ≡ Ok r.reading.events.items
+  ended [] none = ap (λ (t : List ℕ). events t ids timing) (append-nil seen) ∙ all_read ids timing r seen h.read
+  ended (c ∷ begun) none = absurd (omega arith)
 
   -- and in a line that no line feed ends
   pub ended_in : (new : LogReader) (line : List ℕ) → HasNoFeed line → 0 < length line → AreRead ids timing new (lines_of seen ++ without_return line ∷ [])

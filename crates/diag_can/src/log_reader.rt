@@ -72,11 +72,13 @@ impl LogReader {
         }
         match self.take_well(ids, timing, text) {
             Ok(rest) => Ok(rest),
-            Err(LogFault::Memory) => Err(AllocError),
-            Err(fault) => {
-                self.fault = Some(fault);
-                Ok(&[])
-            }
+            Err(fault) => match fault {
+                LogFault::Memory => Err(AllocError),
+                _ => {
+                    self.fault = Some(fault);
+                    Ok(&[])
+                }
+            },
         }
     }
 
@@ -127,12 +129,7 @@ impl LogReader {
     ///
     /// # Errors
     /// As `read_log`.
-    pub fn finish(
-        mut self,
-        ids: &Ids,
-        timing: Timing,
-        begun: &[u8],
-    ) -> Result<Vec<Event>, LogFault>
+    pub fn finish(mut self, ids: &Ids, timing: Timing, begun: &[u8]) -> Result<Vec<Event>, LogFault>
         requires taken { (seen : List ℕ) × HasRead ids.now timing self seen }
         requires line { HasNoFeed begun.now }
         ensures ok { IfOk result (λ log. (seen : List ℕ) → HasRead ids.now timing self seen

@@ -1,7 +1,6 @@
 use Rattle.std.proofs.Common.{◌+◌, ◌-◌, ◌≡◌, ◌∙◌, length, take, drop, refl, arith, length-drop}
 use Rattle.std.proofs.lemmas.List.{take_all}
 use Rattle.std.proofs.lemmas.Result.{err_from_is_err_and}
-use Rattle.diag_can.specs.Log.{lines_of}
 use Rattle.diag_can.proofs.Lines.{no_feed, no_feed_before, split_at_feed}
 use Rattle.diag_can.proofs.Pieces.{front_taken, line_fault, line_more, none_read}
 use Rattle.diag_can.proofs.log_reader.LogReader.take_well.Goals as goal
@@ -16,7 +15,7 @@ pub returns-in_err-take_line-clause-fault : goal.returns-in_err-take_line-clause
 returns-in_err-take_line-clause-fault c =
     let rest = c.loop-end.rest.now in
     let end = c.in-Some.end in
-    let p = err_from_is_err_and c.from_residual-in_err-take_line.result c.from_residual-in_err-take_line.ensures.1 in
+    let p = err_from_is_err_and c.from_residual.result c.from_residual.ensures.1 in
     rw (p.1, p.2) (λ known. line_fault c.loop-end.invariant.0 (take end rest) (drop (end + 1) rest) _ (split_at_feed rest end c.in-Some.ensures)
     (no_feed_before rest end c.in-Some.ensures) (c.in_err-take_line.ensures.fault known))
 
