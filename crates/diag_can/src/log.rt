@@ -1,10 +1,10 @@
-//! The log of a tester's link.
+//! What the lines of a log give, one after the other.
 
-ghost use Rattle.std.specs.Prelude.{◌≡◌, ◌≢◌, ◌<◌, ◌≤◌, ◌⊎◌, [], ◌∷◌, ◌++◌, length, Some, MatchOption, IfOk, IfErr, IsTrue, OnOk};
+ghost use Rattle.std.specs.Prelude.{◌≡◌, ◌≢◌, ◌<◌, ◌≤◌, ◌⊎◌, [], ◌∷◌, ◌++◌, length, Some, IfErr, IsTrue, OnOk};
 ghost use Rattle.memchr.specs.Find.{IsFirstByte};
 ghost use Rattle.diag_can.specs.Lanes.{IsRunIn};
 ghost use Rattle.diag_can.specs.Line.{is_time};
-ghost use Rattle.diag_can.specs.Log.{is_feed, without_return, lines_of, waited, events, most_events};
+ghost use Rattle.diag_can.specs.Log.{is_feed, without_return, waited, most_events};
 ghost use Rattle.diag_can.specs.Reading.{fault_with, given_at};
 ghost use Rattle.diag_can.specs.Stamp.{is_digit};
 ghost use Rattle.diag_can.specs.Usual.{usual_moment};
@@ -15,7 +15,6 @@ use crate::lanes::line_run;
 use crate::read::{other_line_event, tick_count};
 use crate::usual::{bytes_at, usual_frame, usual_moment};
 use memchr::memchr;
-use std::alloc::Global;
 
 /// Whether the stamps of a log carry time.
 #[derive(Clone, Copy, Debug, PartialEq, Eq)]
@@ -26,72 +25,15 @@ pub enum Timing {
     Stamps,
 }
 
-/// The most lines of a log.
-const MAX_LINES: u32 = 1_000_000;
-
 /// The most events of a log.
-const MAX_EVENTS: usize = 1_000_000;
+pub(crate) const MAX_EVENTS: usize = 1_000_000;
 
 /// What was read so far.
 #[derive(Drop)]
-struct Reading {
-    events: Vec<Event>,
+pub(crate) struct Reading {
+    pub(crate) events: Vec<Event>,
     /// The greatest moment among the lines that gave a frame.
-    reference: Option<u64>,
-}
-
-/// The events of a log (candump's log format): split at LF, one CR at the end of a line dropped, each line read as
-/// `read_line` does, in one pass. With `Timing::Stamps` a line that gives a frame gives before it the milliseconds by
-/// which its stamp is later than the latest stamp of a frame before, as Ticks of 60000 and last the rest.
-///
-/// # Errors
-/// The first of these in the order of the lines: `Line`, the line's number from 1 and its fault; `TooManyEvents`, at a
-/// line with whose events there are more than 1,000,000; `TooManyLines`, where a line follows the 1,000,000th. `Memory`
-/// where memory is refused.
-pub fn read_log(
-    alloc: Global,
-    text: &[u8],
-    ids: &Ids,
-    timing: Timing,
-) -> Result<Vec<Event>, LogFault>
-    ensures ok { IfOk result (λ log. events text.now ids.now timing ≡ Ok log.items) }
-    ensures err { IfErr result (λ fault.
-        fault ≢ LogFault.Memory → events text.now ids.now timing ≡ Err fault) }
-    ensures few { IfOk result (λ log. length log.items ≤ most_events) }
-{
-    let mut reading = Reading {
-        events: with_room(alloc, text)?,
-        reference: None,
-    };
-    let mut rest = text;
-    for index in 0..MAX_LINES {
-        match next_line(rest) {
-            None => return Ok(reading.events),
-            Some((line, after)) => {
-                reading.take_line(timing, ids, index + 1, line)?;
-                rest = after;
-            }
-        }
-    }
-    match next_line(rest) {
-        None => Ok(reading.events),
-        Some(_) => Err(LogFault::TooManyLines),
-    }
-}
-
-/// A usual line has more bytes than this.
-const SHORT_LINE: usize = 32;
-
-/// No events, and room for those of a text of usual lines: where there are more, the list grows.
-fn with_room(alloc: Global, text: &[u8]) -> Result<Vec<Event>, LogFault>
-    ensures ok { IfOk result (λ events. events.items ≡ []) }
-    ensures err { IfErr result (λ fault. fault ≡ LogFault.Memory) }
-{
-    let room = (text.len() / SHORT_LINE).min(MAX_EVENTS);
-    match Vec::with_capacity(alloc, room) {
-        Ok(events) => Ok(events),
-        Err(_) => Err(LogFault::Memory),
-    }
+    pub(crate) reference: Option<u64>,
 }
 
 /// The line without one CR at its end.
@@ -117,21 +59,6 @@ pub fn line_end(text: &[u8]) -> Option<usize>
         }
     }
     memchr(b'\n', text)
-}
-
-/// The first line of a text and what follows its LF, or None of an empty text.
-#[inline(always)]
-fn next_line(text: &[u8]) -> Option<(&[u8], &[u8])>
-    ensures { MatchOption result (text.now ≡ []) (λ r.
-        lines_of text.now ≡ r.0.now ∷ lines_of r.1.now) }
-{
-    if text.is_empty() {
-        return None;
-    }
-    match line_end(text) {
-        None => Some((without_return(text), &[])),
-        Some(end) => Some((without_return(&text[..end]), &text[end + 1..])),
-    }
 }
 
 /// Adds an event.
@@ -178,7 +105,7 @@ impl Reading {
     /// Takes what the line of this number gives. A line of the usual form is looked at here, and what it gives is kept
     /// where it goes.
     #[inline(always)]
-    fn take_line(
+    pub(crate) fn take_line(
         &mut self,
         timing: Timing,
         ids: &Ids,
