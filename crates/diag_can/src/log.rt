@@ -1,19 +1,19 @@
 //! What the lines of a log give, one after the other.
 
-ghost use Rattle.std.specs.Prelude.{◌≡◌, ◌≢◌, ◌<◌, ◌≤◌, ◌⊎◌, [], ◌∷◌, ◌++◌, length, Some, IfErr, IsTrue, OnOk};
+ghost use Rattle.std.specs.Prelude.{◌≡◌, ◌≢◌, ◌<◌, ◌≤◌, ◌⊎◌, [], ◌∷◌, ◌++◌, length, take, option_map, Some, IfSome, IfErr, IsTrue, OnOk};
 ghost use Rattle.memchr.specs.Find.{IsFirstByte};
 ghost use Rattle.diag_can.specs.Lanes.{IsRunIn};
 ghost use Rattle.diag_can.specs.Line.{is_time};
 ghost use Rattle.diag_can.specs.Log.{is_feed, without_return, waited, most_events};
 ghost use Rattle.diag_can.specs.Reading.{fault_with, given_at};
 ghost use Rattle.diag_can.specs.Stamp.{is_digit};
-ghost use Rattle.diag_can.specs.Usual.{usual_moment};
+ghost use Rattle.diag_can.specs.Usual.{IsUsual, usual_moment};
 
 use crate::fault::{LineFault, LogFault};
-use crate::frame::{Event, Ids, TickCount};
+use crate::frame::{CanId, Event, Ids, TickCount};
 use crate::lanes::line_run;
 use crate::read::{other_line_event, tick_count};
-use crate::usual::{bytes_at, usual_frame, usual_moment};
+use crate::usual::{bytes_at, usual_frame, usual_front, usual_moment};
 use memchr::memchr;
 
 /// Whether the stamps of a log carry time.
@@ -61,6 +61,24 @@ pub fn line_end(text: &[u8]) -> Option<usize>
     memchr(b'\n', text)
 }
 
+/// Where the first LF of a text stands, and the frame of the line before it where that is seen with it: its identifier, and
+/// where its data begin.
+#[inline(always)]
+pub(crate) fn first_line(text: &[u8]) -> Option<(usize, Option<(CanId, usize)>)>
+    ensures end { IsFirstByte is_feed text.now (option_map (λ r. r.0) result) }
+    ensures usual { IfSome result (λ r. IfSome r.1 (λ u. IsUsual (take r.0 text.now) u.0 u.1)) }
+    ensures kept { IfSome result (λ r. IfSome r.1 (λ _.
+        without_return (take r.0 text.now) ≡ take r.0 text.now)) }
+{
+    match usual_front(text) {
+        Some((end, usual)) => Some((end, Some(usual))),
+        None => match line_end(text) {
+            Some(end) => Some((end, None)),
+            None => None,
+        },
+    }
+}
+
 /// Adds an event.
 fn push_event(events: &mut Vec<Event>, event: Event) -> Result<(), LogFault>
     ensures ok { OnOk result (events.new.items ≡ events.old.items ++ event ∷ []) }
@@ -102,9 +120,8 @@ fn push_time(events: &mut Vec<Event>, ms: u64) -> Result<(), LogFault>
 impl Reading {
     ghost use Rattle.diag_can.specs.Took.{Grown, Took};
 
-    /// Takes what the line of this number gives. A line of the usual form is looked at here, and what it gives is kept
-    /// where it goes.
-    #[inline(always)]
+    /// Takes what the line of this number gives.
+    #[inline(never)]
     pub(crate) fn take_line(
         &mut self,
         timing: Timing,
@@ -118,9 +135,33 @@ impl Reading {
             → fault_with timing ids.now self.old.events.items self.old.reference number line.now
             ≡ Some fault) }
     {
-        let Some((id, at)) = usual_frame(line) else {
-            return self.take_other(timing, ids, number, line);
-        };
+        match usual_frame(line) {
+            Some((id, at)) => self.take_usual(timing, ids, number, line, id, at),
+            None => self.take_other(timing, ids, number, line),
+        }
+    }
+
+    /// Takes what the line of this number gives, which is of the usual form. It is looked at here, and what it gives is
+    /// kept where it goes.
+    #[inline(always)]
+    pub(crate) fn take_usual(
+        &mut self,
+        timing: Timing,
+        ids: &Ids,
+        number: u32,
+        line: &[u8],
+        id: CanId,
+        at: usize,
+    ) -> Result<(), LogFault>
+        requires few { length self.old.events.items ≤ most_events }
+        requires usual { IsUsual line.now id at }
+        ensures took { OnOk result (Took timing ids.now self.old self.new line.now) }
+        ensures fault { IfErr result (λ fault. fault ≢ LogFault.Memory
+            → fault_with timing ids.now self.old.events.items self.old.reference number line.now
+            ≡ Some fault) }
+    {
+        // (for its contract: such a line is never at fault by itself)
+        let _ = number;
         if id == ids.request {
             self.take_frame(timing, line, Event::Physical(bytes_at(line, at)))
         } else if id == ids.functional {

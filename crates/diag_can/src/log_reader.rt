@@ -1,15 +1,16 @@
 //! The log of a tester's link, whole or as its lines come.
 
-ghost use Rattle.std.specs.Prelude.{◌≡◌, ◌≢◌, ◌≤◌, ℕ, List, [], ◌∷◌, ◌++◌, length, Some, Ok, Err, IfOk, IfErr, OnOk};
+ghost use Rattle.std.specs.Prelude.{◌≡◌, ◌≢◌, ◌≤◌, ℕ, List, [], ◌∷◌, ◌++◌, length, Some, Ok, Err, IfOk, IfSome, IfErr, OnOk};
 ghost use Rattle.diag_can.specs.Bus.{HasNoFeed};
 ghost use Rattle.diag_can.specs.HasRead.{AreRead, HasLines, HasRead};
 ghost use Rattle.diag_can.specs.Log.{without_return, events, fault_after, most_events};
 ghost use Rattle.diag_can.specs.Pieces.{TakesLines};
+ghost use Rattle.diag_can.specs.Usual.{IsUsual};
 ghost use Rattle.diag_can.specs.declared.log.Timing.{Timing};
 
 use crate::fault::LogFault;
-use crate::frame::{Event, Ids};
-use crate::log::{MAX_EVENTS, Reading, Timing, line_end, without_return};
+use crate::frame::{CanId, Event, Ids};
+use crate::log::{MAX_EVENTS, Reading, Timing, first_line, without_return};
 use std::alloc::{AllocError, Global};
 
 /// The most lines of a log.
@@ -98,17 +99,25 @@ impl LogReader {
         ensures still { self.new.fault ≡ self.old.fault }
     {
         let mut rest = text;
-        while let Some(end) = line_end(rest) {
-            self.take_line(ids, timing, &rest[..end])?;
+        while let Some((end, usual)) = first_line(rest) {
+            self.take_line(ids, timing, &rest[..end], usual)?;
             rest = &rest[end + 1..];
         }
         Ok(rest)
     }
 
-    /// Takes the line that comes next.
+    /// Takes the line that comes next, with its frame where that is seen.
     #[inline(always)]
-    fn take_line(&mut self, ids: &Ids, timing: Timing, line: &[u8]) -> Result<(), LogFault>
-        requires { (past : List (List ℕ)) × AreRead ids.now timing self.old past }
+    fn take_line(
+        &mut self,
+        ids: &Ids,
+        timing: Timing,
+        line: &[u8],
+        usual: Option<(CanId, usize)>,
+    ) -> Result<(), LogFault>
+        requires read { (past : List (List ℕ)) × AreRead ids.now timing self.old past }
+        requires usual { IfSome usual (λ u. IsUsual line.now u.0 u.1) }
+        requires kept { IfSome usual (λ _. without_return line.now ≡ line.now) }
         ensures took { OnOk result ((past : List (List ℕ))
             → AreRead ids.now timing self.old past
             → AreRead ids.now timing self.new (past ++ without_return line.now ∷ [])) }
@@ -121,8 +130,13 @@ impl LogReader {
             return Err(LogFault::TooManyLines);
         }
         self.lines += 1;
-        self.reading
-            .take_line(timing, ids, self.lines, without_return(line))
+        let number = self.lines;
+        match usual {
+            Some((id, at)) => self.reading.take_usual(timing, ids, number, line, id, at),
+            None => self
+                .reading
+                .take_line(timing, ids, number, without_return(line)),
+        }
     }
 
     /// The log's events, where these bytes of a line, or none, end it.
@@ -145,7 +159,7 @@ impl LogReader {
         if begun.is_empty() {
             return Ok(self.reading.events);
         }
-        self.take_line(ids, timing, begun)?;
+        self.take_line(ids, timing, begun, None)?;
         Ok(self.reading.events)
     }
 }
