@@ -1,8 +1,8 @@
 //! Looks at many bytes of a text at once.
 
-ghost use Rattle.std.specs.Prelude.{◌≡◌, ℕ, ◌+◌, ◌-◌, ◌*◌, ◌/◌, ◌^◌, ◌<◌, ◌≤◌, not, true, length, drop, slice_index, IsTrue, IsOk, Ok};
+ghost use Rattle.std.specs.Prelude.{◌≡◌, ℕ, ◌+◌, ◌-◌, ◌*◌, ◌<◌, ◌≤◌, not, true, length, drop, slice_index, IsTrue, IsOk, Ok};
 ghost use Rattle.hex.specs.Hex.{is_hex_digit, decode_of};
-ghost use Rattle.diag_can.specs.Lanes.{IsRunIn, IsWithin, first_set};
+ghost use Rattle.diag_can.specs.Lanes.{IsMask, IsRunIn, IsWithin, first_set};
 ghost use Rattle.diag_can.specs.Log.{is_feed};
 ghost use Rattle.diag_can.specs.Stamp.{is_mark};
 
@@ -56,9 +56,7 @@ pub fn line_run(text: &[u8]) -> usize
 #[inline(always)]
 fn no_hex(text: &[u8], at: usize) -> u64
     requires { at + 16 ≤ length text.now }
-    ensures run { IsRunIn is_hex_digit text.now at 16 (first_set result 16) }
-    ensures tail { (s : ℕ) → result / 2 ^ s ≡ 0 → (k : ℕ) → at + s ≤ k → k < at + 16
-        → is_hex_digit (slice_index text.now k) ≡ true }
+    ensures { IsMask is_hex_digit text.now at 16 result }
 {
     let v = u8x16::from_slice(&text[at..]);
     let is_no_decimal = (v - u8x16::splat(b'0')).simd_ge(u8x16::splat(10));

@@ -2,24 +2,14 @@ use Rattle.std.proofs.Common.{ℕ, leb, cond, bit_and, refl, arith}
 use Rattle.std.proofs.lemmas.Simd.{zip2_splat, length-chunk}
 use lib.Lanes.{chunk}
 use Rattle.hex.specs.Hex.{is_hex_digit}
-use Rattle.diag_can.proofs.LaneLemmas.{joined, run_in, splat_is, tail_in}
+use Rattle.diag_can.proofs.LaneLemmas.{joined, mask_in, splat_is}
 use Rattle.diag_can.proofs.lanes.no_hex.Goals as goal
 
-pub returns-clause-run : goal.returns-clause-run
-returns-clause-run c =
+pub returns : goal.returns
+returns c =
     let text = c.args.text.now in
     let v = chunk c.args.at 16 text in
     let long = length-chunk c.args.at 16 text c.requires in
-    run_in is_hex_digit text c.args.at 16 _ _ c.requires (omega arith) c.type_inv.text refl _
+    mask_in is_hex_digit text c.args.at 16 _ c.requires (omega arith) c.type_inv.text _
     (joined bit_and _ _ v (joined (λ a b. cond (leb a b) 255 0) _ _ v (splat_is v 16 10 long) (zip2_splat {Y = ℕ} _ v 16 48 long))
     (joined (λ a b. cond (leb a b) 255 0) _ _ v (splat_is v 16 6 long) (joined _ _ _ v (zip2_splat {Y = ℕ} _ v 16 32 long) (splat_is v 16 97 long)))) refl
-
-pub returns-clause-tail : goal.returns-clause-tail
-returns-clause-tail c = λ s none k from to.
-    let text = c.args.text.now in
-    let v = chunk c.args.at 16 text in
-    let long = length-chunk c.args.at 16 text c.requires in
-    tail_in is_hex_digit text c.args.at 16 s _ c.requires (omega arith) c.type_inv.text none _
-    (joined bit_and _ _ v (joined (λ a b. cond (leb a b) 255 0) _ _ v (splat_is v 16 10 long) (zip2_splat {Y = ℕ} _ v 16 48 long))
-    (joined (λ a b. cond (leb a b) 255 0) _ _ v (splat_is v 16 6 long) (joined _ _ _ v (zip2_splat {Y = ℕ} _ v 16 32 long) (splat_is v 16 97 long)))) refl
-    k from to
