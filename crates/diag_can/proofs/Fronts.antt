@@ -1,18 +1,20 @@
 -- A line of the usual form at the front of a text.
-use Rattle.std.proofs.Common.{◌≡◌, ◌==◌, ℕ, ◌+◌, ◌-◌, ◌%◌, ◌<◌, ◌≤◌, nat_lt, true, false, cond, List, [], ◌∷◌, length, take, drop, get_or, Some, None, refl, sym, ap, ◌∙◌, arith, inl, inr, drop-cons, length-take-le, length-drop}
+use Rattle.std.proofs.Common.{◌≡◌, ◌==◌, ◌⊎◌, ℕ, ◌+◌, ◌-◌, ◌%◌, ◌<◌, ◌≤◌, nat_lt, true, false, cond, List, [], ◌∷◌, ◌++◌, append_assoc, length, length-append, take, drop, get_or, Some, None, refl, sym, ap, ◌∙◌, arith, inl, inr, drop-cons, take-append-drop, length-take-le, length-drop}
 use Rattle.std.specs.List.{prefix_len}
-use Rattle.std.proofs.lemmas.Bool.{agree_below, agree_below_at, cases_lt, eqb-true, false≢true, ne_eqb}
+use Rattle.std.proofs.lemmas.Bool.{agree_below, agree_below_at, cases_lt, eqb-true, ne_eqb}
 use Rattle.std.proofs.lemmas.Bool.Decides.{nat_tests}
 use Rattle.std.proofs.lemmas.Grind.{get_or_default_zero}
-use Rattle.std.proofs.lemmas.List.{get_or-drop, get_or-take, take_all}
+use Rattle.std.proofs.lemmas.List.{get_or-drop, get_or-take, take_all, take_at}
+use Rattle.std.proofs.lemmas.List.Elements.{All-append, All-cons, All-nil}
 use Rattle.std.proofs.lemmas.List.Sums.{prefix_len_passes}
+use lib.Seq.{drop-append_seam}
 use Rattle.hex.specs.Hex.{is_hex_digit}
-use Rattle.memchr.specs.Find.{IsFirstByte}
+use Rattle.diag_can.specs.Bus.{HasNoFeed}
 use Rattle.diag_can.specs.Lanes.{IsRunIn, IsWithin}
 use Rattle.diag_can.specs.Line.{id_of}
 use Rattle.diag_can.specs.Log.{is_feed, without_return}
 use Rattle.diag_can.specs.Stamp.{behind, is_mark, is_no_space}
-use Rattle.diag_can.specs.Usual.{BeginsFramed, IsUsual}
+use Rattle.diag_can.specs.Usual.{BeginsFramed, IsFirstLine, IsUsual}
 use Rattle.diag_can.proofs.UsualLines.{usual_parts}
 use Rattle.diag_can.proofs.Windows.{back_least, back_most, framed_within, front_least, front_most}
 
@@ -92,7 +94,13 @@ begins_with byte (c ∷ xs) rest is =
       | false ↦ λ _ none. cc none
     ] refl is
 
--- the text has such a line of this length, whose parts were read, and a line feed behind it
+without_its_cr : (line : List ℕ) → without_return (line ++ 13 ∷ []) ≡ line
+without_its_cr line =
+    let before : length (line ++ 13 ∷ []) - 1 ≡ length line = omega (arith, length-append line (13 ∷ [])) in
+    let last : drop (length (line ++ 13 ∷ []) - 1) (line ++ 13 ∷ []) ≡ 13 ∷ [] = rw before (drop-append_seam line (13 ∷ [])) in
+    rw last (rw before (take_at line (13 ∷ []) (length line) refl))
+
+-- the text has such a line of this length, whose parts were read
 module _ (text : List ℕ) (place count : ℕ) (f : BeginsFramed text place) (run : IsRunIn is_hex_digit text (place + 4) 16 count)
     (some : 2 ≤ count) (fits : place + 4 + count < length text) where
   abbrev end : ℕ
@@ -108,7 +116,7 @@ module _ (text : List ℕ) (place count : ℕ) (f : BeginsFramed text place) (ru
   in_line k lt = get_or-take end text k 0 lt
 
   -- it ends with no CR
-  pub without_cr : without_return line ≡ line
+  without_cr : without_return line ≡ line
   without_cr =
       let last = drop-cons line (length line - 1) 0 (omega (arith, long)) in
       let digit = run.pass (length line - 1) (omega (arith, long)) (omega (arith, long)) in
@@ -116,7 +124,7 @@ module _ (text : List ℕ) (place count : ℕ) (f : BeginsFramed text place) (ru
       rw (last, other) refl
 
   module _ (part rest : List ℕ) (cut : part ≡ take (length line - place) (drop place line)) (id : prefix_len is_hex_digit part ≡ 3)
-      (hash : behind 35 (drop 3 part) ≡ Some rest) (feed : get_or text end 0 ≡ 10) where
+      (hash : behind 35 (drop 3 part) ≡ Some rest) where
     at_part : (k : ℕ) → place + k < end → get_or part k 0 ≡ get_or text (place + k) 0
     at_part k lt =
         ap (λ (t : List ℕ). get_or t k 0) (cut ∙ take_all (length line - place) (drop place line) (omega (arith, length-drop place line)))
@@ -142,15 +150,32 @@ module _ (text : List ℕ) (place count : ℕ) (f : BeginsFramed text place) (ru
       ]
     ]
 
-    pub first_feed : IsFirstByte is_feed text (Some end)
-    first_feed = (
-      record { low = omega arith; high = fits; before = λ k from to is. false≢true (sym (no_feed_to k to) ∙ is) },
-      ap is_feed feed,
-    )
+    line_plain : HasNoFeed line
+    line_plain = λ k d lt.
+        let inside : k < end = omega (arith, long, lt) in
+        ap is_feed (get_or-take end text k d inside ∙ get_or_default_zero text k d (omega (arith, fits, inside))) ∙ no_feed_to k inside
 
-    pub front_usual : (number : ℕ) → id_of (take 3 part) ≡ Some number → rest ≡ drop 4 part → 4 ≤ length part → count % 2 ≡ 0 → IsUsual line number (place + 4)
-    front_usual number is behind_is four even =
+    is_usual : (number : ℕ) → id_of (take 3 part) ≡ Some number → rest ≡ drop 4 part → 4 ≤ length part → count % 2 ≡ 0 → IsUsual line number (place + 4)
+    is_usual number is behind_is four even =
         let size : length line - (place + 4) ≡ count = omega (arith, long) in
         usual_parts line place number part (f.framed end (omega (arith, f.after)) (omega (arith, fits))) cut id is (hash ∙ ap (λ (t : List ℕ). Some t) behind_is) four
         (omega (arith, run.in_range)) (rw size even)
         (λ k from to. ap is_hex_digit (in_line k (omega (arith, long))) ∙ run.pass k (omega (arith, long)) (omega (arith, long)))
+
+    -- with an LF behind it, or a CR and an LF
+    pub front_line : (number : ℕ) (after : List ℕ) → (drop end text ≡ 10 ∷ after) ⊎ (drop end text ≡ 13 ∷ 10 ∷ after)
+        → id_of (take 3 part) ≡ Some number → rest ≡ drop 4 part → 4 ≤ length part → count % 2 ≡ 0 → IsFirstLine text line after (Some (number, place + 4))
+    front_line number after (inl feed) is behind_is four even = record {
+      whole = line;
+      is = sym (take-append-drop end text) ∙ ap (λ (t : List ℕ). line ++ t) feed;
+      plain = line_plain;
+      line_is = sym without_cr;
+      usual = is_usual number is behind_is four even;
+    }
+    front_line number after (inr ends) is behind_is four even = record {
+      whole = line ++ 13 ∷ [];
+      is = sym (take-append-drop end text) ∙ ap (λ (t : List ℕ). line ++ t) ends ∙ sym (append_assoc line (13 ∷ []) (10 ∷ after));
+      plain = All-append (λ c. is_feed c ≡ false) line (13 ∷ []) line_plain (All-cons (λ c. is_feed c ≡ false) 13 [] refl (All-nil (λ c. is_feed c ≡ false)));
+      line_is = sym (without_its_cr line);
+      usual = is_usual number is behind_is four even;
+    }

@@ -1,19 +1,20 @@
 //! What the lines of a log give, one after the other.
 
-ghost use Rattle.std.specs.Prelude.{◌≡◌, ◌≢◌, ◌<◌, ◌≤◌, ◌⊎◌, [], ◌∷◌, ◌++◌, length, take, option_map, Some, IfSome, IfErr, IsTrue, OnOk};
+ghost use Rattle.std.specs.Prelude.{◌≡◌, ◌≢◌, ◌<◌, ◌≤◌, ◌⊎◌, [], ◌∷◌, ◌++◌, length, Some, MatchOption, IfErr, IsTrue, OnOk};
 ghost use Rattle.memchr.specs.Find.{IsFirstByte};
+ghost use Rattle.diag_can.specs.Bus.{HasNoFeed};
 ghost use Rattle.diag_can.specs.Lanes.{IsRunIn};
 ghost use Rattle.diag_can.specs.Line.{is_time};
 ghost use Rattle.diag_can.specs.Log.{is_feed, without_return, waited, most_events};
 ghost use Rattle.diag_can.specs.Reading.{fault_with, given_at};
 ghost use Rattle.diag_can.specs.Stamp.{is_digit};
-ghost use Rattle.diag_can.specs.Usual.{IsUsual, usual_moment};
+ghost use Rattle.diag_can.specs.Usual.{IsFirstLine, IsUsual, usual_moment};
 
 use crate::fault::{LineFault, LogFault};
 use crate::frame::{CanId, Event, Ids, TickCount};
 use crate::lanes::line_run;
 use crate::read::{other_line_event, tick_count};
-use crate::usual::{bytes_at, usual_frame, usual_front, usual_moment};
+use crate::usual::{FirstLine, bytes_at, usual_frame, usual_front, usual_moment};
 use memchr::memchr;
 
 /// Whether the stamps of a log carry time.
@@ -61,22 +62,29 @@ pub fn line_end(text: &[u8]) -> Option<usize>
     memchr(b'\n', text)
 }
 
-/// Where the first LF of a text stands, and the frame of the line before it where that is seen with it: its identifier, and
-/// where its data begin.
+/// The first line of a text, where an LF ends it. Of most lines it is seen what they give.
 #[inline(always)]
-pub(crate) fn first_line(text: &[u8]) -> Option<(usize, Option<(CanId, usize)>)>
-    ensures end { IsFirstByte is_feed text.now (option_map (λ r. r.0) result) }
-    ensures usual { IfSome result (λ r. IfSome r.1 (λ u. IsUsual (take r.0 text.now) u.0 u.1)) }
-    ensures kept { IfSome result (λ r. IfSome r.1 (λ _.
-        without_return (take r.0 text.now) ≡ take r.0 text.now)) }
+pub(crate) fn first_line(text: &[u8]) -> Option<FirstLine<'_>>
+    ensures { MatchOption result (HasNoFeed text.now) (λ first.
+        IsFirstLine text.now first.line.now first.after.now first.usual) }
 {
     match usual_front(text) {
-        Some((end, usual)) => Some((end, Some(usual))),
-        None => match line_end(text) {
-            Some(end) => Some((end, None)),
-            None => None,
-        },
+        Some(first) => Some(first),
+        None => other_front(text),
     }
+}
+
+/// The same, whatever its form is.
+fn other_front(text: &[u8]) -> Option<FirstLine<'_>>
+    ensures { MatchOption result (HasNoFeed text.now) (λ first.
+        IsFirstLine text.now first.line.now first.after.now first.usual) }
+{
+    let end = line_end(text)?;
+    Some(FirstLine {
+        line: without_return(&text[..end]),
+        after: &text[end + 1..],
+        usual: None,
+    })
 }
 
 /// Adds an event.

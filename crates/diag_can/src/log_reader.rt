@@ -3,7 +3,7 @@
 ghost use Rattle.std.specs.Prelude.{◌≡◌, ◌≢◌, ◌≤◌, ℕ, List, [], ◌∷◌, ◌++◌, length, Some, Ok, Err, IfOk, IfSome, IfErr, OnOk};
 ghost use Rattle.diag_can.specs.Bus.{HasNoFeed};
 ghost use Rattle.diag_can.specs.HasRead.{AreRead, HasLines, HasRead};
-ghost use Rattle.diag_can.specs.Log.{without_return, events, fault_after, most_events};
+ghost use Rattle.diag_can.specs.Log.{events, fault_after, most_events};
 ghost use Rattle.diag_can.specs.Pieces.{TakesLines};
 ghost use Rattle.diag_can.specs.Usual.{IsUsual};
 ghost use Rattle.diag_can.specs.declared.log.Timing.{Timing};
@@ -99,9 +99,9 @@ impl LogReader {
         ensures still { self.new.fault ≡ self.old.fault }
     {
         let mut rest = text;
-        while let Some((end, usual)) = first_line(rest) {
-            self.take_line(ids, timing, &rest[..end], usual)?;
-            rest = &rest[end + 1..];
+        while let Some(first) = first_line(rest) {
+            self.take_line(ids, timing, first.line, first.usual)?;
+            rest = first.after;
         }
         Ok(rest)
     }
@@ -117,13 +117,12 @@ impl LogReader {
     ) -> Result<(), LogFault>
         requires read { (past : List (List ℕ)) × AreRead ids.now timing self.old past }
         requires usual { IfSome usual (λ u. IsUsual line.now u.0 u.1) }
-        requires kept { IfSome usual (λ _. without_return line.now ≡ line.now) }
         ensures took { OnOk result ((past : List (List ℕ))
             → AreRead ids.now timing self.old past
-            → AreRead ids.now timing self.new (past ++ without_return line.now ∷ [])) }
+            → AreRead ids.now timing self.new (past ++ line.now ∷ [])) }
         ensures fault { IfErr result (λ fault. fault ≢ LogFault.Memory → (past : List (List ℕ))
             → AreRead ids.now timing self.old past
-            → fault_after timing ids.now past (without_return line.now) ≡ Some fault) }
+            → fault_after timing ids.now past line.now ≡ Some fault) }
         ensures still { self.new.fault ≡ self.old.fault }
     {
         if self.lines >= MAX_LINES {
@@ -133,9 +132,7 @@ impl LogReader {
         let number = self.lines;
         match usual {
             Some((id, at)) => self.reading.take_usual(timing, ids, number, line, id, at),
-            None => self
-                .reading
-                .take_line(timing, ids, number, without_return(line)),
+            None => self.reading.take_line(timing, ids, number, line),
         }
     }
 
@@ -159,7 +156,7 @@ impl LogReader {
         if begun.is_empty() {
             return Ok(self.reading.events);
         }
-        self.take_line(ids, timing, begun, None)?;
+        self.take_line(ids, timing, without_return(begun), None)?;
         Ok(self.reading.events)
     }
 }

@@ -1,13 +1,11 @@
 //! A line of the usual form, of which many bytes are read at once: a stamp of ten digits and six, one space, a short name, one
 //! space, an identifier of three digits, and behind its `#` nothing but pairs of hex digits. Other lines are read part by part.
 
-ghost use Rattle.std.specs.Prelude.{◌≡◌, ℕ, ◌<◌, ◌≤◌, ◌-◌, ◌*◌, take, drop, length, Some, IfSome, IsOk};
+ghost use Rattle.std.specs.Prelude.{◌≡◌, ℕ, ◌<◌, ◌≤◌, ◌-◌, ◌*◌, ◌∷◌, ◌⊎◌, drop, length, IfSome, IsOk};
 ghost use Rattle.hex.specs.Hex.{decode_of};
-ghost use Rattle.memchr.specs.Find.{IsFirstByte};
 ghost use Rattle.diag_can.specs.Lanes.{IsRunIn};
-ghost use Rattle.diag_can.specs.Log.{is_feed, without_return};
 ghost use Rattle.diag_can.specs.Stamp.{is_digit};
-ghost use Rattle.diag_can.specs.Usual.{BeginsFramed, IsUsual, three_at, usual_moment};
+ghost use Rattle.diag_can.specs.Usual.{BeginsFramed, IsFirstLine, IsUsual, three_at, usual_moment};
 
 use crate::frame::{CanId, FrameBytes};
 use crate::lanes::{eight_of_digits, eight_of_word, ends_in_hex, hex_of_sixteen, is_within};
@@ -53,12 +51,35 @@ pub fn usual_frame(line: &[u8]) -> Option<(CanId, usize)>
     Some((id, at))
 }
 
-/// A line of the usual form, its LF behind it, at the front of a text: where the LF stands, and what `usual_frame` says.
+/// The first line of a text, which an LF ends.
+#[derive(Clone, Copy)]
+pub struct FirstLine<'a> {
+    /// The line without its LF, and without one CR before that.
+    pub line: &'a [u8],
+    /// What follows the LF.
+    pub after: &'a [u8],
+    /// What `usual_frame` says of the line, where that was seen.
+    pub usual: Option<(CanId, usize)>,
+}
+
+/// What follows an LF, or a CR and an LF, at the front of a text.
 #[inline(always)]
-pub fn usual_front(text: &[u8]) -> Option<(usize, (CanId, usize))>
-    ensures end { IfSome result (λ r. IsFirstByte is_feed text.now (Some r.0)) }
-    ensures usual { IfSome result (λ r. IsUsual (take r.0 text.now) r.1.0 r.1.1) }
-    ensures kept { IfSome result (λ r. without_return (take r.0 text.now) ≡ take r.0 text.now) }
+fn behind_end(text: &[u8]) -> Option<&[u8]>
+    ensures { IfSome result (λ after.
+        (text.now ≡ 10 ∷ after.now) ⊎ (text.now ≡ 13 ∷ 10 ∷ after.now)) }
+{
+    match text {
+        [b'\n', after @ ..] => Some(after),
+        [b'\r', b'\n', after @ ..] => Some(after),
+        _ => None,
+    }
+}
+
+/// The first line of a text where it is of the usual form: its end is looked for behind the digits.
+#[inline(always)]
+pub fn usual_front(text: &[u8]) -> Option<FirstLine<'_>>
+    ensures { IfSome result (λ first.
+        IsFirstLine text.now first.line.now first.after.now first.usual) }
 {
     if text.len() < LONGEST {
         return None;
@@ -66,13 +87,14 @@ pub fn usual_front(text: &[u8]) -> Option<(usize, (CanId, usize))>
     let place = text_place(text)?;
     let at = place + 4;
     let count = hex_of_sixteen(text, at);
-    let end = at + count;
-    if count < 2 || count % 2 != 0 || text[end] != b'\n' {
+    if count < 2 || count % 2 != 0 {
         return None;
     }
-    let line = &text[..end];
+    let (line, rest) = text.split_at(at + count);
+    let after = behind_end(rest)?;
     let id = short_id(&line[place..])?;
-    Some((end, (id, at)))
+    let usual = Some((id, at));
+    Some(FirstLine { line, after, usual })
 }
 
 /// Four times three bytes of the stamp, weighed as digits are: nine of the seconds, without the first, and the milliseconds.
