@@ -102,7 +102,7 @@ without_its_cr line =
 
 -- the text has such a line of this length, whose parts were read
 module _ (text : List ℕ) (place count : ℕ) (f : BeginsFramed text place) (run : IsRunIn is_hex_digit text (place + 4) 16 count)
-    (some : 2 ≤ count) (fits : place + 4 + count < length text) where
+    (some : 28 ≤ place + 4 + count) (fits : place + 4 + count < length text) where
   abbrev end : ℕ
   end = place + 4 + count
 
@@ -115,14 +115,6 @@ module _ (text : List ℕ) (place count : ℕ) (f : BeginsFramed text place) (ru
   in_line : (k : ℕ) → k < end → get_or line k 0 ≡ get_or text k 0
   in_line k lt = get_or-take end text k 0 lt
 
-  -- it ends with no CR
-  without_cr : without_return line ≡ line
-  without_cr =
-      let last = drop-cons line (length line - 1) 0 (omega (arith, long)) in
-      let digit = run.pass (length line - 1) (omega (arith, long)) (omega (arith, long)) in
-      let other = (plain_digit (get_or line (length line - 1) 0) (ap is_hex_digit (in_line (length line - 1) (omega (arith, long))) ∙ digit)).1 in
-      rw (last, other) refl
-
   module _ (part rest : List ℕ) (cut : part ≡ take (length line - place) (drop place line)) (id : prefix_len is_hex_digit part ≡ 3)
       (hash : behind 35 (drop 3 part) ≡ Some rest) where
     at_part : (k : ℕ) → place + k < end → get_or part k 0 ≡ get_or text (place + k) 0
@@ -130,24 +122,37 @@ module _ (text : List ℕ) (place count : ℕ) (f : BeginsFramed text place) (ru
         ap (λ (t : List ℕ). get_or t k 0) (cut ∙ take_all (length line - place) (drop place line) (omega (arith, length-drop place line)))
         ∙ get_or-drop place line k 0 ∙ in_line (place + k) lt
 
+    -- no line ends in its frame
+    frame_plain : (k : ℕ) → place ≤ k → k < end → (is_feed (get_or text k 0) ≡ false) × ((13 == get_or text k 0) ≡ false)
+    frame_plain k inside lt = elim (cases_lt k (place + 3)) [
+      | inl digit ↦
+          let here : place + (k - place) ≡ k = omega arith in
+          let at = at_part (k - place) (omega arith) in
+          let passes = prefix_len_passes is_hex_digit part (k - place) 0 (omega (arith, id)) in
+          rw here at (plain_digit (get_or text (place + (k - place)) 0) (ap is_hex_digit (sym at) ∙ passes))
+      | inr later ↦ elim (cases_lt k (place + 4)) [
+        | inl mark ↦
+            let here : k ≡ place + 3 = omega arith in
+            let first = get_or-drop 3 part 0 0 in
+            let byte : get_or text (place + 3) 0 ≡ 35 = sym (at_part 3 (omega arith)) ∙ sym first ∙ begins_with 35 (drop 3 part) rest hash in
+            rw (here, byte) (refl, refl)
+        | inr further ↦ plain_digit (get_or text k 0) (run.pass k further (omega arith))
+      ]
+    ]
+
+    -- it ends with no CR
+    without_cr : without_return line ≡ line
+    without_cr =
+        let last = drop-cons line (length line - 1) 0 (omega (arith, long)) in
+        let byte = in_line (length line - 1) (omega (arith, long)) in
+        let other : (13 == get_or line (length line - 1) 0) ≡ false =
+        ap (λ (c : ℕ). 13 == c) byte ∙ (frame_plain (length line - 1) (omega (arith, long)) (omega (arith, long))).1 in
+        rw (last, other) refl
+
     no_feed_to : (k : ℕ) → k < end → is_feed (get_or text k 0) ≡ false
     no_feed_to k lt = elim (cases_lt k place) [
       | inl before ↦ sym (ap is_feed (get_or-take place text k 0 before)) ∙ f.plain k 0 (omega (arith, length-take-le place text (omega (arith, fits))))
-      | inr inside ↦ elim (cases_lt k (place + 3)) [
-        | inl digit ↦
-            let here : place + (k - place) ≡ k = omega arith in
-            let at = at_part (k - place) (omega arith) in
-            let passes = prefix_len_passes is_hex_digit part (k - place) 0 (omega (arith, id)) in
-            rw here at ((plain_digit (get_or text (place + (k - place)) 0) (ap is_hex_digit (sym at) ∙ passes)).0)
-        | inr later ↦ elim (cases_lt k (place + 4)) [
-          | inl mark ↦
-              let here : k ≡ place + 3 = omega arith in
-              let first = get_or-drop 3 part 0 0 in
-              let byte : get_or text (place + 3) 0 ≡ 35 = sym (at_part 3 (omega arith)) ∙ sym first ∙ begins_with 35 (drop 3 part) rest hash in
-              rw (here, byte) refl
-          | inr further ↦ (plain_digit (get_or text k 0) (run.pass k further (omega arith))).0
-        ]
-      ]
+      | inr inside ↦ (frame_plain k inside lt).0
     ]
 
     line_plain : HasNoFeed line

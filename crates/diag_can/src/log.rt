@@ -14,7 +14,7 @@ use crate::fault::{LineFault, LogFault};
 use crate::frame::{CanId, Event, Ids, TickCount};
 use crate::lanes::line_run;
 use crate::read::{other_line_event, tick_count};
-use crate::usual::{FirstLine, bytes_at, usual_frame, usual_front, usual_moment};
+use crate::usual::{FirstLine, bytes_at, usual_front, usual_moment};
 use memchr::memchr;
 
 /// Whether the stamps of a log carry time.
@@ -128,27 +128,6 @@ fn push_time(events: &mut Vec<Event>, ms: u64) -> Result<(), LogFault>
 impl Reading {
     ghost use Rattle.diag_can.specs.Took.{Grown, Took};
 
-    /// Takes what the line of this number gives.
-    #[inline(never)]
-    pub(crate) fn take_line(
-        &mut self,
-        timing: Timing,
-        ids: &Ids,
-        number: u32,
-        line: &[u8],
-    ) -> Result<(), LogFault>
-        requires { length self.old.events.items ≤ most_events }
-        ensures took { OnOk result (Took timing ids.now self.old self.new line.now) }
-        ensures fault { IfErr result (λ fault. fault ≢ LogFault.Memory
-            → fault_with timing ids.now self.old.events.items self.old.reference number line.now
-            ≡ Some fault) }
-    {
-        match usual_frame(line) {
-            Some((id, at)) => self.take_usual(timing, ids, number, line, id, at),
-            None => self.take_other(timing, ids, number, line),
-        }
-    }
-
     /// Takes what the line of this number gives, which is of the usual form. It is looked at here, and what it gives is
     /// kept where it goes.
     #[inline(always)]
@@ -249,7 +228,7 @@ impl Reading {
 
     /// Takes what the line of this number gives, whatever its form is.
     #[inline(never)]
-    fn take_other(
+    pub(crate) fn take_other(
         &mut self,
         timing: Timing,
         ids: &Ids,

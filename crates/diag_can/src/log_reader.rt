@@ -132,7 +132,7 @@ impl LogReader {
         let number = self.lines;
         match usual {
             Some((id, at)) => self.reading.take_usual(timing, ids, number, line, id, at),
-            None => self.reading.take_line(timing, ids, number, line),
+            None => self.reading.take_other(timing, ids, number, line),
         }
     }
 

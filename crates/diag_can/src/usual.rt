@@ -87,10 +87,11 @@ pub fn usual_front(text: &[u8]) -> Option<FirstLine<'_>>
     let place = text_place(text)?;
     let at = place + 4;
     let count = hex_of_sixteen(text, at);
-    if count < 2 || count % 2 != 0 {
+    let end = at + count;
+    if end < SHORTEST || count % 2 != 0 {
         return None;
     }
-    let (line, rest) = text.split_at(at + count);
+    let (line, rest) = text.split_at(end);
     let after = behind_end(rest)?;
     let id = short_id(&line[place..])?;
     let usual = Some((id, at));

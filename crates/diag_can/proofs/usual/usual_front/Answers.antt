@@ -13,5 +13,5 @@ returns c =
     let ends = rw c.split_at.ensures.back at c.in_ok-after.ensures in
     let fits : place + 4 + count < length text = omega (arith, c.if-text-lt-LONGEST.false, begins.before, run.in_range) in
     rw c.split_at.ensures.front
-    (front_line text place count begins run c.if-count-lt2.false fits _ _ refl read.count read.rest c.in_ok-id.id c.in_ok-after.after.now ends read.id refl
+    (front_line text place count begins run c.if-end-lt-SHORTEST.false fits _ _ refl read.count read.rest c.in_ok-id.id c.in_ok-after.after.now ends read.id refl
     read.long c.if-count-ne0.false)

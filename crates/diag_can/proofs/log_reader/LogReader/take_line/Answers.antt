@@ -8,12 +8,12 @@ returns-then-self-ge-MAX_LINES-clause-fault c = λ known past h. too_many h c.ar
 
 pub returns-in-None-clause-took : goal.returns-in-None-clause-took
 returns-in-None-clause-took c =
-    on_ok_weaker c.take_line.result (λ took past h. line_read h c.args.line.now _ c.if-self-ge-MAX_LINES.false refl took) c.take_line.ensures.took
+    on_ok_weaker c.take_other.result (λ took past h. line_read h c.args.line.now _ c.if-self-ge-MAX_LINES.false refl took) c.take_other.ensures.took
 
 pub returns-in-None-clause-fault : goal.returns-in-None-clause-fault
 returns-in-None-clause-fault c =
-    IfErr-weaker c.take_line.result _ _ (λ fault at known past h. next_fault h c.args.line.now c.if-self-ge-MAX_LINES.false ∙ at known)
-    c.take_line.ensures.fault
+    IfErr-weaker c.take_other.result _ _ (λ fault at known past h. next_fault h c.args.line.now c.if-self-ge-MAX_LINES.false ∙ at known)
+    c.take_other.ensures.fault
 
 pub returns-in-Some-clause-took : goal.returns-in-Some-clause-took
 returns-in-Some-clause-took c =
