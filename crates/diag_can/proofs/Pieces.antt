@@ -1,10 +1,11 @@
 -- A log that comes in pieces: what one line more makes of it, and where a line is at fault.
-use Rattle.std.proofs.Common.{◌≡◌, ℕ, false, arith, length, List, [], ◌∷◌, ◌++◌, Some, None, Err, refl, sym, ap, subst, ◌∙◌, append_assoc, append-nil}
+use Rattle.std.proofs.Common.{◌≡◌, ℕ, false, arith, length, List, [], ◌∷◌, ◌++◌, Option, Some, None, Err, refl, sym, ap, subst, ◌∙◌, append_assoc, append-nil}
 use Rattle.std.proofs.lemmas.List.Elements.{All-nil}
 use Rattle.diag_can.specs.Bus.{HasNoFeed, begun_line}
 use Rattle.diag_can.specs.HasRead.{AreRead, HasLines, HasRead}
-use Rattle.diag_can.specs.Log.{is_feed, lines_of, without_return, fault_after, events}
+use Rattle.diag_can.specs.Log.{is_feed, lines_of, fault_after, events}
 use Rattle.diag_can.specs.Pieces.{TakesLines}
+use Rattle.diag_can.specs.Usual.{IsFirstLine}
 use Rattle.diag_can.specs.declared.fault.LogFault.{LogFault}
 use Rattle.diag_can.specs.declared.frame.Ids.{Ids}
 use Rattle.diag_can.specs.declared.log.Timing.{Timing}
@@ -39,31 +40,33 @@ none_read ids timing r text = record {
 
 module _ {ids : Ids} {timing : Timing} {old mid : LogReader} {text rest : List ℕ} (f : FrontRead ids timing old mid text rest) where
   -- a line more, which a line feed ends
-  pub line_more : (new : LogReader) (line after : List ℕ) → rest ≡ line ++ 10 ∷ after → HasNoFeed line
-      → ((past : List (List ℕ)) → AreRead ids timing mid past → AreRead ids timing new (past ++ without_return line ∷ []))
-      → FrontRead ids timing old new text after
-  line_more new line after is none took = record {
-    front = f.front ++ (line ++ 10 ∷ []);
-    is = f.is ∙ ap (λ (r : List ℕ). f.front ++ r) (is ∙ sym (append_assoc line (10 ∷ []) after))
-        ∙ sym (append_assoc f.front (line ++ 10 ∷ []) after);
+  pub line_more : (line after : List ℕ) {usual : Option (ℕ × ℕ)} (l : IsFirstLine rest line after usual) (new : LogReader)
+      → ((past : List (List ℕ)) → AreRead ids timing mid past → AreRead ids timing new (past ++ line ∷ [])) → FrontRead ids timing old new text after
+  line_more line after l new took = record {
+    front = f.front ++ (l.whole ++ 10 ∷ []);
+    is = f.is ∙ ap (λ (r : List ℕ). f.front ++ r) (l.is ∙ sym (append_assoc l.whole (10 ∷ []) after))
+        ∙ sym (append_assoc f.front (l.whole ++ 10 ∷ []) after);
     takes = λ seen h.
         let at = f.takes seen h in
-        subst (HasLines ids timing new) (append_assoc seen f.front (line ++ 10 ∷ [])) (one_more at new line none (took (lines_of (seen ++ f.front)) at.read));
+        let past = lines_of (seen ++ f.front) in
+        let read = subst (λ (t : List ℕ). AreRead ids timing new (past ++ t ∷ [])) l.line_is (took past at.read) in
+        subst (HasLines ids timing new) (append_assoc seen f.front (l.whole ++ 10 ∷ [])) (one_more at new l.whole l.plain read);
   }
 
   -- the line that comes next is at fault
-  pub line_fault : (line after : List ℕ) (fault : LogFault) → rest ≡ line ++ 10 ∷ after → HasNoFeed line
-      → ((past : List (List ℕ)) → AreRead ids timing mid past → fault_after timing ids past (without_return line) ≡ Some fault)
+  pub line_fault : (line after : List ℕ) {usual : Option (ℕ × ℕ)} (l : IsFirstLine rest line after usual) (fault : LogFault)
+      → ((past : List (List ℕ)) → AreRead ids timing mid past → fault_after timing ids past line ≡ Some fault)
       → (seen more : List ℕ) → HasLines ids timing old seen → events (seen ++ (text ++ more)) ids timing ≡ Err fault
-  line_fault line after fault is none at seen more h =
+  line_fault line after l fault at seen more h =
       let here = f.takes seen h in
       let whole : seen ++ (text ++ more) ≡ (seen ++ f.front) ++ (rest ++ more) =
       ap (λ (t : List ℕ). seen ++ (t ++ more)) f.is ∙ ap (λ (t : List ℕ). seen ++ t) (append_assoc f.front rest more)
       ∙ sym (append_assoc seen f.front (rest ++ more)) in
-      let begins : lines_of (rest ++ more) ≡ without_return line ∷ lines_of (after ++ more) =
-      ap (λ (t : List ℕ). lines_of (t ++ more)) is ∙ ap lines_of (append_assoc line (10 ∷ after) more) ∙ lines_of-first line (after ++ more) none in
+      let begins : lines_of (rest ++ more) ≡ line ∷ lines_of (after ++ more) =
+      ap (λ (t : List ℕ). lines_of (t ++ more)) l.is ∙ ap lines_of (append_assoc l.whole (10 ∷ after) more)
+      ∙ lines_of-first l.whole (after ++ more) l.plain ∙ ap (λ (t : List ℕ). t ∷ lines_of (after ++ more)) (sym l.line_is) in
       ap (λ (t : List ℕ). events t ids timing) whole
-      ∙ fault_next here (without_return line) (rest ++ more) (lines_of (after ++ more)) fault begins (at (lines_of (seen ++ f.front)) here.read)
+      ∙ fault_next here line (rest ++ more) (lines_of (after ++ more)) fault begins (at (lines_of (seen ++ f.front)) here.read)
 
   -- no line ends in the rest
   pub front_taken : HasNoFeed rest → TakesLines (HasLines ids timing old) (HasLines ids timing mid) text rest

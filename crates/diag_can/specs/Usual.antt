@@ -1,9 +1,10 @@
 -- Lines of the usual form: ten digits of seconds and six of the fraction, and nothing but the frame's digits behind its `#`.
-use Rattle.std.specs.Prelude.{◌≡◌, ℕ, ◌+◌, ◌*◌, ◌≤◌, ◌<◌, IsOk, List, [], length, take, drop, slice_index, Some, Result, Ok, Err, false}
+use Rattle.std.specs.Prelude.{◌≡◌, ℕ, ◌+◌, ◌*◌, ◌≤◌, ◌<◌, IfSome, IsOk, List, [], ◌∷◌, ◌++◌, length, take, drop, slice_index, Option, Some, Result, Ok, Err, false}
 use Rattle.hex.specs.Hex.{decode_of}
 use Rattle.diag_can.specs.Stamp.{is_digit, moment_of}
 use Rattle.diag_can.specs.Line.{event_of, frame_data, frame_event, is_time, stamped_frame}
-use Rattle.diag_can.specs.Bus.{frame_of, text_frame}
+use Rattle.diag_can.specs.Bus.{HasNoFeed, frame_of, text_frame}
+use Rattle.diag_can.specs.Log.{without_return}
 use Rattle.diag_can.specs.Lanes.{IsRunIn}
 use Rattle.diag_can.specs.declared.bus.BusLine.{BusLine}
 use Rattle.diag_can.specs.declared.bus.BusLine.TheVariants.{Stamped}
@@ -26,6 +27,14 @@ pub record IsFramed (line : List ℕ) (place : ℕ) : Type 0 where
   pub is_frame : is_time line ≡ false
   pub stamped : stamped_frame line ≡ Some (usual_moment line, drop place line)
 
+-- the front of a text is that of such a line, however long it is
+pub record BeginsFramed (text : List ℕ) (place : ℕ) : Type 0 where
+  pub long : 28 ≤ length text
+  pub after : 22 ≤ place
+  pub before : place < 28
+  pub plain : HasNoFeed (take place text)
+  pub framed : (n : ℕ) → 28 ≤ n → n ≤ length text → IsFramed (take n text) place
+
 -- its identifier is this, and there its data begin, which are hex digits alone
 pub record IsUsual (line : List ℕ) (id at : ℕ) : Type 0 where
   pub place : ℕ
@@ -36,6 +45,14 @@ pub record IsUsual (line : List ℕ) (id at : ℕ) : Type 0 where
   pub few : length (drop at line) ≤ 16
   pub hex : IsOk (decode_of (drop at line))
   pub decoded : (bytes : List ℕ) → decode_of (drop at line) ≡ Ok bytes → frame_data (drop at line) ≡ Ok bytes
+
+-- the first line of a text, what follows its line feed, and what is seen of it
+pub record IsFirstLine (text line after : List ℕ) (seen : Option (ℕ × ℕ)) : Type 0 where
+  pub whole : List ℕ
+  pub is : text ≡ whole ++ 10 ∷ after
+  pub plain : HasNoFeed whole
+  pub line_is : line ≡ without_return whole
+  pub usual : IfSome seen (λ u. IsUsual line u.0 u.1)
 
 -- the bytes that were read, if any
 abbrev pub bytes_or_none : {E : Type 0} → Result (List ℕ) E → List ℕ

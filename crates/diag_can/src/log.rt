@@ -1,19 +1,20 @@
 //! What the lines of a log give, one after the other.
 
-ghost use Rattle.std.specs.Prelude.{◌≡◌, ◌≢◌, ◌<◌, ◌≤◌, ◌⊎◌, [], ◌∷◌, ◌++◌, length, Some, IfErr, IsTrue, OnOk};
+ghost use Rattle.std.specs.Prelude.{◌≡◌, ◌≢◌, ◌<◌, ◌≤◌, ◌⊎◌, [], ◌∷◌, ◌++◌, length, Some, MatchOption, IfErr, IsTrue, OnOk};
 ghost use Rattle.memchr.specs.Find.{IsFirstByte};
+ghost use Rattle.diag_can.specs.Bus.{HasNoFeed};
 ghost use Rattle.diag_can.specs.Lanes.{IsRunIn};
 ghost use Rattle.diag_can.specs.Line.{is_time};
 ghost use Rattle.diag_can.specs.Log.{is_feed, without_return, waited, most_events};
 ghost use Rattle.diag_can.specs.Reading.{fault_with, given_at};
 ghost use Rattle.diag_can.specs.Stamp.{is_digit};
-ghost use Rattle.diag_can.specs.Usual.{usual_moment};
+ghost use Rattle.diag_can.specs.Usual.{IsFirstLine, IsUsual, usual_moment};
 
 use crate::fault::{LineFault, LogFault};
-use crate::frame::{Event, Ids, TickCount};
+use crate::frame::{CanId, Event, Ids, TickCount};
 use crate::lanes::line_run;
 use crate::read::{other_line_event, tick_count};
-use crate::usual::{bytes_at, usual_frame, usual_moment};
+use crate::usual::{FirstLine, bytes_at, usual_front, usual_moment};
 use memchr::memchr;
 
 /// Whether the stamps of a log carry time.
@@ -61,6 +62,31 @@ pub fn line_end(text: &[u8]) -> Option<usize>
     memchr(b'\n', text)
 }
 
+/// The first line of a text, where an LF ends it. Of most lines it is seen what they give.
+#[inline(always)]
+pub(crate) fn first_line(text: &[u8]) -> Option<FirstLine<'_>>
+    ensures { MatchOption result (HasNoFeed text.now) (λ first.
+        IsFirstLine text.now first.line.now first.after.now first.usual) }
+{
+    match usual_front(text) {
+        Some(first) => Some(first),
+        None => other_front(text),
+    }
+}
+
+/// The same, whatever its form is.
+fn other_front(text: &[u8]) -> Option<FirstLine<'_>>
+    ensures { MatchOption result (HasNoFeed text.now) (λ first.
+        IsFirstLine text.now first.line.now first.after.now first.usual) }
+{
+    let end = line_end(text)?;
+    Some(FirstLine {
+        line: without_return(&text[..end]),
+        after: &text[end + 1..],
+        usual: None,
+    })
+}
+
 /// Adds an event.
 fn push_event(events: &mut Vec<Event>, event: Event) -> Result<(), LogFault>
     ensures ok { OnOk result (events.new.items ≡ events.old.items ++ event ∷ []) }
@@ -102,25 +128,27 @@ fn push_time(events: &mut Vec<Event>, ms: u64) -> Result<(), LogFault>
 impl Reading {
     ghost use Rattle.diag_can.specs.Took.{Grown, Took};
 
-    /// Takes what the line of this number gives. A line of the usual form is looked at here, and what it gives is kept
-    /// where it goes.
+    /// Takes what the line of this number gives, which is of the usual form. It is looked at here, and what it gives is
+    /// kept where it goes.
     #[inline(always)]
-    pub(crate) fn take_line(
+    pub(crate) fn take_usual(
         &mut self,
         timing: Timing,
         ids: &Ids,
         number: u32,
         line: &[u8],
+        id: CanId,
+        at: usize,
     ) -> Result<(), LogFault>
-        requires { length self.old.events.items ≤ most_events }
+        requires few { length self.old.events.items ≤ most_events }
+        requires usual { IsUsual line.now id at }
         ensures took { OnOk result (Took timing ids.now self.old self.new line.now) }
         ensures fault { IfErr result (λ fault. fault ≢ LogFault.Memory
             → fault_with timing ids.now self.old.events.items self.old.reference number line.now
             ≡ Some fault) }
     {
-        let Some((id, at)) = usual_frame(line) else {
-            return self.take_other(timing, ids, number, line);
-        };
+        // (for its contract: such a line is never at fault by itself)
+        let _ = number;
         if id == ids.request {
             self.take_frame(timing, line, Event::Physical(bytes_at(line, at)))
         } else if id == ids.functional {
@@ -200,7 +228,7 @@ impl Reading {
 
     /// Takes what the line of this number gives, whatever its form is.
     #[inline(never)]
-    fn take_other(
+    pub(crate) fn take_other(
         &mut self,
         timing: Timing,
         ids: &Ids,

@@ -1,15 +1,16 @@
 //! The log of a tester's link, whole or as its lines come.
 
-ghost use Rattle.std.specs.Prelude.{◌≡◌, ◌≢◌, ◌≤◌, ℕ, List, [], ◌∷◌, ◌++◌, length, Some, Ok, Err, IfOk, IfErr, OnOk};
+ghost use Rattle.std.specs.Prelude.{◌≡◌, ◌≢◌, ◌≤◌, ℕ, List, [], ◌∷◌, ◌++◌, length, Some, Ok, Err, IfOk, IfSome, IfErr, OnOk};
 ghost use Rattle.diag_can.specs.Bus.{HasNoFeed};
 ghost use Rattle.diag_can.specs.HasRead.{AreRead, HasLines, HasRead};
-ghost use Rattle.diag_can.specs.Log.{without_return, events, fault_after, most_events};
+ghost use Rattle.diag_can.specs.Log.{events, fault_after, most_events};
 ghost use Rattle.diag_can.specs.Pieces.{TakesLines};
+ghost use Rattle.diag_can.specs.Usual.{IsUsual};
 ghost use Rattle.diag_can.specs.declared.log.Timing.{Timing};
 
 use crate::fault::LogFault;
-use crate::frame::{Event, Ids};
-use crate::log::{MAX_EVENTS, Reading, Timing, line_end, without_return};
+use crate::frame::{CanId, Event, Ids};
+use crate::log::{MAX_EVENTS, Reading, Timing, first_line, without_return};
 use std::alloc::{AllocError, Global};
 
 /// The most lines of a log.
@@ -98,31 +99,41 @@ impl LogReader {
         ensures still { self.new.fault ≡ self.old.fault }
     {
         let mut rest = text;
-        while let Some(end) = line_end(rest) {
-            self.take_line(ids, timing, &rest[..end])?;
-            rest = &rest[end + 1..];
+        while let Some(first) = first_line(rest) {
+            self.take_line(ids, timing, first.line, first.usual)?;
+            rest = first.after;
         }
         Ok(rest)
     }
 
-    /// Takes the line that comes next.
+    /// Takes the line that comes next, with its frame where that is seen.
     #[inline(always)]
-    fn take_line(&mut self, ids: &Ids, timing: Timing, line: &[u8]) -> Result<(), LogFault>
-        requires { (past : List (List ℕ)) × AreRead ids.now timing self.old past }
+    fn take_line(
+        &mut self,
+        ids: &Ids,
+        timing: Timing,
+        line: &[u8],
+        usual: Option<(CanId, usize)>,
+    ) -> Result<(), LogFault>
+        requires read { (past : List (List ℕ)) × AreRead ids.now timing self.old past }
+        requires usual { IfSome usual (λ u. IsUsual line.now u.0 u.1) }
         ensures took { OnOk result ((past : List (List ℕ))
             → AreRead ids.now timing self.old past
-            → AreRead ids.now timing self.new (past ++ without_return line.now ∷ [])) }
+            → AreRead ids.now timing self.new (past ++ line.now ∷ [])) }
         ensures fault { IfErr result (λ fault. fault ≢ LogFault.Memory → (past : List (List ℕ))
             → AreRead ids.now timing self.old past
-            → fault_after timing ids.now past (without_return line.now) ≡ Some fault) }
+            → fault_after timing ids.now past line.now ≡ Some fault) }
         ensures still { self.new.fault ≡ self.old.fault }
     {
         if self.lines >= MAX_LINES {
             return Err(LogFault::TooManyLines);
         }
         self.lines += 1;
-        self.reading
-            .take_line(timing, ids, self.lines, without_return(line))
+        let number = self.lines;
+        match usual {
+            Some((id, at)) => self.reading.take_usual(timing, ids, number, line, id, at),
+            None => self.reading.take_other(timing, ids, number, line),
+        }
     }
 
     /// The log's events, where these bytes of a line, or none, end it.
@@ -145,7 +156,7 @@ impl LogReader {
         if begun.is_empty() {
             return Ok(self.reading.events);
         }
-        self.take_line(ids, timing, begun)?;
+        self.take_line(ids, timing, without_return(begun), None)?;
         Ok(self.reading.events)
     }
 }

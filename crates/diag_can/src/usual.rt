@@ -1,24 +1,27 @@
 //! A line of the usual form, of which many bytes are read at once: a stamp of ten digits and six, one space, a short name, one
 //! space, an identifier of three digits, and behind its `#` nothing but pairs of hex digits. Other lines are read part by part.
 
-ghost use Rattle.std.specs.Prelude.{◌≡◌, ℕ, ◌<◌, ◌≤◌, ◌-◌, ◌*◌, drop, length, IfSome, IsOk};
+ghost use Rattle.std.specs.Prelude.{◌≡◌, ℕ, ◌<◌, ◌≤◌, ◌-◌, ◌*◌, ◌∷◌, ◌⊎◌, drop, length, IfSome, IsOk};
 ghost use Rattle.hex.specs.Hex.{decode_of};
 ghost use Rattle.diag_can.specs.Lanes.{IsRunIn};
 ghost use Rattle.diag_can.specs.Stamp.{is_digit};
-ghost use Rattle.diag_can.specs.Usual.{IsFramed, IsUsual, three_at, usual_moment};
+ghost use Rattle.diag_can.specs.Usual.{BeginsFramed, IsFirstLine, IsUsual, three_at, usual_moment};
 
 use crate::frame::{CanId, FrameBytes};
-use crate::lanes::{eight_of_digits, eight_of_word, ends_in_hex, is_within};
+use crate::lanes::{eight_of_digits, eight_of_word, ends_in_hex, hex_of_sixteen, is_within};
 use crate::line::short_id;
 use std::simd::prelude::*;
 
 /// The shortest line that is looked at.
 const SHORTEST: usize = 28;
 
-/// Where the text of the frame begins.
+/// The longest line of the usual form with its LF.
+const LONGEST: usize = 48;
+
+/// Where the text of the frame begins, whatever follows it.
 #[inline(always)]
 fn text_place(line: &[u8]) -> Option<usize>
-    ensures { IfSome result (λ place. IsFramed line.now place) }
+    ensures { IfSome result (λ place. BeginsFramed line.now place) }
 {
     if line.len() < SHORTEST
         || !is_within(line, 0, b"(0000000000.0000", b"(9999999999.9999")
@@ -27,7 +30,7 @@ fn text_place(line: &[u8]) -> Option<usize>
         return None;
     }
     let word = eight_of_word(line, 20);
-    if word < 1 || word > 6 || line[21 + word] == b' ' {
+    if word < 1 || word > 6 || line[20 + word] != b' ' || line[21 + word] == b' ' {
         return None;
     }
     Some(21 + word)
@@ -46,6 +49,53 @@ pub fn usual_frame(line: &[u8]) -> Option<(CanId, usize)>
         return None;
     }
     Some((id, at))
+}
+
+/// The first line of a text, which an LF ends.
+#[derive(Clone, Copy)]
+pub struct FirstLine<'a> {
+    /// The line without its LF, and without one CR before that.
+    pub line: &'a [u8],
+    /// What follows the LF.
+    pub after: &'a [u8],
+    /// What `usual_frame` says of the line, where that was seen.
+    pub usual: Option<(CanId, usize)>,
+}
+
+/// What follows an LF, or a CR and an LF, at the front of a text.
+#[inline(always)]
+fn behind_end(text: &[u8]) -> Option<&[u8]>
+    ensures { IfSome result (λ after.
+        (text.now ≡ 10 ∷ after.now) ⊎ (text.now ≡ 13 ∷ 10 ∷ after.now)) }
+{
+    match text {
+        [b'\n', after @ ..] => Some(after),
+        [b'\r', b'\n', after @ ..] => Some(after),
+        _ => None,
+    }
+}
+
+/// The first line of a text where it is of the usual form: its end is looked for behind the digits.
+#[inline(always)]
+pub fn usual_front(text: &[u8]) -> Option<FirstLine<'_>>
+    ensures { IfSome result (λ first.
+        IsFirstLine text.now first.line.now first.after.now first.usual) }
+{
+    if text.len() < LONGEST {
+        return None;
+    }
+    let place = text_place(text)?;
+    let at = place + 4;
+    let count = hex_of_sixteen(text, at);
+    let end = at + count;
+    if end < SHORTEST || count % 2 != 0 {
+        return None;
+    }
+    let (line, rest) = text.split_at(end);
+    let after = behind_end(rest)?;
+    let id = short_id(&line[place..])?;
+    let usual = Some((id, at));
+    Some(FirstLine { line, after, usual })
 }
 
 /// Four times three bytes of the stamp, weighed as digits are: nine of the seconds, without the first, and the milliseconds.
