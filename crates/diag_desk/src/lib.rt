@@ -25,6 +25,4 @@ pub use journal::{Journal, JournalPush};
 pub use laws::{prefixes_are_legal, texts_have_one_journal, writes_follow_unlocking};
 pub use read::{JournalFault, read_journal};
 pub use replaying::{ReplayFault, replay};
-pub use text::{
-    journal_text, journal_text_at, write_entry, write_entry_at, write_header, write_header_at,
-};
+pub use text::{journal_text, journal_text_at, write_entry, write_header, write_header_at};

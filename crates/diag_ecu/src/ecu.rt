@@ -269,24 +269,9 @@ impl Ecu {
         requires replied { option_copied answer ≡ reply self.old who functional p.now }
         ensures { self.new ≡ (outcome self.old who p.now).state }
     {
-        if let Some(service) = Service::of(p[0]) {
-            self.serve_known(who, functional, service, p, answer);
-        }
-    }
-
-    fn serve_known(
-        &mut self,
-        who: TesterId,
-        functional: bool,
-        service: Service,
-        p: &[u8],
-        answer: Option<&Message>,
-    )
-        requires some { 1 ≤ length p.now }
-        requires replied { option_copied answer
-            ≡ sent functional p.now (served self.old who (Some service) p.now).answer }
-        ensures { self.new ≡ (served self.old who (Some service) p.now).state }
-    {
+        let Some(service) = Service::of(p[0]) else {
+            return;
+        };
         if changes_nothing(service) {
             return;
         }

@@ -37,7 +37,7 @@ ghost use Rattle.diag_desk.specs.declared.entry.Entry.{Entry as AnEntry};
 ghost use Rattle.diag_desk.specs.Legal.{after, reply_to};
 ghost use Rattle.diag_world.specs.Weaving.{items_of};
 ghost use Rattle.diag_world.specs.Port.{step_in};
-ghost use Rattle.diag_world.specs.Server.{answer_to, closing_time, entry_of, quiet_of, server_of, state_at, went_to, AllDrained, AreEarly, EachRun, HasKept, IsClosed, LinkTook, Serves, ServerTook, Waited};
+ghost use Rattle.diag_world.specs.Server.{answer_to, closing_time, entry_of, quiet_of, server_of, state_at, went_to, AllDrained, AreEarly, EachRun, HasKept, IsClosed, LinkTook, Serves, ServerTook, TookNothing, Waited};
 
 use crate::keeper::Keeper;
 use crate::passing::{pass, pass_quiet};
@@ -217,9 +217,8 @@ fn take_at<K: Keeper>(
         who event.now out.old.items out.new.items) }
     ensures place { K.place keeper.new ≡ K.place keeper.old }
     ensures drained { pending link.new.state ≡ 0 }
-    ensures err { OnErr result ((link.new.state ≡ link.old.state)
-        × (ecu.new ≡ ecu.old)
-        × (out.new.items ≡ out.old.items)) }
+    ensures err { OnErr result
+        (TookNothing link.old link.new ecu.old ecu.new out.old.items out.new.items) }
     ensures full { result ≡ Err ServerFault.JournalFull
         → K.is_full keeper.old
         × EachHistory link.old.state (λ s E A Q. IsSome (gives s E event.now)) }
@@ -251,9 +250,8 @@ fn take_early<K: Keeper>(
         who event.now out.old.items out.new.items) }
     ensures place { K.place keeper.new ≡ K.place keeper.old }
     ensures drained { pending link.new.state ≡ 0 }
-    ensures err { OnErr result ((link.new.state ≡ link.old.state)
-        × (ecu.new ≡ ecu.old)
-        × (out.new.items ≡ out.old.items)) }
+    ensures err { OnErr result
+        (TookNothing link.old link.new ecu.old ecu.new out.old.items out.new.items) }
     ensures full { result ≡ Err StepFault.JournalFull
         → K.is_full keeper.old
         × EachHistory link.old.state (λ s E A Q. IsSome (gives s E event.now)) }
@@ -283,9 +281,8 @@ fn pass_at<K: Keeper>(
         who (AnEvent.Ticks count) out.old.items out.new.items) }
     ensures place { K.place keeper.new ≡ K.place keeper.old }
     ensures drained { pending link.new.state ≡ 0 }
-    ensures err { OnErr result ((link.new.state ≡ link.old.state)
-        × (ecu.new ≡ ecu.old)
-        × (out.new.items ≡ out.old.items)) }
+    ensures err { OnErr result
+        (TookNothing link.old link.new ecu.old ecu.new out.old.items out.new.items) }
     ensures full { result ≡ Err StepFault.JournalFull → K.is_full keeper.old }
 {
     out.reserve(link.backlog() as usize)?;
