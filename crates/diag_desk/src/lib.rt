@@ -18,7 +18,7 @@ mod table;
 mod text;
 mod usual;
 
-pub use desk::{Desk, StepFault, reply_of, settle_answered};
+pub use desk::{Desk, StepFault, put_reply, settle_answered};
 pub use entry::{Entry, EntryRef, MOST_ENTRIES, StepRef};
 pub use following::{Replayed, TextFault, TextReplay};
 pub use journal::{Journal, JournalPush};

@@ -13,6 +13,7 @@ ghost use Rattle.std.specs.Prelude.{
   map,
   Option,
   Some,
+  None,
   Err,
   IfOk,
   IfSome,
@@ -43,7 +44,7 @@ use crate::keeper::Keeper;
 use crate::passing::{pass, pass_quiet};
 use crate::port::{Prepared, prepare, settle, step};
 use diag_can::{Event, TickCount};
-use diag_desk::{StepFault, reply_of, settle_answered};
+use diag_desk::{StepFault, put_reply, settle_answered};
 use diag_ecu::Ecu;
 use diag_setup::{Setup, TesterId};
 use diag_tp::{Link, Message, Sent, Step};
@@ -260,7 +261,8 @@ fn take_early<K: Keeper>(
         return pass_at(link, ecu, who, *count, keeper, out);
     }
     let prepared = prepare(link, event, out)?;
-    let reply = answer_at(link, ecu, who, &prepared, keeper)?;
+    let mut reply = None;
+    answer_at(link, ecu, who, &prepared, keeper, &mut reply)?;
     settle(link, event, &prepared, reply, out);
     Ok(())
 }
@@ -292,7 +294,8 @@ fn pass_at<K: Keeper>(
     Ok(())
 }
 
-/// What the ECU answers to the step that an event gives, once the entry is kept; the ECU goes on to the state after it.
+/// Puts what the ECU answers to the step that an event gives in its place, where nothing stands, once the entry is kept; the
+/// ECU goes on to the state after it.
 #[inline(always)]
 fn answer_at<K: Keeper>(
     link: &Link,
@@ -300,12 +303,14 @@ fn answer_at<K: Keeper>(
     who: TesterId,
     prepared: &Prepared,
     keeper: &mut K,
-) -> Result<Option<Message>, StepFault>
+    reply: &mut Option<Message>,
+) -> Result<(), StepFault>
     requires early { link.now.state.now ≤ closing_time }
-    ensures reply { IfOk result (λ reply.
-        reply ≡ answer_to ecu.old who (step_in link.now prepared.now)) }
-    ensures kept { IfOk result (λ reply. HasKept K.keeps keeper.old keeper.new link.now.state.now
-        (entry_of who (step_in link.now prepared.now) reply)) }
+    requires none { reply.old ≡ None }
+    ensures reply { OnOk result
+        (reply.new ≡ answer_to ecu.old who (step_in link.now prepared.now)) }
+    ensures kept { OnOk result (HasKept K.keeps keeper.old keeper.new link.now.state.now
+        (entry_of who (step_in link.now prepared.now) reply.new)) }
     ensures ecu { OnOk result (ecu.new ≡ went_to ecu.old who (step_in link.now prepared.now)) }
     ensures place { K.place keeper.new ≡ K.place keeper.old }
     ensures err { OnErr result (ecu.new ≡ ecu.old) }
@@ -313,12 +318,12 @@ fn answer_at<K: Keeper>(
         → K.is_full keeper.old × IsSome (step_in link.now prepared.now) }
 {
     let Some(step) = step(link, prepared) else {
-        return Ok(None);
+        return Ok(());
     };
-    let reply = reply_of(ecu, who, step)?;
+    put_reply(ecu, who, step, reply)?;
     keeper.keep(link.now(), who, step, reply.as_ref())?;
     settle_answered(ecu, who, step, reply.as_ref());
-    Ok(reply)
+    Ok(())
 }
 
 /// Lets so many ticks pass at each link, in which it does nothing.
