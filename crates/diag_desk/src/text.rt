@@ -45,6 +45,7 @@ pub fn write_header_at(text: &mut Vec<u8>) -> Result<(), AllocError>
 /// tester before it.
 ///
 /// After an error the bytes that stood there are as before.
+#[inline(always)]
 pub fn write_entry(
     text: &mut Vec<u8>,
     stamped: bool,
