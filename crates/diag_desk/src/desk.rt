@@ -1,5 +1,5 @@
 //! The desk: the ECU with its journal.
-ghost use Rattle.std.specs.Prelude.{◌≡◌, ◌<◌, ◌≤◌, ◌↔◌, [], length, option_copied, IsTrue, OnErr, IfOk, IfErr, Err, None};
+ghost use Rattle.std.specs.Prelude.{◌≡◌, ◌<◌, ◌≤◌, ◌↔◌, [], length, option_copied, IsTrue, OnOk, OnErr, IfOk, IfErr, Err, None};
 ghost use Rattle.diag_ecu.specs.State.{opening};
 ghost use Rattle.diag_desk.specs.Entries.{entry};
 ghost use Rattle.diag_desk.specs.Entry.{IsJournal, most_entries};
@@ -115,7 +115,8 @@ impl Desk {
             return Err(StepFault::JournalFull);
         }
         self.journal.make_room(step)?;
-        let reply = reply_of(&self.ecu, who, step)?;
+        let mut reply = None;
+        put_reply(&self.ecu, who, step, &mut reply)?;
         // (for its contract: a reply has at most 65535 bytes)
         let _len = len_of(reply.as_ref());
         self.journal.add(who, step, reply.as_ref());
@@ -124,17 +125,28 @@ impl Desk {
     }
 }
 
-/// The reply to a step, none for ticks.
+/// Puts the reply to a step in its place, none for ticks.
+///
+/// # Errors
+/// `AllocError` where memory is refused; what stands in the place then isn't told.
 #[inline(always)]
-pub fn reply_of(ecu: &Ecu, who: TesterId, step: &Step) -> Result<Option<Message>, AllocError>
-    ensures { IfOk result (λ reply. reply ≡ reply_to ecu.now who step.now) }
+pub fn put_reply(
+    ecu: &Ecu,
+    who: TesterId,
+    step: &Step,
+    answer: &mut Option<Message>,
+) -> Result<(), AllocError>
+    ensures { OnOk result (answer.new ≡ reply_to ecu.now who step.now) }
 {
     match step {
         Step::Request {
             functional,
             message,
-        } => ecu.reply(who, *functional, message),
-        Step::Ticks(_) => Ok(None),
+        } => ecu.put_reply(who, *functional, message.bytes(), answer),
+        Step::Ticks(_) => {
+            *answer = None;
+            Ok(())
+        }
     }
 }
 

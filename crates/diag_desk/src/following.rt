@@ -271,7 +271,8 @@ fn answers_bytes<'a>(
         (encode_upper bytes.now ++ 32 ∷ text.now) rest.now) }
     ensures none { IfNone result (ecu.new ≡ ecu.old) }
 {
-    let Ok(said) = ecu.reply_to(who, functional, bytes) else {
+    let mut said = None;
+    let Ok(()) = ecu.put_reply(who, functional, bytes, &mut said) else {
         return None;
     };
     let Some(text) = behind_reply(said.as_ref(), text) else {

@@ -18,13 +18,11 @@ mod table;
 mod text;
 mod usual;
 
-pub use desk::{Desk, StepFault, reply_of, settle_answered};
+pub use desk::{Desk, StepFault, put_reply, settle_answered};
 pub use entry::{Entry, EntryRef, MOST_ENTRIES, StepRef};
 pub use following::{Replayed, TextFault, TextReplay};
 pub use journal::{Journal, JournalPush};
 pub use laws::{prefixes_are_legal, texts_have_one_journal, writes_follow_unlocking};
 pub use read::{JournalFault, read_journal};
 pub use replaying::{ReplayFault, replay};
-pub use text::{
-    journal_text, journal_text_at, write_entry, write_entry_at, write_header, write_header_at,
-};
+pub use text::{journal_text, journal_text_at, write_entry, write_header, write_header_at};

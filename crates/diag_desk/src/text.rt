@@ -41,20 +41,11 @@ pub fn write_header_at(text: &mut Vec<u8>) -> Result<(), AllocError>
     write_header(text, true)
 }
 
-/// Appends the line of an entry in version 2; `at` is the ticks of its tester up to and with it.
-///
-/// After an error the text may have a front of the line behind what stood there.
-pub fn write_entry_at(text: &mut Vec<u8>, at: u64, entry: &EntryRef<'_>) -> Result<(), AllocError>
-    ensures { OnOk result (text.new.items ≡ text.old.items
-        ++ ended (stamped_line true at (entry_line (entry_seen entry.now)))) }
-{
-    write_line(text, true, at, entry.who, &entry.step, entry.reply)
-}
-
 /// Appends the line of an entry: in version 2 where the text is stamped, else in version 1; `before` is the ticks of its
 /// tester before it.
 ///
 /// After an error the bytes that stood there are as before.
+#[inline(always)]
 pub fn write_entry(
     text: &mut Vec<u8>,
     stamped: bool,

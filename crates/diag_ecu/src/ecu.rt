@@ -102,25 +102,34 @@ impl Ecu {
     ) -> Result<Option<Message>, AllocError>
         ensures { IfOk result (λ r. r ≡ reply self.now who functional message.now) }
     {
-        self.reply_to(who, functional, message.bytes())
+        let mut answer = None;
+        self.put_reply(who, functional, message.bytes(), &mut answer)?;
+        Ok(answer)
     }
 
-    /// The reply to a request of these bytes. Those that come most often are answered by one look.
+    /// Puts the reply to a request of these bytes in its place, or none where none is sent. It is made where it stays, and
+    /// those that come most often by one look.
+    ///
+    /// # Errors
+    /// `AllocError` where memory is refused; what stands in the place then isn't told.
     #[inline(always)]
-    pub fn reply_to(
+    pub fn put_reply(
         &self,
         who: TesterId,
         functional: bool,
         p: &[u8],
-    ) -> Result<Option<Message>, AllocError>
+        answer: &mut Option<Message>,
+    ) -> Result<(), AllocError>
         requires { 1 ≤ length p.now }
-        ensures { IfOk result (λ r. r ≡ reply self.now who functional p.now) }
+        ensures { OnOk result (answer.new ≡ reply self.now who functional p.now) }
     {
         match p {
-            [0x22, high, low] => self.read_reply(who, functional, *high, *low),
-            [0x3E, 0x00] => Ok(Some(say(&[0x7E, 0x00]))),
-            _ => self.any_reply(who, functional, p),
+            [0x22, high, low] => return self.put_read_reply(who, functional, *high, *low, answer),
+            [0x3E, 0x00] => *answer = Some(say(&[0x7E, 0x00])),
+            [0x3E, 0x80] => *answer = None,
+            _ => *answer = self.any_reply(who, functional, p)?,
         }
+        Ok(())
     }
 
     /// Goes to the state after a tester's request, which is the same for a functional and a physical one. It takes no
@@ -269,24 +278,9 @@ impl Ecu {
         requires replied { option_copied answer ≡ reply self.old who functional p.now }
         ensures { self.new ≡ (outcome self.old who p.now).state }
     {
-        if let Some(service) = Service::of(p[0]) {
-            self.serve_known(who, functional, service, p, answer);
-        }
-    }
-
-    fn serve_known(
-        &mut self,
-        who: TesterId,
-        functional: bool,
-        service: Service,
-        p: &[u8],
-        answer: Option<&Message>,
-    )
-        requires some { 1 ≤ length p.now }
-        requires replied { option_copied answer
-            ≡ sent functional p.now (served self.old who (Some service) p.now).answer }
-        ensures { self.new ≡ (served self.old who (Some service) p.now).state }
-    {
+        let Some(service) = Service::of(p[0]) else {
+            return;
+        };
         if changes_nothing(service) {
             return;
         }

@@ -64,28 +64,33 @@ impl Ecu {
         Ok(Message::from_vec(bytes))
     }
 
-    /// The reply to a request for one identifier.
+    /// Puts the reply to a request for one identifier in its place.
     #[inline(always)]
-    pub(crate) fn read_reply(
+    pub(crate) fn put_read_reply(
         &self,
         who: TesterId,
         functional: bool,
         high: u8,
         low: u8,
-    ) -> Result<Option<Message>, AllocError>
-        ensures { IfOk result (λ r. r ≡ reply self.now who functional (0x22 ∷ high ∷ low ∷ [])) }
+        answer: &mut Option<Message>,
+    ) -> Result<(), AllocError>
+        ensures { OnOk result
+            (answer.new ≡ reply self.now who functional (0x22 ∷ high ∷ low ∷ [])) }
     {
         match self.lent_reply(who, functional, high, low) {
-            Some(lent) => self.said(lent),
-            None => Ok(None),
+            Some(lent) => self.put_said(lent, answer),
+            None => {
+                *answer = None;
+                Ok(())
+            }
         }
     }
 
-    /// The reply that is lent, with a copy of the value. Up to eight bytes are put together at once.
+    /// Puts the reply that is lent in its place, with a copy of the value. Up to eight bytes are put together at once.
     #[inline(always)]
-    fn said(&self, lent: Lent<'_>) -> Result<Option<Message>, AllocError>
+    fn put_said(&self, lent: Lent<'_>, answer: &mut Option<Message>) -> Result<(), AllocError>
         requires { length lent.value.now ≤ 255 }
-        ensures { IfOk result (λ reply. reply ≡ Some (lent_bytes lent.entry)) }
+        ensures { OnOk result (answer.new ≡ Some (lent_bytes lent.entry)) }
     {
         let [x, y, z] = lent.head;
         let few = match lent.value {
@@ -95,9 +100,13 @@ impl Ecu {
             [a, b, c] => say(&[x, y, z, *a, *b, *c]),
             [a, b, c, d] => say(&[x, y, z, *a, *b, *c, *d]),
             [a, b, c, d, e] => say(&[x, y, z, *a, *b, *c, *d, *e]),
-            value => return self.say_long(&lent.head, value),
+            value => {
+                *answer = self.say_long(&[x, y, z], value)?;
+                return Ok(());
+            }
         };
-        Ok(Some(few))
+        *answer = Some(few);
+        Ok(())
     }
 
     /// It too, or none where none is sent, with the value where it stands. None of the checks that every service has can

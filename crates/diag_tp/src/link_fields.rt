@@ -67,7 +67,7 @@ ghost use Rattle.diag_tp.specs.Link.{
 };
 
 use crate::frames::lone_frame;
-use crate::kind::{consecutive_part, is_of_no_kind, single_size};
+use crate::kind::{consecutive_part, flow_parts, is_of_no_kind, single_size};
 use crate::link::Link;
 use crate::message::Message;
 use crate::pci::Pci;
@@ -314,10 +314,13 @@ impl Link {
                     };
                 }
                 None if is_of_no_kind(bytes) => self.grant = None,
-                None => {
-                    let kind = self.kind(bytes);
-                    self.take_kind(&kind);
-                }
+                None => match flow_parts(bytes) {
+                    Some((status, block, gap)) => {
+                        self.sender.flow(&self.setup, status, block, gap);
+                        self.grant = None;
+                    }
+                    None => self.take_kind(&self.kind(bytes)),
+                },
             },
         }
     }

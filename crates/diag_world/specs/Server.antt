@@ -125,6 +125,10 @@ pub record LinkTook {X : Type 0} (keeps : X → ℕ → Entry → X → Type 0) 
   pub kept : HasKept keeps keeper keeper' old.state.now asked
   pub sent : Grew out out' (λ more. PortWent ecu ecu' old new who e asked more)
 
+-- a link, the ECU and the frames that were handed out are as before
+abbrev pub TookNothing : LinkView → LinkView → State → State → List Sent → List Sent → Type 0
+TookNothing old new ecu ecu' out out' = (new.state ≡ old.state) × (ecu' ≡ ecu) × (out' ≡ out)
+
 -- The link at this place took the event, by which it moved on in time, and sent these frames; the others are as before.
 -- A clock goes on by at most 60000 with an entry, and without one not at all: ticks always ask an entry.
 pub record MovedOn (old new : List LinkState) (place : ℕ) (e : Event) (asked : Option Entry)

@@ -44,8 +44,8 @@ pub trait Keeper {
 }
 
 /// Appends the line of the entry of a step and its reply: in version 2 where the text is stamped, else in version 1;
-/// `before` is the ticks of its tester before it.
-#[inline(always)]
+/// `before` is the ticks of its tester before it. (Not inlined: what a line is made of is passed in registers.)
+#[inline(never)]
 pub fn enter_step(
     text: &mut Vec<u8>,
     stamped: bool,

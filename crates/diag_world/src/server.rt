@@ -13,6 +13,7 @@ ghost use Rattle.std.specs.Prelude.{
   map,
   Option,
   Some,
+  None,
   Err,
   IfOk,
   IfSome,
@@ -37,13 +38,13 @@ ghost use Rattle.diag_desk.specs.declared.entry.Entry.{Entry as AnEntry};
 ghost use Rattle.diag_desk.specs.Legal.{after, reply_to};
 ghost use Rattle.diag_world.specs.Weaving.{items_of};
 ghost use Rattle.diag_world.specs.Port.{step_in};
-ghost use Rattle.diag_world.specs.Server.{answer_to, closing_time, entry_of, quiet_of, server_of, state_at, went_to, AllDrained, AreEarly, EachRun, HasKept, IsClosed, LinkTook, Serves, ServerTook, Waited};
+ghost use Rattle.diag_world.specs.Server.{answer_to, closing_time, entry_of, quiet_of, server_of, state_at, went_to, AllDrained, AreEarly, EachRun, HasKept, IsClosed, LinkTook, Serves, ServerTook, TookNothing, Waited};
 
 use crate::keeper::Keeper;
 use crate::passing::{pass, pass_quiet};
 use crate::port::{Prepared, prepare, settle, step};
 use diag_can::{Event, TickCount};
-use diag_desk::{StepFault, reply_of, settle_answered};
+use diag_desk::{StepFault, put_reply, settle_answered};
 use diag_ecu::Ecu;
 use diag_setup::{Setup, TesterId};
 use diag_tp::{Link, Message, Sent, Step};
@@ -217,9 +218,8 @@ fn take_at<K: Keeper>(
         who event.now out.old.items out.new.items) }
     ensures place { K.place keeper.new ≡ K.place keeper.old }
     ensures drained { pending link.new.state ≡ 0 }
-    ensures err { OnErr result ((link.new.state ≡ link.old.state)
-        × (ecu.new ≡ ecu.old)
-        × (out.new.items ≡ out.old.items)) }
+    ensures err { OnErr result
+        (TookNothing link.old link.new ecu.old ecu.new out.old.items out.new.items) }
     ensures full { result ≡ Err ServerFault.JournalFull
         → K.is_full keeper.old
         × EachHistory link.old.state (λ s E A Q. IsSome (gives s E event.now)) }
@@ -251,9 +251,8 @@ fn take_early<K: Keeper>(
         who event.now out.old.items out.new.items) }
     ensures place { K.place keeper.new ≡ K.place keeper.old }
     ensures drained { pending link.new.state ≡ 0 }
-    ensures err { OnErr result ((link.new.state ≡ link.old.state)
-        × (ecu.new ≡ ecu.old)
-        × (out.new.items ≡ out.old.items)) }
+    ensures err { OnErr result
+        (TookNothing link.old link.new ecu.old ecu.new out.old.items out.new.items) }
     ensures full { result ≡ Err StepFault.JournalFull
         → K.is_full keeper.old
         × EachHistory link.old.state (λ s E A Q. IsSome (gives s E event.now)) }
@@ -262,7 +261,8 @@ fn take_early<K: Keeper>(
         return pass_at(link, ecu, who, *count, keeper, out);
     }
     let prepared = prepare(link, event, out)?;
-    let reply = answer_at(link, ecu, who, &prepared, keeper)?;
+    let mut reply = None;
+    answer_at(link, ecu, who, &prepared, keeper, &mut reply)?;
     settle(link, event, &prepared, reply, out);
     Ok(())
 }
@@ -283,9 +283,8 @@ fn pass_at<K: Keeper>(
         who (AnEvent.Ticks count) out.old.items out.new.items) }
     ensures place { K.place keeper.new ≡ K.place keeper.old }
     ensures drained { pending link.new.state ≡ 0 }
-    ensures err { OnErr result ((link.new.state ≡ link.old.state)
-        × (ecu.new ≡ ecu.old)
-        × (out.new.items ≡ out.old.items)) }
+    ensures err { OnErr result
+        (TookNothing link.old link.new ecu.old ecu.new out.old.items out.new.items) }
     ensures full { result ≡ Err StepFault.JournalFull → K.is_full keeper.old }
 {
     out.reserve(link.backlog() as usize)?;
@@ -295,7 +294,8 @@ fn pass_at<K: Keeper>(
     Ok(())
 }
 
-/// What the ECU answers to the step that an event gives, once the entry is kept; the ECU goes on to the state after it.
+/// Puts what the ECU answers to the step that an event gives in its place, where nothing stands, once the entry is kept; the
+/// ECU goes on to the state after it.
 #[inline(always)]
 fn answer_at<K: Keeper>(
     link: &Link,
@@ -303,12 +303,14 @@ fn answer_at<K: Keeper>(
     who: TesterId,
     prepared: &Prepared,
     keeper: &mut K,
-) -> Result<Option<Message>, StepFault>
+    reply: &mut Option<Message>,
+) -> Result<(), StepFault>
     requires early { link.now.state.now ≤ closing_time }
-    ensures reply { IfOk result (λ reply.
-        reply ≡ answer_to ecu.old who (step_in link.now prepared.now)) }
-    ensures kept { IfOk result (λ reply. HasKept K.keeps keeper.old keeper.new link.now.state.now
-        (entry_of who (step_in link.now prepared.now) reply)) }
+    requires none { reply.old ≡ None }
+    ensures reply { OnOk result
+        (reply.new ≡ answer_to ecu.old who (step_in link.now prepared.now)) }
+    ensures kept { OnOk result (HasKept K.keeps keeper.old keeper.new link.now.state.now
+        (entry_of who (step_in link.now prepared.now) reply.new)) }
     ensures ecu { OnOk result (ecu.new ≡ went_to ecu.old who (step_in link.now prepared.now)) }
     ensures place { K.place keeper.new ≡ K.place keeper.old }
     ensures err { OnErr result (ecu.new ≡ ecu.old) }
@@ -316,12 +318,12 @@ fn answer_at<K: Keeper>(
         → K.is_full keeper.old × IsSome (step_in link.now prepared.now) }
 {
     let Some(step) = step(link, prepared) else {
-        return Ok(None);
+        return Ok(());
     };
-    let reply = reply_of(ecu, who, step)?;
+    put_reply(ecu, who, step, reply)?;
     keeper.keep(link.now(), who, step, reply.as_ref())?;
     settle_answered(ecu, who, step, reply.as_ref());
-    Ok(reply)
+    Ok(())
 }
 
 /// Lets so many ticks pass at each link, in which it does nothing.

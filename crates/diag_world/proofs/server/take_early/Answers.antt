@@ -15,20 +15,20 @@ returns-clause-took g c =
     let read = c.prepare.new.link in
     let same = c.in_ok-prepared.ensures.same in
     let o = step_in read c.in_ok-prepared.prepared in
-    let reply = c.in_ok-reply.reply in
+    let reply = c.answer_at.new.reply in
     let k = entry_of who o reply in
     let took = c.settle.ensures.took in
     let early = subst (λ (S : LinkState). S.now ≤ closing_time) (sym same) c.requires.early in
     let step = subst (λ S. EachHistory S (λ s E A Q. o ≡ gives s E e)) (sym same) c.in_ok-prepared.ensures.step in
     record {
       asked = k;
-      kept = subst (λ (S : LinkState). HasKept g.K.Keeper.keeps c.args.keeper.now c.answer_at.new.keeper S.now k) same c.in_ok-reply.ensures.kept;
+      kept = subst (λ (S : LinkState). HasKept g.K.Keeper.keeps c.args.keeper.now c.answer_at.new.keeper S.now k) same c.in_ok-answer_at.ensures.kept;
       sent = record {
         more = took.more;
         grown = took.grown ∙ ap (λ w. w ++ took.more) c.in_ok-prepared.ensures.out;
         holds = went_from c.args.ecu.now c.answer_at.new.ecu c.args.link.now read c.settle.new.link who e k took.more same
             (port_went c.args.ecu.now c.answer_at.new.ecu read c.settle.new.link who e o reply took.more step c.in_ok-prepared.ensures.ticks early
-            c.in_ok-reply.ensures.reply c.in_ok-reply.ensures.ecu c.settle.ensures.time c.settle.ensures.most took.holds.0 c.settle.ensures.short
+            c.in_ok-answer_at.ensures.reply c.in_ok-answer_at.ensures.ecu c.settle.ensures.time c.settle.ensures.most took.holds.0 c.settle.ensures.short
             took.holds.1);
       };
     }
