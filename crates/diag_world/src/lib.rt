@@ -6,16 +6,16 @@ mod keeper;
 mod laws;
 mod passing;
 mod port;
-mod rounds;
 mod serial_play;
 mod server;
+mod taking;
 mod world;
 
 pub use channel::Channel;
 pub use keeper::{Keeper, enter_step};
 pub use laws::{interleaving_law, turns_law, weaving_law};
 pub use port::Prepared;
-pub use rounds::{TakeEvents, take_turns};
 pub use serial_play::{Played, serial};
 pub use server::{Server, ServerFault};
+pub use taking::{TakeEvents, take_turns};
 pub use world::World;

@@ -7,7 +7,7 @@ ghost use Rattle.diag_world.specs.Headline.{IsPlay};
 ghost use Rattle.diag_world.specs.Weaving.{steps_of, turns};
 
 use crate::laws::{interleaving_law, turns_law};
-use crate::rounds::take_turns;
+use crate::taking::take_turns;
 use crate::world::World;
 use diag_can::Event;
 use diag_desk::{Desk, StepFault};

@@ -25,7 +25,7 @@ ghost use Rattle.diag_world.specs.Weaving.{items_of};
 ghost use Rattle.diag_world.specs.World.{EachInterleaving, Stands, Took};
 
 use crate::channel::Channel;
-use crate::rounds::TakeEvents;
+use crate::taking::TakeEvents;
 use crate::serial_play::Played;
 use diag_can::Event;
 use diag_desk::{Desk, Journal, StepFault};

@@ -1,7 +1,7 @@
 use Rattle.std.proofs.Common.{◌++◌, ℕ, List, map, take, drop}
 use Rattle.diag_can.specs.declared.frame.Event.{Event as AnEvent}
 use Rattle.diag_world.specs.Weaving.{first_of_each}
-use Rattle.diag_world.proofs.rounds.take_round.Given as goal
+use Rattle.diag_world.proofs.taking.take_round.Given as goal
 
 abbrev pub invariant-loop-index : goal.invariant-loop-index
 invariant-loop-index g l =

@@ -10,8 +10,8 @@ use Rattle.diag_world.specs.Weaving.{first_of_each, steps_of}
 use Rattle.diag_world.proofs.Headlines.{steps_grow}
 use Rattle.diag_world.proofs.Rounds.{round_take, round_gives, round_ends, round_splits}
 use Rattle.diag_world.proofs.Worlds.{who_found}
-use Rattle.diag_world.proofs.rounds.take_round.Goals.{then-round-len+in-Some+in_ok-take_event, else-round-len}
-use Rattle.diag_world.proofs.rounds.take_round.Goals as goal
+use Rattle.diag_world.proofs.taking.take_round.Goals.{then-round-len+in-Some+in_ok-take_event, else-round-len}
+use Rattle.diag_world.proofs.taking.take_round.Goals as goal
 
 pub take_event-requires : goal.take_event-requires
 take_event-requires g c =
@@ -48,7 +48,7 @@ loop-index-preserved g c = λ terms M h.
           let grown = more ∙ ap (λ x. F ++ x) (round_gives (p + 1) log.items r e here
           ∙ ap (λ n. (n, e) ∷ []) (sym (who_found c.args.setup.now p who w.in-Some.ensures))) in
           subst (λ x. g.T.TakeEvents.took x terms (M ++ first_of_each 1 (take (p + 1) (map (drop r) events)))) (sym w.taker-is)
-          (subst (λ x. g.T.TakeEvents.took w.take_event.new.taker terms x) (append_assoc M F ((who, e) ∷ []) ∙ ap (λ x. M ++ x) (sym grown))
+          (subst (λ x. g.T.TakeEvents.took w.take_event.new.self terms x) (append_assoc M F ((who, e) ∷ []) ∙ ap (λ x. M ++ x) (sym grown))
           (w.in_ok-take_event.ensures.took terms (M ++ F) stands)))
       | else-round-len w ↦ (
           let past : length log.items ≤ r = omega (arith, w.if-round-len.false, c.len.ensures, log.ok.0) in

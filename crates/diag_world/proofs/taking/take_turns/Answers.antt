@@ -5,7 +5,7 @@ use Rattle.diag_setup.specs.declared.raw.RawSetup.{RawSetup}
 use Rattle.diag_world.specs.Weaving.{first_of_each, rounds, longest, steps_of}
 use Rattle.diag_world.proofs.Headlines.{steps_grow}
 use Rattle.diag_world.proofs.Rounds.{rounds_more, rounds_begin}
-use Rattle.diag_world.proofs.rounds.take_turns.Goals as goal
+use Rattle.diag_world.proofs.taking.take_turns.Goals as goal
 
 pub take_round-requires-clause-begun : goal.take_round-requires-clause-begun
 take_round-requires-clause-begun g c =

@@ -1,6 +1,6 @@
 use Rattle.std.proofs.Common.{[], map}
 use Rattle.diag_world.specs.Weaving.{rounds}
-use Rattle.diag_world.proofs.rounds.take_turns.Given as goal
+use Rattle.diag_world.proofs.taking.take_turns.Given as goal
 
 abbrev pub invariant-loop-round : goal.invariant-loop-round
 invariant-loop-round g l =
