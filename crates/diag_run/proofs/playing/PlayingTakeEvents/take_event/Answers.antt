@@ -24,7 +24,7 @@ returns-clause-took c = λ terms M h.
 
 pub returns-in_err-take-clause-full : goal.returns-in_err-take-clause-full
 returns-in_err-take-clause-full c = λ is terms M h.
-    let fault = err_from_is_err_and c.from_residual-in_err-take.result c.from_residual-in_err-take.ensures.1 in
+    let fault = err_from_is_err_and c.from_residual.result c.from_residual.ensures.1 in
     let full = c.in_err-take.ensures.full (ap (λ f. Err f) (sym fault.2) ∙ (sym fault.1 ∙ is)) in
     too_many (link_of terms.setup) h.1.entries M c.args.who c.args.event.now h.1.serves.run (sym h.1.journal.number ∙ full.0)
     (full.1 terms.setup M h.1.entries h.1.serves)
