@@ -15,6 +15,7 @@ use Rattle.diag_desk.specs.Fault.{FaultAt, IsTextOf}
 use Rattle.diag_desk.specs.Following.{Followed, FollowedIn, Follows, HasFollowed, HasTaken, read_so_far}
 use Rattle.diag_desk.specs.PartRead.{HasNoNext}
 use Rattle.diag_can.specs.Pieces.{TakesLines}
+use Rattle.diag_can.proofs.Pieces.{all_taken}
 use Rattle.diag_desk.specs.Text.{ended, header, line_after, text_of}
 use Rattle.diag_desk.proofs.CutText.{cut-joins, one_cut}
 use Rattle.diag_desk.proofs.ReadLemmas.{header_fault, stuck_at_end, stuck_at_line, stuck_fault, text_begins, text_one}
@@ -183,29 +184,21 @@ module _ (setup : RawSetup) (old new : TextReplay) (text : List ℕ) where
   -- the line of that number is at fault
   pub fault_taken : (n : ℕ) → new.fault ≡ Some n → ((seen : List ℕ) → HasTaken setup old seen → (more : List ℕ) → FaultAt (seen ++ (text ++ more)) n)
       → TakesLines (HasTaken setup old) (HasTaken setup new) text []
-  fault_taken n some at = record {
-    front = text;
-    is = sym (append-nil text);
-    begun = All-nil (λ c. is_feed c ≡ false);
-    takes = λ seen h. record {
-      well = λ none. cc (sym some ∙ none);
-      fault = λ m same more.
-          let number : n ≡ m = same_number n m (sym some ∙ same) in
-          subst (FaultAt ((seen ++ text) ++ more)) number (subst (λ t. FaultAt t n) (sym (append_assoc seen text more)) (at seen h more));
-    };
-  }
+  fault_taken n some at =
+      all_taken (HasTaken setup old) (HasTaken setup new) text (λ seen h. record {
+        well = λ none. cc (sym some ∙ none);
+        fault = λ m same more.
+            let number : n ≡ m = same_number n m (sym some ∙ same) in
+            subst (FaultAt ((seen ++ text) ++ more)) number (subst (λ t. FaultAt t n) (sym (append_assoc seen text more)) (at seen h more));
+      })
 
 -- behind a line at fault
 pub behind_fault : (setup : RawSetup) (r : TextReplay) (text : List ℕ) → (r.fault ≡ None → ⊥) → TakesLines (HasTaken setup r) (HasTaken setup r) text []
-behind_fault setup r text some = record {
-  front = text;
-  is = sym (append-nil text);
-  begun = All-nil (λ c. is_feed c ≡ false);
-  takes = λ seen h. record {
-    well = λ none. absurd (some none);
-    fault = λ n is more. subst (λ t. FaultAt t n) (sym (append_assoc seen text more)) (h.fault n is (text ++ more));
-  };
-}
+behind_fault setup r text some =
+    all_taken (HasTaken setup r) (HasTaken setup r) text (λ seen h. record {
+      well = λ none. absurd (some none);
+      fault = λ n is more. subst (λ t. FaultAt t n) (sym (append_assoc seen text more)) (h.fault n is (text ++ more));
+    })
 
 -- no line ends in the text
 pub none_taken : (P : List ℕ → Type 0) (text : List ℕ) → cut 10 text ≡ None → TakesLines P P text text
