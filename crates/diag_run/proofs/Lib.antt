@@ -1,6 +1,7 @@
 pub mod Following
 pub mod Inputs
 pub mod Known
+pub mod Logs
 pub mod Order
 pub mod Pieces
 pub mod Plays
