@@ -1,7 +1,7 @@
+pub mod Finishing
 pub mod Following
 pub mod Inputs
 pub mod Known
-pub mod Logs
 pub mod Order
 pub mod Pieces
 pub mod Plays

@@ -121,8 +121,9 @@ pub(crate) fn finish_logs(
     let mut logs = Vec::new(alloc);
     for taker in takers {
         let log = finish_log(taker)?;
-        if logs.push(log).is_err() {
-            return Err(PlayFault::Memory);
+        match logs.push(log) {
+            Ok(()) => {}
+            Err(_) => return Err(PlayFault::Memory),
         }
     }
     Ok(logs)
