@@ -9,7 +9,7 @@ use lib.Lanes.{chunk, zip2, mask_l, top}
 use Rattle.std.proofs.Math.Nat.{pow-le-pow_right, div-lt_iff_lt-mul, div-eq_of_lt}
 use Rattle.std.proofs.lemmas.Nat.{pow_pos}
 use Rattle.memchr.specs.Find.{IsFirstByte}
-use Rattle.diag_can.specs.Lanes.{IsRunIn, first_set}
+use Rattle.diag_can.specs.Lanes.{IsMask, IsRunIn, first_set}
 
 zip2-map : (h : ℕ → ℕ → ℕ) (f g : ℕ → ℕ) (xs : List ℕ) → zip2 h (map f xs) (map g xs) ≡ map (λ x. h (f x) (g x)) xs
 zip2-map h f g [] = refl
@@ -99,6 +99,15 @@ module _ (q : ℕ → Bool) (d : List ℕ) (i n s : ℕ) (z : List ℕ) (room : 
       let lane : get_or (map past v) j false ≡ past (get_or v j 0) = get_or-map past v j 0 false (omega (arith, length-chunk i n d room)) in
       let at : get_or v j 0 ≡ get_or d k 0 = get_or-chunk i n d j 0 (omega arith) ∙ ap (λ m. get_or d m 0) back in
       not-false _ (sym (agree_below_at past (λ x. not (q x)) 256 (get_or d k 0) all (fits k).fits) ∙ ap past (sym at) ∙ sym lane ∙ unset _ bit)
+
+-- the mask of the bytes that fail q
+pub mask_in : (q : ℕ → Bool) (d : List ℕ) (i n : ℕ) (z : List ℕ) → i + n ≤ length d → n ≤ 64 → ((k : ℕ) → Fits w8 (get_or d k 0))
+    → (f : ℕ → ℕ) → z ≡ map f (chunk i n d) → agree_below (λ x. top 7 (f x)) (λ x. not (q x)) 256 ≡ true
+    → IsMask q d i n (mask_l (map (top 7) z) % 2 ^ 64)
+mask_in q d i n z room few fits f lanes all = record {
+  run = run_in q d i n (first_set (mask_l (map (top 7) z) % 2 ^ 64) n) z room few fits refl f lanes all;
+  tail = λ s none. tail_in q d i n s z room few fits none f lanes all;
+}
 
 -- where the run ends inside, the first byte that ends it stands there
 pub first_byte : (test : ℕ → Bool) (text : List ℕ) (n r : ℕ) → n ≤ length text → r < n → IsRunIn (λ c. not (test c)) text 0 n r → IsFirstByte test text (Some r)

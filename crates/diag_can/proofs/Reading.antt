@@ -1,20 +1,26 @@
 -- A log that is read line by line.
-use Rattle.std.proofs.Common.{◌≡◌, ℕ, ◌+◌, ◌<◌, ◌≤◌, false, nat_le, nat_lt, max, List, [], ◌∷◌, ◌++◌, length, refl, sym, ap, ◌∙◌, append_assoc, append-nil, length-append, arith, Option, Some, None, Result, Ok, Err}
+use Rattle.std.proofs.Common.{◌≡◌, ℕ, ◌+◌, ◌<◌, ◌≤◌, true, false, nat_le, nat_lt, max, List, [], ◌∷◌, ◌++◌, length, refl, sym, ap, subst, ◌∙◌, append_assoc, append-nil, length-append, arith, Option, Some, None, Ok, Err}
 use Rattle.std.specs.Option.{option_or}
 use Rattle.std.specs.List.{filter_map, cons_option, reduce}
 use Rattle.std.proofs.lemmas.List.Elements.{filter_map-append}
 use Rattle.std.proofs.lemmas.List.Sums.{fold-append}
 use Rattle.std.proofs.lemmas.Bool.Decides.{nat_tests}
+use Rattle.diag_can.specs.Bus.{HasNoFeed}
+use Rattle.diag_can.specs.HasRead.{AreRead, HasLines}
 use Rattle.diag_can.specs.Line.{frame_moment, line_event}
-use Rattle.diag_can.specs.Log.{lines_of, reference, silence, line_gives, events_after, fault_after, first_fault, unless_fault, events}
+use Rattle.diag_can.specs.Log.{lines_of, without_return, reference, silence, line_gives, events_after, fault_after, first_fault, unless_fault, log_events, events}
 use Rattle.diag_can.specs.Reading.{later, fault_with, given_at}
 use Rattle.diag_can.specs.declared.fault.LogFault.{LogFault}
+use Rattle.diag_can.specs.declared.fault.LogFault.TheVariants.{TooManyLines}
 use Rattle.diag_can.specs.declared.frame.Ids.{Ids}
 use Rattle.diag_can.specs.declared.frame.Event.{Event}
 use Rattle.diag_can.specs.declared.log.Reading.{Reading}
 use Rattle.diag_can.specs.declared.log.Timing.{Timing}
 use Rattle.diag_can.specs.declared.log.Timing.TheVariants.{Lines, Stamps}
+use Rattle.diag_can.specs.declared.log_reader.LogReader.{LogReader}
 use Rattle.diag_can.specs.Took.{Took}
+use Rattle.diag_can.proofs.BusLines.{begun_line-line}
+use Rattle.diag_can.proofs.Lines.{lines_of-last, lines_of-line, lines_of-more}
 
 -- ---- the reference
 
@@ -74,72 +80,89 @@ took-none timing ids all line few nothing timeless =
       well = λ number. rw (nothing, timeless, ← same, below) refl;
     }
 
--- ---- what is read
+-- ---- faults
 
--- what a log is where these lines are well and those follow
-abbrev pub outcome : Timing → Ids → List (List ℕ) → List (List ℕ) → Result (List Event) LogFault
-outcome timing ids past lines = unless_fault (events_after timing ids [] (past ++ lines)) (first_fault timing ids past lines)
+-- behind lines that are well
+faults_behind : (timing : Timing) (ids : Ids) (past lines more : List (List ℕ)) → first_fault timing ids past lines ≡ None
+    → first_fault timing ids past (lines ++ more) ≡ first_fault timing ids (past ++ lines) more
+faults_behind timing ids past [] more none = ap (λ (ls : List (List ℕ)). first_fault timing ids ls more) (sym (append-nil past))
+faults_behind timing ids past (line ∷ lines) more none =
+    let both = neither (fault_after timing ids past line) (first_fault timing ids (past ++ line ∷ []) lines) none in
+    ap (λ (fault : Option LogFault). option_or fault (first_fault timing ids (past ++ line ∷ []) (lines ++ more))) both.0
+    ∙ faults_behind timing ids (past ++ line ∷ []) lines more both.1
+    ∙ ap (λ (ls : List (List ℕ)). first_fault timing ids ls more) (append_assoc past (line ∷ []) lines)
+  where
+    neither : (a b : Option LogFault) → option_or a b ≡ None → (a ≡ None) × (b ≡ None)
+    neither None b none = (refl, none)
+    neither (Some fault) b none = cc none
 
--- the first lines of a text were read and are well
-pub record IsReadTo (text : List ℕ) (ids : Ids) (timing : Timing) (rest : List ℕ) (found : List Event) (latest : Option ℕ) (count : ℕ)
-    (past : List (List ℕ)) : Type 0 where
-  pub stands : events text ids timing ≡ outcome timing ids past (lines_of rest)
-  pub found_is : found ≡ events_after timing ids [] past
-  pub latest_is : timing ≡ Stamps → latest ≡ reference ids past
-  pub count_is : length past ≡ count
-  pub few : length found ≤ 1000000
+module _ {ids : Ids} {timing : Timing} {old : LogReader} {past : List (List ℕ)} (h : AreRead ids timing old past) (line : List ℕ) where
+  -- the fault of the next line, by what was read
+  pub next_fault : old.lines < 1000000
+      → fault_after timing ids past line ≡ fault_with timing ids old.reading.events.items old.reading.reference (old.lines + 1) line
+  next_fault room =
+      let below : nat_le 1000000 (length past) ≡ false = let c = h.count in grind (arith, nat_tests) in
+      let gives = gives-same timing ids line old.reading.reference (reference ids past) h.reference_is in
+      rw (below, events-more timing ids [] past line, ← h.events_are, ← gives, ← h.count) refl
 
-pub read-none : (text : List ℕ) (ids : Ids) (timing : Timing) → IsReadTo text ids timing text [] None 0 []
+  pub too_many : 1000000 ≤ old.lines → fault_after timing ids past line ≡ Some TooManyLines
+  too_many full =
+      let over : nat_le 1000000 (length past) ≡ true = let c = h.count in grind (arith, nat_tests) in
+      rw over refl
+
+  pub line_read : (new : LogReader) → old.lines < 1000000 → new.lines ≡ old.lines + 1 → Took timing ids old.reading new.reading line
+      → AreRead ids timing new (past ++ line ∷ [])
+  line_read new room one took = record {
+    well = faults_behind timing ids [] past (line ∷ []) h.well
+        ∙ ap (λ (fault : Option LogFault). option_or fault None) (next_fault room ∙ took.well _);
+    count = one ∙ ap (λ (n : ℕ). n + 1) h.count ∙ sym (length-append past (line ∷ []));
+    events_are = took.grown.events ∙ ap (λ (events : List Event). events ++ line_gives timing old.reading.reference ids line) h.events_are
+        ∙ ap (λ (given : List Event). events_after timing ids [] past ++ given)
+        (gives-same timing ids line old.reading.reference (reference ids past) h.reference_is)
+        ∙ sym (events-more timing ids [] past line);
+    reference_is = λ stamps. took.grown.reference stamps
+        ∙ ap (λ (moment : Option ℕ). later moment (frame_moment ids line)) (h.reference_is stamps)
+        ∙ sym (reference-more ids past line);
+    few = took.grown.few;
+  }
+
+-- ---- a log
+
+-- a log of which these lines were read
+pub all_read : (ids : Ids) (timing : Timing) (r : LogReader) (text : List ℕ) → AreRead ids timing r (lines_of text)
+    → events text ids timing ≡ Ok r.reading.events.items
 unfolding events
-read-none text ids timing = record { stands = refl; found_is = refl; latest_is = λ _. refl; count_is = refl; few = omega arith }
+all_read ids timing r text h =
+    (λ i. unless_fault (events_after timing ids [] (lines_of text)) (h.well i)) ∙ ap (λ (es : List Event). Ok es) (sym h.events_are)
 
--- the faults of the next line, by what was found
-fault_after-is : {text : List ℕ} {ids : Ids} {timing : Timing} {rest : List ℕ} {found : List Event} {latest : Option ℕ} {count : ℕ}
-    {past : List (List ℕ)} (line : List ℕ)
-    → IsReadTo text ids timing rest found latest count past → count < 1000000
-    → fault_after timing ids past line ≡ fault_with timing ids found latest (count + 1) line
-fault_after-is {ids = ids} {timing = timing} {latest = latest} {past = past} line r lt =
-    let below : nat_le 1000000 (length past) ≡ false = let c = r.count_is in grind (arith, nat_tests) in
-    let gives = gives-same timing ids line latest (reference ids past) r.latest_is in
-    rw (below, events-more timing ids [] past line, ← r.found_is, ← gives, r.count_is) refl
+module _ {ids : Ids} {timing : Timing} {r : LogReader} {seen : List ℕ} (h : HasLines ids timing r seen) where
+  -- the first fault is that of the line behind them
+  pub fault_next : (line more : List ℕ) (lines : List (List ℕ)) (fault : LogFault) → lines_of more ≡ line ∷ lines
+      → fault_after timing ids (lines_of seen) line ≡ Some fault → events (seen ++ more) ids timing ≡ Err fault
+  unfolding events
+  fault_next line more lines fault begins at =
+      let all : lines_of (seen ++ more) ≡ lines_of seen ++ line ∷ lines =
+      lines_of-more seen more h.whole ∙ ap (λ (ls : List (List ℕ)). lines_of seen ++ ls) begins in
+      ap (log_events timing ids) all
+      ∙ ap (unless_fault (events_after timing ids [] (lines_of seen ++ line ∷ lines))) (faults_behind timing ids [] (lines_of seen) (line ∷ lines) h.read.well
+      ∙ ap (λ (found : Option LogFault). option_or found (first_fault timing ids (lines_of seen ++ line ∷ []) lines)) at)
 
-outcome-more : (timing : Timing) (ids : Ids) (past : List (List ℕ)) (line : List ℕ) (lines : List (List ℕ))
-    → fault_after timing ids past line ≡ None → outcome timing ids past (line ∷ lines) ≡ outcome timing ids (past ++ line ∷ []) lines
-outcome-more timing ids past line lines well =
-    let further : Option LogFault = first_fault timing ids (past ++ line ∷ []) lines in
-    let joined : (past ++ line ∷ []) ++ lines ≡ past ++ line ∷ lines = append_assoc past (line ∷ []) lines in
-    ap (λ (ls : List (List ℕ)). unless_fault (events_after timing ids [] ls) (option_or (fault_after timing ids past line) further)) (sym joined)
-    ∙ ap (λ (fault : Option LogFault). unless_fault (events_after timing ids [] ((past ++ line ∷ []) ++ lines)) (option_or fault further)) well
+  -- one line more
+  pub one_more : (new : LogReader) (line : List ℕ) → HasNoFeed line → AreRead ids timing new (lines_of seen ++ without_return line ∷ [])
+      → HasLines ids timing new (seen ++ (line ++ 10 ∷ []))
+  one_more new line none read = record {
+    whole = begun_line-line seen line none;
+    read = subst (AreRead ids timing new) (sym (lines_of-line seen line h.whole none)) read;
+  }
 
-outcome-fault : (timing : Timing) (ids : Ids) (past : List (List ℕ)) (line : List ℕ) (lines : List (List ℕ)) (fault : LogFault)
-    → fault_after timing ids past line ≡ Some fault → outcome timing ids past (line ∷ lines) ≡ Err fault
-outcome-fault timing ids past line lines fault at =
-    ap (λ (found : Option LogFault). unless_fault (events_after timing ids [] (past ++ line ∷ lines))
-    (option_or found (first_fault timing ids (past ++ line ∷ []) lines))) at
+  -- the log ends
+  pub ended : (begun : List ℕ) → length begun ≡ 0 → events (seen ++ begun) ids timing ≡ Ok r.reading.events.items
+  ended [] none = ap (λ (t : List ℕ). events t ids timing) (append-nil seen) ∙ all_read ids timing r seen h.read
+  ended (c ∷ begun) none = absurd (omega arith)
 
-pub read-more : {text : List ℕ} {ids : Ids} {timing : Timing} {rest : List ℕ} {old new : Reading} {count : ℕ} {past : List (List ℕ)} (line after : List ℕ)
-    → IsReadTo text ids timing rest old.events.items old.reference count past → count < 1000000
-    → lines_of rest ≡ line ∷ lines_of after
-    → Took timing ids old new line
-    → IsReadTo text ids timing after new.events.items new.reference (count + 1) (past ++ line ∷ [])
-read-more {ids = ids} {timing = timing} {old = old} {past = past} line after r lt lines took = record {
-  stands = r.stands ∙ ap (λ (ls : List (List ℕ)). outcome timing ids past ls) lines
-      ∙ outcome-more timing ids past line (lines_of after) (fault_after-is line r lt ∙ took.well _);
-  found_is = took.grown.events ∙ ap (λ (events : List Event). events ++ line_gives timing old.reference ids line) r.found_is
-      ∙ ap (λ (given : List Event). events_after timing ids [] past ++ given) (gives-same timing ids line old.reference (reference ids past) r.latest_is)
-      ∙ sym (events-more timing ids [] past line);
-  latest_is = λ stamps. took.grown.reference stamps ∙ ap (λ (moment : Option ℕ). later moment (frame_moment ids line)) (r.latest_is stamps)
-      ∙ sym (reference-more ids past line);
-  count_is = length-append past (line ∷ []) ∙ ap (λ (n : ℕ). n + 1) r.count_is;
-  few = took.grown.few;
-}
-
-pub read-fault : {text : List ℕ} {ids : Ids} {timing : Timing} {rest : List ℕ} {found : List Event} {latest : Option ℕ} {count : ℕ}
-    {past : List (List ℕ)} (line after : List ℕ) (fault : LogFault)
-    → IsReadTo text ids timing rest found latest count past → count < 1000000
-    → lines_of rest ≡ line ∷ lines_of after
-    → fault_with timing ids found latest (count + 1) line ≡ Some fault
-    → events text ids timing ≡ Err fault
-read-fault {ids = ids} {timing = timing} {past = past} line after fault r lt lines at =
-    r.stands ∙ ap (λ (ls : List (List ℕ)). outcome timing ids past ls) lines
-    ∙ outcome-fault timing ids past line (lines_of after) fault (fault_after-is line r lt ∙ at)
+  -- and in a line that no line feed ends
+  pub ended_in : (new : LogReader) (line : List ℕ) → HasNoFeed line → 0 < length line → AreRead ids timing new (lines_of seen ++ without_return line ∷ [])
+      → events (seen ++ line) ids timing ≡ Ok new.reading.events.items
+  ended_in new line none some read =
+      all_read ids timing new (seen ++ line) (subst (AreRead ids timing new)
+      (sym (lines_of-more seen line h.whole ∙ ap (λ (ls : List (List ℕ)). lines_of seen ++ ls) (lines_of-last line none some))) read)

@@ -80,16 +80,16 @@ digits_in text least most at from to bounded low high few k p q =
     let bounds = rw back at (bounded j (omega arith)) in
     digit (get_or text k 0) (omega (arith, bounds.0, low j (omega arith) (omega arith) few)) (omega (arith, bounds.1, high j (omega arith) (omega arith) few))
 
-abbrev front_least : List ℕ
+abbrev pub front_least : List ℕ
 front_least = 40 ∷ 48 ∷ 48 ∷ 48 ∷ 48 ∷ 48 ∷ 48 ∷ 48 ∷ 48 ∷ 48 ∷ 48 ∷ 46 ∷ 48 ∷ 48 ∷ 48 ∷ 48 ∷ []
 
-abbrev front_most : List ℕ
+abbrev pub front_most : List ℕ
 front_most = 40 ∷ 57 ∷ 57 ∷ 57 ∷ 57 ∷ 57 ∷ 57 ∷ 57 ∷ 57 ∷ 57 ∷ 57 ∷ 46 ∷ 57 ∷ 57 ∷ 57 ∷ 57 ∷ []
 
-abbrev back_least : List ℕ
+abbrev pub back_least : List ℕ
 back_least = 48 ∷ 48 ∷ 48 ∷ 48 ∷ 48 ∷ 48 ∷ 48 ∷ 46 ∷ 48 ∷ 48 ∷ 48 ∷ 48 ∷ 48 ∷ 48 ∷ 41 ∷ 32 ∷ []
 
-abbrev back_most : List ℕ
+abbrev pub back_most : List ℕ
 back_most = 57 ∷ 57 ∷ 57 ∷ 57 ∷ 57 ∷ 57 ∷ 57 ∷ 46 ∷ 57 ∷ 57 ∷ 57 ∷ 57 ∷ 57 ∷ 57 ∷ 41 ∷ 32 ∷ []
 
 pub framed_within : (line : List ℕ) (word : ℕ) → 28 ≤ length line

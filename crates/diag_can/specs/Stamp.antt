@@ -1,5 +1,5 @@
 -- The stamp and the name in front of a frame in candump's log format: `(SECONDS.FRACTION) NAME `.
-use Rattle.std.specs.Prelude.{ℕ, ◌+◌, ◌-◌, ◌*◌, ◌==◌, nat_le, Bool, not, ◌&&◌, if◌then◌else◌, List, [], ◌∷◌, take, drop, fold, Option, Some, None}
+use Rattle.std.specs.Prelude.{ℕ, ◌+◌, ◌-◌, ◌*◌, ◌==◌, nat_le, nat_lt, Bool, not, ◌&&◌, if◌then◌else◌, List, [], ◌∷◌, take, drop, fold, Option, Some, None}
 use Rattle.std.specs.List.{prefix_len}
 
 -- a decimal digit
@@ -14,6 +14,10 @@ is_space c = c == 32
 
 abbrev pub is_no_space : ℕ → Bool
 is_no_space c = not (c == 32)
+
+-- a byte above space, as those of a usual name
+abbrev pub is_mark : ℕ → Bool
+is_mark c = nat_lt 32 c
 
 -- the next part of a form, where this one is there
 infixl 10 ◌>>=◌

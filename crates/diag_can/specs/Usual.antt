@@ -3,7 +3,7 @@ use Rattle.std.specs.Prelude.{◌≡◌, ℕ, ◌+◌, ◌*◌, ◌≤◌, ◌<�
 use Rattle.hex.specs.Hex.{decode_of}
 use Rattle.diag_can.specs.Stamp.{is_digit, moment_of}
 use Rattle.diag_can.specs.Line.{event_of, frame_data, frame_event, is_time, stamped_frame}
-use Rattle.diag_can.specs.Bus.{frame_of, text_frame}
+use Rattle.diag_can.specs.Bus.{HasNoFeed, frame_of, text_frame}
 use Rattle.diag_can.specs.Lanes.{IsRunIn}
 use Rattle.diag_can.specs.declared.bus.BusLine.{BusLine}
 use Rattle.diag_can.specs.declared.bus.BusLine.TheVariants.{Stamped}
@@ -25,6 +25,14 @@ pub record IsFramed (line : List ℕ) (place : ℕ) : Type 0 where
   pub fraction : IsRunIn is_digit line 12 8 6
   pub is_frame : is_time line ≡ false
   pub stamped : stamped_frame line ≡ Some (usual_moment line, drop place line)
+
+-- the front of a text is that of such a line, however long it is
+pub record BeginsFramed (text : List ℕ) (place : ℕ) : Type 0 where
+  pub long : 28 ≤ length text
+  pub after : 22 ≤ place
+  pub before : place < 28
+  pub plain : HasNoFeed (take place text)
+  pub framed : (n : ℕ) → 28 ≤ n → n ≤ length text → IsFramed (take n text) place
 
 -- its identifier is this, and there its data begin, which are hex digits alone
 pub record IsUsual (line : List ℕ) (id at : ℕ) : Type 0 where

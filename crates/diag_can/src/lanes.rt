@@ -2,9 +2,9 @@
 
 ghost use Rattle.std.specs.Prelude.{◌≡◌, ℕ, ◌+◌, ◌-◌, ◌*◌, ◌<◌, ◌≤◌, not, true, length, drop, slice_index, IsTrue, IsOk, Ok};
 ghost use Rattle.hex.specs.Hex.{is_hex_digit, decode_of};
-ghost use Rattle.diag_can.specs.Lanes.{IsRunIn, IsWithin, first_set};
+ghost use Rattle.diag_can.specs.Lanes.{IsMask, IsRunIn, IsWithin, first_set};
 ghost use Rattle.diag_can.specs.Log.{is_feed};
-ghost use Rattle.diag_can.specs.Stamp.{is_no_space};
+ghost use Rattle.diag_can.specs.Stamp.{is_mark};
 
 use std::simd::prelude::*;
 
@@ -32,13 +32,13 @@ pub fn is_within(text: &[u8], at: usize, least: &[u8; 16], most: &[u8; 16]) -> b
     (is_less | is_more).to_bitmask() == 0
 }
 
-/// How many of these eight bytes are other than space, from the first.
+/// How many of these eight bytes are above space, from the first.
 #[inline(always)]
 pub fn eight_of_word(text: &[u8], at: usize) -> usize
     requires { at + 8 ≤ length text.now }
-    ensures { IsRunIn is_no_space text.now at 8 result }
+    ensures { IsRunIn is_mark text.now at 8 result }
 {
-    let stops = u8x8::from_slice(&text[at..]).simd_eq(u8x8::splat(b' '));
+    let stops = u8x8::from_slice(&text[at..]).simd_le(u8x8::splat(b' '));
     first_set(stops.to_bitmask(), 8)
 }
 
@@ -52,6 +52,27 @@ pub fn line_run(text: &[u8]) -> usize
     first_set(stops.to_bitmask(), 64)
 }
 
+/// Which of the sixteen bytes from a place on are no hex digits of either case, the first in the lowest bit.
+#[inline(always)]
+fn no_hex(text: &[u8], at: usize) -> u64
+    requires { at + 16 ≤ length text.now }
+    ensures { IsMask is_hex_digit text.now at 16 result }
+{
+    let v = u8x16::from_slice(&text[at..]);
+    let is_no_decimal = (v - u8x16::splat(b'0')).simd_ge(u8x16::splat(10));
+    let is_no_letter = ((v | u8x16::splat(0x20)) - u8x16::splat(b'a')).simd_ge(u8x16::splat(6));
+    (is_no_decimal & is_no_letter).to_bitmask()
+}
+
+/// How many of the sixteen bytes from a place on are hex digits of either case, from the first.
+#[inline(always)]
+pub fn hex_of_sixteen(text: &[u8], at: usize) -> usize
+    requires { at + 16 ≤ length text.now }
+    ensures { IsRunIn is_hex_digit text.now at 16 result }
+{
+    first_set(no_hex(text, at), 16)
+}
+
 /// Whether the last bytes of a text, so many, are hex digits of either case.
 #[inline(always)]
 pub fn ends_in_hex(text: &[u8], count: usize) -> bool
@@ -60,10 +81,7 @@ pub fn ends_in_hex(text: &[u8], count: usize) -> bool
     ensures { IsTrue result → (k : ℕ) → length text.now - count ≤ k → k < length text.now
         → is_hex_digit (slice_index text.now k) ≡ true }
 {
-    let v = u8x16::from_slice(&text[text.len() - 16..]);
-    let is_no_decimal = (v - u8x16::splat(b'0')).simd_ge(u8x16::splat(10));
-    let is_no_letter = ((v | u8x16::splat(0x20)) - u8x16::splat(b'a')).simd_ge(u8x16::splat(6));
-    (is_no_decimal & is_no_letter).to_bitmask() >> (16 - count) == 0
+    no_hex(text, text.len() - 16) >> (16 - count) == 0
 }
 
 /// The bytes that sixteen hex digits of either case write, looked at together; as far as these are digits from the end. Of

@@ -1,21 +1,20 @@
-//! The log of a tester's link.
+//! What the lines of a log give, one after the other.
 
-ghost use Rattle.std.specs.Prelude.{◌≡◌, ◌≢◌, ◌<◌, ◌≤◌, ◌⊎◌, [], ◌∷◌, ◌++◌, length, Some, MatchOption, IfOk, IfErr, IsTrue, OnOk};
+ghost use Rattle.std.specs.Prelude.{◌≡◌, ◌≢◌, ◌<◌, ◌≤◌, ◌⊎◌, [], ◌∷◌, ◌++◌, length, take, option_map, Some, IfSome, IfErr, IsTrue, OnOk};
 ghost use Rattle.memchr.specs.Find.{IsFirstByte};
 ghost use Rattle.diag_can.specs.Lanes.{IsRunIn};
 ghost use Rattle.diag_can.specs.Line.{is_time};
-ghost use Rattle.diag_can.specs.Log.{is_feed, without_return, lines_of, waited, events, most_events};
+ghost use Rattle.diag_can.specs.Log.{is_feed, without_return, waited, most_events};
 ghost use Rattle.diag_can.specs.Reading.{fault_with, given_at};
 ghost use Rattle.diag_can.specs.Stamp.{is_digit};
-ghost use Rattle.diag_can.specs.Usual.{usual_moment};
+ghost use Rattle.diag_can.specs.Usual.{IsUsual, usual_moment};
 
 use crate::fault::{LineFault, LogFault};
-use crate::frame::{Event, Ids, TickCount};
+use crate::frame::{CanId, Event, Ids, TickCount};
 use crate::lanes::line_run;
 use crate::read::{other_line_event, tick_count};
-use crate::usual::{bytes_at, usual_frame, usual_moment};
+use crate::usual::{bytes_at, usual_frame, usual_front, usual_moment};
 use memchr::memchr;
-use std::alloc::Global;
 
 /// Whether the stamps of a log carry time.
 #[derive(Clone, Copy, Debug, PartialEq, Eq)]
@@ -26,72 +25,15 @@ pub enum Timing {
     Stamps,
 }
 
-/// The most lines of a log.
-const MAX_LINES: u32 = 1_000_000;
-
 /// The most events of a log.
-const MAX_EVENTS: usize = 1_000_000;
+pub(crate) const MAX_EVENTS: usize = 1_000_000;
 
 /// What was read so far.
 #[derive(Drop)]
-struct Reading {
-    events: Vec<Event>,
+pub(crate) struct Reading {
+    pub(crate) events: Vec<Event>,
     /// The greatest moment among the lines that gave a frame.
-    reference: Option<u64>,
-}
-
-/// The events of a log (candump's log format): split at LF, one CR at the end of a line dropped, each line read as
-/// `read_line` does, in one pass. With `Timing::Stamps` a line that gives a frame gives before it the milliseconds by
-/// which its stamp is later than the latest stamp of a frame before, as Ticks of 60000 and last the rest.
-///
-/// # Errors
-/// The first of these in the order of the lines: `Line`, the line's number from 1 and its fault; `TooManyEvents`, at a
-/// line with whose events there are more than 1,000,000; `TooManyLines`, where a line follows the 1,000,000th. `Memory`
-/// where memory is refused.
-pub fn read_log(
-    alloc: Global,
-    text: &[u8],
-    ids: &Ids,
-    timing: Timing,
-) -> Result<Vec<Event>, LogFault>
-    ensures ok { IfOk result (λ log. events text.now ids.now timing ≡ Ok log.items) }
-    ensures err { IfErr result (λ fault.
-        fault ≢ LogFault.Memory → events text.now ids.now timing ≡ Err fault) }
-    ensures few { IfOk result (λ log. length log.items ≤ most_events) }
-{
-    let mut reading = Reading {
-        events: with_room(alloc, text)?,
-        reference: None,
-    };
-    let mut rest = text;
-    for index in 0..MAX_LINES {
-        match next_line(rest) {
-            None => return Ok(reading.events),
-            Some((line, after)) => {
-                reading.take_line(timing, ids, index + 1, line)?;
-                rest = after;
-            }
-        }
-    }
-    match next_line(rest) {
-        None => Ok(reading.events),
-        Some(_) => Err(LogFault::TooManyLines),
-    }
-}
-
-/// A usual line has more bytes than this.
-const SHORT_LINE: usize = 32;
-
-/// No events, and room for those of a text of usual lines: where there are more, the list grows.
-fn with_room(alloc: Global, text: &[u8]) -> Result<Vec<Event>, LogFault>
-    ensures ok { IfOk result (λ events. events.items ≡ []) }
-    ensures err { IfErr result (λ fault. fault ≡ LogFault.Memory) }
-{
-    let room = (text.len() / SHORT_LINE).min(MAX_EVENTS);
-    match Vec::with_capacity(alloc, room) {
-        Ok(events) => Ok(events),
-        Err(_) => Err(LogFault::Memory),
-    }
+    pub(crate) reference: Option<u64>,
 }
 
 /// The line without one CR at its end.
@@ -119,18 +61,21 @@ pub fn line_end(text: &[u8]) -> Option<usize>
     memchr(b'\n', text)
 }
 
-/// The first line of a text and what follows its LF, or None of an empty text.
+/// Where the first LF of a text stands, and the frame of the line before it where that is seen with it: its identifier, and
+/// where its data begin.
 #[inline(always)]
-fn next_line(text: &[u8]) -> Option<(&[u8], &[u8])>
-    ensures { MatchOption result (text.now ≡ []) (λ r.
-        lines_of text.now ≡ r.0.now ∷ lines_of r.1.now) }
+pub(crate) fn first_line(text: &[u8]) -> Option<(usize, Option<(CanId, usize)>)>
+    ensures end { IsFirstByte is_feed text.now (option_map (λ r. r.0) result) }
+    ensures usual { IfSome result (λ r. IfSome r.1 (λ u. IsUsual (take r.0 text.now) u.0 u.1)) }
+    ensures kept { IfSome result (λ r. IfSome r.1 (λ _.
+        without_return (take r.0 text.now) ≡ take r.0 text.now)) }
 {
-    if text.is_empty() {
-        return None;
-    }
-    match line_end(text) {
-        None => Some((without_return(text), &[])),
-        Some(end) => Some((without_return(&text[..end]), &text[end + 1..])),
+    match usual_front(text) {
+        Some((end, usual)) => Some((end, Some(usual))),
+        None => match line_end(text) {
+            Some(end) => Some((end, None)),
+            None => None,
+        },
     }
 }
 
@@ -175,10 +120,9 @@ fn push_time(events: &mut Vec<Event>, ms: u64) -> Result<(), LogFault>
 impl Reading {
     ghost use Rattle.diag_can.specs.Took.{Grown, Took};
 
-    /// Takes what the line of this number gives. A line of the usual form is looked at here, and what it gives is kept
-    /// where it goes.
-    #[inline(always)]
-    fn take_line(
+    /// Takes what the line of this number gives.
+    #[inline(never)]
+    pub(crate) fn take_line(
         &mut self,
         timing: Timing,
         ids: &Ids,
@@ -191,9 +135,33 @@ impl Reading {
             → fault_with timing ids.now self.old.events.items self.old.reference number line.now
             ≡ Some fault) }
     {
-        let Some((id, at)) = usual_frame(line) else {
-            return self.take_other(timing, ids, number, line);
-        };
+        match usual_frame(line) {
+            Some((id, at)) => self.take_usual(timing, ids, number, line, id, at),
+            None => self.take_other(timing, ids, number, line),
+        }
+    }
+
+    /// Takes what the line of this number gives, which is of the usual form. It is looked at here, and what it gives is
+    /// kept where it goes.
+    #[inline(always)]
+    pub(crate) fn take_usual(
+        &mut self,
+        timing: Timing,
+        ids: &Ids,
+        number: u32,
+        line: &[u8],
+        id: CanId,
+        at: usize,
+    ) -> Result<(), LogFault>
+        requires few { length self.old.events.items ≤ most_events }
+        requires usual { IsUsual line.now id at }
+        ensures took { OnOk result (Took timing ids.now self.old self.new line.now) }
+        ensures fault { IfErr result (λ fault. fault ≢ LogFault.Memory
+            → fault_with timing ids.now self.old.events.items self.old.reference number line.now
+            ≡ Some fault) }
+    {
+        // (for its contract: such a line is never at fault by itself)
+        let _ = number;
         if id == ids.request {
             self.take_frame(timing, line, Event::Physical(bytes_at(line, at)))
         } else if id == ids.functional {

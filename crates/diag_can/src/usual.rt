@@ -1,24 +1,29 @@
 //! A line of the usual form, of which many bytes are read at once: a stamp of ten digits and six, one space, a short name, one
 //! space, an identifier of three digits, and behind its `#` nothing but pairs of hex digits. Other lines are read part by part.
 
-ghost use Rattle.std.specs.Prelude.{◌≡◌, ℕ, ◌<◌, ◌≤◌, ◌-◌, ◌*◌, drop, length, IfSome, IsOk};
+ghost use Rattle.std.specs.Prelude.{◌≡◌, ℕ, ◌<◌, ◌≤◌, ◌-◌, ◌*◌, take, drop, length, Some, IfSome, IsOk};
 ghost use Rattle.hex.specs.Hex.{decode_of};
+ghost use Rattle.memchr.specs.Find.{IsFirstByte};
 ghost use Rattle.diag_can.specs.Lanes.{IsRunIn};
+ghost use Rattle.diag_can.specs.Log.{is_feed, without_return};
 ghost use Rattle.diag_can.specs.Stamp.{is_digit};
-ghost use Rattle.diag_can.specs.Usual.{IsFramed, IsUsual, three_at, usual_moment};
+ghost use Rattle.diag_can.specs.Usual.{BeginsFramed, IsUsual, three_at, usual_moment};
 
 use crate::frame::{CanId, FrameBytes};
-use crate::lanes::{eight_of_digits, eight_of_word, ends_in_hex, is_within};
+use crate::lanes::{eight_of_digits, eight_of_word, ends_in_hex, hex_of_sixteen, is_within};
 use crate::line::short_id;
 use std::simd::prelude::*;
 
 /// The shortest line that is looked at.
 const SHORTEST: usize = 28;
 
-/// Where the text of the frame begins.
+/// The longest line of the usual form with its LF.
+const LONGEST: usize = 48;
+
+/// Where the text of the frame begins, whatever follows it.
 #[inline(always)]
 fn text_place(line: &[u8]) -> Option<usize>
-    ensures { IfSome result (λ place. IsFramed line.now place) }
+    ensures { IfSome result (λ place. BeginsFramed line.now place) }
 {
     if line.len() < SHORTEST
         || !is_within(line, 0, b"(0000000000.0000", b"(9999999999.9999")
@@ -27,7 +32,7 @@ fn text_place(line: &[u8]) -> Option<usize>
         return None;
     }
     let word = eight_of_word(line, 20);
-    if word < 1 || word > 6 || line[21 + word] == b' ' {
+    if word < 1 || word > 6 || line[20 + word] != b' ' || line[21 + word] == b' ' {
         return None;
     }
     Some(21 + word)
@@ -46,6 +51,28 @@ pub fn usual_frame(line: &[u8]) -> Option<(CanId, usize)>
         return None;
     }
     Some((id, at))
+}
+
+/// A line of the usual form, its LF behind it, at the front of a text: where the LF stands, and what `usual_frame` says.
+#[inline(always)]
+pub fn usual_front(text: &[u8]) -> Option<(usize, (CanId, usize))>
+    ensures end { IfSome result (λ r. IsFirstByte is_feed text.now (Some r.0)) }
+    ensures usual { IfSome result (λ r. IsUsual (take r.0 text.now) r.1.0 r.1.1) }
+    ensures kept { IfSome result (λ r. without_return (take r.0 text.now) ≡ take r.0 text.now) }
+{
+    if text.len() < LONGEST {
+        return None;
+    }
+    let place = text_place(text)?;
+    let at = place + 4;
+    let count = hex_of_sixteen(text, at);
+    let end = at + count;
+    if count < 2 || count % 2 != 0 || text[end] != b'\n' {
+        return None;
+    }
+    let line = &text[..end];
+    let id = short_id(&line[place..])?;
+    Some((end, (id, at)))
 }
 
 /// Four times three bytes of the stamp, weighed as digits are: nine of the seconds, without the first, and the milliseconds.

@@ -14,7 +14,7 @@ use Rattle.diag_desk.specs.Cut.{begun, cut}
 use Rattle.diag_desk.specs.Fault.{FaultAt, IsTextOf}
 use Rattle.diag_desk.specs.Following.{Followed, FollowedIn, Follows, HasFollowed, HasTaken, read_so_far}
 use Rattle.diag_desk.specs.PartRead.{HasNoNext}
-use Rattle.diag_desk.specs.Pieces.{TakesLines}
+use Rattle.diag_can.specs.Pieces.{TakesLines}
 use Rattle.diag_desk.specs.Text.{ended, header, line_after, text_of}
 use Rattle.diag_desk.proofs.CutText.{cut-joins, one_cut}
 use Rattle.diag_desk.proofs.ReadLemmas.{header_fault, stuck_at_end, stuck_at_line, stuck_fault, text_begins, text_one}

@@ -10,5 +10,4 @@ pub mod PartRead
 pub mod Legal
 pub mod Replay
 pub mod Following
-pub mod Pieces
 pub mod Unlocking

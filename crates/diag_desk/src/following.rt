@@ -13,7 +13,7 @@ ghost use Rattle.diag_desk.specs.Legal.{after_step, reply_to};
 ghost use Rattle.diag_desk.specs.Line.{HasHex, IsHex, IsHexReply, decoded, fronted, kind_code, line_entry, request_kind};
 ghost use Rattle.diag_desk.specs.declared.line.Kind.TheVariants as kind;
 ghost use Rattle.diag_desk.specs.PartRead.{HasNoNext};
-ghost use Rattle.diag_desk.specs.Pieces.{TakesLines};
+ghost use Rattle.diag_can.specs.Pieces.{TakesLines};
 ghost use Rattle.diag_can.specs.Bus.{HasNoFeed};
 
 use crate::clocks::Clocks;

@@ -1,34 +1,11 @@
 -- Taking the lines of a file: the line that is begun at the end of a piece, and what ends it.
-use Rattle.std.proofs.Common.{eqb-true, get_or, drop, take, take-append-drop, ◌≡◌, ℕ, ◌+◌, ◌<◌, ◌==◌, true, false, List, [], ◌∷◌, ◌++◌, length, None, Some, refl, sym, ap, subst, ◌∙◌, append_assoc, append-nil, arith, length-append}
+use Rattle.std.proofs.Common.{drop, ◌≡◌, ℕ, ◌==◌, false, List, [], ◌∷◌, ◌++◌, length, refl, sym, ap, subst, ◌∙◌, append_assoc, append-nil, arith, length-append}
 use Rattle.std.specs.Prelude.{Result, Ok, Err, OnOk, is_ok, if◌then◌else◌}
-use Rattle.memchr.specs.Find.{IsFirstByte}
-use Rattle.std.proofs.lemmas.Bool.{false_from_ne_true}
-use Rattle.std.proofs.lemmas.Grind.{get_or_default_zero}
-use Rattle.std.proofs.lemmas.List.{drop_more, take_more}
 use Rattle.std.proofs.lemmas.List.Elements.{All-append, All-head, All-tail}
 use Rattle.diag_can.specs.Bus.{HasNoFeed}
 use Rattle.diag_can.specs.Log.{is_feed}
-use Rattle.diag_desk.specs.Pieces.{TakesLines}
+use Rattle.diag_can.specs.Pieces.{TakesLines}
 use Rattle.diag_text.specs.Taking.{LinesTaken}
-
--- ---- the first line feed of a text
-
-feed_there : (text : List ℕ) (end : ℕ) → IsFirstByte is_feed text (Some end) → (end < length text) × (get_or text end 0 ≡ 10)
-feed_there text end found = (omega (arith, found.0.high), eqb-true (get_or text end 0) 10 found.1)
-
-pub split_at_feed : (text : List ℕ) (end : ℕ) → IsFirstByte is_feed text (Some end) → text ≡ take end text ++ 10 ∷ drop (end + 1) text
-split_at_feed text end found =
-    let there = feed_there text end found in
-    let rest : drop end text ≡ 10 ∷ drop (end + 1) text = drop_more text end 0 there.0 ∙ ap (λ (c : ℕ). c ∷ drop (end + 1) text) there.1 in
-    sym (take-append-drop end text) ∙ ap (λ (r : List ℕ). take end text ++ r) rest
-
-pub ends_at_feed : (text : List ℕ) (end : ℕ) → IsFirstByte is_feed text (Some end) → take (end + 1) text ≡ take end text ++ 10 ∷ []
-ends_at_feed text end found =
-    let there = feed_there text end found in
-    take_more text end 0 there.0 ∙ ap (λ (c : ℕ). take end text ++ c ∷ []) there.1
-
-pub no_feed : (text : List ℕ) → IsFirstByte is_feed text None → HasNoFeed text
-no_feed text none = λ k d lt. ap is_feed (get_or_default_zero text k d lt) ∙ false_from_ne_true _ (none k (omega arith) lt)
 
 -- ---- what a line feed ends
 

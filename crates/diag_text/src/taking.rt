@@ -1,7 +1,7 @@
 //! What takes a file as it is read: its bytes piece by piece, or its lines as they come.
 
 ghost use Rattle.std.specs.Prelude.{◌≡◌, ◌++◌, ◌∷◌, [], ℕ, List, IfOk, OnOk};
-ghost use Rattle.diag_desk.specs.Pieces.{TakesLines};
+ghost use Rattle.diag_can.specs.Pieces.{TakesLines};
 ghost use Rattle.diag_text.specs.Taking.{LinesTaken};
 
 use diag_can::line_end;

@@ -1,10 +1,10 @@
 use Rattle.std.proofs.Common.{◌∙◌, sym}
 use Rattle.diag_can.proofs.UsualLines.{is-foreign}
 use Rattle.diag_can.proofs.Reading.{took-none}
-use Rattle.diag_can.proofs.log.Reading.take_line.Goals as goal
+use Rattle.diag_can.proofs.log.Reading.take_usual.Goals as goal
 
 pub returns-else-eq-2-clause-took : goal.returns-else-eq-2-clause-took
 returns-else-eq-2-clause-took c =
-    let foreign = is-foreign c.args.line.now _ _ c.in-Some.ensures c.args.ids.now (sym c.eq.ensures ∙ c.if-eq.false)
+    let foreign = is-foreign c.args.line.now _ _ c.requires.usual c.args.ids.now (sym c.eq.ensures ∙ c.if-eq.false)
     (sym c.eq-else-eq.ensures ∙ c.if-eq-2.false) in
-    took-none c.args.timing c.args.ids.now c.args.self.now c.args.line.now c.requires foreign.0 (sym foreign.1)
+    took-none c.args.timing c.args.ids.now c.args.self.now c.args.line.now c.requires.few foreign.0 (sym foreign.1)

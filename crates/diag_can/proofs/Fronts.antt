@@ -1,0 +1,156 @@
+-- A line of the usual form at the front of a text.
+use Rattle.std.proofs.Common.{◌≡◌, ◌==◌, ℕ, ◌+◌, ◌-◌, ◌%◌, ◌<◌, ◌≤◌, nat_lt, true, false, cond, List, [], ◌∷◌, length, take, drop, get_or, Some, None, refl, sym, ap, ◌∙◌, arith, inl, inr, drop-cons, length-take-le, length-drop}
+use Rattle.std.specs.List.{prefix_len}
+use Rattle.std.proofs.lemmas.Bool.{agree_below, agree_below_at, cases_lt, eqb-true, false≢true, ne_eqb}
+use Rattle.std.proofs.lemmas.Bool.Decides.{nat_tests}
+use Rattle.std.proofs.lemmas.Grind.{get_or_default_zero}
+use Rattle.std.proofs.lemmas.List.{get_or-drop, get_or-take, take_all}
+use Rattle.std.proofs.lemmas.List.Sums.{prefix_len_passes}
+use Rattle.hex.specs.Hex.{is_hex_digit}
+use Rattle.memchr.specs.Find.{IsFirstByte}
+use Rattle.diag_can.specs.Lanes.{IsRunIn, IsWithin}
+use Rattle.diag_can.specs.Line.{id_of}
+use Rattle.diag_can.specs.Log.{is_feed, without_return}
+use Rattle.diag_can.specs.Stamp.{behind, is_mark, is_no_space}
+use Rattle.diag_can.specs.Usual.{BeginsFramed, IsUsual}
+use Rattle.diag_can.proofs.UsualLines.{usual_parts}
+use Rattle.diag_can.proofs.Windows.{back_least, back_most, framed_within, front_least, front_most}
+
+plain : (c : ℕ) → 10 < c → is_feed c ≡ false
+plain c above = grind (arith, nat_tests)
+
+above_feed : (text least most : List ℕ) (at : ℕ) → agree_below (λ k. nat_lt 10 (get_or least k 0)) (λ _. true) 16 ≡ true → IsWithin text at least most
+    → (k : ℕ) → at ≤ k → k < at + 16 → is_feed (get_or text k 0) ≡ false
+above_feed text least most at all w k from to =
+    let j : ℕ = k - at in
+    let here : at + j ≡ k = omega arith in
+    let bounds = rw here at (w j (omega arith)) in
+    let low : nat_lt 10 (get_or least j 0) ≡ true = agree_below_at (λ k. nat_lt 10 (get_or least k 0)) (λ _. true) 16 j all (omega arith) in
+    plain (get_or text k 0) (over (get_or least j 0) (get_or text k 0) low bounds.0)
+  where
+    over : (a b : ℕ) → nat_lt 10 a ≡ true → a ≤ b → 10 < b
+    over a b low le = grind (arith, nat_tests)
+
+-- ---- its stamp and name
+
+module _ (text : List ℕ) (word : ℕ) (long : 28 ≤ length text) (front : IsWithin text 0 front_least front_most) (back : IsWithin text 4 back_least back_most)
+    (name : IsRunIn is_mark text 20 8 word) (some : 1 ≤ word) (few : word ≤ 6) (space : get_or text (20 + word) 0 ≡ 32)
+    (next : (get_or text (21 + word) 0 == 32) ≡ false) where
+  marked : (c : ℕ) → is_mark c ≡ true → 32 < c
+  marked c mark = grind (arith, nat_tests)
+
+  no_space : (c : ℕ) → 32 < c → is_no_space c ≡ true
+  no_space c mark = grind (arith, nat_tests)
+
+  -- a name ends at its first space, however long the line is
+  name_in : (n : ℕ) → 28 ≤ n → IsRunIn is_no_space (take n text) 20 8 word
+  name_in n room = record {
+    in_range = omega arith;
+    pass = λ k from to. ap is_no_space (get_or-take n text k 0 (omega arith)) ∙ no_space (get_or text k 0) (marked _ (name.pass k from to));
+    stops = λ _. ap is_no_space (get_or-take n text (20 + word) 0 (omega arith) ∙ space);
+  }
+
+  within_in : (n at : ℕ) (least most : List ℕ) → at + 16 ≤ n → IsWithin text at least most → IsWithin (take n text) at least most
+  within_in n at least most room w j lt = rw (get_or-take n text (at + j) 0 (omega arith)) (w j lt)
+
+  no_feed_at : (k : ℕ) → k < 21 + word → is_feed (get_or text k 0) ≡ false
+  no_feed_at k lt = elim (cases_lt k 16) [
+    | inl low ↦ above_feed text front_least front_most 0 refl front k (omega arith) (omega arith)
+    | inr high ↦ elim (cases_lt k 20) [
+      | inl middle ↦ above_feed text back_least back_most 4 refl back k (omega arith) (omega arith)
+      | inr later ↦ elim (cases_lt k (20 + word)) [
+        | inl named ↦ plain (get_or text k 0) (omega (arith, marked (get_or text k 0) (name.pass k later named)))
+        | inr last ↦ let end : k ≡ 20 + word = omega arith in rw (end, space) refl
+      ]
+    ]
+  ]
+
+  pub begins_framed : BeginsFramed text (21 + word)
+  begins_framed = record {
+    long = long;
+    after = omega arith;
+    before = omega arith;
+    plain = λ k d lt.
+        let inside : k < 21 + word = omega (arith, length-take-le (21 + word) text (omega arith), lt) in
+        ap is_feed (get_or-take (21 + word) text k d inside ∙ get_or_default_zero text k d (omega arith)) ∙ no_feed_at k inside;
+    framed = λ n least most.
+        framed_within (take n text) word (omega (arith, length-take-le n text most)) (within_in n 0 front_least front_most (omega arith) front)
+        (within_in n 4 back_least back_most (omega arith) back) (name_in n least) some few
+        (ap (λ (c : ℕ). c == 32) (get_or-take n text (21 + word) 0 (omega arith)) ∙ next);
+  }
+
+-- ---- its frame, and the line feed behind it
+
+plain_digit : (c : ℕ) → is_hex_digit c ≡ true → (is_feed c ≡ false) × ((13 == c) ≡ false)
+plain_digit c digit = (ne_eqb c 10 (λ e. cc (sym (ap is_hex_digit e) ∙ digit)), ne_eqb 13 c (λ e. cc (ap is_hex_digit e ∙ digit)))
+
+begins_with : (byte : ℕ) (xs rest : List ℕ) → behind byte xs ≡ Some rest → get_or xs 0 0 ≡ byte
+begins_with byte [] rest is = cc is
+begins_with byte (c ∷ xs) rest is =
+    elim (c == byte) as (λ b. (c == byte) ≡ b → cond b (Some xs) None ≡ Some rest → c ≡ byte) [
+      | true ↦ λ same _. eqb-true c byte same
+      | false ↦ λ _ none. cc none
+    ] refl is
+
+-- the text has such a line of this length, whose parts were read, and a line feed behind it
+module _ (text : List ℕ) (place count : ℕ) (f : BeginsFramed text place) (run : IsRunIn is_hex_digit text (place + 4) 16 count)
+    (some : 2 ≤ count) (fits : place + 4 + count < length text) where
+  abbrev end : ℕ
+  end = place + 4 + count
+
+  abbrev line : List ℕ
+  line = take end text
+
+  long : length line ≡ end
+  long = length-take-le end text (omega arith)
+
+  in_line : (k : ℕ) → k < end → get_or line k 0 ≡ get_or text k 0
+  in_line k lt = get_or-take end text k 0 lt
+
+  -- it ends with no CR
+  pub without_cr : without_return line ≡ line
+  without_cr =
+      let last = drop-cons line (length line - 1) 0 (omega (arith, long)) in
+      let digit = run.pass (length line - 1) (omega (arith, long)) (omega (arith, long)) in
+      let other = (plain_digit (get_or line (length line - 1) 0) (ap is_hex_digit (in_line (length line - 1) (omega (arith, long))) ∙ digit)).1 in
+      rw (last, other) refl
+
+  module _ (part rest : List ℕ) (cut : part ≡ take (length line - place) (drop place line)) (id : prefix_len is_hex_digit part ≡ 3)
+      (hash : behind 35 (drop 3 part) ≡ Some rest) (feed : get_or text end 0 ≡ 10) where
+    at_part : (k : ℕ) → place + k < end → get_or part k 0 ≡ get_or text (place + k) 0
+    at_part k lt =
+        ap (λ (t : List ℕ). get_or t k 0) (cut ∙ take_all (length line - place) (drop place line) (omega (arith, length-drop place line)))
+        ∙ get_or-drop place line k 0 ∙ in_line (place + k) lt
+
+    no_feed_to : (k : ℕ) → k < end → is_feed (get_or text k 0) ≡ false
+    no_feed_to k lt = elim (cases_lt k place) [
+      | inl before ↦ sym (ap is_feed (get_or-take place text k 0 before)) ∙ f.plain k 0 (omega (arith, length-take-le place text (omega (arith, fits))))
+      | inr inside ↦ elim (cases_lt k (place + 3)) [
+        | inl digit ↦
+            let here : place + (k - place) ≡ k = omega arith in
+            let at = at_part (k - place) (omega arith) in
+            let passes = prefix_len_passes is_hex_digit part (k - place) 0 (omega (arith, id)) in
+            rw here at ((plain_digit (get_or text (place + (k - place)) 0) (ap is_hex_digit (sym at) ∙ passes)).0)
+        | inr later ↦ elim (cases_lt k (place + 4)) [
+          | inl mark ↦
+              let here : k ≡ place + 3 = omega arith in
+              let first = get_or-drop 3 part 0 0 in
+              let byte : get_or text (place + 3) 0 ≡ 35 = sym (at_part 3 (omega arith)) ∙ sym first ∙ begins_with 35 (drop 3 part) rest hash in
+              rw (here, byte) refl
+          | inr further ↦ (plain_digit (get_or text k 0) (run.pass k further (omega arith))).0
+        ]
+      ]
+    ]
+
+    pub first_feed : IsFirstByte is_feed text (Some end)
+    first_feed = (
+      record { low = omega arith; high = fits; before = λ k from to is. false≢true (sym (no_feed_to k to) ∙ is) },
+      ap is_feed feed,
+    )
+
+    pub front_usual : (number : ℕ) → id_of (take 3 part) ≡ Some number → rest ≡ drop 4 part → 4 ≤ length part → count % 2 ≡ 0 → IsUsual line number (place + 4)
+    front_usual number is behind_is four even =
+        let size : length line - (place + 4) ≡ count = omega (arith, long) in
+        usual_parts line place number part (f.framed end (omega (arith, f.after)) (omega (arith, fits))) cut id is (hash ∙ ap (λ (t : List ℕ). Some t) behind_is) four
+        (omega (arith, run.in_range)) (rw size even)
+        (λ k from to. ap is_hex_digit (in_line k (omega (arith, long))) ∙ run.pass k (omega (arith, long)) (omega (arith, long)))

@@ -1,0 +1,203 @@
+//! The log of a tester's link, whole or as its lines come.
+
+ghost use Rattle.std.specs.Prelude.{◌≡◌, ◌≢◌, ◌≤◌, ℕ, List, [], ◌∷◌, ◌++◌, length, Some, Ok, Err, IfOk, IfSome, IfErr, OnOk};
+ghost use Rattle.diag_can.specs.Bus.{HasNoFeed};
+ghost use Rattle.diag_can.specs.HasRead.{AreRead, HasLines, HasRead};
+ghost use Rattle.diag_can.specs.Log.{without_return, events, fault_after, most_events};
+ghost use Rattle.diag_can.specs.Pieces.{TakesLines};
+ghost use Rattle.diag_can.specs.Usual.{IsUsual};
+ghost use Rattle.diag_can.specs.declared.log.Timing.{Timing};
+
+use crate::fault::LogFault;
+use crate::frame::{CanId, Event, Ids};
+use crate::log::{MAX_EVENTS, Reading, Timing, first_line, without_return};
+use std::alloc::{AllocError, Global};
+
+/// The most lines of a log.
+const MAX_LINES: u32 = 1_000_000;
+
+/// A usual line has more bytes than this.
+const SHORT_LINE: usize = 32;
+
+/// A log (candump's log format) that is read as its lines come: what its lines so far give, or the first fault among
+/// them. It is `read_log`, of a text that comes in pieces: split at LF, one CR at the end of a line dropped.
+#[derive(Drop)]
+pub struct LogReader {
+    /// The first fault: what follows it is not looked at.
+    fault: Option<LogFault>,
+    /// How many lines were read.
+    lines: u32,
+    reading: Reading,
+}
+
+impl LogReader {
+    /// A log of which nothing was read.
+    pub fn new(alloc: Global) -> LogReader
+        ensures { (ids : Ids) (timing : Timing) → HasRead ids timing result [] }
+    {
+        LogReader::with_events(Vec::new(alloc))
+    }
+
+    /// The same, which reads into a list with no events.
+    fn with_events(events: Vec<Event>) -> LogReader
+        requires { events.items ≡ [] }
+        ensures { (ids : Ids) (timing : Timing) → HasRead ids timing result [] }
+    {
+        LogReader {
+            fault: None,
+            lines: 0,
+            reading: Reading {
+                events,
+                reference: None,
+            },
+        }
+    }
+
+    /// Takes the whole lines at the front of what follows in the log, each ended by an LF, and gives what is begun behind
+    /// them. Behind a fault nothing is looked at, and all is taken.
+    ///
+    /// # Errors
+    /// `AllocError` where memory is refused: the reader can take no more then.
+    pub fn take_lines<'a>(
+        &mut self,
+        ids: &Ids,
+        timing: Timing,
+        text: &'a [u8],
+    ) -> Result<&'a [u8], AllocError>
+        requires { (seen : List ℕ) × HasRead ids.now timing self.old seen }
+        ensures { IfOk result (λ rest. TakesLines (HasRead ids.now timing self.old)
+            (HasRead ids.now timing self.new) text.now rest.now) }
+    {
+        if self.fault.is_some() {
+            return Ok(&[]);
+        }
+        match self.take_well(ids, timing, text) {
+            Ok(rest) => Ok(rest),
+            Err(fault) => match fault {
+                LogFault::Memory => Err(AllocError),
+                _ => {
+                    self.fault = Some(fault);
+                    Ok(&[])
+                }
+            },
+        }
+    }
+
+    /// The same up to the first line at fault.
+    fn take_well<'a>(
+        &mut self,
+        ids: &Ids,
+        timing: Timing,
+        text: &'a [u8],
+    ) -> Result<&'a [u8], LogFault>
+        requires { (seen : List ℕ) × HasLines ids.now timing self.old seen }
+        ensures ok { IfOk result (λ rest. TakesLines (HasLines ids.now timing self.old)
+            (HasLines ids.now timing self.new) text.now rest.now) }
+        ensures fault { IfErr result (λ fault. fault ≢ LogFault.Memory → (seen more : List ℕ)
+            → HasLines ids.now timing self.old seen
+            → events (seen ++ (text.now ++ more)) ids.now timing ≡ Err fault) }
+        ensures still { self.new.fault ≡ self.old.fault }
+    {
+        let mut rest = text;
+        while let Some((end, usual)) = first_line(rest) {
+            self.take_line(ids, timing, &rest[..end], usual)?;
+            rest = &rest[end + 1..];
+        }
+        Ok(rest)
+    }
+
+    /// Takes the line that comes next, with its frame where that is seen.
+    #[inline(always)]
+    fn take_line(
+        &mut self,
+        ids: &Ids,
+        timing: Timing,
+        line: &[u8],
+        usual: Option<(CanId, usize)>,
+    ) -> Result<(), LogFault>
+        requires read { (past : List (List ℕ)) × AreRead ids.now timing self.old past }
+        requires usual { IfSome usual (λ u. IsUsual line.now u.0 u.1) }
+        requires kept { IfSome usual (λ _. without_return line.now ≡ line.now) }
+        ensures took { OnOk result ((past : List (List ℕ))
+            → AreRead ids.now timing self.old past
+            → AreRead ids.now timing self.new (past ++ without_return line.now ∷ [])) }
+        ensures fault { IfErr result (λ fault. fault ≢ LogFault.Memory → (past : List (List ℕ))
+            → AreRead ids.now timing self.old past
+            → fault_after timing ids.now past (without_return line.now) ≡ Some fault) }
+        ensures still { self.new.fault ≡ self.old.fault }
+    {
+        if self.lines >= MAX_LINES {
+            return Err(LogFault::TooManyLines);
+        }
+        self.lines += 1;
+        let number = self.lines;
+        match usual {
+            Some((id, at)) => self.reading.take_usual(timing, ids, number, line, id, at),
+            None => self
+                .reading
+                .take_line(timing, ids, number, without_return(line)),
+        }
+    }
+
+    /// The log's events, where these bytes of a line, or none, end it.
+    ///
+    /// # Errors
+    /// As `read_log`.
+    pub fn finish(mut self, ids: &Ids, timing: Timing, begun: &[u8]) -> Result<Vec<Event>, LogFault>
+        requires taken { (seen : List ℕ) × HasRead ids.now timing self seen }
+        requires line { HasNoFeed begun.now }
+        ensures ok { IfOk result (λ log. (seen : List ℕ) → HasRead ids.now timing self seen
+            → events (seen ++ begun.now) ids.now timing ≡ Ok log.items) }
+        ensures err { IfErr result (λ fault. fault ≢ LogFault.Memory → (seen : List ℕ)
+            → HasRead ids.now timing self seen
+            → events (seen ++ begun.now) ids.now timing ≡ Err fault) }
+        ensures few { IfOk result (λ log. length log.items ≤ most_events) }
+    {
+        if let Some(fault) = self.fault {
+            return Err(fault);
+        }
+        if begun.is_empty() {
+            return Ok(self.reading.events);
+        }
+        self.take_line(ids, timing, begun, None)?;
+        Ok(self.reading.events)
+    }
+}
+
+/// The events of a log (candump's log format): split at LF, one CR at the end of a line dropped, each line read as
+/// `read_line` does, in one pass. With `Timing::Stamps` a line that gives a frame gives before it the milliseconds by
+/// which its stamp is later than the latest stamp of a frame before, as Ticks of 60000 and last the rest.
+///
+/// # Errors
+/// The first of these in the order of the lines: `Line`, the line's number from 1 and its fault; `TooManyEvents`, at a
+/// line with whose events there are more than 1,000,000; `TooManyLines`, where a line follows the 1,000,000th. `Memory`
+/// where memory is refused.
+pub fn read_log(
+    alloc: Global,
+    text: &[u8],
+    ids: &Ids,
+    timing: Timing,
+) -> Result<Vec<Event>, LogFault>
+    ensures ok { IfOk result (λ log. events text.now ids.now timing ≡ Ok log.items) }
+    ensures err { IfErr result (λ fault.
+        fault ≢ LogFault.Memory → events text.now ids.now timing ≡ Err fault) }
+    ensures few { IfOk result (λ log. length log.items ≤ most_events) }
+{
+    let mut reader = LogReader::with_events(with_room(alloc, text)?);
+    match reader.take_lines(ids, timing, text) {
+        Ok(begun) => reader.finish(ids, timing, begun),
+        Err(_) => Err(LogFault::Memory),
+    }
+}
+
+/// No events, and room for those of a text of usual lines: where there are more, the list grows.
+fn with_room(alloc: Global, text: &[u8]) -> Result<Vec<Event>, LogFault>
+    ensures ok { IfOk result (λ events. events.items ≡ []) }
+    ensures err { IfErr result (λ fault. fault ≡ LogFault.Memory) }
+{
+    let room = (text.len() / SHORT_LINE).min(MAX_EVENTS);
+    match Vec::with_capacity(alloc, room) {
+        Ok(events) => Ok(events),
+        Err(_) => Err(LogFault::Memory),
+    }
+}
