@@ -6,6 +6,7 @@ use Rattle.diag_can.specs.Bus.{HasNoFeed}
 use Rattle.diag_can.specs.Log.{is_feed}
 use Rattle.diag_can.specs.Pieces.{TakesLines}
 use Rattle.diag_text.specs.Taking.{LinesTaken}
+pub use Rattle.diag_can.proofs.Lines.{ends_at_feed, no_feed, split_at_feed}
 
 -- ---- what a line feed ends
 
