@@ -1,3 +1,4 @@
+pub mod Finishing
 pub mod Following
 pub mod Inputs
 pub mod Known

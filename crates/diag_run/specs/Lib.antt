@@ -2,5 +2,6 @@ pub mod Capture
 pub mod Capturing
 pub mod Ending
 pub mod Files
+pub mod Logs
 pub mod Playing
 pub mod Run

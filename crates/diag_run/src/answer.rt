@@ -4,10 +4,12 @@ ghost use Rattle.std.specs.Prelude.{◌≡◌, ◌≢◌, ◌++◌, ℕ, List, l
 ghost use Rattle.diag_can.specs.Bus.{HasNoFeed};
 ghost use Rattle.diag_desk.specs.Following.{HasTaken};
 ghost use Rattle.diag_workers.specs.Play.{logs_of};
-ghost use Rattle.diag_run.specs.Files.{FilesEnd, FilesRead, or_bad_log};
+ghost use Rattle.diag_run.specs.Files.{AreTaken, FilesEnd, FilesRead, or_bad_log};
+ghost use Rattle.diag_run.specs.Logs.{AreLogs, TookLog};
 ghost use Rattle.diag_run.specs.Run.{FilesGive, GivesPlayed, GivesWoven, GivesReplayed, IsReplayedTo, played_text, answered, joined};
 
-use crate::files::read_each;
+use crate::files::{LOG_LIMIT, read_each};
+use crate::logs::{LogLines, finish_logs, read_logs};
 use crate::serial::serial_text;
 use crate::whole::Job;
 use diag_can::Timing;
@@ -16,15 +18,12 @@ use diag_setup::Setup;
 use diag_text::{
     LineTaker, RunFault, TakeLines, counted_text, journal_part, one_part, play_parts_beside,
 };
-use diag_workers::{NoWatch, play, read_logs};
+use diag_workers::{NoWatch, play};
 use diag_world::Played;
 use std::alloc::{AllocError, Global};
 use std::io::Read;
 use std::sync::Wait;
 use std::thread::Threads;
-
-/// The most bytes of a log.
-const LOG_LIMIT: usize = 67_108_864;
 
 /// The most bytes of a journal.
 const JOURNAL_LIMIT: usize = 268_435_456;
@@ -46,22 +45,43 @@ pub(crate) fn read_texts<R: Read>(alloc: Global, files: &mut [R]) -> Result<Vec<
     }
 }
 
-/// Plays the logs on one thread, and says what the play writes. The memory of their texts takes the reply lines.
-pub(crate) fn played_text(
+/// Plays the logs of these files on one thread, and says what the play writes. Each log is read as its lines come.
+pub(crate) fn played_text<R: Read>(
     alloc: Global,
     setup: &Setup,
-    texts: Vec<Vec<u8>>,
+    files: &mut [R],
     only_journal: bool,
     timing: Timing,
 ) -> Result<Vec<Vec<u8>>, RunFault>
-    requires { length texts.items ≡ length setup.now.testers }
-    ensures gives { GivesPlayed only_journal timing setup.now
-        (or_bad_log (logs_of setup.now timing (map (λ text. text.items) texts.items)))
+    requires { length files.old ≡ length setup.now.testers }
+    ensures { FilesGive R.remaining (Job.Serial only_journal timing) setup.now files.old files.new
+        (answered result) }
+{
+    let takers = match read_logs(alloc, setup, files, timing) {
+        Ok(takers) => takers,
+        Err(fault) => return Err(fault),
+    };
+    told_play(alloc, setup, takers, only_journal, timing)
+}
+
+/// What the play of the logs writes that were taken.
+fn told_play(
+    alloc: Global,
+    setup: &Setup,
+    takers: Vec<LineTaker<LogLines>>,
+    only_journal: bool,
+    timing: Timing,
+) -> Result<Vec<Vec<u8>>, RunFault>
+    requires taken { (texts : List (List ℕ)) × AreTaken TookLog takers.items texts }
+    requires logs { AreLogs 1 setup.now timing takers.items }
+    requires many { length takers.items ≡ length setup.now.testers }
+    ensures gives { (texts : List (List ℕ)) → AreTaken TookLog takers.items texts
+        → GivesPlayed only_journal timing setup.now (or_bad_log (logs_of setup.now timing texts))
         (answered result) }
     ensures device { (n : ℕ) → result ≢ Err (RunFault.Read n) }
 {
-    let logs = read_logs(alloc, setup, texts.as_slice(), timing)?;
-    let parts = serial_text(alloc, setup, texts, logs.as_slice(), only_journal, timing)?;
+    let logs = finish_logs(alloc, takers)?;
+    let parts = serial_text(alloc, setup, logs.as_slice(), only_journal, timing)?;
     Ok(parts)
 }
 

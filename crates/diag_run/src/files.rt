@@ -14,6 +14,9 @@ use std::io::Read;
 /// The most bytes of a config.
 const CONFIG_LIMIT: usize = 1_048_576;
 
+/// The most bytes of a log.
+pub(crate) const LOG_LIMIT: usize = 67_108_864;
+
 /// The setup that the config says.
 #[tactic(auto, unfolding(crate::specs::Files::config_of))]
 pub fn read_config<R: Read>(alloc: Global, config: &mut R) -> Result<Setup, RunFault>

@@ -7,6 +7,7 @@ mod capture;
 mod ending;
 mod entering;
 mod files;
+mod logs;
 mod playing;
 mod replies;
 mod serial;

@@ -28,11 +28,10 @@ pub struct Playing {
 }
 
 impl Playing {
-    /// A play in which nothing has happened, with the reply lines in these memories.
+    /// A play in which nothing has happened.
     pub fn new(
         alloc: Global,
         setup: &Setup,
-        rooms: Vec<Vec<u8>>,
         only_journal: bool,
         timing: Timing,
     ) -> Result<Playing, AllocError>
@@ -43,7 +42,7 @@ impl Playing {
     {
         let server = Server::new(alloc, setup)?;
         let journal = JournalLines::new(alloc, timing)?;
-        let lines = first_lines(alloc, setup, rooms, only_journal)?;
+        let lines = first_lines(alloc, setup, only_journal)?;
         Ok(Playing {
             server,
             out: Vec::new(alloc),

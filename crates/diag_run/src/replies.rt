@@ -20,19 +20,16 @@ pub struct ReplyLines {
 }
 
 impl ReplyLines {
-    /// No line of this tester yet, in memory that was used for something else: it is emptied, and may grow.
-    pub fn new(
-        alloc: Global,
-        setup: &Setup,
-        who: TesterId,
-        mut room: Vec<u8>,
-    ) -> Result<ReplyLines, AllocError>
+    /// No line of this tester yet.
+    pub fn new(alloc: Global, setup: &Setup, who: TesterId) -> Result<ReplyLines, AllocError>
         requires { who ≤ length setup.now.testers }
         ensures { IfOk result (λ lines. Replies (name_of setup.now who) lines []) }
     {
         let writer = LineWriter::new(alloc, setup.name(who), setup.ids(who).response)?;
-        room.clear();
-        Ok(ReplyLines { text: room, writer })
+        Ok(ReplyLines {
+            text: Vec::new(alloc),
+            writer,
+        })
     }
 
     /// Adds the lines of these frames.
@@ -48,11 +45,10 @@ impl ReplyLines {
     }
 }
 
-/// No line of any tester yet, in these memories as far as they go; where the journal alone is wanted, none at all.
+/// No line of any tester yet; where the journal alone is wanted, none at all.
 pub fn first_lines(
     alloc: Global,
     setup: &Setup,
-    rooms: Vec<Vec<u8>>,
     only_journal: bool,
 ) -> Result<Vec<ReplyLines>, AllocError>
     ensures none { IfOk result (λ lines. AreUnwritten setup.now lines.items) }
@@ -62,15 +58,11 @@ pub fn first_lines(
     if only_journal {
         return Ok(Vec::new(alloc));
     }
-    unwritten(alloc, setup, rooms)
+    unwritten(alloc, setup)
 }
 
-/// No line of any tester yet, in these memories as far as they go.
-fn unwritten(
-    alloc: Global,
-    setup: &Setup,
-    mut rooms: Vec<Vec<u8>>,
-) -> Result<Vec<ReplyLines>, AllocError>
+/// No line of any tester yet.
+fn unwritten(alloc: Global, setup: &Setup) -> Result<Vec<ReplyLines>, AllocError>
     ensures none { IfOk result (λ lines. AreUnwritten setup.now lines.items) }
     ensures many { IfOk result (λ lines. length lines.items ≡ length setup.now.testers) }
 {
@@ -79,8 +71,7 @@ fn unwritten(
         let Some(who) = setup.who(index) else {
             unreachable!()
         };
-        let room = rooms.pop().unwrap_or(Vec::new(alloc));
-        let tester = ReplyLines::new(alloc, setup, who, room)?;
+        let tester = ReplyLines::new(alloc, setup, who)?;
         lines.push(tester)?;
     }
     Ok(lines)

@@ -14,14 +14,13 @@ use diag_world::{interleaving_law, take_turns, turns_law};
 use std::alloc::Global;
 
 /// Plays the testers' logs: one event of each in turn, in the testers' order, a log that has ended being skipped. What the
-/// play writes is written as it goes, the reply lines into these memories.
+/// play writes is written as it goes.
 ///
 /// # Errors
 /// `JournalFull` where the logs give more steps than a journal has entries, `Memory` where memory is refused.
 pub(crate) fn serial_text(
     alloc: Global,
     setup: &Setup,
-    rooms: Vec<Vec<u8>>,
     logs: &[Vec<Event>],
     only_journal: bool,
     timing: Timing,
@@ -33,7 +32,7 @@ pub(crate) fn serial_text(
         → most_entries
         < length (steps_of (link_of setup.now) (turns (map (λ log. log.items) logs.now))) }
 {
-    let mut playing = Playing::new(alloc, setup, rooms, only_journal, timing)?;
+    let mut playing = Playing::new(alloc, setup, only_journal, timing)?;
     take_turns(&mut playing, setup, logs)?;
     interleaving_law();
     turns_law();

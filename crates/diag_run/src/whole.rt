@@ -110,10 +110,7 @@ fn text_alone<R: Read>(
         Alone::Serial {
             only_journal,
             timing,
-        } => match read_texts(alloc, files) {
-            Ok(texts) => played_text(alloc, setup, texts, only_journal, timing),
-            Err(fault) => Err(fault),
-        },
+        } => played_text(alloc, setup, files, only_journal, timing),
         Alone::Replay => replayed_text(alloc, setup, files),
     }
 }

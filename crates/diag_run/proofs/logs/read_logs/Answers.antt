@@ -1,0 +1,18 @@
+use Rattle.std.proofs.Common.{◌∙◌, subst, sym, arith}
+use Rattle.std.proofs.lemmas.Result.{err_from_is_err_and}
+use Rattle.diag_run.specs.Logs.{AreLogs}
+use Rattle.diag_run.proofs.Finishing.{AreLogs-same}
+use Rattle.diag_run.proofs.Known.{refused_before, take_seam}
+use Rattle.diag_run.proofs.logs.read_logs.Goals as goal
+
+pub returns-in_err-takers-clause-ends : goal.returns-in_err-takers-clause-ends
+returns-in_err-takers-clause-ends g c =
+    let p = err_from_is_err_and c.from_residual.result c.from_residual.ensures.1 in
+    rw (p.1, p.2) (refused_before g.R.Read.remaining 67108864 c.args.files.now (omega (arith, c.requires, c.in_err-takers.ensures.some)))
+
+pub returns-in-Ok-clause-logs : goal.returns-in-Ok-clause-logs
+returns-in-Ok-clause-logs g c =
+    let logs = AreLogs 1 c.args.setup.now c.args.timing in
+    subst logs (sym (take_seam _ c.read_each.new.takers _ (c.in-Ok.ensures.as_many ∙ c.as_mut_slice.ensures.len)))
+    (AreLogs-same c.args.setup.now c.args.timing 1 c.read_each.new.takers c.as_mut_slice.result.now c.in-Ok.ensures.aims
+    (subst logs (sym c.as_mut_slice.ensures.value) c.in_ok-takers.ensures.logs))
