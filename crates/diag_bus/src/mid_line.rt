@@ -1,11 +1,10 @@
 //! A line of a capture, given to the server: its time to every tester, and its frame to those it is for.
 
-ghost use Rattle.std.specs.Prelude.{◌≡◌, ◌≢◌, ◌≤◌, ◌<◌, ◌-◌, ℕ, List, [], ◌∷◌, ◌++◌, Ok, Some, length, map, slice_get, IfSome, IsSome, IsTrue, OnOk, OnErr};
+ghost use Rattle.std.specs.Prelude.{◌≡◌, ◌≢◌, ◌≤◌, ◌<◌, ◌-◌, ℕ, List, [], ◌∷◌, ◌++◌, Ok, Some, length, map, slice_get, IfSome, IsSome, OnOk, OnErr};
 ghost use Rattle.std.specs.List.{flat_map};
 ghost use Rattle.diag_can.specs.declared.frame.Event.{Event as AnEvent};
 ghost use Rattle.diag_can.specs.Log.{waited};
 ghost use Rattle.diag_can.specs.Usual.{IsUsual, usual_bytes};
-ghost use Rattle.diag_tp.specs.Link.{is_frame};
 ghost use Rattle.diag_tp.specs.Moments.{counted_from};
 ghost use Rattle.diag_tp.specs.declared.sent.Sent.{Sent as ASent};
 ghost use Rattle.diag_world.specs.Server.{closing_time};
@@ -100,7 +99,7 @@ impl MidLine {
     }
 
     /// Gives the server an event of a tester.
-    #[inline(always)]
+    #[inline(never)]
     fn give(&mut self, who: TesterId, event: &Event) -> Result<(), AllocError>
         requires in_setup { who ≤ length self.old.server.links }
         requires lists { length self.old.drawn.items ≡ length self.old.server.links }
@@ -179,28 +178,7 @@ impl MidLine {
             self.rest = rest - u64::from(count.get());
             return Ok(());
         }
-        self.give_one_by_one(setup, count)
-    }
-
-    /// The same, one tester behind the other.
-    #[inline(never)]
-    fn give_one_by_one(&mut self, setup: &Setup, count: TickCount) -> Result<(), AllocError>
-        requires in_setup { length self.old.server.links ≡ length setup.now.testers }
-        requires lists { length self.old.drawn.items ≡ length setup.now.testers }
-        requires early { HasTime self.old.server count }
-        ensures ok { OnOk result
-            (Gave self.old self.new (to_each (length setup.now.testers) (AnEvent.Ticks count))) }
-        ensures shape { SameShape self.old self.new }
-        ensures pace { TookTime self.old.server self.new.server count }
-        ensures sent { OnOk result (SentIn self.old self.new count) }
-    {
-        for index in 0..setup.testers() {
-            let Some(who) = setup.who(index) else {
-                unreachable!()
-            };
-            self.give(who, &Event::Ticks(count))?;
-        }
-        Ok(())
+        self.give_to_each(setup, &Event::Ticks(count))
     }
 
     /// Lets so many milliseconds pass for each tester.
@@ -272,18 +250,18 @@ impl MidLine {
         }
     }
 
-    /// Gives the server a frame of each tester, in order.
-    #[inline(never)]
+    /// Gives the server an event of each tester, in order.
     fn give_to_each(&mut self, setup: &Setup, event: &Event) -> Result<(), AllocError>
         requires in_setup { length self.old.server.links ≡ length setup.now.testers }
         requires lists { length self.old.drawn.items ≡ length setup.now.testers }
-        requires frame { IsTrue (is_frame event.now) }
         requires early { HasTime self.old.server 0 }
         ensures ok { OnOk result
             (Gave self.old self.new (to_each (length setup.now.testers) event.now)) }
         ensures shape { SameShape self.old self.new }
-        ensures pace { TookTime self.old.server self.new.server 0 }
-        ensures sent { OnOk result (SentIn self.old self.new 0) }
+        ensures pace { (span : ℕ) → Lasts event.now span
+            → TookTime self.old.server self.new.server span }
+        ensures sent { OnOk result ((span : ℕ) → Lasts event.now span
+            → SentIn self.old self.new span) }
     {
         for index in 0..setup.testers() {
             let Some(who) = setup.who(index) else {

@@ -140,6 +140,7 @@ fn write_one(
 
 /// Adds the reply lines of the frames that the tester at this place, from 0, is sent, as they stand. Refused, the text is
 /// as it was.
+#[inline(always)]
 pub(crate) fn write_own(
     setup: &Setup,
     start: Option<Start>,
