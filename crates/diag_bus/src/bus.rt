@@ -176,9 +176,9 @@ impl Bus {
         self.line.begin();
         self.line
             .take_usual(&self.setup, &self.ids, span, usual, id, at)?;
-        let start = self.clock.start;
         let (writers, batch) = (&mut self.writers, &mut self.batch);
-        Ok(self.line.write(&self.setup, start, writers, batch, text)?)
+        let (setup, clock) = (&self.setup, &self.clock);
+        Ok(self.line.write(setup, clock, writers, batch, text)?)
     }
 
     /// The same of any line.
@@ -201,10 +201,9 @@ impl Bus {
             .take_said(&self.setup, &self.ids, reference, &said)?;
         self.compared
             .take_line(&self.setup, &said, self.line.drawn.as_slice())?;
-        let start = self.clock.start;
-        let writers = &mut self.writers;
-        let batch = &mut self.batch;
-        self.line.write(&self.setup, start, writers, batch, text)?;
+        let (writers, batch) = (&mut self.writers, &mut self.batch);
+        let (setup, clock) = (&self.setup, &self.clock);
+        self.line.write(setup, clock, writers, batch, text)?;
         Ok(())
     }
 

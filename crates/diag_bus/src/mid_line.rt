@@ -13,7 +13,7 @@ ghost use Rattle.diag_bus.specs.Requests.{AreFilled, AreNamesOf, AreRequestsOf, 
 ghost use Rattle.diag_bus.specs.Text.{drawn_text};
 
 use crate::bus::Output;
-use crate::clock::{Start, silence};
+use crate::clock::{Clock, silence};
 use crate::entering::LineEntries;
 use crate::filled::Filled;
 use crate::request_ids::{Owner, RequestIds};
@@ -64,19 +64,19 @@ impl MidLine {
     pub fn write(
         &mut self,
         setup: &Setup,
-        start: Option<Start>,
+        clock: &Clock,
         writers: &mut Vec<LineWriter>,
         batch: &mut Vec<Drawn>,
         text: &mut Vec<u8>,
     ) -> Result<(), AllocError>
         requires lists { length self.old.drawn.items ≡ length setup.now.testers }
         requires names { AreNamesOf setup.now writers.old.items }
-        requires start { StartsBelow start moment_end }
+        requires start { StartsBelow clock.now.start moment_end }
         requires sent { AreSentBy (lists_of self.old) closing_time }
         requires filled { AreFilled self.old.filled (lists_of self.old) }
         ensures names { writers.new.items ≡ writers.old.items }
         ensures ok { OnOk result (text.new.items ≡ text.old.items
-            ++ added self.old.output self.old.text.items setup.now start (lists_of self.old)) }
+            ++ added self.old.output self.old.text.items setup.now clock.now.start (lists_of self.old)) }
         ensures err { OnErr result (text.new.items ≡ text.old.items) }
         ensures server { self.new.server ≡ self.old.server }
         ensures shape { SameShape self.old self.new }
@@ -86,11 +86,11 @@ impl MidLine {
                 Filled::Nowhere => Ok(()),
                 Filled::At(place) if is_in_order(self.drawn[place].as_slice()) => {
                     let frames = self.drawn[place].as_slice();
-                    write_own(setup, start, writers, place, frames, text)
+                    write_own(setup, clock, writers, place, frames, text)
                 }
                 Filled::At(_) | Filled::Anywhere => {
                     self.filled = Filled::Anywhere;
-                    write_drawn(setup, start, writers, &mut self.drawn, batch, text)
+                    write_drawn(setup, clock, writers, &mut self.drawn, batch, text)
                 }
             },
             Output::Journal => text.extend_from_slice(self.text.as_slice()),

@@ -9,7 +9,7 @@ ghost use Rattle.diag_bus.specs.Batch.{AreSentBy, StartsBelow, moment_end};
 ghost use Rattle.diag_bus.specs.Requests.{AreNamesOf};
 ghost use Rattle.diag_bus.specs.Text.{bus_moment, drawn_for, drawn_text, gathered, line_of, time_of};
 
-use crate::clock::Start;
+use crate::clock::{Clock, Start};
 use diag_can::LineWriter;
 use diag_setup::{Setup, TesterId};
 use diag_tp::Sent;
@@ -117,7 +117,7 @@ pub(crate) fn is_in_order(frames: &[Sent]) -> bool
 #[inline(always)]
 fn write_one(
     setup: &Setup,
-    start: Option<Start>,
+    clock: &Clock,
     writers: &mut Vec<LineWriter>,
     place: usize,
     sent: &Sent,
@@ -125,16 +125,16 @@ fn write_one(
 ) -> Result<(), AllocError>
     requires names { AreNamesOf setup.now writers.old.items }
     requires tester { place < length setup.now.testers }
-    requires start { StartsBelow start moment_end }
+    requires start { StartsBelow clock.now.start moment_end }
     requires sent { sent.now.at ≤ closing_time }
     ensures ok { OnOk result
-        (text.new.items ≡ text.old.items ++ line_of setup.now start (drawn_for (place + 1) sent.now)) }
+        (text.new.items ≡ text.old.items ++ line_of setup.now clock.now.start (drawn_for (place + 1) sent.now)) }
     ensures err { OnErr result (text.new.items ≡ text.old.items) }
     ensures names { writers.new.items ≡ writers.old.items }
 {
     // (for its contract: the writers are those of its testers)
     let _ = setup;
-    let moment = bus_moment(start, sent.at);
+    let moment = bus_moment(clock.start, sent.at);
     writers[place].write(text, moment, &sent.frame)
 }
 
@@ -143,7 +143,7 @@ fn write_one(
 #[inline(always)]
 pub(crate) fn write_own(
     setup: &Setup,
-    start: Option<Start>,
+    clock: &Clock,
     writers: &mut Vec<LineWriter>,
     place: usize,
     frames: &[Sent],
@@ -151,16 +151,16 @@ pub(crate) fn write_own(
 ) -> Result<(), AllocError>
     requires names { AreNamesOf setup.now writers.old.items }
     requires tester { place < length setup.now.testers }
-    requires start { StartsBelow start moment_end }
+    requires start { StartsBelow clock.now.start moment_end }
     requires sent { All (λ f. f.at ≤ closing_time) frames.now }
     ensures ok { OnOk result (text.new.items ≡ text.old.items
-        ++ flat_map (λ sent. line_of setup.now start (drawn_for (place + 1) sent)) frames.now) }
+        ++ flat_map (λ sent. line_of setup.now clock.now.start (drawn_for (place + 1) sent)) frames.now) }
     ensures err { OnErr result (text.new.items ≡ text.old.items) }
     ensures names { writers.new.items ≡ writers.old.items }
 {
     let len = text.len();
     for sent in frames {
-        if let Err(refused) = write_one(setup, start, writers, place, sent, text) {
+        if let Err(refused) = write_one(setup, clock, writers, place, sent, text) {
             text.truncate(len);
             return Err(refused);
         }
@@ -171,17 +171,17 @@ pub(crate) fn write_own(
 /// Adds the reply lines of a batch, in the order of their times. Refused, the text is as it was.
 fn write_batch(
     setup: &Setup,
-    start: Option<Start>,
+    clock: &Clock,
     writers: &mut Vec<LineWriter>,
     batch: &mut Vec<Drawn>,
     text: &mut Vec<u8>,
 ) -> Result<(), AllocError>
     requires names { AreNamesOf setup.now writers.old.items }
     requires testers { All (λ drawn. drawn.who ≤ length setup.now.testers) batch.old.items }
-    requires start { StartsBelow start moment_end }
+    requires start { StartsBelow clock.now.start moment_end }
     requires sent { All (λ drawn. drawn.sent.at ≤ closing_time) batch.old.items }
     ensures ok { OnOk result (text.new.items ≡ text.old.items
-        ++ flat_map (line_of setup.now start) (in_order time_of batch.old.items)) }
+        ++ flat_map (line_of setup.now clock.now.start) (in_order time_of batch.old.items)) }
     ensures err { OnErr result (text.new.items ≡ text.old.items) }
     ensures names { writers.new.items ≡ writers.old.items }
 {
@@ -189,7 +189,7 @@ fn write_batch(
     let len = text.len();
     for drawn in batch.as_slice() {
         let place = usize::from(drawn.who.place()) - 1;
-        if let Err(refused) = write_one(setup, start, writers, place, &drawn.sent, text) {
+        if let Err(refused) = write_one(setup, clock, writers, place, &drawn.sent, text) {
             text.truncate(len);
             return Err(refused);
         }
@@ -202,7 +202,7 @@ fn write_batch(
 #[inline(never)]
 pub(crate) fn write_drawn(
     setup: &Setup,
-    start: Option<Start>,
+    clock: &Clock,
     writers: &mut Vec<LineWriter>,
     drawn: &mut Vec<Vec<Sent>>,
     batch: &mut Vec<Drawn>,
@@ -210,15 +210,15 @@ pub(crate) fn write_drawn(
 ) -> Result<(), AllocError>
     requires names { AreNamesOf setup.now writers.old.items }
     requires testers { length drawn.old.items ≡ length setup.now.testers }
-    requires start { StartsBelow start moment_end }
+    requires start { StartsBelow clock.now.start moment_end }
     requires sent { AreSentBy (map (λ f. f.items) drawn.old.items) closing_time }
     ensures ok { OnOk result (text.new.items ≡ text.old.items
-        ++ drawn_text setup.now start (map (λ f. f.items) drawn.old.items)) }
+        ++ drawn_text setup.now clock.now.start (map (λ f. f.items) drawn.old.items)) }
     ensures err { OnErr result (text.new.items ≡ text.old.items) }
     ensures lists { length drawn.new.items ≡ length drawn.old.items }
     ensures names { writers.new.items ≡ writers.old.items }
 {
     batch.clear();
     gather(setup, drawn, batch)?;
-    write_batch(setup, start, writers, batch, text)
+    write_batch(setup, clock, writers, batch, text)
 }

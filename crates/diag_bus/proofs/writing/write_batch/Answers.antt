@@ -33,7 +33,7 @@ pub loop-drawn-preserved : goal.loop-drawn-preserved
 loop-drawn-preserved c =
     let inv = c.loop-drawn.invariant in
     let one = c.drawn-item.result in
-    let f = line_of c.args.setup.now c.args.start in
+    let f = line_of c.args.setup.now c.args.clock.now.start in
     let who : c.from-place.result - 1 + 1 ≡ one.who = omega (arith, c.from-place.ensures, c.place.ensures.same, c.place.ensures.fits) in
     record {
       names = c.write_one.ensures.names ∙ inv.names;

@@ -23,7 +23,7 @@ returns-clause-ok c =
     let lists = map (λ (f : Vec Sent Global). f.items) c.args.drawn.now.items in
     let all = c.in_ok-gather.ensures.all ∙ ap (λ b. b ++ gathered 1 lists) c.clear.ensures.items in
     on_ok _ _ c.write_batch.result (λ written.
-    written ∙ ap (λ (ds : List Drawn). c.args.text.now.items ++ flat_map (line_of c.args.setup.now c.args.start) (in_order time_of ds)) all)
+    written ∙ ap (λ (ds : List Drawn). c.args.text.now.items ++ flat_map (line_of c.args.setup.now c.args.clock.now.start) (in_order time_of ds)) all)
     c.write_batch.ensures.ok
 
 pub write_batch-requires-clause-sent : goal.write_batch-requires-clause-sent

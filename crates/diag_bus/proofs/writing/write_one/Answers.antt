@@ -14,5 +14,5 @@ returns-clause-ok c =
     on_ok _ _ c.write.result (λ wrote.
     let found = slice_get_read names (length names) c.args.place writer refl (omega (arith, c.requires.tester, c.requires.names.many)) c.index_mut.ensures.value in
     wrote ∙ ap (λ (moment : ℕ). text ++ reply_line writer moment sent.frame) c.bus_moment-moment.ensures
-    ∙ ap (λ (name : List ℕ). text ++ reply_line name (bus_moment c.args.start sent.at) sent.frame) (c.requires.names.each c.args.place writer found))
+    ∙ ap (λ (name : List ℕ). text ++ reply_line name (bus_moment c.args.clock.now.start sent.at) sent.frame) (c.requires.names.each c.args.place writer found))
     c.write.ensures.ok

@@ -22,9 +22,9 @@ returns-in-Nowhere-clause-ok c =
     let text = c.args.text.now.items in
     let setup = c.args.setup.now in
     let lists = lists_of c.args.self.now in
-    subst (λ (o : Output). text ≡ text ++ added o c.args.self.now.text.items setup c.args.start lists) (sym c.in-Replies.is)
+    subst (λ (o : Output). text ≡ text ++ added o c.args.self.now.text.items setup c.args.clock.now.start lists) (sym c.in-Replies.is)
     (sym (append-nil text) ∙ ap (λ w. text ++ w)
-    (none_written setup c.args.start lists (subst (λ (f : Filled). AreFilled f lists) c.in-Nowhere.is c.requires.filled)))
+    (none_written setup c.args.clock.now.start lists (subst (λ (f : Filled). AreFilled f lists) c.in-Nowhere.is c.requires.filled)))
 
 filled : (c : goal.After-write_own-arg-in-At-1) → AreFilled (At c.in-At.place) (lists_of c.args.self.now)
 filled c = subst (λ (f : Filled). AreFilled f (lists_of c.args.self.now)) c.in-At.is c.requires.filled
@@ -59,7 +59,7 @@ pub returns-in-At-clause-ok : goal.returns-in-At-clause-ok
 returns-in-At-clause-ok c =
     let self = c.args.self.now in
     let setup = c.args.setup.now in
-    let start = c.args.start in
+    let start = c.args.clock.now.start in
     let text = c.args.text.now.items in
     let list = c.index-in-At.result.now in
     let place = c.in-At.place in
