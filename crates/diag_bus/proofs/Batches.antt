@@ -106,6 +106,15 @@ waited_rest ms some =
     some-eqb : (n : ℕ) → 1 ≤ n → (n == 0) ≡ false
     some-eqb n h = grind (arith, nat_tests)
 
+-- fewer than 60000 are given as they are
+pub waited_few : (n ms count : ℕ) → count ≡ ms → 1 ≤ ms → ms < 60000 → to_each n (Ticks count) ≡ flat_map (to_each n) (waited ms)
+waited_few n ms count is some few =
+    let rest : ms % 60000 ≡ count = omega (arith, is, few) in
+    let none : ms / 60000 ≡ 0 = omega (arith, few) in
+    sym (ap (flat_map (to_each n)) (waited_rest ms (omega (arith, rest, is, some)))
+    ∙ (ap (λ k. flat_map (to_each n) (replicate k (Ticks 60000) ++ Ticks (ms % 60000) ∷ [])) none
+    ∙ (append-nil (to_each n (Ticks (ms % 60000))) ∙ ap (λ k. to_each n (Ticks k)) rest)))
+
 pub rest_more : (n : ℕ) (es : List Event) (e : Event) → flat_map (to_each n) (es ++ e ∷ []) ≡ flat_map (to_each n) es ++ to_each n e
 rest_more n es e = flat_map-append (to_each n) es (e ∷ []) ∙ ap (λ w. flat_map (to_each n) es ++ w) (append-nil (to_each n e))
 

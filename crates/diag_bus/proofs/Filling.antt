@@ -2,9 +2,10 @@
 use Rattle.std.proofs.Common.{◌≡◌, ◌≢◌, ◌≤◌, ◌<◌, min, ℕ, zero, suc, ◌+◌, ◌-◌, Bool, true, false, Option, None, Some, Vec, Global, vec_len, List, [], ◌∷◌, ◌++◌, length, map, get_or, refl, ap, ap₂, sym, subst, ◌∙◌, arith, inl, inr}
 use Rattle.std.proofs.Math.Seq.{map-set_same}
 use Rattle.std.proofs.lemmas.Bool.{eqb-true}
-use Rattle.std.proofs.lemmas.List.{append-nil, length-map, length-set, map-set}
+use Rattle.std.proofs.lemmas.List.{append-nil, get_or-map, length-map, length-set, map-set}
 use Rattle.std.specs.Prelude.{◌==◌, IfSome, if◌then◌else◌, slice_get, slice_set}
 use Rattle.std.specs.List.{flat_map}
+use Rattle.std.specs.List.Sorted.{IsNonDecreasingBy}
 use Rattle.std.specs.Option.{option_map}
 use Rattle.std.proofs.lemmas.Option.{slice_get-map}
 use Rattle.diag_can.specs.declared.frame.Event.{Event}
@@ -24,6 +25,8 @@ use Rattle.diag_bus.specs.Text.{drawn_for, drawn_text, gathered, line_of, time_o
 use Rattle.diag_bus.specs.declared.clock.Start.{Start}
 use Rattle.diag_bus.specs.declared.filled.Filled.{Filled}
 use Rattle.diag_bus.specs.declared.filled.Filled.TheVariants.{Nowhere, At, Anywhere}
+use Rattle.diag_bus.specs.declared.writing.Drawn.{Drawn}
+use Rattle.diag_bus.proofs.Order.{in_order_is}
 
 -- frames were added to one list
 filled_more : (filled : Filled) (lists : List (List Sent)) (i : ℕ) (frames : List Sent) → i < length lists → AreFilled filled lists
@@ -178,24 +181,28 @@ one_gathered n (suc i) (first ∷ lists) frames at others =
 pub none_written : (setup : RawSetup) (start : Option Start) (lists : List (List Sent)) → AreFilled Nowhere lists → [] ≡ drawn_text setup start lists
 none_written setup start lists none = ap (λ ds. flat_map (line_of setup start) (in_order time_of ds)) (sym (none_gathered 1 lists none))
 
--- and one that draws one frame writes its line
-one_written : (setup : RawSetup) (start : Option Start) (i : ℕ) (lists : List (List Sent)) (sent : Sent) → slice_get lists i ≡ Some (sent ∷ [])
-    → AreFilled (At i) lists
-    → line_of setup start (drawn_for (i + 1) sent) ≡ drawn_text setup start lists
-one_written setup start i lists sent at filled =
-    let place : 1 + i ≡ i + 1 = omega arith in
-    let one = one_gathered 1 i lists (sent ∷ []) at filled.1 ∙ ap (λ t. drawn_for t sent ∷ []) place in
-    sym (append-nil (line_of setup start (drawn_for (i + 1) sent))) ∙ ap (λ ds. flat_map (line_of setup start) (in_order time_of ds)) (sym one)
+up_drawn : (t : ℕ) (frames : List Sent) → IsNonDecreasingBy (λ f. f.at) frames → IsNonDecreasingBy time_of (map (drawn_for t) frames)
+up_drawn t frames up = λ i j d le less.
+    let within : j < length frames = omega (arith, less, length-map frames (drawn_for t)) in
+    let first = ap time_of (get_or-map (drawn_for t) frames i d.sent d (omega (arith, le, within))) in
+    let second = ap time_of (get_or-map (drawn_for t) frames j d.sent d within) in
+    omega (arith, first, second, up i j d.sent le within)
 
-single : {X : Type 0} (xs : List X) (x : X) → length xs ≡ 1 → x ≡ get_or xs 0 x → xs ≡ x ∷ []
-single [] x one is = absurd (omega (arith, one))
-single (y ∷ []) x one is = ap (λ z. z ∷ []) (sym is)
-single (y ∷ z ∷ xs) x one is = absurd (omega (arith, one))
+lines_drawn : (f : Drawn → List ℕ) (t : ℕ) (frames : List Sent) → flat_map (λ s. f (drawn_for t s)) frames ≡ flat_map f (map (drawn_for t) frames)
+lines_drawn f t [] = refl
+lines_drawn f t (sent ∷ frames) = ap (λ w. f (drawn_for t sent) ++ w) (lines_drawn f t frames)
 
-pub list_written : (setup : RawSetup) (start : Option Start) (i : ℕ) (drawn : List (Vec Sent Global)) (list : Vec Sent Global) (sent : Sent)
-    → slice_get drawn i ≡ Some list → length list.items ≡ 1
-    → sent ≡ get_or list.items 0 sent → AreFilled (At i) (map (λ f. f.items) drawn)
-    → line_of setup start (drawn_for (i + 1) sent) ≡ drawn_text setup start (map (λ f. f.items) drawn)
-list_written setup start i drawn list sent at one is filled =
+-- and one that draws frames of one tester, none earlier than the one before it, writes their lines as they stand
+pub own_written : (setup : RawSetup) (start : Option Start) (i : ℕ) (drawn : List (Vec Sent Global)) (list : Vec Sent Global)
+    → slice_get drawn i ≡ Some list → IsNonDecreasingBy (λ f. f.at) list.items → AreFilled (At i) (map (λ f. f.items) drawn)
+    → flat_map (λ f. line_of setup start (drawn_for (i + 1) f)) list.items ≡ drawn_text setup start (map (λ f. f.items) drawn)
+own_written setup start i drawn list at up filled =
     let items = λ (f : Vec Sent Global). f.items in
-    one_written setup start i (map items drawn) sent (slice_get-map items drawn i ∙ (ap (option_map items) at ∙ ap Some (single list.items sent one is))) filled
+    let place : 1 + i ≡ i + 1 = omega arith in
+    let own = map (drawn_for (i + 1)) list.items in
+    let one : gathered 1 (map items drawn) ≡ own =
+    one_gathered 1 i (map items drawn) list.items (slice_get-map items drawn i ∙ ap (option_map items) at) filled.1
+    ∙ ap (λ t. map (drawn_for t) list.items) place in
+    lines_drawn (line_of setup start) (i + 1) list.items
+    ∙ (ap (flat_map (line_of setup start)) (in_order_is time_of own (up_drawn (i + 1) list.items up))
+    ∙ ap (λ ds. flat_map (line_of setup start) (in_order time_of ds)) (sym one))

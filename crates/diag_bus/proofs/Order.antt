@@ -158,3 +158,7 @@ stable_of {X = X} key xs ys h x =
     let q = λ (y : X). key y == key x in
     let same = λ (y : X). tied (key x) (key y) in
     sym (same_test p q ys same) ∙ (h x ∙ same_test p q xs same)
+
+-- rows that don't fall stand in order
+pub in_order_is : {X : Type 0} (key : X → ℕ) (xs : List X) → IsNonDecreasingBy key xs → xs ≡ in_order key xs
+in_order_is key xs up = sorted_is key xs xs up (λ x. refl)

@@ -1,35 +1,32 @@
 -- How the testers' clocks go on in a line.
 use Rattle.std.proofs.Common.{◌≡◌, ◌≤◌, ℕ, ◌+◌, Option, Ok, Some, List, [], ◌++◌, subst, sym, ap, arith, inl, inr}
-use Rattle.std.specs.Prelude.{IsTrue, slice_get, slice_set}
+use Rattle.std.specs.Prelude.{slice_get, slice_set}
 use Rattle.std.specs.List.{All}
 use Rattle.std.proofs.lemmas.List.Elements.{All-append}
 use Rattle.diag_can.specs.declared.bus.BusLine.{BusLine}
 use Rattle.diag_can.specs.declared.frame.Event.{Event}
 use Rattle.diag_can.specs.declared.frame.Event.TheVariants.{Physical, Functional, Ticks}
 use Rattle.diag_tp.specs.declared.sent.Sent.{Sent}
-use Rattle.diag_tp.specs.Link.{is_frame}
 use Rattle.diag_tp.specs.State.{LinkState}
 use Rattle.diag_desk.specs.declared.entry.Entry.{Entry}
 use Rattle.diag_world.specs.Port.{AreWithin, time_after}
 use Rattle.diag_world.specs.Server.{MovedOn, ServerState, ServerView, server_of}
 use Rattle.diag_world.proofs.Worlds.{set_cases}
-use Rattle.diag_bus.specs.Batch.{AreSentBy, GoesOn, HasTime, IsBy, OneSentIn, OneWentOn, SentIn, TookTime, lists_of}
+use Rattle.diag_bus.specs.Batch.{AreSentBy, GoesOn, HasTime, IsBy, Lasts, OneSentIn, OneWentOn, SentIn, TookTime, lists_of}
 use Rattle.diag_bus.specs.declared.mid_line.MidLine.{MidLine}
 use Rattle.diag_bus.specs.Events.{span_said}
 use Rattle.diag_bus.specs.declared.clock.Clock.{Clock}
 
 -- ---- one tester
 
-pub frame_time : (e : Event) → IsTrue (is_frame e) → (now : ℕ) → time_after now e ≤ now + 0
-frame_time (Physical bytes) frame now = omega arith
-frame_time (Functional bytes) frame now = omega arith
-frame_time (Ticks n) frame now = absurd (no_frame frame)
-  where
-    no_frame : IsTrue (is_frame (Ticks n)) → ⊥
-    no_frame h = cc
-
 pub ticks_time : (n now : ℕ) → time_after now (Ticks n) ≤ now + n
 ticks_time n now = omega arith
+
+-- each event lets at most some time pass
+pub lasts : (e : Event) → (span : ℕ) × Lasts e span
+lasts (Physical bytes) = (0, λ now. omega arith)
+lasts (Functional bytes) = (0, λ now. omega arith)
+lasts (Ticks n) = (n, ticks_time n)
 
 -- a server that took an event of the tester
 pub went_on : (old new : ServerView) (place span : ℕ) (e : Event) (asked : Option Entry) (more : List Sent)

@@ -1,6 +1,6 @@
 -- What a line writes, from the testers' lists; and the text of one line more.
-use Rattle.std.proofs.Common.{◌≡◌, ◌≤◌, ℕ, zero, suc, ◌+◌, take, Vec, Global, Option, Some, None, List, [], ◌∷◌, ◌++◌, length, map, drop, refl, ap, ap₂, subst, sym, ◌∙◌, append_assoc, arith}
-use Rattle.std.proofs.lemmas.List.{append-nil, length-map, map-append, length-take-le, take_more}
+use Rattle.std.proofs.Common.{◌≡◌, ◌≤◌, ◌<◌, ℕ, zero, suc, ◌+◌, take, Vec, Global, Option, Some, None, List, [], ◌∷◌, ◌++◌, get_or, length, map, drop, refl, ap, ap₂, subst, sym, ◌∙◌, append_assoc, arith}
+use Rattle.std.proofs.lemmas.List.{append-nil, flat_map_more, length-map, map-append, length-take-le, take_more}
 use Rattle.std.proofs.lemmas.Option.{slice_get_within, get_or_from_slice_get}
 use Rattle.std.proofs.Math.Seq.{drop-append_seam}
 use Rattle.std.specs.List.{All, flat_map}
@@ -75,6 +75,13 @@ wrote Replies setup lines line server drawn clock T h more =
 wrote Journal setup lines line server drawn clock T h more = more
 wrote End setup lines line server drawn clock T h more = refl
 wrote Verdict setup lines line server drawn clock T h more = refl
+
+-- the text of one line more
+pub lines_more : {X : Type 0} (f : X → List ℕ) (xs : List X) (i : ℕ) (x : X) (before text more : List ℕ) → i < length xs → x ≡ get_or xs i x
+    → text ≡ before ++ flat_map f (take i xs) → more ≡ text ++ f x → more ≡ before ++ flat_map f (take (i + 1) xs)
+lines_more {X = X} f xs i x before text more within read is grown =
+    grown ∙ (ap (λ w. w ++ f x) is ∙ (flat_map_more f before (take i xs) x
+    ∙ ap (λ (ys : List X). before ++ flat_map f ys) (sym (take_more xs i x within ∙ ap (λ y. take i xs ++ y ∷ []) (sym read)))))
 
 -- one list more
 gathered_more : (n : ℕ) (lists : List (List Sent)) (frames : List Sent)

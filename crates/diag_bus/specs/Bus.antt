@@ -1,15 +1,18 @@
 -- What a bus stands for: the lines of a capture that it took.
-use Rattle.std.specs.Prelude.{◌≡◌, ◌≤◌, ℕ, List, length, None}
+use Rattle.std.specs.Prelude.{◌≡◌, ◌≢◌, ◌≤◌, ℕ, List, [], ◌∷◌, ◌++◌, length, Some, None, IfSome, Result, Err}
 use Rattle.diag_setup.specs.declared.raw.RawSetup.{RawSetup}
 use Rattle.diag_world.specs.Server.{ServerState}
 use Rattle.diag_bus.specs.Batch.{BusStands, IsBy, IsRest, StartsBelow, lists_of, moment_end}
-use Rattle.diag_bus.specs.Events.{first_fault}
+use Rattle.diag_bus.specs.Events.{first_fault, line_fault}
 use Rattle.diag_bus.specs.Comparing.{ComparesLines}
 use Rattle.diag_bus.specs.Requests.{AreFilled}
+use Rattle.diag_bus.specs.Text.{written}
 use Rattle.diag_bus.specs.declared.bus.Output.{Output}
 use Rattle.diag_bus.specs.declared.bus.Output.TheVariants.{Replies, Journal, End, Verdict}
 use Rattle.diag_bus.specs.declared.comparing.Comparisons.{Comparisons}
 use Rattle.diag_bus.specs.declared.clock.Clock.{Clock}
+use Rattle.diag_bus.specs.declared.fault.BusFault.{BusFault}
+use Rattle.diag_bus.specs.declared.fault.BusFault.TheVariants as fault
 use Rattle.diag_bus.specs.declared.mid_line.MidLine.{MidLine}
 
 -- what a contract sees of a bus
@@ -42,3 +45,19 @@ pub record TookLines (bus : BusState) (lines : List (List ℕ)) : Type 0 where
   pub well : first_fault lines ≡ None
   pub stands : BusStands bus.setup bus.server bus.clock lines
   pub compared : Judges bus.output bus.setup bus.compared lines
+
+-- the bus took a line more, which writes this
+abbrev pub TookLine : BusState → BusState → List ℕ → List ℕ → Type 0
+TookLine old new line more = (lines : List (List ℕ)) → TookLines old lines
+    → TookLines new (lines ++ line ∷ [])
+    × (written old.output old.setup (lines ++ line ∷ []) ≡ written old.output old.setup lines ++ more)
+
+-- where the line isn't taken, and memory was there, its fault is answered
+abbrev pub IsItsFault : {A : Type 0} → BusState → List ℕ → Result A BusFault → Type 0
+IsItsFault bus line result = (f : BusFault) → result ≡ Err f → f ≢ fault.Memory
+    → (lines : List (List ℕ)) → TookLines bus lines → line_fault lines line ≡ Some f
+
+-- a line at fault isn't taken
+abbrev pub IsRefused : {A : Type 0} → BusState → List ℕ → Result A BusFault → Type 0
+IsRefused bus line result = (lines : List (List ℕ)) → TookLines bus lines
+    → IfSome (line_fault lines line) (λ f. result ≡ Err f)

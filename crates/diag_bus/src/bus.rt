@@ -1,15 +1,13 @@
 //! The bus: the server, and what is kept of a capture between two of its lines.
 
-ghost use Rattle.std.specs.Prelude.{◌≡◌, ◌≢◌, ◌≤◌, ◌↔◌, ◌∷◌, [], ◌++◌, ℕ, List, length, IfOk, IfSome, OnOk, OnErr, IsTrue, Ok, Err};
+ghost use Rattle.std.specs.Prelude.{◌≡◌, ◌≢◌, ◌≤◌, ◌↔◌, [], ◌++◌, ℕ, List, length, IfOk, OnOk, OnErr, IsTrue, Ok};
 ghost use Rattle.diag_can.specs.Bus.{bus_line};
 ghost use Rattle.diag_can.specs.Usual.{IsUsual, usual_said};
 ghost use Rattle.diag_world.specs.Port.{Grew};
 ghost use Rattle.diag_world.specs.Server.{quiet_of};
-ghost use Rattle.diag_bus.specs.Bus.{Judges, TookLines};
-ghost use Rattle.diag_bus.specs.Events.{line_fault};
+ghost use Rattle.diag_bus.specs.Bus.{IsItsFault, IsRefused, Judges, TookLine, TookLines};
 ghost use Rattle.diag_bus.specs.Text.{ecu_after, written};
 ghost use Rattle.diag_bus.specs.Verdict.{recorded, verdict};
-ghost use Rattle.diag_bus.specs.declared.fault.BusFault.{BusFault as ABusFault};
 
 use crate::clock::{Clock, next_said, next_usual, silence};
 use crate::comparing::Comparisons;
@@ -135,16 +133,10 @@ impl Bus {
     /// where memory is refused, or 2^40 replies wait. Refused, the text is as it was, and the bus can't go on: of what
     /// it took nothing is said then.
     pub fn take_line(&mut self, line: &[u8], text: &mut Vec<u8>) -> Result<(), BusFault>
-        ensures took { OnOk result (Grew text.old.items text.new.items (λ more.
-            (lines : List (List ℕ)) → TookLines self.old lines
-            → TookLines self.new (lines ++ line.now ∷ [])
-            × (written self.old.output self.old.setup (lines ++ line.now ∷ [])
-            ≡ written self.old.output self.old.setup lines ++ more))) }
-        ensures fault { (fault : ABusFault) → result ≡ Err fault → fault ≢ BusFault.Memory
-            → (lines : List (List ℕ)) → TookLines self.old lines
-            → line_fault lines line.now ≡ Some fault }
-        ensures first { (lines : List (List ℕ)) → TookLines self.old lines
-            → IfSome (line_fault lines line.now) (λ fault. result ≡ Err fault) }
+        ensures took { OnOk result
+            (Grew text.old.items text.new.items (TookLine self.old self.new line.now)) }
+        ensures fault { IsItsFault self.old line.now result }
+        ensures first { IsRefused self.old line.now result }
         ensures err { OnErr result (text.new.items ≡ text.old.items) }
         ensures setup { self.new.setup ≡ self.old.setup }
         ensures output { self.new.output ≡ self.old.output }
@@ -170,16 +162,10 @@ impl Bus {
         requires usual { IsUsual usual.now id at }
         requires says { bus_line line.now ≡ Ok (usual_said usual.now id at) }
         requires unjudged { self.old.output ≢ Output.Verdict }
-        ensures took { OnOk result (Grew text.old.items text.new.items (λ more.
-            (lines : List (List ℕ)) → TookLines self.old lines
-            → TookLines self.new (lines ++ line.now ∷ [])
-            × (written self.old.output self.old.setup (lines ++ line.now ∷ [])
-            ≡ written self.old.output self.old.setup lines ++ more))) }
-        ensures fault { (fault : ABusFault) → result ≡ Err fault → fault ≢ BusFault.Memory
-            → (lines : List (List ℕ)) → TookLines self.old lines
-            → line_fault lines line.now ≡ Some fault }
-        ensures first { (lines : List (List ℕ)) → TookLines self.old lines
-            → IfSome (line_fault lines line.now) (λ fault. result ≡ Err fault) }
+        ensures took { OnOk result
+            (Grew text.old.items text.new.items (TookLine self.old self.new line.now)) }
+        ensures fault { IsItsFault self.old line.now result }
+        ensures first { IsRefused self.old line.now result }
         ensures err { OnErr result (text.new.items ≡ text.old.items) }
         ensures setup { self.new.setup ≡ self.old.setup }
         ensures output { self.new.output ≡ self.old.output }
@@ -190,24 +176,18 @@ impl Bus {
         self.line.begin();
         self.line
             .take_usual(&self.setup, &self.ids, span, usual, id, at)?;
-        let start = self.clock.start;
         let (writers, batch) = (&mut self.writers, &mut self.batch);
-        Ok(self.line.write(&self.setup, start, writers, batch, text)?)
+        let (setup, clock) = (&self.setup, &self.clock);
+        Ok(self.line.write(setup, clock, writers, batch, text)?)
     }
 
     /// The same of any line.
     #[inline(never)]
     fn take_any(&mut self, line: &[u8], text: &mut Vec<u8>) -> Result<(), BusFault>
-        ensures took { OnOk result (Grew text.old.items text.new.items (λ more.
-            (lines : List (List ℕ)) → TookLines self.old lines
-            → TookLines self.new (lines ++ line.now ∷ [])
-            × (written self.old.output self.old.setup (lines ++ line.now ∷ [])
-            ≡ written self.old.output self.old.setup lines ++ more))) }
-        ensures fault { (fault : ABusFault) → result ≡ Err fault → fault ≢ BusFault.Memory
-            → (lines : List (List ℕ)) → TookLines self.old lines
-            → line_fault lines line.now ≡ Some fault }
-        ensures first { (lines : List (List ℕ)) → TookLines self.old lines
-            → IfSome (line_fault lines line.now) (λ fault. result ≡ Err fault) }
+        ensures took { OnOk result
+            (Grew text.old.items text.new.items (TookLine self.old self.new line.now)) }
+        ensures fault { IsItsFault self.old line.now result }
+        ensures first { IsRefused self.old line.now result }
         ensures err { OnErr result (text.new.items ≡ text.old.items) }
         ensures setup { self.new.setup ≡ self.old.setup }
         ensures output { self.new.output ≡ self.old.output }
@@ -221,10 +201,9 @@ impl Bus {
             .take_said(&self.setup, &self.ids, reference, &said)?;
         self.compared
             .take_line(&self.setup, &said, self.line.drawn.as_slice())?;
-        let start = self.clock.start;
-        let writers = &mut self.writers;
-        let batch = &mut self.batch;
-        self.line.write(&self.setup, start, writers, batch, text)?;
+        let (writers, batch) = (&mut self.writers, &mut self.batch);
+        let (setup, clock) = (&self.setup, &self.clock);
+        self.line.write(setup, clock, writers, batch, text)?;
         Ok(())
     }
 

@@ -1,11 +1,10 @@
 //! A line of a capture, given to the server: its time to every tester, and its frame to those it is for.
 
-ghost use Rattle.std.specs.Prelude.{◌≡◌, ◌≢◌, ◌≤◌, ◌<◌, ◌-◌, ℕ, List, [], ◌∷◌, ◌++◌, Ok, Some, length, map, slice_get, IfSome, IsSome, IsTrue, OnOk, OnErr};
+ghost use Rattle.std.specs.Prelude.{◌≡◌, ◌≢◌, ◌≤◌, ◌<◌, ◌-◌, ℕ, List, [], ◌∷◌, ◌++◌, Ok, Some, length, map, slice_get, IfSome, IsSome, OnOk, OnErr};
 ghost use Rattle.std.specs.List.{flat_map};
 ghost use Rattle.diag_can.specs.declared.frame.Event.{Event as AnEvent};
 ghost use Rattle.diag_can.specs.Log.{waited};
 ghost use Rattle.diag_can.specs.Usual.{IsUsual, usual_bytes};
-ghost use Rattle.diag_tp.specs.Link.{is_frame};
 ghost use Rattle.diag_tp.specs.Moments.{counted_from};
 ghost use Rattle.diag_tp.specs.declared.sent.Sent.{Sent as ASent};
 ghost use Rattle.diag_world.specs.Server.{closing_time};
@@ -14,11 +13,11 @@ ghost use Rattle.diag_bus.specs.Requests.{AreFilled, AreNamesOf, AreRequestsOf, 
 ghost use Rattle.diag_bus.specs.Text.{drawn_text};
 
 use crate::bus::Output;
-use crate::clock::{Start, silence};
+use crate::clock::{Clock, silence};
 use crate::entering::LineEntries;
 use crate::filled::Filled;
 use crate::request_ids::{Owner, RequestIds};
-use crate::writing::{Drawn, write_drawn, write_one};
+use crate::writing::{Drawn, is_in_order, write_drawn, write_own};
 use diag_can::{BusLine, CanId, Event, FrameBytes, LineWriter, TickCount, usual_bytes};
 use diag_setup::{Setup, TesterId};
 use diag_tp::Sent;
@@ -65,19 +64,19 @@ impl MidLine {
     pub fn write(
         &mut self,
         setup: &Setup,
-        start: Option<Start>,
+        clock: &Clock,
         writers: &mut Vec<LineWriter>,
         batch: &mut Vec<Drawn>,
         text: &mut Vec<u8>,
     ) -> Result<(), AllocError>
         requires lists { length self.old.drawn.items ≡ length setup.now.testers }
         requires names { AreNamesOf setup.now writers.old.items }
-        requires start { StartsBelow start moment_end }
+        requires start { StartsBelow clock.now.start moment_end }
         requires sent { AreSentBy (lists_of self.old) closing_time }
         requires filled { AreFilled self.old.filled (lists_of self.old) }
         ensures names { writers.new.items ≡ writers.old.items }
         ensures ok { OnOk result (text.new.items ≡ text.old.items
-            ++ added self.old.output self.old.text.items setup.now start (lists_of self.old)) }
+            ++ added self.old.output self.old.text.items setup.now clock.now.start (lists_of self.old)) }
         ensures err { OnErr result (text.new.items ≡ text.old.items) }
         ensures server { self.new.server ≡ self.old.server }
         ensures shape { SameShape self.old self.new }
@@ -85,8 +84,13 @@ impl MidLine {
         match self.output {
             Output::Replies => match self.filled {
                 Filled::Nowhere => Ok(()),
+                Filled::At(place) if is_in_order(self.drawn[place].as_slice()) => {
+                    let frames = self.drawn[place].as_slice();
+                    write_own(setup, clock, writers, place, frames, text)
+                }
                 Filled::At(_) | Filled::Anywhere => {
-                    self.write_replies(setup, start, writers, batch, text)
+                    self.filled = Filled::Anywhere;
+                    write_drawn(setup, clock, writers, &mut self.drawn, batch, text)
                 }
             },
             Output::Journal => text.extend_from_slice(self.text.as_slice()),
@@ -94,70 +98,8 @@ impl MidLine {
         }
     }
 
-    /// Adds the reply lines of what the line drew: mostly one.
-    #[inline(never)]
-    fn write_replies(
-        &mut self,
-        setup: &Setup,
-        start: Option<Start>,
-        writers: &mut Vec<LineWriter>,
-        batch: &mut Vec<Drawn>,
-        text: &mut Vec<u8>,
-    ) -> Result<(), AllocError>
-        requires lists { length self.old.drawn.items ≡ length setup.now.testers }
-        requires names { AreNamesOf setup.now writers.old.items }
-        requires start { StartsBelow start moment_end }
-        requires sent { AreSentBy (lists_of self.old) closing_time }
-        requires filled { AreFilled self.old.filled (lists_of self.old) }
-        ensures names { writers.new.items ≡ writers.old.items }
-        ensures ok { OnOk result (text.new.items ≡ text.old.items
-            ++ drawn_text setup.now start (lists_of self.old)) }
-        ensures err { OnErr result (text.new.items ≡ text.old.items) }
-        ensures server { self.new.server ≡ self.old.server }
-        ensures shape { SameShape self.old self.new }
-    {
-        match self.filled {
-            Filled::At(place) if self.drawn[place].len() == 1 => {
-                write_one(writers, start, place, &self.drawn[place][0], text)
-            }
-            _ => self.write_sorted(setup, start, writers, batch, text),
-        }
-    }
-
-    /// Adds the reply lines of what the line drew, in the order of the bus.
-    fn write_sorted(
-        &mut self,
-        setup: &Setup,
-        start: Option<Start>,
-        writers: &mut Vec<LineWriter>,
-        batch: &mut Vec<Drawn>,
-        text: &mut Vec<u8>,
-    ) -> Result<(), AllocError>
-        requires lists { length self.old.drawn.items ≡ length setup.now.testers }
-        requires names { AreNamesOf setup.now writers.old.items }
-        requires start { StartsBelow start moment_end }
-        requires sent { AreSentBy (lists_of self.old) closing_time }
-        ensures names { writers.new.items ≡ writers.old.items }
-        ensures ok { OnOk result (text.new.items ≡ text.old.items
-            ++ drawn_text setup.now start (lists_of self.old)) }
-        ensures err { OnErr result (text.new.items ≡ text.old.items) }
-        ensures server { self.new.server ≡ self.old.server }
-        ensures shape { SameShape self.old self.new }
-    {
-        self.filled = Filled::Anywhere;
-        self.text.clear();
-        write_drawn(
-            setup,
-            start,
-            writers,
-            &mut self.drawn,
-            batch,
-            &mut self.text,
-        )?;
-        text.extend_from_slice(self.text.as_slice())
-    }
-
     /// Gives the server an event of a tester.
+    #[inline(never)]
     fn give(&mut self, who: TesterId, event: &Event) -> Result<(), AllocError>
         requires in_setup { who ≤ length self.old.server.links }
         requires lists { length self.old.drawn.items ≡ length self.old.server.links }
@@ -219,6 +161,7 @@ impl MidLine {
     }
 
     /// Gives the server so many ticks of each tester, in order.
+    #[inline(always)]
     fn give_each(&mut self, setup: &Setup, count: TickCount) -> Result<(), AllocError>
         requires in_setup { length self.old.server.links ≡ length setup.now.testers }
         requires lists { length self.old.drawn.items ≡ length setup.now.testers }
@@ -235,27 +178,7 @@ impl MidLine {
             self.rest = rest - u64::from(count.get());
             return Ok(());
         }
-        self.give_one_by_one(setup, count)
-    }
-
-    /// The same, one tester behind the other.
-    fn give_one_by_one(&mut self, setup: &Setup, count: TickCount) -> Result<(), AllocError>
-        requires in_setup { length self.old.server.links ≡ length setup.now.testers }
-        requires lists { length self.old.drawn.items ≡ length setup.now.testers }
-        requires early { HasTime self.old.server count }
-        ensures ok { OnOk result
-            (Gave self.old self.new (to_each (length setup.now.testers) (AnEvent.Ticks count))) }
-        ensures shape { SameShape self.old self.new }
-        ensures pace { TookTime self.old.server self.new.server count }
-        ensures sent { OnOk result (SentIn self.old self.new count) }
-    {
-        for index in 0..setup.testers() {
-            let Some(who) = setup.who(index) else {
-                unreachable!()
-            };
-            self.give(who, &Event::Ticks(count))?;
-        }
-        Ok(())
+        self.give_to_each(setup, &Event::Ticks(count))
     }
 
     /// Lets so many milliseconds pass for each tester.
@@ -271,13 +194,17 @@ impl MidLine {
         ensures pace { TookTime self.old.server self.new.server ms }
         ensures sent { OnOk result (SentIn self.old self.new ms) }
     {
-        if ms == 0 {
-            return Ok(());
+        if ms >= 60000 {
+            return self.pass_parts(setup, ms);
         }
-        self.pass_parts(setup, ms)
+        match TickCount::new(ms as u16) {
+            None => Ok(()),
+            Some(count) => self.give_each(setup, count),
+        }
     }
 
     /// The same by 60000 each, and last the rest.
+    #[inline(never)]
     fn pass_parts(&mut self, setup: &Setup, ms: u64) -> Result<(), AllocError>
         requires in_setup { length self.old.server.links ≡ length setup.now.testers }
         requires lists { length self.old.drawn.items ≡ length setup.now.testers }
@@ -299,6 +226,7 @@ impl MidLine {
     }
 
     /// Gives the server a frame with these bytes, by whose it is.
+    #[inline(always)]
     fn give_frame(
         &mut self,
         setup: &Setup,
@@ -322,17 +250,18 @@ impl MidLine {
         }
     }
 
-    /// Gives the server a frame of each tester, in order.
+    /// Gives the server an event of each tester, in order.
     fn give_to_each(&mut self, setup: &Setup, event: &Event) -> Result<(), AllocError>
         requires in_setup { length self.old.server.links ≡ length setup.now.testers }
         requires lists { length self.old.drawn.items ≡ length setup.now.testers }
-        requires frame { IsTrue (is_frame event.now) }
         requires early { HasTime self.old.server 0 }
         ensures ok { OnOk result
             (Gave self.old self.new (to_each (length setup.now.testers) event.now)) }
         ensures shape { SameShape self.old self.new }
-        ensures pace { TookTime self.old.server self.new.server 0 }
-        ensures sent { OnOk result (SentIn self.old self.new 0) }
+        ensures pace { (span : ℕ) → Lasts event.now span
+            → TookTime self.old.server self.new.server span }
+        ensures sent { OnOk result ((span : ℕ) → Lasts event.now span
+            → SentIn self.old self.new span) }
     {
         for index in 0..setup.testers() {
             let Some(who) = setup.who(index) else {

@@ -1,16 +1,15 @@
 //! The frames that a line draws, as lines of their own, in the order of the bus.
 
-ghost use Rattle.std.specs.Prelude.{◌≡◌, ◌≤◌, ◌<◌, ◌+◌, ◌++◌, length, map, IfOk, OnOk, OnErr};
+ghost use Rattle.std.specs.Prelude.{◌≡◌, ◌≤◌, ◌<◌, ◌+◌, ◌++◌, length, map, IfOk, IsTrue, OnOk, OnErr};
 ghost use Rattle.std.specs.List.{All, flat_map};
-ghost use Rattle.std.specs.List.Sorted.{IsPermutation};
+ghost use Rattle.std.specs.List.Sorted.{IsNonDecreasingBy, IsPermutation};
 ghost use Rattle.diag_setup.specs.Rows.{in_order};
-ghost use Rattle.diag_setup.specs.declared.raw.RawSetup.{RawSetup};
 ghost use Rattle.diag_world.specs.Server.{closing_time};
 ghost use Rattle.diag_bus.specs.Batch.{AreSentBy, StartsBelow, moment_end};
 ghost use Rattle.diag_bus.specs.Requests.{AreNamesOf};
 ghost use Rattle.diag_bus.specs.Text.{bus_moment, drawn_for, drawn_text, gathered, line_of, time_of};
 
-use crate::clock::Start;
+use crate::clock::{Clock, Start};
 use diag_can::LineWriter;
 use diag_setup::{Setup, TesterId};
 use diag_tp::Sent;
@@ -99,69 +98,127 @@ pub(crate) fn writers_of(alloc: Global, setup: &Setup) -> Result<Vec<LineWriter>
     Ok(writers)
 }
 
+/// Whether no frame is earlier than the one before it.
+#[inline(always)]
+pub(crate) fn is_in_order(frames: &[Sent]) -> bool
+    ensures { IsTrue result → IsNonDecreasingBy (λ f. f.at) frames.now }
+{
+    let mut last = 0;
+    for sent in frames {
+        if sent.at < last {
+            return false;
+        }
+        last = sent.at;
+    }
+    true
+}
+
 /// Adds the reply line of a frame that the tester at this place, from 0, is sent. Refused, the text is as it was.
-pub(crate) fn write_one(
+#[inline(always)]
+fn write_one(
+    setup: &Setup,
+    clock: &Clock,
     writers: &mut Vec<LineWriter>,
-    start: Option<Start>,
     place: usize,
     sent: &Sent,
     text: &mut Vec<u8>,
 ) -> Result<(), AllocError>
-    requires tester { place < length writers.old.items }
-    requires start { StartsBelow start moment_end }
+    requires names { AreNamesOf setup.now writers.old.items }
+    requires tester { place < length setup.now.testers }
+    requires start { StartsBelow clock.now.start moment_end }
     requires sent { sent.now.at ≤ closing_time }
-    ensures ok { OnOk result ((setup : RawSetup) → AreNamesOf setup writers.old.items
-        → text.new.items ≡ text.old.items ++ line_of setup start (drawn_for (place + 1) sent.now)) }
+    ensures ok { OnOk result
+        (text.new.items ≡ text.old.items ++ line_of setup.now clock.now.start (drawn_for (place + 1) sent.now)) }
     ensures err { OnErr result (text.new.items ≡ text.old.items) }
     ensures names { writers.new.items ≡ writers.old.items }
 {
-    let moment = bus_moment(start, sent.at);
+    // (for its contract: the writers are those of its testers)
+    let _ = setup;
+    let moment = bus_moment(clock.start, sent.at);
     writers[place].write(text, moment, &sent.frame)
 }
 
-/// Writes a line for each frame of a batch, in the order of their times.
-fn write_batch(
+/// Adds the reply lines of the frames that the tester at this place, from 0, is sent, as they stand. Refused, the text is
+/// as it was.
+#[inline(always)]
+pub(crate) fn write_own(
+    setup: &Setup,
+    clock: &Clock,
     writers: &mut Vec<LineWriter>,
-    start: Option<Start>,
+    place: usize,
+    frames: &[Sent],
+    text: &mut Vec<u8>,
+) -> Result<(), AllocError>
+    requires names { AreNamesOf setup.now writers.old.items }
+    requires tester { place < length setup.now.testers }
+    requires start { StartsBelow clock.now.start moment_end }
+    requires sent { All (λ f. f.at ≤ closing_time) frames.now }
+    ensures ok { OnOk result (text.new.items ≡ text.old.items
+        ++ flat_map (λ sent. line_of setup.now clock.now.start (drawn_for (place + 1) sent)) frames.now) }
+    ensures err { OnErr result (text.new.items ≡ text.old.items) }
+    ensures names { writers.new.items ≡ writers.old.items }
+{
+    let len = text.len();
+    for sent in frames {
+        if let Err(refused) = write_one(setup, clock, writers, place, sent, text) {
+            text.truncate(len);
+            return Err(refused);
+        }
+    }
+    Ok(())
+}
+
+/// Adds the reply lines of a batch, in the order of their times. Refused, the text is as it was.
+fn write_batch(
+    setup: &Setup,
+    clock: &Clock,
+    writers: &mut Vec<LineWriter>,
     batch: &mut Vec<Drawn>,
     text: &mut Vec<u8>,
 ) -> Result<(), AllocError>
-    requires testers { All (λ drawn. drawn.who ≤ length writers.old.items) batch.old.items }
-    requires start { StartsBelow start moment_end }
+    requires names { AreNamesOf setup.now writers.old.items }
+    requires testers { All (λ drawn. drawn.who ≤ length setup.now.testers) batch.old.items }
+    requires start { StartsBelow clock.now.start moment_end }
     requires sent { All (λ drawn. drawn.sent.at ≤ closing_time) batch.old.items }
-    ensures ok { OnOk result ((setup : RawSetup) → AreNamesOf setup writers.old.items
-        → text.new.items ≡ text.old.items
-        ++ flat_map (line_of setup start) (in_order time_of batch.old.items)) }
+    ensures ok { OnOk result (text.new.items ≡ text.old.items
+        ++ flat_map (line_of setup.now clock.now.start) (in_order time_of batch.old.items)) }
+    ensures err { OnErr result (text.new.items ≡ text.old.items) }
     ensures names { writers.new.items ≡ writers.old.items }
 {
     sort_batch(batch)?;
+    let len = text.len();
     for drawn in batch.as_slice() {
         let place = usize::from(drawn.who.place()) - 1;
-        write_one(writers, start, place, &drawn.sent, text)?;
+        if let Err(refused) = write_one(setup, clock, writers, place, &drawn.sent, text) {
+            text.truncate(len);
+            return Err(refused);
+        }
     }
     Ok(())
 }
 
 /// Adds the reply lines of the frames in the testers' lists, in the order of the bus. The batch is room to work in, and
-/// the lists are empty afterwards.
+/// the lists are empty afterwards. Refused, the text is as it was.
+#[inline(never)]
 pub(crate) fn write_drawn(
     setup: &Setup,
-    start: Option<Start>,
+    clock: &Clock,
     writers: &mut Vec<LineWriter>,
     drawn: &mut Vec<Vec<Sent>>,
     batch: &mut Vec<Drawn>,
     text: &mut Vec<u8>,
 ) -> Result<(), AllocError>
-    requires testers { length drawn.old.items ≡ length setup.now.testers }
     requires names { AreNamesOf setup.now writers.old.items }
-    requires start { StartsBelow start moment_end }
+    requires testers { length drawn.old.items ≡ length setup.now.testers }
+    requires start { StartsBelow clock.now.start moment_end }
     requires sent { AreSentBy (map (λ f. f.items) drawn.old.items) closing_time }
     ensures ok { OnOk result (text.new.items ≡ text.old.items
-        ++ drawn_text setup.now start (map (λ f. f.items) drawn.old.items)) }
+        ++ drawn_text setup.now clock.now.start (map (λ f. f.items) drawn.old.items)) }
+    ensures err { OnErr result (text.new.items ≡ text.old.items) }
     ensures lists { length drawn.new.items ≡ length drawn.old.items }
     ensures names { writers.new.items ≡ writers.old.items }
 {
     batch.clear();
     gather(setup, drawn, batch)?;
-    write_batch(writers, start, batch, text)
+    write_batch(setup, clock, writers, batch, text)
 }

@@ -1,4 +1,4 @@
-use Rattle.std.proofs.Common.{ℕ, List, ◌++◌, length, refl, ap, ◌∙◌}
+use Rattle.std.proofs.Common.{ℕ, List, ◌++◌, length, refl, ap, ◌∙◌, arith}
 use Rattle.std.proofs.lemmas.Option.{slice_get_read}
 use Rattle.diag_can.specs.Reply.{reply_line}
 use Rattle.diag_world.proofs.Worlds.{on_ok}
@@ -11,8 +11,8 @@ returns-clause-ok c =
     let writer = c.index_mut.result.now in
     let sent = c.args.sent.now in
     let text = c.args.text.now.items in
-    on_ok _ _ c.write.result (λ wrote setup known.
-    let found = slice_get_read names (length names) c.args.place writer refl c.requires.tester c.index_mut.ensures.value in
+    on_ok _ _ c.write.result (λ wrote.
+    let found = slice_get_read names (length names) c.args.place writer refl (omega (arith, c.requires.tester, c.requires.names.many)) c.index_mut.ensures.value in
     wrote ∙ ap (λ (moment : ℕ). text ++ reply_line writer moment sent.frame) c.bus_moment-moment.ensures
-    ∙ ap (λ (name : List ℕ). text ++ reply_line name (bus_moment c.args.start sent.at) sent.frame) (known.each c.args.place writer found))
+    ∙ ap (λ (name : List ℕ). text ++ reply_line name (bus_moment c.args.clock.now.start sent.at) sent.frame) (c.requires.names.each c.args.place writer found))
     c.write.ensures.ok

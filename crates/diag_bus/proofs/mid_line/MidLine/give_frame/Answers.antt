@@ -53,3 +53,9 @@ returns-in-Each-clause-ok c =
     on_ok _ _ c.give_to_each.result (λ gave.
     subst (λ (o : Owner). Gave c.args.self.now c.give_to_each.new.self (given n o c.args.bytes)) (sym c.in-Each.is) gave)
     c.give_to_each.ensures.ok
+
+pub returns-in-Each-clause-pace : goal.returns-in-Each-clause-pace
+returns-in-Each-clause-pace c = c.give_to_each.ensures.pace 0 (λ now. omega arith)
+
+pub returns-in-Each-clause-sent : goal.returns-in-Each-clause-sent
+returns-in-Each-clause-sent c = on_ok _ _ c.give_to_each.result (λ sent. sent 0 (λ now. omega arith)) c.give_to_each.ensures.sent

@@ -1,10 +1,20 @@
-use Rattle.std.proofs.Common.{◌≡◌, ◌++◌, ap, subst, sym, ◌∙◌}
-use Rattle.std.proofs.lemmas.List.{append-nil}
+use Rattle.std.proofs.Common.{◌≡◌, ◌≤◌, ◌+◌, ◌++◌, List, Some, Vec, Global, get_or, length, refl, ap, subst, sym, ◌∙◌, arith}
+use Rattle.std.proofs.lemmas.List.{append-nil, length-map}
+use Rattle.std.proofs.lemmas.Option.{slice_get-map, slice_get_read}
+use Rattle.std.specs.List.{All, flat_map}
+use Rattle.std.specs.List.Sorted.{IsNonDecreasingBy}
+use Rattle.std.specs.Option.{option_map}
+use Rattle.std.specs.Prelude.{slice_get}
+use Rattle.diag_tp.specs.declared.sent.Sent.{Sent}
+use Rattle.diag_world.specs.Server.{closing_time}
+use Rattle.diag_world.proofs.Worlds.{on_ok}
 use Rattle.diag_bus.specs.Batch.{added, lists_of}
 use Rattle.diag_bus.specs.Requests.{AreFilled}
+use Rattle.diag_bus.specs.Text.{drawn_for, line_of}
 use Rattle.diag_bus.specs.declared.bus.Output.{Output}
 use Rattle.diag_bus.specs.declared.filled.Filled.{Filled}
-use Rattle.diag_bus.proofs.Filling.{none_written}
+use Rattle.diag_bus.specs.declared.filled.Filled.TheVariants.{At}
+use Rattle.diag_bus.proofs.Filling.{none_written, own_written}
 use Rattle.diag_bus.proofs.mid_line.MidLine.write.Goals as goal
 
 pub returns-in-Nowhere-clause-ok : goal.returns-in-Nowhere-clause-ok
@@ -12,6 +22,50 @@ returns-in-Nowhere-clause-ok c =
     let text = c.args.text.now.items in
     let setup = c.args.setup.now in
     let lists = lists_of c.args.self.now in
-    subst (λ (o : Output). text ≡ text ++ added o c.args.self.now.text.items setup c.args.start lists) (sym c.in-Replies.is)
+    subst (λ (o : Output). text ≡ text ++ added o c.args.self.now.text.items setup c.args.clock.now.start lists) (sym c.in-Replies.is)
     (sym (append-nil text) ∙ ap (λ w. text ++ w)
-    (none_written setup c.args.start lists (subst (λ (f : Filled). AreFilled f lists) c.in-Nowhere.is c.requires.filled)))
+    (none_written setup c.args.clock.now.start lists (subst (λ (f : Filled). AreFilled f lists) c.in-Nowhere.is c.requires.filled)))
+
+filled : (c : goal.After-write_own-arg-in-At-1) → AreFilled (At c.in-At.place) (lists_of c.args.self.now)
+filled c = subst (λ (f : Filled). AreFilled f (lists_of c.args.self.now)) c.in-At.is c.requires.filled
+
+-- the list with the frames
+there : (c : goal.After-write_own-arg-in-At-1) → (list : Vec Sent Global) → list ≡ get_or c.args.self.now.drawn.items c.in-At.place list
+    → slice_get c.args.self.now.drawn.items c.in-At.place ≡ Some list
+there c list read =
+    let drawn = c.args.self.now.drawn.items in
+    slice_get_read drawn (length drawn) c.in-At.place list refl
+    (omega (arith, (filled c).0, length-map drawn (λ (f : Vec Sent Global). f.items))) read
+
+-- which are in order
+up : (c : goal.After-write_own-arg-in-At-1) → IsNonDecreasingBy (λ (f : Sent). f.at) c.index-in-At.result.now.items
+up c =
+    let both : Some c.index.result.now ≡ Some c.index-in-At.result.now =
+    sym (there c c.index.result.now c.index.ensures) ∙ there c c.index-in-At.result.now c.index-in-At.ensures in
+    let same : c.index.result.now ≡ c.index-in-At.result.now = cc in
+    subst (IsNonDecreasingBy (λ (f : Sent). f.at)) (c.as_slice.ensures.value ∙ ap (λ (l : Vec Sent Global). l.items) same)
+    (c.is_in_order.ensures c.if-is_in_order.true)
+
+pub write_own-requires-clause-sent : goal.write_own-requires-clause-sent
+write_own-requires-clause-sent c =
+    let items = λ (f : Vec Sent Global). f.items in
+    let list = c.index-in-At.result.now in
+    let found : slice_get (lists_of c.args.self.now) c.in-At.place ≡ Some list.items =
+    slice_get-map items c.args.self.now.drawn.items c.in-At.place ∙ ap (option_map items) (there c list c.index-in-At.ensures) in
+    subst (λ (fs : List Sent). All (λ (f : Sent). f.at ≤ closing_time) fs) (sym c.as_slice-frames.ensures.value)
+    (c.requires.sent c.in-At.place list.items found)
+
+pub returns-in-At-clause-ok : goal.returns-in-At-clause-ok
+returns-in-At-clause-ok c =
+    let self = c.args.self.now in
+    let setup = c.args.setup.now in
+    let start = c.args.clock.now.start in
+    let text = c.args.text.now.items in
+    let list = c.index-in-At.result.now in
+    let place = c.in-At.place in
+    on_ok _ _ c.write_own.result (λ wrote.
+    subst (λ (o : Output). c.write_own.new.text.items ≡ text ++ added o self.text.items setup start (lists_of self)) (sym c.in-Replies.is)
+    (wrote ∙ ap (λ (fs : List Sent). text ++ flat_map (λ s. line_of setup start (drawn_for (place + 1) s)) fs) c.as_slice-frames.ensures.value
+    ∙ ap (λ w. text ++ w) (own_written setup start place self.drawn.items list (there c.before.before list c.index-in-At.ensures)
+    (up c.before.before) (filled c.before.before))))
+    c.write_own.ensures.ok

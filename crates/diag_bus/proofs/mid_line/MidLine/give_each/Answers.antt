@@ -1,0 +1,16 @@
+use Rattle.std.proofs.Common.{arith}
+use Rattle.diag_world.proofs.Worlds.{on_ok}
+use Rattle.diag_bus.proofs.Paces.{ticks_time}
+use Rattle.diag_bus.proofs.mid_line.MidLine.give_each.Goals as goal
+
+pub give_to_each-requires-clause-early : goal.give_to_each-requires-clause-early
+give_to_each-requires-clause-early c =
+    let time = c.requires.early in
+    record { time = time.time; by = time.by; early = omega (arith, time.early) }
+
+pub returns-clause-pace : goal.returns-clause-pace
+returns-clause-pace c = c.give_to_each.ensures.pace c.args.count (ticks_time c.args.count)
+
+pub returns-clause-sent : goal.returns-clause-sent
+returns-clause-sent c =
+    on_ok _ _ c.give_to_each.result (λ sent. sent c.args.count (ticks_time c.args.count)) c.give_to_each.ensures.sent
