@@ -103,10 +103,6 @@ pub record Plays (terms : Terms) (playing : Playing) (M : List (ℕ × Event)) :
   pub each : (i : ℕ) (tester : ReplyLines) → slice_get playing.lines.items i ≡ Some tester
       → Replies (name_of terms.setup (i + 1)) tester (sent_to terms.setup M entries (i + 1))
 
--- P holds of what is asked, and of all events, whichever, that were played
-abbrev pub EachPlay : Playing → (Terms → List (ℕ × Event) → Type 0) → Type 0
-EachPlay playing P = (terms : Terms) (M : List (ℕ × Event)) → Plays terms playing M → P terms M
-
 -- a tester's event more: the server took it, its entry is written, and what it draws waits
 pub record Entered (playing : Playing) (setup : RawSetup) (stamped : Bool) (M : List (ℕ × Event))
     (K : List Entry) (who : ℕ) (e : Event) : Type 0 where

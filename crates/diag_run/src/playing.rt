@@ -1,7 +1,7 @@
 //! A play that writes as it goes: the streaming server, the journal's text and each tester's reply lines.
 
-ghost use Rattle.std.specs.Prelude.{◌≡◌, ◌≤◌, ◌-◌, [], ◌∷◌, ◌++◌, Err, IfOk, OnOk, length};
-ghost use Rattle.diag_run.specs.Playing.{EachPlay, IsFull, IsPaced, IsReady, Plays, Took, WroteTo, parts_text};
+ghost use Rattle.std.specs.Prelude.{◌≡◌, ◌≤◌, ◌-◌, [], Err, IfOk, OnOk, length};
+ghost use Rattle.diag_run.specs.Playing.{IsFull, IsPaced, IsReady, Plays, Took, WroteTo, parts_text};
 ghost use Rattle.diag_run.specs.Run.{joined};
 
 use crate::entering::JournalLines;
@@ -11,7 +11,7 @@ use diag_desk::StepFault;
 use diag_setup::{Setup, TesterId};
 use diag_text::end_text;
 use diag_tp::Sent;
-use diag_world::{Server, ServerFault};
+use diag_world::{Server, ServerFault, TakeEvents};
 use std::alloc::{AllocError, Global};
 
 /// A play between two events: nothing is kept of what was played but its text.
@@ -50,26 +50,6 @@ impl Playing {
             journal,
             lines,
         })
-    }
-
-    /// Takes an event of a tester, and writes what comes of it.
-    ///
-    /// # Errors
-    /// `JournalFull` where the event gives a step and there are 1,000,000 entries, `Memory` where memory is refused. The
-    /// play can't go on then.
-    pub fn event(&mut self, who: TesterId, event: &Event) -> Result<(), StepFault>
-        requires in_setup { (1 ≤ who) × (who ≤ length self.old.server.links) }
-        requires ready { IsReady self.old }
-        ensures plays { OnOk result
-            (EachPlay self.old (λ terms M. Plays terms self.new (M ++ (who, event.now) ∷ []))) }
-        ensures ready { OnOk result (IsReady self.new) }
-        ensures links { OnOk result
-            (length self.new.server.links ≡ length self.old.server.links) }
-        ensures full { result ≡ Err StepFault.JournalFull → IsFull self.old who event.now }
-    {
-        self.take(who, event)?;
-        self.write_replies(who)?;
-        Ok(())
     }
 
     /// Has the server take an event of a tester, and writes the entry that it gives.
@@ -134,5 +114,22 @@ impl Playing {
         let end = end_text(alloc, setup, server.ecu())?;
         parts.push(end)?;
         Ok(parts)
+    }
+}
+
+/// What comes of an event is written at once. Refused, the play can't go on.
+impl TakeEvents for Playing {
+    ghost use Rattle.diag_run.specs.Playing.{IsReady, Plays, Terms};
+
+    ghost Terms = { Terms };
+
+    ghost setup_of = { λ terms. terms.setup };
+
+    ghost took = { λ playing terms M. IsReady playing × Plays terms playing M };
+
+    fn take_event(&mut self, who: TesterId, event: &Event) -> Result<(), StepFault> {
+        self.take(who, event)?;
+        self.write_replies(who)?;
+        Ok(())
     }
 }

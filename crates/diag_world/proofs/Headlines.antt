@@ -58,21 +58,11 @@ step_given links M t e (Some x) is some =
     ∙ omega (arith, length-append (steps_of links M) (steps_of_after links M ((t, e) ∷ [])), ap length one)
 
 -- a journal that is full has no place for one more step
-pub too_many : (setup : RawSetup) (w : WorldState) (M N all : List (ℕ × Event)) (t : ℕ) (e : Event) → Stands setup w M → length w.desk.journal ≡ 1000000
-    → IsSome (gives (link_of setup t) (items_of M t) e) → all ≡ (M ++ (t, e) ∷ []) ++ N → 1000000 < length (steps_of (link_of setup) all)
-too_many setup w M N all t e h full some is =
-    let links = link_of setup in
+pub too_many : (links : ℕ → LinkSetup) (J : List Entry) (M : List (ℕ × Event)) (t : ℕ) (e : Event) → asked_by J ≡ steps_of links M → length J ≡ 1000000
+    → IsSome (gives (links t) (items_of M t) e) → 1000000 < length (steps_of links (M ++ (t, e) ∷ []))
+too_many links J M t e run full some =
     let by : Entry → ℕ × Step = λ k. (k.who, k.step) in
-    let count = length-map w.desk.journal by in
-    omega (
-      arith,
-      ap length h.serves.run,
-      count,
-      full,
-      step_given links M t e (gives (links t) (items_of M t) e) refl some,
-      steps_grow links (M ++ (t, e) ∷ []) N,
-      ap (λ x. length (steps_of links x)) is,
-    )
+    omega (arith, ap length run, length-map J by, full, step_given links M t e (gives (links t) (items_of M t) e) refl some)
 
 pub same_fault : {X Y : Type 0} (a b : Y) (r : Result X Y) → r ≡ Err a → r ≡ Err b → a ≡ b
 same_fault a b r h k = cc

@@ -8,12 +8,14 @@ mod passing;
 mod port;
 mod serial_play;
 mod server;
+mod taking;
 mod world;
 
 pub use channel::Channel;
 pub use keeper::{Keeper, enter_step};
 pub use laws::{interleaving_law, turns_law, weaving_law};
 pub use port::Prepared;
-pub use serial_play::{Played, longest, serial};
+pub use serial_play::{Played, serial};
 pub use server::{Server, ServerFault};
+pub use taking::{TakeEvents, take_turns};
 pub use world::World;

@@ -25,6 +25,7 @@ ghost use Rattle.diag_world.specs.Weaving.{items_of};
 ghost use Rattle.diag_world.specs.World.{EachInterleaving, Stands, Took};
 
 use crate::channel::Channel;
+use crate::taking::TakeEvents;
 use crate::serial_play::Played;
 use diag_can::Event;
 use diag_desk::{Desk, Journal, StepFault};
@@ -128,6 +129,21 @@ impl World {
         let World { desk, channels } = self;
         let sent = sent_of(alloc, channels)?;
         Ok(Played { desk, sent })
+    }
+}
+
+impl TakeEvents for World {
+    ghost use Rattle.diag_setup.specs.declared.raw.RawSetup.{RawSetup};
+    ghost use Rattle.diag_world.specs.World.{Stands};
+
+    ghost Terms = { RawSetup };
+
+    ghost setup_of = { λ setup. setup };
+
+    ghost took = { λ world setup M. Stands setup world M };
+
+    fn take_event(&mut self, who: TesterId, event: &Event) -> Result<(), StepFault> {
+        self.event(who, event)
     }
 }
 

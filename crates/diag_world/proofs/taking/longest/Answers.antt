@@ -2,8 +2,8 @@ use Rattle.std.proofs.Common.{◌≡◌, ◌<◌, ◌+◌, max, ap, sym, ◌∙�
 use Rattle.std.proofs.lemmas.List.{map-append, take_more}
 use Rattle.diag_world.specs.Weaving.{longest}
 use Rattle.diag_world.proofs.Rounds.{longest_push}
-use Rattle.diag_world.proofs.serial_play.longest.Goals.{then-len-most, else-len-most}
-use Rattle.diag_world.proofs.serial_play.longest.Goals as goal
+use Rattle.diag_world.proofs.taking.longest.Goals.{then-len-most, else-len-most}
+use Rattle.diag_world.proofs.taking.longest.Goals as goal
 
 pub loop-log-preserved : goal.loop-log-preserved
 loop-log-preserved c =
