@@ -11,7 +11,7 @@ use Rattle.diag_tp.specs.Gives.{gives}
 use Rattle.diag_tp.specs.Moments.{counted_from, is_tick}
 use Rattle.diag_tp.specs.Placing.{drawn}
 use Rattle.diag_tp.specs.State.{LinkState, LinkView}
-use Rattle.diag_tp.specs.Link.{EachHistory, is_frame, pending, quiet}
+use Rattle.diag_tp.specs.Link.{EachHistory, pending, quiet}
 use Rattle.diag_tp.specs.Quiet.{always}
 use Rattle.diag_setup.specs.declared.raw.RawSetup.{RawSetup}
 use Rattle.diag_setup.specs.Setup.{link_of}

@@ -25,8 +25,8 @@ ghost use Rattle.diag_world.specs.Weaving.{items_of};
 ghost use Rattle.diag_world.specs.World.{EachInterleaving, Stands, Took};
 
 use crate::channel::Channel;
-use crate::taking::TakeEvents;
 use crate::serial_play::Played;
+use crate::taking::TakeEvents;
 use diag_can::Event;
 use diag_desk::{Desk, Journal, StepFault};
 use diag_ecu::Ecu;

@@ -1,4 +1,4 @@
-use Rattle.std.proofs.Common.{[], Err, refl, ap, subst, sym, ◌∙◌, length, map}
+use Rattle.std.proofs.Common.{Err, refl, ap, subst, sym, ◌∙◌, map}
 use Rattle.std.proofs.lemmas.List.{length-map}
 use Rattle.std.proofs.lemmas.Result.{err_from_is_err_and}
 use Rattle.diag_world.specs.Headline.{IsPlay}

@@ -1,4 +1,4 @@
-use Rattle.std.proofs.Common.{Some, None, ◌++◌, refl, ap, subst, sym, ◌∙◌}
+use Rattle.std.proofs.Common.{Some, ◌++◌, refl, ap, subst, sym, ◌∙◌}
 use Rattle.diag_tp.proofs.Given.{gives_ticks}
 use Rattle.diag_world.specs.Server.{entry_of_ticks}
 use Rattle.diag_world.proofs.Ticking.{ticks_settled}

@@ -1,4 +1,4 @@
-use Rattle.std.proofs.Common.{◌≡◌, ◌≤◌, ◌+◌, ◌-◌, ◌++◌, Err, [], drop, ap, subst, sym, ◌∙◌, length, map, arith}
+use Rattle.std.proofs.Common.{◌≡◌, ◌≤◌, ◌+◌, ◌-◌, ◌++◌, Err, drop, ap, subst, sym, ◌∙◌, length, map, arith}
 use Rattle.std.proofs.lemmas.Result.{err_from_is_err_and}
 use Rattle.diag_setup.specs.Setup.{link_of}
 use Rattle.diag_setup.specs.declared.raw.RawSetup.{RawSetup}
