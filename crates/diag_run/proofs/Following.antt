@@ -15,7 +15,7 @@ use Rattle.diag_run.specs.Files.{SaysSetup}
 use Rattle.diag_run.specs.declared.capture.Capture.{Capture}
 use Rattle.diag_run.specs.declared.capture.CaptureFault.{CaptureFault}
 use Rattle.diag_run.specs.declared.capture.CaptureFault.TheVariants.{Memory, Read}
-use Rattle.diag_run.proofs.Pieces.{GoesOn-refl, GoesOn-trans, halts_within, later_within, read_fails, refused_at, stops_at, stops_at_end}
+use Rattle.diag_run.proofs.Pieces.{GoesOn-trans, halts_within, later_within, read_fails, refused_at, stops_at, stops_at_end}
 
 -- so much of the capture was read, and all that was due was written
 pub record ReadSoFar (old new : Capture) (r r' w w' : Option (List ℕ)) : Type 0 where

@@ -9,7 +9,7 @@ use Rattle.diag_text.specs.declared.fault.RunFault.{RunFault}
 use Rattle.diag_text.specs.declared.fault.RunFault.TheVariants.{Files, Config, ConfigLong, Log, JournalLine, FileLong, Memory, JournalFull, RecordsDisagree, Read, Write, Differs, Capture, Otherwise}
 use Rattle.diag_run.specs.declared.whole.Job.{Job}
 use Rattle.diag_run.specs.declared.whole.Job.TheVariants.{Serial, Play, Replay}
-use Rattle.diag_run.specs.Files.{Refusal, wrong_count, Fails, ConfigFails, ReadEach, SaysSetup, config_of, files_from}
+use Rattle.diag_run.specs.Files.{Refusal, wrong_count, Fails, ConfigFails, config_of, files_from}
 use Rattle.diag_run.specs.Run.{Inputs, inputs, HasRead, ReadingStops, RunStops, AnswersFault, wanted, limit, read_of, GivesRun}
 
 -- a fault stays where what is read is only put into another shape

@@ -1,4 +1,4 @@
-use Rattle.std.proofs.Common.{ℕ, List, [], ◌≡◌, ◌+◌, ◌≤◌, length, map, take, drop}
+use Rattle.std.proofs.Common.{ℕ, List, [], ◌≡◌, ◌≤◌, length, map, take, drop}
 use Rattle.std.specs.List.{All}
 use Rattle.diag_run.specs.Files.{AreTaken, ReadEach}
 use Rattle.diag_run.proofs.files.read_each.Given as goal

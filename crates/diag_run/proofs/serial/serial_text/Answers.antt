@@ -1,4 +1,4 @@
-use Rattle.std.proofs.Common.{Err, ap, sym, ◌∙◌, length, map, refl}
+use Rattle.std.proofs.Common.{Err, ap, sym, ◌∙◌, map, refl}
 use Rattle.std.proofs.lemmas.List.{length-map}
 use Rattle.std.proofs.lemmas.Result.{err_from_is_err_and}
 use Rattle.diag_ecu.specs.State.{opening}

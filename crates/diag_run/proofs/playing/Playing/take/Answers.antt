@@ -1,4 +1,4 @@
-use Rattle.std.proofs.Common.{◌≡◌, ◌-◌, ◌*◌, Err, arith}
+use Rattle.std.proofs.Common.{◌≡◌, ◌-◌, Err, arith}
 use Rattle.diag_world.specs.declared.server.ServerFault.TheVariants as fault
 use Rattle.diag_bus.proofs.Filling.{links_moved}
 use Rattle.diag_run.specs.declared.playing.Playing.{Playing}
