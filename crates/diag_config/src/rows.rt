@@ -1,22 +1,15 @@
 //! The tables of a setup.
 
-ghost use Rattle.std.specs.Prelude.{◌≡◌};
-ghost use Rattle.toml.specs.View.{view, table_view};
-ghost use Rattle.diag_setup.specs.declared.raw.RawTester.{RawTester as ATester};
-ghost use Rattle.diag_setup.specs.declared.raw.RawDid.{RawDid as ADid};
-ghost use Rattle.diag_setup.specs.declared.raw.RawCode.{RawCode as ACode};
-ghost use Rattle.diag_setup.specs.declared.raw.RawRoutine.{RawRoutine as ARoutine};
-ghost use Rattle.diag_setup.specs.declared.raw.RawKeyRow.{RawKeyRow as ARow};
-ghost use Rattle.diag_setup.specs.declared.raw.RawLevel.{RawLevel as ALevel};
+ghost use Rattle.toml.specs.View.{table_view};
 ghost use Rattle.diag_config.specs.Key.{KeyGives};
-ghost use Rattle.diag_config.specs.Setup.{row, tester_at, did_at, code_at, done_at, routine_at, row_at, level_at, timing_at, transport_at, server_at, tables_at, setup_at};
+ghost use Rattle.diag_config.specs.Setup.{tester_at, did_at, code_at, done_at, routine_at, row_at, level_at, timing_at, transport_at, server_at, tables_at, setup_at};
 
 use crate::fault::KeyFault;
-use crate::table::{optional, required, with_default};
-use crate::value::{FromValue, Hex, Text};
+use crate::table::{FromTable, optional, required, with_default};
+use crate::value::{Hex, Text};
 use diag_setup::{Items, RawCode, RawDid, RawKeyRow, RawLevel, RawRoutine, RawSetup, RawTester};
 use std::alloc::Global;
-use toml::{Table, Value};
+use toml::Table;
 
 /// The times of the server, in milliseconds (P2* in ten).
 #[derive(Clone, Copy)]
@@ -57,45 +50,51 @@ struct SetupTables {
     levels: Items<RawLevel>,
 }
 
-#[tactic(auto, unfolding(crate::specs::Setup::tester_at))]
-fn tester(alloc: Global, table: &Table) -> Result<RawTester, KeyFault>
-    ensures { KeyGives (λ x. x) result (tester_at (table_view table.now)) }
-{
-    let name: Text = required(alloc, table, "name", "tester.name")?;
-    let request: u32 = required(alloc, table, "request", "tester.request")?;
-    let response: u32 = required(alloc, table, "response", "tester.response")?;
-    Ok(RawTester {
-        name: name.0,
-        request,
-        response,
-    })
+impl FromTable for RawTester {
+    ghost at = { tester_at };
+
+    #[tactic(auto, unfolding(crate::specs::Setup::tester_at))]
+    fn from_table(alloc: Global, table: &Table) -> Result<RawTester, KeyFault> {
+        let name: Text = required(alloc, table, "name", "tester.name")?;
+        let request: u32 = required(alloc, table, "request", "tester.request")?;
+        let response: u32 = required(alloc, table, "response", "tester.response")?;
+        Ok(RawTester {
+            name: name.0,
+            request,
+            response,
+        })
+    }
 }
 
-#[tactic(auto, unfolding(crate::specs::Setup::did_at))]
-fn did(alloc: Global, table: &Table) -> Result<RawDid, KeyFault>
-    ensures { KeyGives (λ x. x) result (did_at (table_view table.now)) }
-{
-    let id: u32 = required(alloc, table, "id", "did.id")?;
-    let value: Hex = required(alloc, table, "value", "did.value")?;
-    let read_level = with_default(alloc, table, "read_level", "did.read_level", 0u32)?;
-    let write = with_default(alloc, table, "write", "did.write", false)?;
-    let write_level = with_default(alloc, table, "write_level", "did.write_level", 0u32)?;
-    Ok(RawDid {
-        id,
-        value: value.0,
-        read_level,
-        write,
-        write_level,
-    })
+impl FromTable for RawDid {
+    ghost at = { did_at };
+
+    #[tactic(auto, unfolding(crate::specs::Setup::did_at))]
+    fn from_table(alloc: Global, table: &Table) -> Result<RawDid, KeyFault> {
+        let id: u32 = required(alloc, table, "id", "did.id")?;
+        let value: Hex = required(alloc, table, "value", "did.value")?;
+        let read_level = with_default(alloc, table, "read_level", "did.read_level", 0u32)?;
+        let write = with_default(alloc, table, "write", "did.write", false)?;
+        let write_level = with_default(alloc, table, "write_level", "did.write_level", 0u32)?;
+        Ok(RawDid {
+            id,
+            value: value.0,
+            read_level,
+            write,
+            write_level,
+        })
+    }
 }
 
-#[tactic(auto, unfolding(crate::specs::Setup::code_at))]
-fn code(alloc: Global, table: &Table) -> Result<RawCode, KeyFault>
-    ensures { KeyGives (λ x. x) result (code_at (table_view table.now)) }
-{
-    let code: u32 = required(alloc, table, "code", "code.code")?;
-    let status: u32 = required(alloc, table, "status", "code.status")?;
-    Ok(RawCode { code, status })
+impl FromTable for RawCode {
+    ghost at = { code_at };
+
+    #[tactic(auto, unfolding(crate::specs::Setup::code_at))]
+    fn from_table(alloc: Global, table: &Table) -> Result<RawCode, KeyFault> {
+        let code: u32 = required(alloc, table, "code", "code.code")?;
+        let status: u32 = required(alloc, table, "status", "code.status")?;
+        Ok(RawCode { code, status })
+    }
 }
 
 #[tactic(auto, unfolding(crate::specs::Setup::done_at))]
@@ -112,50 +111,56 @@ fn done(alloc: Global, table: &Table) -> Result<Option<RawCode>, KeyFault>
     }
 }
 
-#[tactic(auto, unfolding(crate::specs::Setup::routine_at))]
-fn routine(alloc: Global, table: &Table) -> Result<RawRoutine, KeyFault>
-    ensures { KeyGives (λ x. x) result (routine_at (table_view table.now)) }
-{
-    let id: u32 = required(alloc, table, "id", "routine.id")?;
-    let time_ms: u32 = required(alloc, table, "time_ms", "routine.time_ms")?;
-    let nothing = Hex(Items::new(alloc));
-    let outcome = with_default(alloc, table, "result", "routine.result", nothing)?;
-    let level = with_default(alloc, table, "level", "routine.level", 0u32)?;
-    let on_done = done(alloc, table)?;
-    Ok(RawRoutine {
-        id,
-        time_ms,
-        result: outcome.0,
-        level,
-        on_done,
-    })
+impl FromTable for RawRoutine {
+    ghost at = { routine_at };
+
+    #[tactic(auto, unfolding(crate::specs::Setup::routine_at))]
+    fn from_table(alloc: Global, table: &Table) -> Result<RawRoutine, KeyFault> {
+        let id: u32 = required(alloc, table, "id", "routine.id")?;
+        let time_ms: u32 = required(alloc, table, "time_ms", "routine.time_ms")?;
+        let nothing = Hex(Items::new(alloc));
+        let outcome = with_default(alloc, table, "result", "routine.result", nothing)?;
+        let level = with_default(alloc, table, "level", "routine.level", 0u32)?;
+        let on_done = done(alloc, table)?;
+        Ok(RawRoutine {
+            id,
+            time_ms,
+            result: outcome.0,
+            level,
+            on_done,
+        })
+    }
 }
 
-#[tactic(auto, unfolding(crate::specs::Setup::row_at))]
-fn seed_row(alloc: Global, table: &Table) -> Result<RawKeyRow, KeyFault>
-    ensures { KeyGives (λ x. x) result (row_at (table_view table.now)) }
-{
-    let seed: Hex = required(alloc, table, "seed", "level.row.seed")?;
-    let key: Hex = required(alloc, table, "key", "level.row.key")?;
-    Ok(RawKeyRow {
-        seed: seed.0,
-        key: key.0,
-    })
+impl FromTable for RawKeyRow {
+    ghost at = { row_at };
+
+    #[tactic(auto, unfolding(crate::specs::Setup::row_at))]
+    fn from_table(alloc: Global, table: &Table) -> Result<RawKeyRow, KeyFault> {
+        let seed: Hex = required(alloc, table, "seed", "level.row.seed")?;
+        let key: Hex = required(alloc, table, "key", "level.row.key")?;
+        Ok(RawKeyRow {
+            seed: seed.0,
+            key: key.0,
+        })
+    }
 }
 
-#[tactic(auto, unfolding(crate::specs::Setup::level_at))]
-fn level(alloc: Global, table: &Table) -> Result<RawLevel, KeyFault>
-    ensures { KeyGives (λ x. x) result (level_at (table_view table.now)) }
-{
-    let request_seed: u32 = required(alloc, table, "sub", "level.sub")?;
-    let rows = with_default(
-        alloc,
-        table,
-        "row",
-        "level.row",
-        Items::<RawKeyRow>::new(alloc),
-    )?;
-    Ok(RawLevel { request_seed, rows })
+impl FromTable for RawLevel {
+    ghost at = { level_at };
+
+    #[tactic(auto, unfolding(crate::specs::Setup::level_at))]
+    fn from_table(alloc: Global, table: &Table) -> Result<RawLevel, KeyFault> {
+        let request_seed: u32 = required(alloc, table, "sub", "level.sub")?;
+        let rows = with_default(
+            alloc,
+            table,
+            "row",
+            "level.row",
+            Items::<RawKeyRow>::new(alloc),
+        )?;
+        Ok(RawLevel { request_seed, rows })
+    }
 }
 
 #[tactic(auto, unfolding(crate::specs::Setup::timing_at))]
@@ -275,94 +280,4 @@ pub fn setup(alloc: Global, table: &Table) -> Result<RawSetup, KeyFault>
         routines: tables.routines,
         levels: tables.levels,
     })
-}
-
-impl FromValue for RawTester {
-    ghost Said = { ATester };
-
-    ghost said = { λ x. x };
-
-    ghost kind = { row tester_at };
-
-    fn from_value(alloc: Global, key: &'static str, value: &Value) -> Result<RawTester, KeyFault> {
-        match value {
-            Value::Table(table) => tester(alloc, table),
-            _ => Err(KeyFault::BadValue(key)),
-        }
-    }
-}
-
-impl FromValue for RawRoutine {
-    ghost Said = { ARoutine };
-
-    ghost said = { λ x. x };
-
-    ghost kind = { row routine_at };
-
-    fn from_value(alloc: Global, key: &'static str, value: &Value) -> Result<RawRoutine, KeyFault> {
-        match value {
-            Value::Table(table) => routine(alloc, table),
-            _ => Err(KeyFault::BadValue(key)),
-        }
-    }
-}
-
-impl FromValue for RawKeyRow {
-    ghost Said = { ARow };
-
-    ghost said = { λ x. x };
-
-    ghost kind = { row row_at };
-
-    fn from_value(alloc: Global, key: &'static str, value: &Value) -> Result<RawKeyRow, KeyFault> {
-        match value {
-            Value::Table(table) => seed_row(alloc, table),
-            _ => Err(KeyFault::BadValue(key)),
-        }
-    }
-}
-
-impl FromValue for RawLevel {
-    ghost Said = { ALevel };
-
-    ghost said = { λ x. x };
-
-    ghost kind = { row level_at };
-
-    fn from_value(alloc: Global, key: &'static str, value: &Value) -> Result<RawLevel, KeyFault> {
-        match value {
-            Value::Table(table) => level(alloc, table),
-            _ => Err(KeyFault::BadValue(key)),
-        }
-    }
-}
-
-impl FromValue for RawDid {
-    ghost Said = { ADid };
-
-    ghost said = { λ x. x };
-
-    ghost kind = { row did_at };
-
-    fn from_value(alloc: Global, key: &'static str, value: &Value) -> Result<RawDid, KeyFault> {
-        match value {
-            Value::Table(table) => did(alloc, table),
-            _ => Err(KeyFault::BadValue(key)),
-        }
-    }
-}
-
-impl FromValue for RawCode {
-    ghost Said = { ACode };
-
-    ghost said = { λ x. x };
-
-    ghost kind = { row code_at };
-
-    fn from_value(alloc: Global, key: &'static str, value: &Value) -> Result<RawCode, KeyFault> {
-        match value {
-            Value::Table(table) => code(alloc, table),
-            _ => Err(KeyFault::BadValue(key)),
-        }
-    }
 }

@@ -1,10 +1,10 @@
 //! The keys of a table.
 
-ghost use Rattle.std.specs.Prelude.{◌≡◌, option_map, Option, map};
-ghost use Rattle.toml.specs.Data.{get_member, Items};
+ghost use Rattle.std.specs.Prelude.{◌≡◌, option_map, Option, Result};
+ghost use Rattle.toml.specs.Data.{get_member, Items, Members};
 ghost use Rattle.toml.specs.View.{view, table_view, items_view, array_view};
-ghost use Rattle.diag_config.specs.Key.{KeyGives};
-ghost use Rattle.diag_config.specs.Setup.{each, list, optional, required, with_default};
+ghost use Rattle.diag_config.specs.Key.{Fault, KeyGives};
+ghost use Rattle.diag_config.specs.Setup.{each, list, optional, required, row, with_default};
 
 use crate::fault::KeyFault;
 use crate::value::FromValue;
@@ -70,32 +70,50 @@ pub fn required<K: FromValue>(
     }
 }
 
-/// What the items of a list say, one after the other.
-fn each<K: FromValue>(
+/// A row: a table, read by its own keys.
+pub trait FromTable: Sized + Drop {
+    // what its keys say, or the first fault among them
+    ghost at: { Members → Result Self Fault };
+
+    fn from_table(alloc: Global, table: &Table) -> Result<Self, KeyFault>
+        ensures { KeyGives (λ x. x) result (at (table_view table.now)) };
+}
+
+/// What a row says.
+fn row<R: FromTable>(alloc: Global, key: &'static str, value: &Value) -> Result<R, KeyFault>
+    ensures { KeyGives (λ x. x) result (row R.at key.now (view value.now)) }
+{
+    match value {
+        Value::Table(table) => R::from_table(alloc, table),
+        _ => Err(KeyFault::BadValue(key)),
+    }
+}
+
+/// What the rows of a list say, one after the other.
+fn each<R: FromTable>(
     alloc: Global,
     key: &'static str,
     items: &[Value],
-) -> Result<Items<K>, KeyFault>
-    ensures { KeyGives (λ rows. map K.said rows) result
-        (each (K.kind key.now) (items_view items.now)) }
+) -> Result<Items<R>, KeyFault>
+    ensures { KeyGives (λ rows. rows) result (each (row R.at key.now) (items_view items.now)) }
 {
     let mut read = Items::new(alloc);
     for item in items {
-        read.push(K::from_value(alloc, key, item)?)?;
+        read.push(row(alloc, key, item)?)?;
     }
     Ok(read)
 }
 
-impl<K: FromValue> FromValue for Items<K> {
+impl<R: FromTable> FromValue for Items<R> {
     ghost use Rattle.std.specs.Prelude.{List};
 
-    ghost Said = { List K.Said };
+    ghost Said = { List R };
 
-    ghost said = { λ rows. map K.said rows };
+    ghost said = { λ rows. rows };
 
-    ghost kind = { list K.kind };
+    ghost kind = { list (row R.at) };
 
-    fn from_value(alloc: Global, key: &'static str, value: &Value) -> Result<Items<K>, KeyFault> {
+    fn from_value(alloc: Global, key: &'static str, value: &Value) -> Result<Items<R>, KeyFault> {
         match value {
             Value::Array(items) => each(alloc, key, items.as_slice()),
             _ => Err(KeyFault::BadValue(key)),

@@ -1,6 +1,6 @@
 use Rattle.std.proofs.Common.{refl}
 use Rattle.diag_config.specs.Setup.{did_at}
-use Rattle.diag_config.proofs.rows.did.Goals as goal
+use Rattle.diag_config.proofs.rows.RawDidFromTable.from_table.Goals as goal
 
 pub returns : goal.returns
 unfolding did_at
