@@ -11,7 +11,7 @@ ghost use Rattle.diag_workers.specs.Play.{logs_of};
 
 use crate::crewing::crew_keeping;
 use crate::keeping::Unkept;
-use crate::reading::read_logs_beside;
+use crate::reading::read_beside;
 use crate::seating::{doors_of, give_out, take_apart, take_in};
 use crate::watch::Watch;
 use diag_can::{Event, LogFault, Timing};
@@ -72,7 +72,8 @@ pub fn play<W: Watch + Sync, R: Threads + Wait + Sync>(
         × (logs_of setup.now timing (map (λ text. text.items) texts.now) ≡ Ok logs) }
     ensures agree { (who : ℕ) → result ≢ Err (PlayFault.RecordsDisagree who) }
 {
-    let logs = read_logs_beside(rt, alloc, setup, texts, timing)?;
+    let _at_most_8 = setup.testers();
+    let logs = read_beside(rt, alloc, setup, 1, texts, timing)?;
     match play_logs(rt, alloc, setup, logs.as_slice(), watch) {
         Ok(played) => Ok(played),
         Err(StepFault::Memory) => Err(PlayFault::Memory),

@@ -29,26 +29,6 @@ pub fn read_logs(
     read_from(alloc, setup, 1, texts, timing)
 }
 
-/// Reads all logs at the same time: the last on the calling thread, each other in a thread of its own, or on the
-/// calling thread where none can be started.
-///
-/// # Errors
-/// As those of `read_logs`: the first that refuses, in order, decides.
-pub fn read_logs_beside<R: Threads + Sync>(
-    rt: &R,
-    alloc: Global,
-    setup: &Setup,
-    texts: &[Vec<u8>],
-    timing: Timing,
-) -> Result<Vec<Vec<Event>>, PlayFault>
-    requires { length texts.now ≡ length setup.now.testers }
-    ensures { Reads (logs_of setup.now timing (map (λ text. text.items) texts.now))
-        (length texts.now) result }
-{
-    let _at_most_8 = setup.testers();
-    read_beside(rt, alloc, setup, 1, texts, timing)
-}
-
 /// Reads the log of the tester of this place, and then those of the testers after it.
 fn read_from(
     alloc: Global,
@@ -70,8 +50,12 @@ fn read_from(
     in_front(one, others)
 }
 
-/// Reads the log of the tester of this place beside those of the testers after it. The last needs no thread of its own.
-fn read_beside<R: Threads + Sync>(
+/// Reads the log of the tester of this place beside those of the testers after it: the last on the calling thread, each
+/// other in a thread of its own, or on the calling thread where none can be started.
+///
+/// # Errors
+/// As those of `read_logs`: the first that refuses, in order, decides.
+pub(crate) fn read_beside<R: Threads + Sync>(
     rt: &R,
     alloc: Global,
     setup: &Setup,
