@@ -11,4 +11,4 @@ mod serving;
 
 pub use bench::{Bench, Heard};
 pub use laws::{record_law, restamp_law};
-pub use running::{live, run_live, run_live_and_tell};
+pub use running::{live, run_live_and_tell};

@@ -89,7 +89,7 @@ fn turn<B: Bench, W: Write, R: Write>(
 ///
 /// # Errors
 /// The first fault of the config, before which nothing is heard or written; then those of `live`.
-pub fn run_live<C: Read, B: Bench, W: Write, R: Write>(
+fn run_live<C: Read, B: Bench, W: Write, R: Write>(
     alloc: Global,
     config: &mut C,
     bench: &mut B,
@@ -109,7 +109,8 @@ pub fn run_live<C: Read, B: Bench, W: Write, R: Write>(
     }
 }
 
-/// Runs, and says how it ended: with the end of the input, or with the line and the status of the run's fault.
+/// Reads a setup, serves a bus, and says how it ended: with the end of the input, or with the line and the status of the
+/// run's fault.
 pub fn run_live_and_tell<C: Read + Drop, B: Bench + Drop, W: Write, R: Write>(
     alloc: Global,
     mut config: C,
