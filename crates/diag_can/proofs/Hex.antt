@@ -144,7 +144,7 @@ eight_digits v high low eight fits h l = rw (h, l) (subst IsLookedUp (pick_l_who
 
 -- ---- the digits behind a frame's length are taken back
 
-upper-take : (n : ℕ) (bytes : List ℕ) → take (2 * n) (encode_upper bytes) ≡ encode_upper (take n bytes)
+pub upper-take : (n : ℕ) (bytes : List ℕ) → take (2 * n) (encode_upper bytes) ≡ encode_upper (take n bytes)
 unfolding encode_with
 upper-take zero bytes = refl
 upper-take (suc n) [] = take_all (2 * suc n) [] (omega arith)

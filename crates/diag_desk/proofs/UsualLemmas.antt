@@ -1,5 +1,5 @@
 -- Entries of the usual form, which are read from the front of a text.
-use Rattle.std.proofs.Common.{◌≡◌, ℕ, zero, suc, ◌+◌, ◌-◌, ◌*◌, ◌/◌, ◌%◌, ◌<◌, ◌≤◌, ◌==◌, eqb, nat_lt, Bool, true, false, ◌&&◌, ◌||◌, List, [], ◌∷◌, ◌++◌, length, take, drop, get_or, slice_get, slice_index, Option, Some, None, refl, sym, ap, ◌∙◌, append_assoc, arith, decimal}
+use Rattle.std.proofs.Common.{◌≡◌, ℕ, suc, ◌+◌, ◌-◌, ◌*◌, ◌/◌, ◌%◌, ◌<◌, ◌≤◌, ◌==◌, eqb, nat_lt, Bool, true, false, ◌&&◌, ◌||◌, List, [], ◌∷◌, ◌++◌, length, take, drop, get_or, slice_get, slice_index, Option, Some, None, refl, sym, ap, ◌∙◌, append_assoc, arith, decimal}
 use Rattle.std.proofs.lemmas.Bool.{agree_below_at, eqb-true}
 use Rattle.std.proofs.lemmas.Bool.Decides.{nat_tests}
 use Rattle.std.proofs.lemmas.Fmt.{decimal_digit, decimal_step}
@@ -7,6 +7,7 @@ use Rattle.std.proofs.lemmas.List.{take_all, take_more, take-append-drop, take-t
 use Rattle.std.proofs.Math.Seq.{drop-cons}
 use Rattle.std.proofs.lemmas.Option.{slice_get_within, get_or_from_slice_get}
 use Rattle.hex.specs.Hex.{encode_upper, encode_with, upper_digits}
+use Rattle.diag_can.proofs.Hex.{upper-parts}
 use Rattle.diag_desk.specs.Text.{entry_line, reply_text, upper_value}
 use Rattle.diag_desk.specs.Line.{fronted, kind_code, request_kind}
 use Rattle.diag_desk.specs.Entries.{entry}
@@ -85,20 +86,6 @@ three_spelled bytes tail x y z a b c d e f p q r is =
 pub read_spelled : encode_upper (0x22 ∷ []) ≡ 50 ∷ 50 ∷ []
 unfolding encode_with
 read_spelled = refl
-
--- the hex of two parts
-pub upper-parts : (a b : List ℕ) → encode_upper (a ++ b) ≡ encode_upper a ++ encode_upper b
-unfolding encode_with
-upper-parts [] b = refl
-upper-parts (x ∷ a) b = ap (λ text. slice_index upper_digits (x / 16) ∷ slice_index upper_digits (x % 16) ∷ text) (upper-parts a b)
-
-pub upper-take : (n : ℕ) (bytes : List ℕ) → take (2 * n) (encode_upper bytes) ≡ encode_upper (take n bytes)
-unfolding encode_with
-upper-take zero bytes = refl
-upper-take (suc n) [] = take_all (2 * suc n) [] (omega arith)
-upper-take (suc n) (b ∷ bytes) =
-    let more : 2 * suc n ≡ suc (suc (2 * n)) = omega arith in
-    rw more (ap (λ text. slice_index upper_digits (b / 16) ∷ slice_index upper_digits (b % 16) ∷ text) (upper-take n bytes))
 
 -- the hex of eight bytes more, and what is left of both
 pub eight_more : (left rest eight after digits behind tail : List ℕ) → eight ≡ take 8 left → after ≡ drop 8 left → digits ≡ take 16 rest → behind ≡ drop 16 rest

@@ -9,7 +9,7 @@ use Rattle.std.specs.List.{prefix_len}
 use lib.Lanes.{mask_l, top, zip2}
 use Rattle.hex.specs.Hex.{encode_upper}
 use Rattle.diag_can.specs.Lanes.{first_set}
-use Rattle.diag_desk.proofs.UsualLemmas.{upper-take}
+use Rattle.diag_can.proofs.Hex.{upper-take}
 
 -- a lane is set where two bytes differ
 abbrev pub differs : ℕ → ℕ → ℕ

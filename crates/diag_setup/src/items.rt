@@ -66,7 +66,7 @@ impl<T: Drop> Items<T> {
 
 impl<T: Keyed> Items<T> {
     /// Sorts rows of which no two have one key, where they stand.
-    pub fn sort(&mut self)
+    pub(crate) fn sort(&mut self)
         requires { has_repeat T.key_of self.old ≡ false }
         ensures { self.new ≡ in_order T.key_of self.old }
     {
