@@ -10,7 +10,6 @@ ghost use Rattle.diag_tp.specs.declared.sent.Sent.{Sent as ASent};
 ghost use Rattle.diag_world.specs.Server.{closing_time};
 ghost use Rattle.diag_bus.specs.Events.{frame_to, said_gives, span_said, to_each};
 ghost use Rattle.diag_bus.specs.Requests.{AreFilled, AreNamesOf, AreRequestsOf, IsOwner, given};
-ghost use Rattle.diag_bus.specs.Text.{drawn_text};
 
 use crate::bus::Output;
 use crate::clock::{Clock, silence};

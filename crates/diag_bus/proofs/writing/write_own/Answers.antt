@@ -1,4 +1,4 @@
-use Rattle.std.proofs.Common.{◌+◌, ◌∙◌, subst, sym, arith}
+use Rattle.std.proofs.Common.{◌+◌, ◌∙◌, subst, sym}
 use Rattle.diag_bus.specs.Requests.{AreNamesOf}
 use Rattle.diag_bus.specs.Text.{drawn_for, line_of}
 use Rattle.diag_bus.proofs.Texts.{lines_more}
