@@ -1,10 +1,10 @@
-use Rattle.std.proofs.Common.{◌≡◌, ◌+◌, ◌++◌, ◌∷◌, [], length, refl, sym, ap, subst, ◌∙◌, arith, length-append}
+use Rattle.std.proofs.Common.{◌≡◌, ◌++◌, ◌∷◌, [], length, sym, ap, subst, arith, length-append}
 use Rattle.std.proofs.lemmas.List.Elements.{All-push}
+use Rattle.std.specs.List.{All}
 use Rattle.diag_world.proofs.Worlds.{who_found}
 use Rattle.diag_text.specs.declared.taking.LineTaker.{LineTaker}
 use Rattle.diag_run.specs.declared.logs.LogLines.{LogLines}
 use Rattle.diag_run.specs.Logs.{AreLogs, TookLog}
-use Rattle.std.specs.List.{All}
 use Rattle.diag_run.proofs.Finishing.{AreLogs-push, none_taken}
 use Rattle.diag_run.proofs.logs.first_takers.Goals as goal
 
