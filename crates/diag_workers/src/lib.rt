@@ -14,6 +14,5 @@ pub use agreeing::agree;
 pub use crewing::crew;
 pub use keeping::Keep;
 pub use playing::{PlayFault, play};
-pub use reading::read_logs;
 pub use watch::{NoWatch, Watch};
 pub use working::{WorkerRecord, work};

@@ -1,9 +1,9 @@
-//! All testers' logs, read in order or at the same time.
+//! All testers' logs, read at the same time.
 ghost use Rattle.std.specs.Prelude.{◌≡◌, ◌+◌, ◌≤◌, length, map, IfOk, IfErr, ◌∷◌};
 ghost use Rattle.std.specs.Thread.{IsSync};
 ghost use Rattle.diag_can.specs.Log.{events};
 ghost use Rattle.diag_setup.specs.Setup.{ids_of};
-ghost use Rattle.diag_workers.specs.Play.{Reads, ReadsOne, logs_from, logs_of};
+ghost use Rattle.diag_workers.specs.Play.{Reads, ReadsOne, logs_from};
 
 use crate::playing::PlayFault;
 use diag_can::{Event, LogFault, Timing, read_log};
@@ -11,25 +11,10 @@ use diag_setup::{Setup, TesterId};
 use std::alloc::Global;
 use std::thread::{Threads, join};
 
-/// Reads all logs, one behind the other.
+/// Reads the log of the tester of this place, and then those of the testers after it.
 ///
 /// # Errors
 /// `Log` for the first log that is at fault, behind which none is read; `Memory` where memory is refused.
-pub fn read_logs(
-    alloc: Global,
-    setup: &Setup,
-    texts: &[Vec<u8>],
-    timing: Timing,
-) -> Result<Vec<Vec<Event>>, PlayFault>
-    requires { length texts.now ≡ length setup.now.testers }
-    ensures { Reads (logs_of setup.now timing (map (λ text. text.items) texts.now))
-        (length texts.now) result }
-{
-    let _at_most_8 = setup.testers();
-    read_from(alloc, setup, 1, texts, timing)
-}
-
-/// Reads the log of the tester of this place, and then those of the testers after it.
 fn read_from(
     alloc: Global,
     setup: &Setup,
@@ -54,7 +39,7 @@ fn read_from(
 /// other in a thread of its own, or on the calling thread where none can be started.
 ///
 /// # Errors
-/// As those of `read_logs`: the first that refuses, in order, decides.
+/// As those of `read_from`: the first that refuses, in order, decides.
 pub(crate) fn read_beside<R: Threads + Sync>(
     rt: &R,
     alloc: Global,
