@@ -28,7 +28,8 @@ pub trait TakeEvents {
     /// Takes an event of a tester.
     ///
     /// # Errors
-    /// `JournalFull` where the events give more steps than a journal has entries, `Memory` where memory is refused.
+    /// `JournalFull` where the events give more steps than a journal has entries, `Memory` where memory is refused. It can
+    /// take no more then.
     fn take_event(&mut self, who: TesterId, event: &Event) -> Result<(), StepFault>
         requires in_setup { (terms : Terms)
             × (M : List (ℕ × AnEvent))
