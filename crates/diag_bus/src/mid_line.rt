@@ -110,6 +110,38 @@ impl MidLine {
         ensures sent { OnOk result ((span : ℕ) → Lasts event.now span
             → OneSentIn self.old self.new (who - 1) span) }
     {
+        self.give_here(who, event)
+    }
+
+    /// Gives the server a frame with a tester's own identifier. (Beside `give`, so that what the event is isn't asked.)
+    #[inline(never)]
+    fn give_own(&mut self, who: TesterId, bytes: FrameBytes) -> Result<(), AllocError>
+        requires in_setup { who ≤ length self.old.server.links }
+        requires lists { length self.old.drawn.items ≡ length self.old.server.links }
+        requires early { IsEarly self.old.server (who - 1) }
+        ensures ok { OnOk result (Gave self.old self.new ((who, AnEvent.Physical bytes) ∷ [])) }
+        ensures shape { SameShape self.old self.new }
+        ensures pace { (span : ℕ) → Lasts (AnEvent.Physical bytes) span
+            → OneWentOn self.old.server self.new.server (who - 1) span }
+        ensures sent { OnOk result ((span : ℕ) → Lasts (AnEvent.Physical bytes) span
+            → OneSentIn self.old self.new (who - 1) span) }
+    {
+        self.give_here(who, &Event::Physical(bytes))
+    }
+
+    /// Gives the server an event of a tester, in its caller's place.
+    #[inline(always)]
+    fn give_here(&mut self, who: TesterId, event: &Event) -> Result<(), AllocError>
+        requires in_setup { who ≤ length self.old.server.links }
+        requires lists { length self.old.drawn.items ≡ length self.old.server.links }
+        requires early { IsEarly self.old.server (who - 1) }
+        ensures ok { OnOk result (Gave self.old self.new ((who, event.now) ∷ [])) }
+        ensures shape { SameShape self.old self.new }
+        ensures pace { (span : ℕ) → Lasts event.now span
+            → OneWentOn self.old.server self.new.server (who - 1) span }
+        ensures sent { OnOk result ((span : ℕ) → Lasts event.now span
+            → OneSentIn self.old self.new (who - 1) span) }
+    {
         let index = usize::from(who.place()) - 1;
         let out = &mut self.drawn[index];
         let mut entries = LineEntries {
@@ -244,7 +276,7 @@ impl MidLine {
     {
         match owner {
             Owner::Nobody => Ok(()),
-            Owner::Tester(who) => self.give(who, &Event::Physical(bytes)),
+            Owner::Tester(who) => self.give_own(who, bytes),
             Owner::Each => self.give_to_each(setup, &Event::Functional(bytes)),
         }
     }

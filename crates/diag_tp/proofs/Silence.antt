@@ -16,7 +16,7 @@ use Rattle.diag_tp.specs.Sender.{SenderState, kept_as, in_phase, once_gone, star
 use Rattle.diag_tp.specs.Cut.{cut}
 use Rattle.diag_tp.specs.State.{LinkState, due}
 use Rattle.diag_tp.specs.Quiet.{reception_quiet, phase_quiet, sender_quiet}
-use Rattle.diag_tp.specs.Link.{StandsFor, last_tick, quiet}
+use Rattle.diag_tp.specs.Link.{StandsFor, last_tick, pending, quiet}
 use Rattle.diag_tp.proofs.Moments.{moments-sum}
 use Rattle.diag_tp.proofs.History.{none-granted, stands_more, stands_moments}
 
@@ -142,6 +142,11 @@ pub quiet-none-due : (link : LinkState) → length (due link) ≡ 0
     → quiet link ≡ max (min (reception_quiet link.setup.n_cr link.partial) (sender_quiet link.sender.current)) 1
 unfolding quiet
 quiet-none-due link none = rw none refl
+
+pub quiet_drained : (link : LinkState) → pending link ≡ 0
+    → quiet link ≡ max (min (reception_quiet link.setup.n_cr link.partial) (sender_quiet link.sender.current)) 1
+unfolding pending
+quiet_drained link none = quiet-none-due link none
 
 -- so many ticks less
 pub quiet-rest : (n : ℕ) (link link' : LinkState) → 1 ≤ n → due link ≡ [] → n < quiet link → length (due link') ≡ 0 → link'.setup ≡ link.setup

@@ -107,7 +107,8 @@ impl Channel {
     {
         gives_law();
         time_law();
-        settle(&mut self.link, event, prepared, reply, &mut self.sent);
+        let mut reply = reply;
+        settle(&mut self.link, event, prepared, &mut reply, &mut self.sent);
     }
 
     /// The frames that were sent, in order.

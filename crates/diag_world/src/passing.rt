@@ -50,10 +50,11 @@ pub(crate) fn pass(link: &mut Link, count: TickCount, out: &mut Vec<Sent>)
 /// Whether nothing falls due and nothing ends in so many ticks.
 #[inline(always)]
 fn is_quiet_for(link: &Link, count: TickCount) -> bool
+    requires drained { pending link.now.state ≡ 0 }
     ensures is { IsTrue result ↔ (count < quiet link.now.state) }
     ensures most { count ≤ 60000 }
 {
-    u64::from(count.get()) < link.quiet()
+    u64::from(count.get()) < link.drained_quiet()
 }
 
 /// Lets so many ticks pass, in which nothing falls due.
@@ -95,13 +96,14 @@ fn pass_in_moves(link: &mut Link, count: TickCount, out: &mut Vec<Sent>)
     }
 }
 
-/// Takes a frame that was read, places the reply to the request that it completes, and hands out what is due.
+/// Takes a frame that was read, places the reply to the request that it completes, and hands out what is due. A reply that
+/// has to wait is taken out of its place.
 #[inline(always)]
 pub(crate) fn receive(
     link: &mut Link,
     event: &Event,
     taken: &Taken,
-    reply: Option<Message>,
+    reply: &mut Option<Message>,
     out: &mut Vec<Sent>,
 )
     requires taken { IsTaken link.old.state event.now taken.now }
@@ -114,46 +116,76 @@ pub(crate) fn receive(
         → StandsFor s link.old.state E A Q
         → last_time (E ++ event.now ∷ []) ≤ last_tick
         → HandedOut s link.new.state (E ++ event.now ∷ [])
-        (A ++ placed_at (last_moment (E ++ event.now ∷ [])) reply) (Q ++ more))) }
+        (A ++ placed_at (last_moment (E ++ event.now ∷ [])) reply.old) (Q ++ more))) }
     ensures time { link.new.state.now ≡ link.old.state.now }
     ensures drained { pending link.new.state ≡ 0 }
     ensures waiting { waiting_count link.new.state ≤ waiting_count link.old.state + 1 }
-    ensures none_waits { reply ≡ None
+    ensures none_waits { reply.old ≡ None
         → waiting_count link.new.state ≤ waiting_count link.old.state }
 {
     // (for its contract: the event is that of which this is left)
     let _ = event;
     link.settle(taken);
-    match reply {
-        Some(reply) => place(link, reply, out),
+    match reply.as_ref() {
+        Some(message) => match link.answer_alone(message) {
+            Some(frame) => out.push_reserved(Sent {
+                at: link.now(),
+                frame,
+            }),
+            None => place(link, reply, out),
+        },
         None => send_due(link, out),
     }
 }
 
 /// Places a reply, and hands out all frames that are due.
-#[inline(always)]
-fn place(link: &mut Link, reply: Message, out: &mut Vec<Sent>)
+#[inline(never)]
+fn place(link: &mut Link, reply: &mut Option<Message>, out: &mut Vec<Sent>)
     requires reply_room { IsTrue (has_reply_room link.old) }
     requires room { vec_len out.old + pending link.old.state + 1 ≤ vec_capacity out.old }
     ensures placed { Grew out.old.items out.new.items (λ more. AreWithin link.old.state.now link.new.state.now more
         × ((s : ALinkSetup) (E : List AnEvent) (A : List Placed) (Q : List ASent)
         → StandsFor s link.old.state E A Q
         → last_time E ≤ last_tick
-        → HandedOut s link.new.state E
-        (A ++ record { moment = last_moment E; message = reply } ∷ []) (Q ++ more))) }
+        → HandedOut s link.new.state E (A ++ placed_at (last_moment E) reply.old) (Q ++ more))) }
     ensures time { link.new.state.now ≡ link.old.state.now }
     ensures drained { pending link.new.state ≡ 0 }
     ensures waiting { waiting_count link.new.state ≤ waiting_count link.old.state + 1 }
 {
-    let at = link.now();
-    match link.answer_at_once(reply) {
-        Some(frame) => out.push_reserved(Sent { at, frame }),
+    match reply.take() {
+        Some(message) => {
+            link.answer(message);
+            send_due(link, out);
+        }
         None => send_due(link, out),
     }
 }
 
-/// Hands out all frames that are due.
+/// Hands out all frames that are due. Mostly there are none, which is asked first.
+#[inline(always)]
 fn send_due(link: &mut Link, out: &mut Vec<Sent>)
+    requires room { vec_len out.old + pending link.old.state ≤ vec_capacity out.old }
+    ensures stands { Grew out.old.items out.new.items (λ more. AreWithin link.old.state.now link.new.state.now more
+        × ((s : ALinkSetup) (E : List AnEvent) (A : List Placed) (Q : List ASent)
+        → StandsFor s link.old.state E A Q
+        → last_time E ≤ last_tick
+        → HandedOut s link.new.state E A (Q ++ more))) }
+    ensures time { link.new.state.now ≡ link.old.state.now }
+    ensures drained { pending link.new.state ≡ 0 }
+    ensures unsent { vec_len out.new + unsent link.new.state
+        ≡ vec_len out.old + unsent link.old.state }
+    ensures capacity { vec_capacity out.new ≡ vec_capacity out.old }
+    ensures waiting { waiting_count link.new.state ≤ waiting_count link.old.state }
+{
+    if link.is_drained() {
+        return;
+    }
+    send_frames(link, out);
+}
+
+/// The same, frame by frame.
+#[inline(never)]
+fn send_frames(link: &mut Link, out: &mut Vec<Sent>)
     requires room { vec_len out.old + pending link.old.state ≤ vec_capacity out.old }
     ensures stands { Grew out.old.items out.new.items (λ more. AreWithin link.old.state.now link.new.state.now more
         × ((s : ALinkSetup) (E : List AnEvent) (A : List Placed) (Q : List ASent)

@@ -102,30 +102,31 @@ pub(crate) fn step<'a>(link: &'a Link, prepared: &'a Prepared) -> Option<&'a Ste
 }
 
 /// Takes an event that was read and has room, with the reply to the step that it gives, and hands out what is due.
+/// A reply that has to wait is taken out of its place.
 #[inline(always)]
 pub(crate) fn settle(
     link: &mut Link,
     event: &Event,
     prepared: &Prepared,
-    reply: Option<Message>,
+    reply: &mut Option<Message>,
     out: &mut Vec<Sent>,
 )
     requires drained { pending link.old.state ≡ 0 }
     requires room { HasRoomFor
         link.old event.now prepared.now (vec_len out.old) (vec_capacity out.old) }
-    requires frame { IsSome reply → IsTrue (is_frame event.now) }
+    requires frame { IsSome reply.old → IsTrue (is_frame event.now) }
     ensures took { Grew out.old.items out.new.items (λ more.
         AreWithin link.old.state.now link.new.state.now more
         × ((s : ALinkSetup) (who : ℕ) (E : List AnEvent) (K : List AnEntry)
         → PortStands s link.old.state E K
         → last_time (E ++ event.now ∷ []) ≤ last_tick
-        → (gives s E event.now ≡ None → reply ≡ None)
-        → PortTook s who E K event.now reply link.new.state more)) }
+        → (gives s E event.now ≡ None → reply.old ≡ None)
+        → PortTook s who E K event.now reply.old link.new.state more)) }
     ensures short { (E : List AnEvent)
         → last_time (E ++ event.now ∷ []) ≤ last_time E + 60000 }
     ensures drained { pending link.new.state ≡ 0 }
     ensures waiting { waiting_count link.new.state ≤ waiting_count link.old.state + 1 }
-    ensures none_waits { reply ≡ None
+    ensures none_waits { reply.old ≡ None
         → waiting_count link.new.state ≤ waiting_count link.old.state }
     ensures time { link.new.state.now ≡ time_after link.old.state.now event.now }
     ensures most { link.new.state.now ≤ link.old.state.now + 60000 }

@@ -171,7 +171,7 @@ impl Server {
     {
         let mut least = u64::MAX;
         for link in &self.links {
-            least = least.min(link.quiet());
+            least = least.min(link.drained_quiet());
         }
         least
     }
@@ -184,7 +184,7 @@ impl Server {
         ensures some { 1 ≤ result }
     {
         let index = usize::from(who.place()) - 1;
-        self.links[index].quiet()
+        self.links[index].drained_quiet()
     }
 
     /// The ECU as the run has made it.
@@ -263,7 +263,7 @@ fn take_early<K: Keeper>(
     let prepared = prepare(link, event, out)?;
     let mut reply = None;
     answer_at(link, ecu, who, &prepared, keeper, &mut reply)?;
-    settle(link, event, &prepared, reply, out);
+    settle(link, event, &prepared, &mut reply, out);
     Ok(())
 }
 

@@ -24,14 +24,14 @@ returns-in-Ticks-Ticks-clause-took c =
         passed.holds.0,
         λ s who E K h time quiet.
             let A = placed s E (replies K) in
-            let none = none_of_some c.args.reply (λ some. no_frame n (rw c.in-Ticks-Ticks.is-1 at (c.requires.frame some))) in
+            let none = none_of_some c.args.reply.now (λ some. no_frame n (rw c.in-Ticks-Ticks.is-1 at (c.requires.frame some))) in
             let in_time : last_time E + n ≤ last_tick = omega (arith, c.time_law.ensures.ticks E n, rw c.in-Ticks-Ticks.is-1 at time) in
             let out = passed.holds.1 s E A (drawn s E (replies K)) h.stands in_time in
-            let sent : HandedOut s c.pass.new.link.state (E ++ Ticks n ∷ []) (A ++ placed_at (last_moment (E ++ Ticks n ∷ [])) c.args.reply)
+            let sent : HandedOut s c.pass.new.link.state (E ++ Ticks n ∷ []) (A ++ placed_at (last_moment (E ++ Ticks n ∷ [])) c.args.reply.now)
             (drawn s E (replies K) ++ passed.more) =
             subst (λ A'. HandedOut s c.pass.new.link.state (E ++ Ticks n ∷ []) A' (drawn s E (replies K) ++ passed.more))
             (sym (ap (λ r. A ++ placed_at (last_moment (E ++ Ticks n ∷ [])) r) none ∙ append-nil A)) out in
-            rw c.in-Ticks-Ticks.is-1 (port_took s who E K (Ticks n) c.args.reply c.args.link.now.state c.pass.new.link.state passed.more h
+            rw c.in-Ticks-Ticks.is-1 (port_took s who E K (Ticks n) c.args.reply.now c.args.link.now.state c.pass.new.link.state passed.more h
             (rw c.in-Ticks-Ticks.is-1 at quiet) sent),
       );
     }
@@ -46,7 +46,7 @@ returns-in-Frame-default-clause-took c =
       holds = (
         received.holds.0,
         λ s who E K h time quiet.
-            port_took s who E K e c.args.reply c.args.link.now.state c.receive.new.link.state received.more h quiet
+            port_took s who E K e c.args.reply.now c.args.link.now.state c.receive.new.link.state received.more h quiet
             (received.holds.1 s E (placed s E (replies K)) (drawn s E (replies K)) h.stands time),
       );
     }

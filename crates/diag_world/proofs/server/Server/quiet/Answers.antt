@@ -15,6 +15,6 @@ loop-link-preserved c =
     let grown = take_more links i link within ∙ ap (λ x. take i links ++ x ∷ []) (sym c.link-item.is) in
     let more : quiet_of (map (λ l. l.state) (take (i + 1) links)) ≡ min (quiet_of before) (quiet link.state) =
     ap (λ xs. quiet_of (map (λ l. l.state) xs)) grown ∙ (ap quiet_of (map-append (λ l. l.state) (take i links) (link ∷ [])) ∙ quiet_push before link.state) in (
-      omega (arith, more, c.loop-link.invariant.0, c.min-least.ensures, c.quiet.ensures.is),
-      omega (arith, c.loop-link.invariant.1, c.min-least.ensures, c.quiet.ensures.some),
+      omega (arith, more, c.loop-link.invariant.0, c.min-least.ensures, c.drained_quiet.ensures.is),
+      omega (arith, c.loop-link.invariant.1, c.min-least.ensures, c.drained_quiet.ensures.some),
     )

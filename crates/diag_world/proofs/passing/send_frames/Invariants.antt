@@ -6,7 +6,7 @@ use Rattle.diag_tp.specs.Moments.{last_time}
 use Rattle.diag_tp.specs.Wire.{Placed}
 use Rattle.diag_tp.specs.Link.{StandsFor, pending, unsent, waiting_count, last_tick}
 use Rattle.diag_world.specs.Port.{AreWithin, Grew}
-use Rattle.diag_world.proofs.passing.send_due.Given as goal
+use Rattle.diag_world.proofs.passing.send_frames.Given as goal
 
 abbrev pub invariant-loop-frame : goal.invariant-loop-frame
 invariant-loop-frame l = record {
