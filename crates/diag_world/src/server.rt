@@ -150,7 +150,7 @@ impl Server {
         ensures waited { Waited (server_of self.old) (server_of self.new) (length setup.now.testers) count }
         ensures rest { quiet_of (server_of self.old).links ≤ quiet_of (server_of self.new).links + count }
     {
-        pass_each(&mut self.links, count);
+        pass_each(self.links.as_mut_slice(), count);
         self.ecu.ticks_each(setup, count);
     }
 
@@ -327,16 +327,18 @@ fn answer_at<K: Keeper>(
 }
 
 /// Lets so many ticks pass at each link, in which it does nothing.
-fn pass_each(links: &mut Vec<Link>, count: TickCount)
-    requires drained { AllDrained links.old.items }
-    requires quiet { count < quiet_of (map (λ l. l.state) links.old.items) }
-    requires early { AreEarly (map (λ l. l.state) links.old.items) }
-    ensures waited { (ecu : State) → Waited (state_at ecu links.old.items)
-        (state_at (elapse_each ecu (length links.old.items) count) links.new.items)
-        (length links.old.items) count }
-    ensures rest { quiet_of (map (λ l. l.state) links.old.items)
-        ≤ quiet_of (map (λ l. l.state) links.new.items) + count }
-    ensures drained { AllDrained links.new.items }
+#[inline(always)]
+fn pass_each(links: &mut [Link], count: TickCount)
+    requires drained { AllDrained links.old }
+    requires quiet { count < quiet_of (map (λ l. l.state) links.old) }
+    requires early { AreEarly (map (λ l. l.state) links.old) }
+    ensures many { length links.new ≡ length links.old }
+    ensures waited { (ecu : State) → Waited (state_at ecu links.old)
+        (state_at (elapse_each ecu (length links.old) count) links.new)
+        (length links.old) count }
+    ensures rest { quiet_of (map (λ l. l.state) links.old)
+        ≤ quiet_of (map (λ l. l.state) links.new) + count }
+    ensures drained { AllDrained links.new }
 {
     for index in 0..links.len() {
         pass_quiet(&mut links[index], count);

@@ -7,8 +7,8 @@ use Rattle.diag_world.proofs.server.pass_each.Given as goal
 
 abbrev pub invariant-loop-index : goal.invariant-loop-index
 invariant-loop-index l = record {
-  many : length l.links.items ≡ length l.fn.links.items;
-  drained : AllDrained l.links.items;
-  waited : (ecu : State) → Waited (state_at ecu l.fn.links.items) (state_at (elapse_each ecu l.index l.count) l.links.items) l.index l.count;
-  rests : RestsEach (map (λ link. link.state) l.fn.links.items) (map (λ link. link.state) l.links.items) l.count;
+  many : length l.links ≡ length l.fn.links;
+  drained : AllDrained l.links;
+  waited : (ecu : State) → Waited (state_at ecu l.fn.links) (state_at (elapse_each ecu l.index l.count) l.links) l.index l.count;
+  rests : RestsEach (map (λ link. link.state) l.fn.links) (map (λ link. link.state) l.links) l.count;
 }

@@ -3,7 +3,7 @@ use Rattle.diag_world.specs.declared.server.ServerFault.TheVariants as fault
 use Rattle.diag_bus.proofs.Filling.{rest_after}
 use Rattle.diag_bus.proofs.Giving.{entered_asked, gave_one, list_at, never_closed, sent_in_one, shape_one, shape_refused}
 use Rattle.diag_bus.proofs.Paces.{stays, went_on}
-use Rattle.diag_bus.proofs.mid_line.MidLine.give_here.Goals as goal
+use Rattle.diag_bus.proofs.mid_line.MidLine.give.Goals as goal
 
 pub returns-in-Ok-clause-ok : goal.returns-in-Ok-clause-ok
 returns-in-Ok-clause-ok c =
