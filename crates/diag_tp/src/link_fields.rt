@@ -67,7 +67,7 @@ ghost use Rattle.diag_tp.specs.Link.{
 };
 
 use crate::frames::lone_frame;
-use crate::kind::{consecutive_part, flow_parts, is_of_no_kind, single_size};
+use crate::kind::{consecutive_part, first_parts, flow_parts, is_of_no_kind, single_size};
 use crate::link::Link;
 use crate::message::Message;
 use crate::pci::Pci;
@@ -239,6 +239,9 @@ impl Link {
     {
         match bytes.as_slice() {
             [control, ..] if *control / 16 == 1 => {
+                if let Some((len, _)) = first_parts(bytes, self.setup.max_request) {
+                    return self.receiver.reserve(len);
+                }
                 let kind = self.kind(bytes);
                 self.receiver.make_room(&kind)
             }
@@ -319,7 +322,13 @@ impl Link {
                         self.sender.flow(&self.setup, status, block, gap);
                         self.grant = None;
                     }
-                    None => self.take_kind(&self.kind(bytes)),
+                    None => match first_parts(bytes, self.setup.max_request) {
+                        Some((len, head)) => {
+                            self.receiver.begin(len, head);
+                            self.grant = Some(go_on(&self.setup));
+                        }
+                        None => self.take_kind(&self.kind(bytes)),
+                    },
                 },
             },
         }
