@@ -181,10 +181,10 @@ impl Link {
         ensures kept { self.old.room ≤ self.new.room }
         ensures reply_kept { self.old.reply_room ≤ self.new.reply_room }
     {
+        self.sender.make_room()?;
         match event {
             Event::Physical(bytes) => self.take_up_own(bytes),
             Event::Functional(bytes) => {
-                self.sender.make_room()?;
                 let size = single_size(bytes);
                 if size == 0 {
                     return Ok(Taken::Ignored);
@@ -196,30 +196,27 @@ impl Link {
         }
     }
 
-    /// Reads a frame with the tester's own identifier and makes room for it. No `Pci` is made but of a FirstFrame.
+    /// Reads a frame with the tester's own identifier and makes room for its message. No `Pci` is made but of a FirstFrame.
     #[tactic(auto, using(crate::proofs::Takings::taken_read))]
     #[inline(always)]
     fn take_up_own(&mut self, bytes: &FrameBytes) -> Result<Taken, AllocError>
         ensures same { self.new.state ≡ self.old.state }
         ensures room { OnOk result
-            ((needed self.new.state.setup (AnEvent.Physical bytes.now) ≤ self.new.room)
-            × (0 < self.new.reply_room)) }
+            (needed self.new.state.setup (AnEvent.Physical bytes.now) ≤ self.new.room) }
         ensures request { IfOk result (λ taken. asked_in self.new taken
             ≡ step_after self.old.state.setup self.old.state.partial (AnEvent.Physical bytes.now)) }
         ensures taken { IfOk result (λ taken.
             IsTaken self.old.state (AnEvent.Physical bytes.now) taken) }
         ensures fits { IfOk result (λ taken. FitsIn self.new taken) }
         ensures kept { self.old.room ≤ self.new.room }
-        ensures reply_kept { self.old.reply_room ≤ self.new.reply_room }
+        ensures reply_room { self.new.reply_room ≡ self.old.reply_room }
     {
         let size = single_size(bytes);
         if size > 0 {
-            self.sender.make_room()?;
             self.note(false, bytes.part(1, size));
             return Ok(Taken::Single);
         }
         self.make_room_for(bytes)?;
-        self.sender.make_room()?;
         match consecutive_part(bytes) {
             Some((number, part)) if self.receiver.stage(number, part) => Ok(Taken::Last),
             _ => Ok(Taken::Read(bytes.copy())),
@@ -269,18 +266,6 @@ impl Link {
                     message: Message::in_place(payload),
                 };
             }
-        }
-    }
-
-    /// The request that a frame completes: noted, or staged.
-    #[inline(always)]
-    pub(crate) fn lent<'a>(&'a self, taken: &'a Taken) -> Option<&'a Step>
-        ensures { option_copied result ≡ asked_in self.now taken.now }
-    {
-        match taken {
-            Taken::Ignored | Taken::Read(_) => None,
-            Taken::Functional | Taken::Single => Some(&self.noted),
-            Taken::Last => self.receiver.staged(),
         }
     }
 
