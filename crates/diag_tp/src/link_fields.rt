@@ -126,15 +126,6 @@ impl Link {
         self.grant.is_none() && self.sender.is_drained()
     }
 
-    /// What a frame is here.
-    #[inline(always)]
-    pub(crate) fn kind(&self, bytes: &FrameBytes) -> Pci
-        ensures kind { result ≡ kind bytes.now self.now.state.setup.max_request }
-        ensures read { IsRead self.now.state.setup.max_request result }
-    {
-        Pci::of_frame(bytes, self.setup.max_request)
-    }
-
     /// Whether the event completes a request, from the fields.
     pub(crate) fn gives_request(&self, event: &Event) -> bool
         ensures value { result
@@ -159,10 +150,13 @@ impl Link {
     {
         match event {
             Event::Physical(bytes) => {
-                let kind = self.kind(bytes);
+                let kind = Pci::of_frame(bytes, self.setup.max_request);
                 Ok(asked(false, self.receiver.peek(&kind)?))
             }
-            Event::Functional(bytes) => Ok(asked(true, single_of(self.kind(bytes)))),
+            Event::Functional(bytes) => Ok(asked(
+                true,
+                single_of(Pci::of_frame(bytes, self.setup.max_request)),
+            )),
             Event::Ticks(_) => Ok(None),
         }
     }
@@ -236,7 +230,7 @@ impl Link {
     {
         match bytes.as_slice() {
             [control, ..] if *control / 16 == 1 => {
-                let kind = self.kind(bytes);
+                let kind = Pci::of_frame(bytes, self.setup.max_request);
                 self.receiver.make_room(&kind)
             }
             _ => Ok(()),
@@ -304,7 +298,7 @@ impl Link {
                         self.sender.flow(&self.setup, status, block, gap);
                         self.grant = None;
                     }
-                    None => self.take_kind(&self.kind(bytes)),
+                    None => self.take_kind(&Pci::of_frame(bytes, self.setup.max_request)),
                 },
             },
         }
@@ -330,12 +324,15 @@ impl Link {
     {
         match event {
             Event::Physical(bytes) => {
-                let kind = self.kind(bytes);
+                let kind = Pci::of_frame(bytes, self.setup.max_request);
                 let message = self.receiver.complete(&kind);
                 self.take_kind(&kind);
                 asked(false, message)
             }
-            Event::Functional(bytes) => asked(true, single_of(self.kind(bytes))),
+            Event::Functional(bytes) => asked(
+                true,
+                single_of(Pci::of_frame(bytes, self.setup.max_request)),
+            ),
             Event::Ticks(_) => None,
         }
     }

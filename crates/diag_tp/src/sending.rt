@@ -4,12 +4,10 @@ ghost use Rattle.std.specs.Prelude.{
   ◌≡◌,
   ◌<◌,
   ◌-◌,
-  slice_get,
   Some,
   None,
   if◌then◌else◌,
 };
-ghost use Rattle.diag_tp.specs.Cut.{cut};
 ghost use Rattle.diag_tp.specs.Quiet.{phase_quiet};
 ghost use Rattle.diag_tp.specs.Sending.{gap_ticks, flow_decision, block_size};
 ghost use Rattle.diag_tp.specs.Sender.{
@@ -23,11 +21,9 @@ ghost use Rattle.diag_tp.specs.Sender.{
   one_gone,
 };
 
-use crate::frames::frame_at;
 use crate::message::Message;
 use crate::queue::frames_of;
 use crate::setup::LinkSetup;
-use diag_can::FrameBytes;
 
 /// What the current message waits for.
 #[derive(Clone, Copy)]
@@ -164,14 +160,6 @@ impl Sending {
             due: 1,
             phase: awaits_flow(setup),
         }
-    }
-
-    /// The next frame.
-    pub(crate) fn frame(&self, setup: &LinkSetup) -> FrameBytes
-        requires sound { IsSound self.now }
-        ensures { slice_get (cut self.now.message setup.now.pad) self.now.next ≡ Some result }
-    {
-        frame_at(&self.message, self.next, setup.pad)
     }
 
     /// The next frame goes; false where it is the last.
