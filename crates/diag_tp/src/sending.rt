@@ -97,14 +97,27 @@ impl Sending {
             ≡ tick_fields setup.now count self.old self.old.phase }
         ensures sound { IsSound self.new }
     {
-        match &mut self.phase {
-            Phase::AwaitsFlow { ticks } if *ticks <= count => return false,
-            Phase::InBlock { rest, gap, ticks } if *ticks <= count => {
-                self.phase = within_block(setup, rest.saturating_sub(1), *gap);
-                self.due = 1;
+        match self.phase {
+            Phase::AwaitsFlow { ticks } => {
+                if ticks <= count {
+                    return false;
+                }
+                self.phase = Phase::AwaitsFlow {
+                    ticks: ticks - count,
+                };
             }
-            Phase::AwaitsFlow { ticks } => *ticks -= count,
-            Phase::InBlock { ticks, .. } => *ticks -= count,
+            Phase::InBlock { rest, gap, ticks } => {
+                if ticks <= count {
+                    self.phase = within_block(setup, rest.saturating_sub(1), gap);
+                    self.due = 1;
+                } else {
+                    self.phase = Phase::InBlock {
+                        rest,
+                        gap,
+                        ticks: ticks - count,
+                    };
+                }
+            }
         }
         true
     }
