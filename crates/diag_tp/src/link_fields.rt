@@ -126,15 +126,6 @@ impl Link {
         self.grant.is_none() && self.sender.is_drained()
     }
 
-    /// What a frame is here.
-    #[inline(always)]
-    pub(crate) fn kind(&self, bytes: &FrameBytes) -> Pci
-        ensures kind { result ≡ kind bytes.now self.now.state.setup.max_request }
-        ensures read { IsRead self.now.state.setup.max_request result }
-    {
-        Pci::of_frame(bytes, self.setup.max_request)
-    }
-
     /// Whether the event completes a request, from the fields.
     pub(crate) fn gives_request(&self, event: &Event) -> bool
         ensures value { result
@@ -159,10 +150,13 @@ impl Link {
     {
         match event {
             Event::Physical(bytes) => {
-                let kind = self.kind(bytes);
+                let kind = Pci::of_frame(bytes, self.setup.max_request);
                 Ok(asked(false, self.receiver.peek(&kind)?))
             }
-            Event::Functional(bytes) => Ok(asked(true, single_of(self.kind(bytes)))),
+            Event::Functional(bytes) => Ok(asked(
+                true,
+                single_of(Pci::of_frame(bytes, self.setup.max_request)),
+            )),
             Event::Ticks(_) => Ok(None),
         }
     }
@@ -181,10 +175,10 @@ impl Link {
         ensures kept { self.old.room ≤ self.new.room }
         ensures reply_kept { self.old.reply_room ≤ self.new.reply_room }
     {
+        self.sender.make_room()?;
         match event {
             Event::Physical(bytes) => self.take_up_own(bytes),
             Event::Functional(bytes) => {
-                self.sender.make_room()?;
                 let size = single_size(bytes);
                 if size == 0 {
                     return Ok(Taken::Ignored);
@@ -196,30 +190,27 @@ impl Link {
         }
     }
 
-    /// Reads a frame with the tester's own identifier and makes room for it. No `Pci` is made but of a FirstFrame.
+    /// Reads a frame with the tester's own identifier and makes room for its message. No `Pci` is made but of a FirstFrame.
     #[tactic(auto, using(crate::proofs::Takings::taken_read))]
     #[inline(always)]
     fn take_up_own(&mut self, bytes: &FrameBytes) -> Result<Taken, AllocError>
         ensures same { self.new.state ≡ self.old.state }
         ensures room { OnOk result
-            ((needed self.new.state.setup (AnEvent.Physical bytes.now) ≤ self.new.room)
-            × (0 < self.new.reply_room)) }
+            (needed self.new.state.setup (AnEvent.Physical bytes.now) ≤ self.new.room) }
         ensures request { IfOk result (λ taken. asked_in self.new taken
             ≡ step_after self.old.state.setup self.old.state.partial (AnEvent.Physical bytes.now)) }
         ensures taken { IfOk result (λ taken.
             IsTaken self.old.state (AnEvent.Physical bytes.now) taken) }
         ensures fits { IfOk result (λ taken. FitsIn self.new taken) }
         ensures kept { self.old.room ≤ self.new.room }
-        ensures reply_kept { self.old.reply_room ≤ self.new.reply_room }
+        ensures reply_room { self.new.reply_room ≡ self.old.reply_room }
     {
         let size = single_size(bytes);
         if size > 0 {
-            self.sender.make_room()?;
             self.note(false, bytes.part(1, size));
             return Ok(Taken::Single);
         }
         self.make_room_for(bytes)?;
-        self.sender.make_room()?;
         match consecutive_part(bytes) {
             Some((number, part)) if self.receiver.stage(number, part) => Ok(Taken::Last),
             _ => Ok(Taken::Read(bytes.copy())),
@@ -242,7 +233,7 @@ impl Link {
                 if let Some((len, _)) = first_parts(bytes, self.setup.max_request) {
                     return self.receiver.reserve(len);
                 }
-                let kind = self.kind(bytes);
+                let kind = Pci::of_frame(bytes, self.setup.max_request);
                 self.receiver.make_room(&kind)
             }
             _ => Ok(()),
@@ -272,18 +263,6 @@ impl Link {
                     message: Message::in_place(payload),
                 };
             }
-        }
-    }
-
-    /// The request that a frame completes: noted, or staged.
-    #[inline(always)]
-    pub(crate) fn lent<'a>(&'a self, taken: &'a Taken) -> Option<&'a Step>
-        ensures { option_copied result ≡ asked_in self.now taken.now }
-    {
-        match taken {
-            Taken::Ignored | Taken::Read(_) => None,
-            Taken::Functional | Taken::Single => Some(&self.noted),
-            Taken::Last => self.receiver.staged(),
         }
     }
 
@@ -327,7 +306,7 @@ impl Link {
                             self.receiver.begin(len, head);
                             self.grant = Some(go_on(&self.setup));
                         }
-                        None => self.take_kind(&self.kind(bytes)),
+                        None => self.take_kind(&Pci::of_frame(bytes, self.setup.max_request)),
                     },
                 },
             },
@@ -354,12 +333,15 @@ impl Link {
     {
         match event {
             Event::Physical(bytes) => {
-                let kind = self.kind(bytes);
+                let kind = Pci::of_frame(bytes, self.setup.max_request);
                 let message = self.receiver.complete(&kind);
                 self.take_kind(&kind);
                 asked(false, message)
             }
-            Event::Functional(bytes) => asked(true, single_of(self.kind(bytes))),
+            Event::Functional(bytes) => asked(
+                true,
+                single_of(Pci::of_frame(bytes, self.setup.max_request)),
+            ),
             Event::Ticks(_) => None,
         }
     }

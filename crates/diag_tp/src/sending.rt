@@ -4,12 +4,10 @@ ghost use Rattle.std.specs.Prelude.{
   ◌≡◌,
   ◌<◌,
   ◌-◌,
-  slice_get,
   Some,
   None,
   if◌then◌else◌,
 };
-ghost use Rattle.diag_tp.specs.Cut.{cut};
 ghost use Rattle.diag_tp.specs.Quiet.{phase_quiet};
 ghost use Rattle.diag_tp.specs.Sending.{gap_ticks, flow_decision, block_size};
 ghost use Rattle.diag_tp.specs.Sender.{
@@ -23,11 +21,9 @@ ghost use Rattle.diag_tp.specs.Sender.{
   one_gone,
 };
 
-use crate::frames::frame_at;
 use crate::message::Message;
 use crate::queue::frames_of;
 use crate::setup::LinkSetup;
-use diag_can::FrameBytes;
 
 /// What the current message waits for.
 #[derive(Clone, Copy)]
@@ -101,14 +97,27 @@ impl Sending {
             ≡ tick_fields setup.now count self.old self.old.phase }
         ensures sound { IsSound self.new }
     {
-        match &mut self.phase {
-            Phase::AwaitsFlow { ticks } if *ticks <= count => return false,
-            Phase::InBlock { rest, gap, ticks } if *ticks <= count => {
-                self.phase = within_block(setup, rest.saturating_sub(1), *gap);
-                self.due = 1;
+        match self.phase {
+            Phase::AwaitsFlow { ticks } => {
+                if ticks <= count {
+                    return false;
+                }
+                self.phase = Phase::AwaitsFlow {
+                    ticks: ticks - count,
+                };
             }
-            Phase::AwaitsFlow { ticks } => *ticks -= count,
-            Phase::InBlock { ticks, .. } => *ticks -= count,
+            Phase::InBlock { rest, gap, ticks } => {
+                if ticks <= count {
+                    self.phase = within_block(setup, rest.saturating_sub(1), gap);
+                    self.due = 1;
+                } else {
+                    self.phase = Phase::InBlock {
+                        rest,
+                        gap,
+                        ticks: ticks - count,
+                    };
+                }
+            }
         }
         true
     }
@@ -164,14 +173,6 @@ impl Sending {
             due: 1,
             phase: awaits_flow(setup),
         }
-    }
-
-    /// The next frame.
-    pub(crate) fn frame(&self, setup: &LinkSetup) -> FrameBytes
-        requires sound { IsSound self.now }
-        ensures { slice_get (cut self.now.message setup.now.pad) self.now.next ≡ Some result }
-    {
-        frame_at(&self.message, self.next, setup.pad)
     }
 
     /// The next frame goes; false where it is the last.

@@ -4,7 +4,7 @@ use crate::message::Message;
 use diag_can::TickCount;
 
 /// What a link gives: a message, and whether it came by a functional frame.
-#[derive(Debug, Drop)]
+#[derive(Drop)]
 pub struct Request {
     /// Whether it came on the functional identifier.
     pub functional: bool,
@@ -13,7 +13,7 @@ pub struct Request {
 }
 
 /// One step of the server: a request, or that many ticks.
-#[derive(Debug, Drop)]
+#[derive(Drop)]
 pub enum Step {
     /// A complete request, and whether it came on the functional identifier.
     Request { functional: bool, message: Message },
