@@ -1,13 +1,13 @@
 -- A bus takes a line more.
-use Rattle.std.proofs.Common.{◌≡◌, ℕ, ◌+◌, List, [], ◌∷◌, ◌++◌, Some, None, Ok, length, refl, ap, ap₂, subst, sym, ◌∙◌, arith}
+use Rattle.std.proofs.Common.{◌≡◌, ◌≤◌, ℕ, ◌+◌, List, [], ◌∷◌, ◌++◌, Some, None, Ok, length, refl, ap, ap₂, subst, sym, ◌∙◌, arith}
 use Rattle.std.specs.Prelude.{slice_get}
 use Rattle.diag_can.specs.Bus.{bus_line}
 use Rattle.diag_can.specs.declared.bus.BusLine.{BusLine}
 use Rattle.diag_tp.specs.declared.sent.Sent.{Sent}
 use Rattle.diag_setup.specs.declared.raw.RawSetup.{RawSetup}
-use Rattle.diag_world.specs.Server.{ServerView, server_of}
-use Rattle.diag_bus.specs.Batch.{BusStands, Gave, GoesOn, IsBy, SaidBelow, SameShape, StartsBelow, TookTime, added, lists_of, moment_end}
-use Rattle.diag_bus.specs.Bus.{AreSound, BusState, Judges, TookLines}
+use Rattle.diag_world.specs.Server.{ServerView, closing_time, server_of}
+use Rattle.diag_bus.specs.Batch.{AreSentBy, BusStands, Gave, GoesOn, HasTime, IsBy, SaidBelow, SameShape, SentIn, StartsBelow, TookTime, added, lists_of, moment_end}
+use Rattle.diag_bus.specs.Bus.{AreSound, BusState, Judges, TookLine}
 use Rattle.diag_bus.specs.Comparing.{DrawnBy, TakesLine}
 use Rattle.diag_bus.specs.Events.{fault_said, said_gives, span_said}
 use Rattle.diag_bus.specs.Text.{written}
@@ -18,7 +18,7 @@ use Rattle.diag_bus.specs.declared.comparing.Comparisons.{Comparisons}
 use Rattle.diag_bus.specs.declared.mid_line.MidLine.{MidLine}
 use Rattle.diag_bus.proofs.Faults.{well_more}
 use Rattle.diag_bus.proofs.Lines.{line_taken}
-use Rattle.diag_bus.proofs.Paces.{line_paced}
+use Rattle.diag_bus.proofs.Paces.{line_paced, sent_nothing}
 use Rattle.diag_bus.proofs.Stamps.{bus_line_low}
 use Rattle.diag_bus.proofs.Texts.{wrote}
 
@@ -37,23 +37,23 @@ judges_on End setup old new said drawn lines line takes is drew h = h
 judges_on Verdict setup old new said drawn lines line takes is drew h = takes refl lines line is drew h
 
 -- the line begins, what it says is given to the server, and what that drew is written
-pub took_line : (setup : RawSetup) (lines : List (List ℕ)) (line : List ℕ) (said : BusLine) (old begun taken done : MidLine) (clock clock' : Clock)
+pub took_line : (bus : BusState) (setup : RawSetup) (line : List ℕ) (said : BusLine) (old begun taken done : MidLine) (clock clock' : Clock)
     (compared compared' : Comparisons)
+    → seen setup old clock compared ≡ bus
+    → AreSound setup old compared clock
     → bus_line line ≡ Ok said → fault_said (bus_line line) (clock.time + span_said clock.reference (bus_line line)) ≡ None → GoesOn clock said clock'
-    → length old.drawn.items ≡ length setup.testers
     → ((i : ℕ) (frames : List Sent) → slice_get (lists_of begun) i ≡ Some frames → frames ≡ []) → begun.text.items ≡ [] → begun.server ≡ old.server
     → SameShape old begun
     → Gave begun taken (said_gives setup clock.reference said) → SameShape begun taken
     → (old.output ≡ Verdict → TakesLine setup compared compared' said (lists_of taken))
     → done.server ≡ taken.server → SameShape taken done
-    → TookLines (seen setup old clock compared) lines
-    → TookLines (seen setup done clock' compared') (lines ++ line ∷ [])
-    × (written old.output setup (lines ++ line ∷ [])
-    ≡ written old.output setup lines ++ added taken.output taken.text.items setup clock'.start (lists_of taken))
-took_line setup lines line said old begun taken done clock clock' compared compared' is well on lists empty none server first gave second takes after third h =
+    → TookLine bus (seen setup done clock' compared') line (added taken.output taken.text.items setup clock'.start (lists_of taken))
+took_line bus setup line said old begun taken done clock clock' compared compared' view sound is well on empty none server first gave second takes after third =
+    let more = added taken.output taken.text.items setup clock'.start (lists_of taken) in
+    subst (λ (b : BusState). TookLine b (seen setup done clock' compared') line more) view (λ lines h.
     let stands : BusStands setup (server_of begun.server) clock lines =
     subst (λ (s : ServerView). BusStands setup (server_of s) clock lines) (sym server) h.stands in
-    let t = line_taken setup lines line said begun taken clock clock' is stands on (first.lists ∙ lists) empty none gave second.output in
+    let t = line_taken setup lines line said begun taken clock clock' is stands on (first.lists ∙ sound.1) empty none gave second.output in
     let calm = ap₂ (λ time reference. fault_said (bus_line line) (time + span_said reference (bus_line line))) (sym h.stands.time)
     (sym h.stands.reference) ∙ well in
     let same : taken.output ≡ old.output = second.output ∙ first.output in (
@@ -67,7 +67,7 @@ took_line setup lines line said old begun taken done clock clock' compared compa
           ∙ (wrote begun.output setup lines line (server_of taken.server) (lists_of taken) clock' taken.text.items t.0 t.1
           ∙ (ap (λ o. written o setup lines ++ added begun.output taken.text.items setup clock'.start (lists_of taken)) first.output
           ∙ ap (λ o. written old.output setup lines ++ added o taken.text.items setup clock'.start (lists_of taken)) (sym second.output))),
-    )
+    ))
 
 -- ---- what holds whatever the bus took
 
@@ -101,3 +101,19 @@ sound_written setup taken done clock compared h server shape = (
   shape.filled h.5,
   shape.rest h.6,
 )
+
+-- ---- the clocks of a line that begins
+
+module _ (setup : RawSetup) (old begun : MidLine) (clock : Clock) (compared : Comparisons) (sound : AreSound setup old compared clock)
+    (server : begun.server ≡ old.server) (span : ℕ) (early : clock.time + span ≤ closing_time) where
+  begun_by : IsBy begun.server clock.time
+  begun_by = subst (λ (s : ServerView). IsBy s clock.time) (sym server) sound.3
+
+  -- there is time for what it says
+  pub has_time : HasTime begun.server span
+  has_time = record { time = clock.time; by = begun_by; early = early }
+
+  -- and what that draws is sent in time
+  pub sent_in_time : (taken : MidLine) → ((i : ℕ) (frames : List Sent) → slice_get (lists_of begun) i ≡ Some frames → frames ≡ []) → SentIn begun taken span
+      → AreSentBy (lists_of taken) closing_time
+  sent_in_time taken empty sent = sent clock.time closing_time begun_by early (sent_nothing (lists_of begun) closing_time empty)

@@ -1,15 +1,17 @@
 //! The bus: the server, and what is kept of a capture between two of its lines.
 
-ghost use Rattle.std.specs.Prelude.{◌≡◌, ◌≢◌, ◌≤◌, ◌↔◌, [], ◌++◌, ℕ, List, length, IfOk, OnOk, OnErr, IsTrue, Ok};
+ghost use Rattle.std.specs.Prelude.{◌≡◌, ◌≤◌, ◌↔◌, [], ◌++◌, ℕ, List, length, IfOk, IfSome, OnOk, OnErr, IsTrue, Ok};
 ghost use Rattle.diag_can.specs.Bus.{bus_line};
 ghost use Rattle.diag_can.specs.Usual.{IsUsual, usual_said};
 ghost use Rattle.diag_world.specs.Port.{Grew};
 ghost use Rattle.diag_world.specs.Server.{quiet_of};
+ghost use Rattle.diag_bus.specs.Batch.{lists_of};
 ghost use Rattle.diag_bus.specs.Bus.{IsItsFault, IsRefused, Judges, TookLine, TookLines};
+ghost use Rattle.diag_bus.specs.Comparing.{TakesLine};
 ghost use Rattle.diag_bus.specs.Text.{ecu_after, written};
 ghost use Rattle.diag_bus.specs.Verdict.{recorded, verdict};
 
-use crate::clock::{Clock, next_said, next_usual, silence};
+use crate::clock::{Clock, next_time, next_usual, silence};
 use crate::comparing::Comparisons;
 use crate::fault::BusFault;
 use crate::filled::Filled;
@@ -17,7 +19,7 @@ use crate::mid_line::MidLine;
 use crate::request_ids::RequestIds;
 use crate::verdict::Verdict;
 use crate::writing::{Drawn, writers_of};
-use diag_can::{CanId, LineWriter, usual_line};
+use diag_can::{BusLine, CanId, LineWriter, read_bus_line, ticks_said, usual_line};
 use diag_desk::write_header_at;
 use diag_ecu::Ecu;
 use diag_setup::{Setup, TesterId};
@@ -142,15 +144,41 @@ impl Bus {
         ensures output { self.new.output ≡ self.old.output }
     {
         match usual_line(line) {
-            Some((usual, id, at)) if !self.line.output.is_verdict() => {
-                self.take_usual(line, usual, id, at, text)
-            }
-            _ => self.take_any(line, text),
+            Some((usual, id, at)) => self.take_usual(line, usual, id, at, text),
+            None => self.take_other(line, text),
         }
     }
 
-    /// The same of a line of the usual form, where no verdict is wanted: `usual` is the line without its CR.
+    /// The same of a line of which this may be seen already: `usual` is the line without its CR, which is of the usual form
+    /// with this identifier, its data beginning there.
+    ///
+    /// # Errors
+    /// As `take_line`.
     #[inline(always)]
+    pub fn take_seen(
+        &mut self,
+        line: &[u8],
+        usual: &[u8],
+        seen: Option<(CanId, usize)>,
+        text: &mut Vec<u8>,
+    ) -> Result<(), BusFault>
+        requires usual { IfSome seen (λ u. IsUsual usual.now u.0 u.1) }
+        requires says { IfSome seen (λ u. bus_line line.now ≡ Ok (usual_said usual.now u.0 u.1)) }
+        ensures took { OnOk result
+            (Grew text.old.items text.new.items (TookLine self.old self.new line.now)) }
+        ensures fault { IsItsFault self.old line.now result }
+        ensures first { IsRefused self.old line.now result }
+        ensures err { OnErr result (text.new.items ≡ text.old.items) }
+        ensures setup { self.new.setup ≡ self.old.setup }
+        ensures output { self.new.output ≡ self.old.output }
+    {
+        match seen {
+            Some((id, at)) => self.take_usual(line, usual, id, at, text),
+            None => self.take_line(line, text),
+        }
+    }
+
+    /// Takes a line of the usual form.
     fn take_usual(
         &mut self,
         line: &[u8],
@@ -161,7 +189,6 @@ impl Bus {
     ) -> Result<(), BusFault>
         requires usual { IsUsual usual.now id at }
         requires says { bus_line line.now ≡ Ok (usual_said usual.now id at) }
-        requires unjudged { self.old.output ≢ Output.Verdict }
         ensures took { OnOk result
             (Grew text.old.items text.new.items (TookLine self.old self.new line.now)) }
         ensures fault { IsItsFault self.old line.now result }
@@ -170,6 +197,9 @@ impl Bus {
         ensures setup { self.new.setup ≡ self.old.setup }
         ensures output { self.new.output ≡ self.old.output }
     {
+        if self.line.output.is_verdict() {
+            return self.take_other(line, text);
+        }
         let (moment, time) = next_usual(&self.clock, line, usual, id, at)?;
         let span = silence(self.clock.reference, moment);
         self.clock.go_on_at(moment, time);
@@ -181,9 +211,9 @@ impl Bus {
         Ok(self.line.write(setup, clock, writers, batch, text)?)
     }
 
-    /// The same of any line.
+    /// Takes a line whatever its form is. Of ticks no value is made that could hold a frame.
     #[inline(never)]
-    fn take_any(&mut self, line: &[u8], text: &mut Vec<u8>) -> Result<(), BusFault>
+    fn take_other(&mut self, line: &[u8], text: &mut Vec<u8>) -> Result<(), BusFault>
         ensures took { OnOk result
             (Grew text.old.items text.new.items (TookLine self.old self.new line.now)) }
         ensures fault { IsItsFault self.old line.now result }
@@ -192,15 +222,35 @@ impl Bus {
         ensures setup { self.new.setup ≡ self.old.setup }
         ensures output { self.new.output ≡ self.old.output }
     {
-        let (said, time) = next_said(&self.clock, line)?;
+        if let Some(count) = ticks_said(line) {
+            return self.take_said(line, &BusLine::Ticks(count), text);
+        }
+        match read_bus_line(line) {
+            Ok(said) => self.take_said(line, &said, text),
+            Err(fault) => Err(BusFault::Line(fault)),
+        }
+    }
+
+    /// Takes a line that says this.
+    #[inline(always)]
+    fn take_said(&mut self, line: &[u8], said: &BusLine, text: &mut Vec<u8>) -> Result<(), BusFault>
+        requires says { bus_line line.now ≡ Ok said.now }
+        ensures took { OnOk result
+            (Grew text.old.items text.new.items (TookLine self.old self.new line.now)) }
+        ensures fault { IsItsFault self.old line.now result }
+        ensures first { IsRefused self.old line.now result }
+        ensures err { OnErr result (text.new.items ≡ text.old.items) }
+        ensures setup { self.new.setup ≡ self.old.setup }
+        ensures output { self.new.output ≡ self.old.output }
+    {
+        let time = next_time(&self.clock, line, said)?;
         let reference = self.clock.reference;
         // (first: no link's clock is ahead of the bus's, also where the line is refused)
-        self.clock.go_on(&said, time);
+        self.clock.go_on(said, time);
         self.line.begin();
         self.line
-            .take_said(&self.setup, &self.ids, reference, &said)?;
-        self.compared
-            .take_line(&self.setup, &said, self.line.drawn.as_slice())?;
+            .take_said(&self.setup, &self.ids, reference, said)?;
+        compare(&mut self.compared, &self.setup, said, &self.line)?;
         let (writers, batch) = (&mut self.writers, &mut self.batch);
         let (setup, clock) = (&self.setup, &self.clock);
         self.line.write(setup, clock, writers, batch, text)?;
@@ -277,5 +327,25 @@ fn nothing_compared(alloc: Global, setup: &Setup, output: Output) -> Result<Comp
     match output {
         Output::Verdict => Comparisons::new(alloc, setup.testers()),
         Output::Replies | Output::Journal | Output::End => Comparisons::new(alloc, 0),
+    }
+}
+
+/// Holds what a line says against what it drew, where a verdict is wanted.
+#[inline(always)]
+fn compare(
+    compared: &mut Comparisons,
+    setup: &Setup,
+    said: &BusLine,
+    line: &MidLine,
+) -> Result<(), AllocError>
+    requires in_setup { length compared.old.testers.items ≤ length setup.now.testers }
+    requires lists { length line.now.drawn.items ≡ length setup.now.testers }
+    ensures ok { OnOk result (line.now.output ≡ Output.Verdict
+        → TakesLine setup.now compared.old compared.new said.now (lists_of line.now)) }
+    ensures shape { length compared.new.testers.items ≡ length compared.old.testers.items }
+{
+    match line.output {
+        Output::Verdict => compared.take_line(setup, said, line.drawn.as_slice()),
+        Output::Replies | Output::Journal | Output::End => Ok(()),
     }
 }

@@ -1,6 +1,6 @@
 //! The clock of a recording.
 
-ghost use Rattle.std.specs.Prelude.{◌≡◌, ◌+◌, ◌≤◌, ◌<◌, ℕ, Option, Some, None, Ok, IfOk, IfErr, IfSome};
+ghost use Rattle.std.specs.Prelude.{◌≡◌, ◌+◌, ◌≤◌, ◌<◌, ℕ, Option, Some, None, Ok, IfOk, IfErr};
 ghost use Rattle.diag_can.specs.Bus.{bus_line};
 ghost use Rattle.diag_can.specs.Usual.{IsUsual, usual_moment, usual_said};
 ghost use Rattle.diag_world.specs.Server.{closing_time};
@@ -13,7 +13,7 @@ ghost use Rattle.diag_can.specs.declared.frame.Frame.{Frame as AFrame};
 ghost use Rattle.diag_can.specs.declared.log.Timing.TheVariants.{Stamps};
 
 use crate::fault::BusFault;
-use diag_can::{BusLine, CanId, read_bus_line, usual_moment};
+use diag_can::{BusLine, CanId, usual_moment};
 
 /// Where the bus's time begins.
 #[derive(Clone, Copy, Debug, PartialEq, Eq)]
@@ -118,7 +118,8 @@ pub(crate) fn silence(reference: Option<u64>, moment: u64) -> u64
 }
 
 /// The milliseconds that a line gives.
-pub(crate) fn span_of(reference: Option<u64>, said: &BusLine) -> u64
+#[inline(always)]
+fn span_of(reference: Option<u64>, said: &BusLine) -> u64
     ensures { result ≡ span_said reference (Ok said.now) }
 {
     match said {
@@ -131,24 +132,35 @@ pub(crate) fn span_of(reference: Option<u64>, said: &BusLine) -> u64
 /// The last time of a tester's clock.
 const CLOSING_TIME: u64 = 1 << 63;
 
-/// What a line says, and what each tester's clock tells behind it; its fault where it has one. Nothing is asked of memory.
-pub(crate) fn next_said(clock: &Clock, line: &[u8]) -> Result<(BusLine, u64), BusFault>
-    ensures said { IfOk result (λ r. bus_line line.now ≡ Ok r.0) }
-    ensures time { IfOk result (λ r. r.1 ≡ clock.now.time + span_said clock.now.reference (Ok r.0)) }
-    ensures early { IfOk result (λ r. r.1 ≤ closing_time) }
-    ensures well { IfOk result (λ r. fault_said (bus_line line.now)
+/// What each tester's clock tells so many milliseconds later, and `Late` where that is behind its last time.
+#[inline(always)]
+fn later_time(clock: &Clock, span: u64) -> Result<u64, BusFault>
+    ensures time { IfOk result (λ time. time ≡ clock.now.time + span) }
+    ensures early { IfOk result (λ time. time ≤ closing_time) }
+    ensures late { IfErr result
+        (λ fault. (fault ≡ BusFault.Late) × (closing_time < clock.now.time + span)) }
+{
+    match clock.time.checked_add(span) {
+        Some(time) if time <= CLOSING_TIME => Ok(time),
+        _ => Err(BusFault::Late),
+    }
+}
+
+/// What each tester's clock tells behind a line that says this; its fault where it has one. Nothing is asked of memory.
+#[inline(always)]
+pub(crate) fn next_time(clock: &Clock, line: &[u8], said: &BusLine) -> Result<u64, BusFault>
+    requires says { bus_line line.now ≡ Ok said.now }
+    ensures time { IfOk result (λ time.
+        time ≡ clock.now.time + span_said clock.now.reference (Ok said.now)) }
+    ensures early { IfOk result (λ time. time ≤ closing_time) }
+    ensures well { IfOk result (λ time. fault_said (bus_line line.now)
         (clock.now.time + span_said clock.now.reference (bus_line line.now)) ≡ None) }
     ensures fault { IfErr result (λ fault. fault_said (bus_line line.now)
         (clock.now.time + span_said clock.now.reference (bus_line line.now)) ≡ Some fault) }
 {
-    let said = match read_bus_line(line) {
-        Ok(said) => said,
-        Err(fault) => return Err(BusFault::Line(fault)),
-    };
-    match clock.time.checked_add(span_of(clock.reference, &said)) {
-        Some(time) if time <= CLOSING_TIME => Ok((said, time)),
-        _ => Err(BusFault::Late),
-    }
+    // (for its contract: what the line says)
+    let _ = line;
+    later_time(clock, span_of(clock.reference, said))
 }
 
 /// The moment of a line of the usual form, and what each tester's clock tells behind it; its fault where it has one. `usual`
@@ -177,10 +189,8 @@ pub(crate) fn next_usual(
     let _ = id;
     let _ = at;
     let moment = usual_moment(usual);
-    match clock.time.checked_add(silence(clock.reference, moment)) {
-        Some(time) if time <= CLOSING_TIME => Ok((moment, time)),
-        _ => Err(BusFault::Late),
-    }
+    let time = later_time(clock, silence(clock.reference, moment))?;
+    Ok((moment, time))
 }
 
 /// The greater of two moments, where there is a first.

@@ -1,5 +1,5 @@
 -- A line of the usual form at the front of a text.
-use Rattle.std.proofs.Common.{◌≡◌, ◌==◌, ◌⊎◌, ℕ, ◌+◌, ◌-◌, ◌%◌, ◌<◌, ◌≤◌, nat_lt, true, false, cond, List, [], ◌∷◌, ◌++◌, append_assoc, length, length-append, take, drop, get_or, Some, None, refl, sym, ap, ◌∙◌, arith, inl, inr, drop-cons, take-append-drop, length-take-le, length-drop}
+use Rattle.std.proofs.Common.{◌≡◌, ◌==◌, ◌⊎◌, ℕ, ◌+◌, ◌-◌, ◌%◌, ◌<◌, ◌≤◌, nat_lt, true, false, cond, List, [], ◌∷◌, ◌++◌, append_assoc, length, length-append, take, drop, get_or, Some, None, refl, subst, sym, ap, ◌∙◌, arith, inl, inr, drop-cons, take-append-drop, length-take-le, length-drop}
 use Rattle.std.specs.List.{prefix_len}
 use Rattle.std.proofs.lemmas.Bool.{agree_below, agree_below_at, cases_lt, eqb-true, ne_eqb}
 use Rattle.std.proofs.lemmas.Bool.Decides.{nat_tests}
@@ -15,7 +15,7 @@ use Rattle.diag_can.specs.Line.{id_of}
 use Rattle.diag_can.specs.Log.{is_feed, without_return}
 use Rattle.diag_can.specs.Stamp.{behind, is_mark, is_no_space}
 use Rattle.diag_can.specs.Usual.{BeginsFramed, IsFirstLine, IsUsual}
-use Rattle.diag_can.proofs.UsualLines.{usual_parts}
+use Rattle.diag_can.proofs.UsualLines.{says-usual, usual_parts}
 use Rattle.diag_can.proofs.Windows.{back_least, back_most, framed_within, front_least, front_most}
 
 plain : (c : ℕ) → 10 < c → is_feed c ≡ false
@@ -100,6 +100,12 @@ without_its_cr line =
     let last : drop (length (line ++ 13 ∷ []) - 1) (line ++ 13 ∷ []) ≡ 13 ∷ [] = rw before (drop-append_seam line (13 ∷ [])) in
     rw last (rw before (take_at line (13 ∷ []) (length line) refl))
 
+-- a text without what follows its first line feed, and without that
+front_is : (text whole after : List ℕ) → text ≡ whole ++ 10 ∷ after → take (length text - length after - 1) text ≡ whole
+front_is text whole after is =
+    let size : length text - length after - 1 ≡ length whole = omega (arith, ap length is, length-append whole (10 ∷ after)) in
+    rw size (ap (take (length whole)) is ∙ take_at whole (10 ∷ after) (length whole) refl)
+
 -- the text has such a line of this length, whose parts were read
 module _ (text : List ℕ) (place count : ℕ) (f : BeginsFramed text place) (run : IsRunIn is_hex_digit text (place + 4) 16 count)
     (some : 28 ≤ place + 4 + count) (fits : place + 4 + count < length text) where
@@ -167,20 +173,28 @@ module _ (text : List ℕ) (place count : ℕ) (f : BeginsFramed text place) (ru
         (omega (arith, run.in_range)) (rw size even)
         (λ k from to. ap is_hex_digit (in_line k (omega (arith, long))) ∙ run.pass k (omega (arith, long)) (omega (arith, long)))
 
+    -- it is the first line, whatever stands in front of its LF
+    is_first : (number : ℕ) (whole after : List ℕ) → text ≡ whole ++ 10 ∷ after → HasNoFeed whole → length whole ≤ end + 1 → line ≡ without_return whole
+        → IsUsual line number (place + 4) → IsFirstLine text (take (length text - length after - 1) text) line after (Some (number, place + 4))
+    is_first number whole after is none short same usual =
+        let fits : length whole ≤ 4096 = omega (arith, short, f.before, run.in_range) in
+        subst (λ (w : List ℕ). IsFirstLine text w line after (Some (number, place + 4))) (sym (front_is text whole after is)) (record {
+          is = is;
+          plain = none;
+          line_is = same;
+          usual = usual;
+          says = says-usual whole line number (place + 4) usual fits same;
+        })
+
     -- with an LF behind it, or a CR and an LF
     pub front_line : (number : ℕ) (after : List ℕ) → (drop end text ≡ 10 ∷ after) ⊎ (drop end text ≡ 13 ∷ 10 ∷ after)
-        → id_of (take 3 part) ≡ Some number → rest ≡ drop 4 part → 4 ≤ length part → count % 2 ≡ 0 → IsFirstLine text line after (Some (number, place + 4))
-    front_line number after (inl feed) is behind_is four even = record {
-      whole = line;
-      is = sym (take-append-drop end text) ∙ ap (λ (t : List ℕ). line ++ t) feed;
-      plain = line_plain;
-      line_is = sym without_cr;
-      usual = is_usual number is behind_is four even;
-    }
-    front_line number after (inr ends) is behind_is four even = record {
-      whole = line ++ 13 ∷ [];
-      is = sym (take-append-drop end text) ∙ ap (λ (t : List ℕ). line ++ t) ends ∙ sym (append_assoc line (13 ∷ []) (10 ∷ after));
-      plain = All-append (λ c. is_feed c ≡ false) line (13 ∷ []) line_plain (All-cons (λ c. is_feed c ≡ false) 13 [] refl (All-nil (λ c. is_feed c ≡ false)));
-      line_is = sym (without_its_cr line);
-      usual = is_usual number is behind_is four even;
-    }
+        → id_of (take 3 part) ≡ Some number → rest ≡ drop 4 part → 4 ≤ length part → count % 2 ≡ 0
+        → IsFirstLine text (take (length text - length after - 1) text) line after (Some (number, place + 4))
+    front_line number after (inl feed) is behind_is four even =
+        is_first number line after (sym (take-append-drop end text) ∙ ap (λ (t : List ℕ). line ++ t) feed) line_plain (omega (arith, long)) (sym without_cr)
+        (is_usual number is behind_is four even)
+    front_line number after (inr ends) is behind_is four even =
+        is_first number (line ++ 13 ∷ []) after
+        (sym (take-append-drop end text) ∙ ap (λ (t : List ℕ). line ++ t) ends ∙ sym (append_assoc line (13 ∷ []) (10 ∷ after)))
+        (All-append (λ c. is_feed c ≡ false) line (13 ∷ []) line_plain (All-cons (λ c. is_feed c ≡ false) 13 [] refl (All-nil (λ c. is_feed c ≡ false))))
+        (omega (arith, long, length-append line (13 ∷ []))) (sym (without_its_cr line)) (is_usual number is behind_is four even)

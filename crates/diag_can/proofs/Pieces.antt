@@ -40,31 +40,31 @@ none_read ids timing r text = record {
 
 module _ {ids : Ids} {timing : Timing} {old mid : LogReader} {text rest : List ℕ} (f : FrontRead ids timing old mid text rest) where
   -- a line more, which a line feed ends
-  pub line_more : (line after : List ℕ) {usual : Option (ℕ × ℕ)} (l : IsFirstLine rest line after usual) (new : LogReader)
+  pub line_more : {first : List ℕ} (line after : List ℕ) {usual : Option (ℕ × ℕ)} (l : IsFirstLine rest first line after usual) (new : LogReader)
       → ((past : List (List ℕ)) → AreRead ids timing mid past → AreRead ids timing new (past ++ line ∷ [])) → FrontRead ids timing old new text after
-  line_more line after l new took = record {
-    front = f.front ++ (l.whole ++ 10 ∷ []);
-    is = f.is ∙ ap (λ (r : List ℕ). f.front ++ r) (l.is ∙ sym (append_assoc l.whole (10 ∷ []) after))
-        ∙ sym (append_assoc f.front (l.whole ++ 10 ∷ []) after);
+  line_more {first} line after l new took = record {
+    front = f.front ++ (first ++ 10 ∷ []);
+    is = f.is ∙ ap (λ (r : List ℕ). f.front ++ r) (l.is ∙ sym (append_assoc first (10 ∷ []) after))
+        ∙ sym (append_assoc f.front (first ++ 10 ∷ []) after);
     takes = λ seen h.
         let at = f.takes seen h in
         let past = lines_of (seen ++ f.front) in
         let read = subst (λ (t : List ℕ). AreRead ids timing new (past ++ t ∷ [])) l.line_is (took past at.read) in
-        subst (HasLines ids timing new) (append_assoc seen f.front (l.whole ++ 10 ∷ [])) (one_more at new l.whole l.plain read);
+        subst (HasLines ids timing new) (append_assoc seen f.front (first ++ 10 ∷ [])) (one_more at new first l.plain read);
   }
 
   -- the line that comes next is at fault
-  pub line_fault : (line after : List ℕ) {usual : Option (ℕ × ℕ)} (l : IsFirstLine rest line after usual) (fault : LogFault)
+  pub line_fault : {first : List ℕ} (line after : List ℕ) {usual : Option (ℕ × ℕ)} (l : IsFirstLine rest first line after usual) (fault : LogFault)
       → ((past : List (List ℕ)) → AreRead ids timing mid past → fault_after timing ids past line ≡ Some fault)
       → (seen more : List ℕ) → HasLines ids timing old seen → events (seen ++ (text ++ more)) ids timing ≡ Err fault
-  line_fault line after l fault at seen more h =
+  line_fault {first} line after l fault at seen more h =
       let here = f.takes seen h in
       let whole : seen ++ (text ++ more) ≡ (seen ++ f.front) ++ (rest ++ more) =
       ap (λ (t : List ℕ). seen ++ (t ++ more)) f.is ∙ ap (λ (t : List ℕ). seen ++ t) (append_assoc f.front rest more)
       ∙ sym (append_assoc seen f.front (rest ++ more)) in
       let begins : lines_of (rest ++ more) ≡ line ∷ lines_of (after ++ more) =
-      ap (λ (t : List ℕ). lines_of (t ++ more)) l.is ∙ ap lines_of (append_assoc l.whole (10 ∷ after) more)
-      ∙ lines_of-first l.whole (after ++ more) l.plain ∙ ap (λ (t : List ℕ). t ∷ lines_of (after ++ more)) (sym l.line_is) in
+      ap (λ (t : List ℕ). lines_of (t ++ more)) l.is ∙ ap lines_of (append_assoc first (10 ∷ after) more)
+      ∙ lines_of-first first (after ++ more) l.plain ∙ ap (λ (t : List ℕ). t ∷ lines_of (after ++ more)) (sym l.line_is) in
       ap (λ (t : List ℕ). events t ids timing) whole
       ∙ fault_next here line (rest ++ more) (lines_of (after ++ more)) fault begins (at (lines_of (seen ++ f.front)) here.read)
 

@@ -3,7 +3,7 @@ use Rattle.std.specs.Prelude.{◌≡◌, ℕ, ◌+◌, ◌*◌, ◌≤◌, ◌<�
 use Rattle.hex.specs.Hex.{decode_of}
 use Rattle.diag_can.specs.Stamp.{is_digit, moment_of}
 use Rattle.diag_can.specs.Line.{event_of, frame_data, frame_event, is_time, stamped_frame}
-use Rattle.diag_can.specs.Bus.{HasNoFeed, frame_of, text_frame}
+use Rattle.diag_can.specs.Bus.{HasNoFeed, bus_line, frame_of, text_frame}
 use Rattle.diag_can.specs.Log.{without_return}
 use Rattle.diag_can.specs.Lanes.{IsRunIn}
 use Rattle.diag_can.specs.declared.bus.BusLine.{BusLine}
@@ -46,14 +46,6 @@ pub record IsUsual (line : List ℕ) (id at : ℕ) : Type 0 where
   pub hex : IsOk (decode_of (drop at line))
   pub decoded : (bytes : List ℕ) → decode_of (drop at line) ≡ Ok bytes → frame_data (drop at line) ≡ Ok bytes
 
--- the first line of a text, what follows its line feed, and what is seen of it
-pub record IsFirstLine (text line after : List ℕ) (seen : Option (ℕ × ℕ)) : Type 0 where
-  pub whole : List ℕ
-  pub is : text ≡ whole ++ 10 ∷ after
-  pub plain : HasNoFeed whole
-  pub line_is : line ≡ without_return whole
-  pub usual : IfSome seen (λ u. IsUsual line u.0 u.1)
-
 -- the bytes that were read, if any
 abbrev pub bytes_or_none : {E : Type 0} → Result (List ℕ) E → List ℕ
 bytes_or_none (Ok bytes) = bytes
@@ -66,3 +58,11 @@ usual_bytes line at = bytes_or_none (decode_of (drop at line))
 -- what the line says
 abbrev pub usual_said : List ℕ → ℕ → ℕ → BusLine
 usual_said line id at = Stamped (usual_moment line) (Some (record { id = id; bytes = usual_bytes line at }))
+
+-- the first line of a text without its line feed, the same without its return, what follows, and what is seen of it
+pub record IsFirstLine (text whole line after : List ℕ) (seen : Option (ℕ × ℕ)) : Type 0 where
+  pub is : text ≡ whole ++ 10 ∷ after
+  pub plain : HasNoFeed whole
+  pub line_is : line ≡ without_return whole
+  pub usual : IfSome seen (λ u. IsUsual line u.0 u.1)
+  pub says : IfSome seen (λ u. bus_line whole ≡ Ok (usual_said line u.0 u.1))

@@ -1,9 +1,10 @@
 //! The lines of a capture of a whole bus.
 
 ghost use Rattle.std.specs.Prelude.{◌≡◌, IfSome, Ok};
-ghost use Rattle.diag_can.specs.Bus.{bus_line, data_frame, line_says, text_frame};
+ghost use Rattle.diag_can.specs.Bus.{bus_line, data_frame, line_says, text_frame, ticks_said};
 ghost use Rattle.diag_can.specs.Line.{line_event};
 ghost use Rattle.diag_can.specs.Bus.{said_for, SameForms};
+ghost use Rattle.diag_can.specs.declared.bus.BusLine.TheVariants.{Ticks};
 ghost use Rattle.diag_can.specs.Usual.{IsUsual, usual_said};
 
 use crate::fault::LineFault;
@@ -113,6 +114,22 @@ pub fn usual_line(piece: &[u8]) -> Option<(&[u8], CanId, usize)>
     let line = without_return(piece);
     let (id, at) = usual_frame(line)?;
     Some((line, id, at))
+}
+
+/// How many milliseconds a whole line of a capture gives, from its bytes without LF, where it is a well `tick` line.
+#[inline(always)]
+pub fn ticks_said(piece: &[u8]) -> Option<TickCount>
+    ensures is { result ≡ ticks_said (bus_line piece.now) }
+    ensures says { IfSome result (λ count. bus_line piece.now ≡ Ok (Ticks count)) }
+{
+    if piece.len() > LONGEST_LINE {
+        return None;
+    }
+    let line = without_return(piece);
+    if !line.starts_with(b"tick") {
+        return None;
+    }
+    tick_count(&line[4..])
 }
 
 /// What a whole line of a capture says, from its bytes without LF.

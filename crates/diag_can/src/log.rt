@@ -62,11 +62,11 @@ pub fn line_end(text: &[u8]) -> Option<usize>
     memchr(b'\n', text)
 }
 
-/// The first line of a text, where an LF ends it. Of most lines it is seen what they give.
+/// The first line of a text, where an LF ends it. Of most lines it is seen that they are of the usual form.
 #[inline(always)]
-pub(crate) fn first_line(text: &[u8]) -> Option<FirstLine<'_>>
+pub fn first_line(text: &[u8]) -> Option<FirstLine<'_>>
     ensures { MatchOption result (HasNoFeed text.now) (λ first.
-        IsFirstLine text.now first.line.now first.after.now first.usual) }
+        IsFirstLine text.now first.whole.now first.line.now first.after.now first.usual) }
 {
     match usual_front(text) {
         Some(first) => Some(first),
@@ -77,11 +77,13 @@ pub(crate) fn first_line(text: &[u8]) -> Option<FirstLine<'_>>
 /// The same, whatever its form is.
 fn other_front(text: &[u8]) -> Option<FirstLine<'_>>
     ensures { MatchOption result (HasNoFeed text.now) (λ first.
-        IsFirstLine text.now first.line.now first.after.now first.usual) }
+        IsFirstLine text.now first.whole.now first.line.now first.after.now first.usual) }
 {
     let end = line_end(text)?;
+    let whole = &text[..end];
     Some(FirstLine {
-        line: without_return(&text[..end]),
+        whole,
+        line: without_return(whole),
         after: &text[end + 1..],
         usual: None,
     })

@@ -54,19 +54,22 @@ pub fn usual_frame(line: &[u8]) -> Option<(CanId, usize)>
 /// The first line of a text, which an LF ends.
 #[derive(Clone, Copy)]
 pub struct FirstLine<'a> {
-    /// The line without its LF, and without one CR before that.
+    /// The line without its LF.
+    pub whole: &'a [u8],
+    /// The same without one CR at its end.
     pub line: &'a [u8],
     /// What follows the LF.
     pub after: &'a [u8],
-    /// What `usual_frame` says of the line, where that was seen.
+    /// The identifier of its frame, and where that's data begin in `line`, where it was seen to be of the usual form.
     pub usual: Option<(CanId, usize)>,
 }
 
 /// What follows an LF, or a CR and an LF, at the front of a text.
 #[inline(always)]
 fn behind_end(text: &[u8]) -> Option<&[u8]>
-    ensures { IfSome result (λ after.
+    ensures is { IfSome result (λ after.
         (text.now ≡ 10 ∷ after.now) ⊎ (text.now ≡ 13 ∷ 10 ∷ after.now)) }
+    ensures shorter { IfSome result (λ after. length after.now < length text.now) }
 {
     match text {
         [b'\n', after @ ..] => Some(after),
@@ -79,7 +82,7 @@ fn behind_end(text: &[u8]) -> Option<&[u8]>
 #[inline(always)]
 pub fn usual_front(text: &[u8]) -> Option<FirstLine<'_>>
     ensures { IfSome result (λ first.
-        IsFirstLine text.now first.line.now first.after.now first.usual) }
+        IsFirstLine text.now first.whole.now first.line.now first.after.now first.usual) }
 {
     if text.len() < LONGEST {
         return None;
@@ -94,8 +97,12 @@ pub fn usual_front(text: &[u8]) -> Option<FirstLine<'_>>
     let (line, rest) = text.split_at(end);
     let after = behind_end(rest)?;
     let id = short_id(&line[place..])?;
-    let usual = Some((id, at));
-    Some(FirstLine { line, after, usual })
+    Some(FirstLine {
+        whole: &text[..text.len() - after.len() - 1],
+        line,
+        after,
+        usual: Some((id, at)),
+    })
 }
 
 /// Four times three bytes of the stamp, weighed as digits are: nine of the seconds, without the first, and the milliseconds.

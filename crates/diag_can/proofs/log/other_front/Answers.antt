@@ -9,10 +9,10 @@ returns c =
     let end = c.in_ok-end.end in
     let after = drop (end + 1) text in
     record {
-      whole = take end text;
       is = split_at_feed text end c.in_ok-end.ensures
           ∙ ap (λ r. take end text ++ 10 ∷ r) (sym (take_all (length text - (end + 1)) after (omega (arith, length-drop (end + 1) text))));
       plain = no_feed_before text end c.in_ok-end.ensures;
       line_is = c.without_return.ensures;
       usual = tt;
+      says = tt;
     }

@@ -1,52 +1,42 @@
-use Rattle.std.proofs.Common.{◌≡◌, ◌<◌, ◌++◌, ◌∷◌, [], ap, subst, sym, ◌∙◌, arith}
+use Rattle.std.proofs.Common.{◌≡◌, ◌<◌, Bool, false, subst, sym, arith}
+use Rattle.std.specs.Prelude.{IsTrue}
 use Rattle.diag_can.specs.Usual.{usual_said}
-use Rattle.diag_world.specs.Server.{ServerView, closing_time}
-use Rattle.diag_bus.specs.Batch.{IsBy, added, lists_of, moment_end}
-use Rattle.diag_bus.specs.Bus.{BusState, TookLines}
+use Rattle.diag_bus.specs.Batch.{added, lists_of, moment_end}
 use Rattle.diag_bus.specs.Requests.{AreNamesOf}
-use Rattle.diag_bus.specs.Text.{written}
-use Rattle.diag_bus.proofs.Paces.{sent_nothing}
 use Rattle.diag_bus.proofs.Stamps.{bus_line_low}
-use Rattle.diag_bus.proofs.Taking.{sound_written, took_line}
+use Rattle.diag_bus.proofs.Taking.{has_time, sent_in_time, sound_written, took_line}
 use Rattle.diag_bus.proofs.Usual.{sound_usual, usual_gave, usual_on}
 use Rattle.diag_bus.proofs.bus.Bus.take_usual.Goals as goal
+
+unjudged : (is : Bool) → is ≡ false → IsTrue is → ⊥
+unjudged is none some = cc
 
 pub returns-clause-took : goal.returns-clause-took
 returns-clause-took c =
     let inside = c.self.inside in
-    let done = c.write.new.self in
     let taken = c.take_usual.new.self in
-    let line = c.args.line.now in
     let usual = c.args.usual.now in
-    let said = usual_said usual c.args.id c.args.at in
     let clock' = c.go_on_at.new.self in
     let read = c.in_ok-moment.ensures in
-    let more = added taken.output taken.text.items inside.setup clock'.start (lists_of taken) in
     record {
-      more = more;
+      more = added taken.output taken.text.items inside.setup clock'.start (lists_of taken);
       grown = c.in_ok-write.ensures.ok;
-      holds = λ lines h.
-          let took = took_line inside.setup lines line said inside.line c.begin.new.self taken done inside.clock clock' inside.compared inside.compared
+      holds = took_line c.args.self.now inside.setup c.args.line.now (usual_said usual c.args.id c.args.at) inside.line c.begin.new.self taken
+          c.write.new.self inside.clock clock' inside.compared inside.compared c.self.view_is c.self.invariant.0
           c.requires.says read.well (usual_on inside.clock clock' usual c.args.id c.args.at c.in_ok-moment.moment read.moment c.go_on_at.ensures.on)
-          c.self.invariant.0.1
           c.begin.ensures.empty c.begin.ensures.text c.begin.ensures.server c.begin.ensures.shape
           (usual_gave inside.setup inside.clock c.begin.new.self taken usual c.args.id c.args.at c.in_ok-moment.moment c.silence-span.result read.moment
           c.silence-span.ensures c.in_ok-take_usual.ensures.ok)
           c.take_usual.ensures.shape
-          (λ judged. absurd (c.requires.unjudged (sym (ap (λ (b : BusState). b.output) c.self.view_is) ∙ judged)))
-          c.write.ensures.server c.write.ensures.shape
-          (subst (λ (b : BusState). TookLines b lines) (sym c.self.view_is) h) in
-          (took.0, subst (λ (b : BusState). written b.output b.setup (lines ++ line ∷ []) ≡ written b.output b.setup lines ++ more) c.self.view_is took.1);
+          (λ judged. absurd (unjudged c.is_verdict.result c.if-is_verdict.false (c.is_verdict.ensures.1 judged)))
+          c.write.ensures.server c.write.ensures.shape;
     }
 
 -- ---- the clocks
 
 pub take_usual-requires-clause-early : goal.take_usual-requires-clause-early
-take_usual-requires-clause-early c = record {
-  time = c.self.inside.clock.time;
-  by = subst (λ (s : ServerView). IsBy s c.self.inside.clock.time) (sym c.begin.ensures.server) c.self.invariant.0.3;
-  early = omega (arith, c.in_ok-moment.ensures.time, c.in_ok-moment.ensures.early, c.silence-span.ensures);
-}
+take_usual-requires-clause-early c = has_time c.self.inside.setup c.self.inside.line c.begin.new.self c.self.inside.clock c.self.inside.compared
+    c.self.invariant.0 c.begin.ensures.server _ (omega (arith, c.in_ok-moment.ensures.time, c.in_ok-moment.ensures.early, c.silence-span.ensures))
 
 pub take_usual-requires-clause-rest : goal.take_usual-requires-clause-rest
 take_usual-requires-clause-rest c = c.begin.ensures.shape.rest c.self.invariant.0.6
@@ -103,8 +93,6 @@ write-requires-clause-start c =
     c.go_on_at.ensures.start moment_end c.self.invariant.0.4 low
 
 pub write-requires-clause-sent : goal.write-requires-clause-sent
-write-requires-clause-sent c =
-    let by = subst (λ (s : ServerView). IsBy s c.self.inside.clock.time) (sym c.begin.ensures.server) c.self.invariant.0.3 in
-    c.in_ok-take_usual.ensures.sent c.self.inside.clock.time closing_time by
-    (omega (arith, c.in_ok-moment.ensures.time, c.in_ok-moment.ensures.early, c.silence-span.ensures))
-    (sent_nothing (lists_of c.begin.new.self) closing_time c.begin.ensures.empty)
+write-requires-clause-sent c = sent_in_time c.self.inside.setup c.self.inside.line c.begin.new.self c.self.inside.clock c.self.inside.compared
+    c.self.invariant.0 c.begin.ensures.server _ (omega (arith, c.in_ok-moment.ensures.time, c.in_ok-moment.ensures.early, c.silence-span.ensures))
+    c.take_usual.new.self c.begin.ensures.empty c.in_ok-take_usual.ensures.sent
