@@ -97,24 +97,8 @@ impl MidLine {
         }
     }
 
-    /// Gives the server a frame with a tester's own identifier. (A function of its own, so that what the event is isn't asked.)
-    #[inline(never)]
-    fn give_own(&mut self, who: TesterId, bytes: FrameBytes) -> Result<(), AllocError>
-        requires in_setup { who ≤ length self.old.server.links }
-        requires lists { length self.old.drawn.items ≡ length self.old.server.links }
-        requires early { IsEarly self.old.server (who - 1) }
-        ensures ok { OnOk result (Gave self.old self.new ((who, AnEvent.Physical bytes) ∷ [])) }
-        ensures shape { SameShape self.old self.new }
-        ensures pace { (span : ℕ) → Lasts (AnEvent.Physical bytes) span
-            → OneWentOn self.old.server self.new.server (who - 1) span }
-        ensures sent { OnOk result ((span : ℕ) → Lasts (AnEvent.Physical bytes) span
-            → OneSentIn self.old self.new (who - 1) span) }
-    {
-        self.give(who, &Event::Physical(bytes))
-    }
-
     /// Gives the server an event of a tester.
-    #[inline(always)]
+    #[inline(never)]
     fn give(&mut self, who: TesterId, event: &Event) -> Result<(), AllocError>
         requires in_setup { who ≤ length self.old.server.links }
         requires lists { length self.old.drawn.items ≡ length self.old.server.links }
@@ -260,13 +244,12 @@ impl MidLine {
     {
         match owner {
             Owner::Nobody => Ok(()),
-            Owner::Tester(who) => self.give_own(who, bytes),
+            Owner::Tester(who) => self.give(who, &Event::Physical(bytes)),
             Owner::Each => self.give_to_each(setup, &Event::Functional(bytes)),
         }
     }
 
     /// Gives the server an event of each tester, in order.
-    #[inline(never)]
     fn give_to_each(&mut self, setup: &Setup, event: &Event) -> Result<(), AllocError>
         requires in_setup { length self.old.server.links ≡ length setup.now.testers }
         requires lists { length self.old.drawn.items ≡ length setup.now.testers }
