@@ -1,5 +1,5 @@
 -- A capture that comes piece by piece: what is kept of it stands for what was read and written.
-use Rattle.std.proofs.Common.{◌≡◌, ◌⊎◌, ℕ, ◌+◌, ◌-◌, ◌<◌, ◌≤◌, nat_lt, true, List, [], ◌∷◌, ◌++◌, length, take, None, Some, Option, Result, Ok, Err, OnOk, IfSome, inl, inr, refl, sym, ap, subst, ◌∙◌, append_assoc, arith}
+use Rattle.std.proofs.Common.{◌≡◌, ◌≢◌, ◌⊎◌, ℕ, ◌+◌, ◌-◌, ◌<◌, ◌≤◌, nat_lt, true, List, [], ◌∷◌, ◌++◌, length, take, None, Some, Option, Result, Ok, Err, OnOk, IfSome, inl, inr, refl, sym, ap, subst, ◌∙◌, append_assoc, arith}
 use Rattle.std.proofs.KnownBytes.{Appends-trans}
 use Rattle.std.proofs.lemmas.List.{append-nil, length-append}
 use Rattle.diag_text.specs.Bytes.{Sends}
@@ -20,6 +20,7 @@ use Rattle.diag_bus.proofs.Meaning.{meaning}
 use Rattle.std.specs.Io.KnownBytes.{Appends, IsAtEnd}
 use Rattle.diag_run.specs.Capture.{IsBorneOut, IsCutShort, IsFaultyLine, IsFront, StopsAt, StopsIn, StopsOn, capture_text, closing}
 use Rattle.diag_run.specs.Ending.{IsEndFault}
+use Rattle.diag_run.specs.Faults.{fault_at}
 use Rattle.diag_run.specs.Capturing.{Closes, GoesOn, Halts, HaltsAtEnd, HaltsIn, Stands, StopsAfter, StopsWithin, fault_of}
 use Rattle.diag_run.specs.declared.capture.Capture.{Capture}
 use Rattle.diag_run.specs.declared.capture.CaptureFault.{CaptureFault}
@@ -572,24 +573,25 @@ module _ (old mid : Capture) (a b c : Option (List ℕ)) (piece rest : List ℕ)
   )
 
 -- what the bus makes of a line that it refuses
-pub give_halts : (capture : Capture) (bytes line text : List ℕ) (fault : CaptureFault) → HasNoFeed bytes → line ≡ capture.kept.items ++ bytes
+pub give_halts : (capture : Capture) (bytes line text : List ℕ) (fault : BusFault) → HasNoFeed bytes → line ≡ capture.kept.items ++ bytes
     → text ≡ capture.text.items
-    → (fault ≡ Memory) ⊎ ((f : BusFault) × (fault ≡ Line (capture.lines + 1) f)
-    × ((lines : List (List ℕ)) → TookLines capture.bus lines → line_fault lines line ≡ Some f))
-    → HaltsIn capture fault (bytes ++ 10 ∷ []) text
-give_halts capture bytes line text fault none is same (inl memory) =
-    subst (λ (t : List ℕ). HaltsIn capture fault (bytes ++ 10 ∷ []) t) (sym same)
-    (subst (λ (f : CaptureFault). HaltsIn capture f (bytes ++ 10 ∷ []) capture.text.items) (sym memory) (memory_halts capture (bytes ++ 10 ∷ [])))
-give_halts capture bytes line text fault none is same (inr refused) =
-    subst (λ (t : List ℕ). HaltsIn capture fault (bytes ++ 10 ∷ []) t) (sym same)
-    (subst (λ (f : CaptureFault). HaltsIn capture f (bytes ++ 10 ∷ []) capture.text.items) (sym refused.1)
-    (line_halts capture bytes line refused.0 none is refused.2))
+    → (fault ≢ bus.Memory → (lines : List (List ℕ)) → TookLines capture.bus lines → line_fault lines line ≡ Some fault)
+    → HaltsIn capture (fault_at (capture.lines + 1) fault) (bytes ++ 10 ∷ []) text
+give_halts capture bytes line text fault none is same refused =
+    subst (λ (t : List ℕ). HaltsIn capture (fault_at (capture.lines + 1) fault) (bytes ++ 10 ∷ []) t) (sym same) (of fault refused)
+  where
+    of : (f : BusFault) → (f ≢ bus.Memory → (lines : List (List ℕ)) → TookLines capture.bus lines → line_fault lines line ≡ Some f)
+        → HaltsIn capture (fault_at (capture.lines + 1) f) (bytes ++ 10 ∷ []) capture.text.items
+    of bus.Memory refused = memory_halts capture (bytes ++ 10 ∷ [])
+    of (bus.Line f) refused = line_halts capture bytes line (bus.Line f) none is (refused (λ e. cc e))
+    of bus.Late refused = line_halts capture bytes line bus.Late none is (refused (λ e. cc e))
 
 -- what becomes of bytes that are not kept
-pub keep_halts : (capture : Capture) (bytes tail : List ℕ) (fault : CaptureFault) → HasNoFeed bytes
-    → (fault ≡ Memory) ⊎ ((fault ≡ Line (capture.lines + 1) (bus.Line BadLine)) × (4096 < length capture.kept.items + length bytes))
-    → HaltsIn capture fault (bytes ++ tail) capture.text.items
+pub keep_halts : (capture : Capture) (bytes tail : List ℕ) (fault : BusFault) → HasNoFeed bytes
+    → (fault ≡ bus.Memory) ⊎ ((fault ≡ bus.Line BadLine) × (4096 < length capture.kept.items + length bytes))
+    → HaltsIn capture (fault_at (capture.lines + 1) fault) (bytes ++ tail) capture.text.items
 keep_halts capture bytes tail fault none (inl memory) =
-    subst (λ (f : CaptureFault). HaltsIn capture f (bytes ++ tail) capture.text.items) (sym memory) (memory_halts capture (bytes ++ tail))
+    subst (λ (f : BusFault). HaltsIn capture (fault_at (capture.lines + 1) f) (bytes ++ tail) capture.text.items) (sym memory) (memory_halts capture (bytes ++ tail))
 keep_halts capture bytes tail fault none (inr long) =
-    subst (λ (f : CaptureFault). HaltsIn capture f (bytes ++ tail) capture.text.items) (sym long.0) (long_halts capture bytes tail none long.1)
+    subst (λ (f : BusFault). HaltsIn capture (fault_at (capture.lines + 1) f) (bytes ++ tail) capture.text.items) (sym long.0)
+    (long_halts capture bytes tail none long.1)

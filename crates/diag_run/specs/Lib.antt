@@ -5,3 +5,4 @@ pub mod Files
 pub mod Logs
 pub mod Playing
 pub mod Run
+pub mod Faults

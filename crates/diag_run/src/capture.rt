@@ -1,8 +1,9 @@
 //! A capture that comes piece by piece: its lines go to the bus, and what they write goes out.
 
-ghost use Rattle.std.specs.Prelude.{◌≡◌, ◌≢◌, ◌⊎◌, ◌+◌, ◌-◌, ◌<◌, ◌≤◌, ◌^◌, ◌∷◌, [], ◌++◌, ℕ, List, length, vec_len, IfOk, IfErr, OnOk, OnErr, Some, Err};
+ghost use Rattle.std.specs.Prelude.{◌≡◌, ◌≢◌, ◌⊎◌, ◌+◌, ◌-◌, ◌<◌, ◌≤◌, ◌^◌, ◌∷◌, [], ◌++◌, ℕ, List, length, vec_len, IfOk, IfErr, IfSome, OnOk, OnErr, Some, Ok, Err};
 ghost use Rattle.std.specs.Io.KnownBytes.{Appends, Keeps};
-ghost use Rattle.diag_can.specs.Bus.{HasNoFeed, ended_lines};
+ghost use Rattle.diag_can.specs.Bus.{HasNoFeed, bus_line, ended_lines};
+ghost use Rattle.diag_can.specs.Usual.{IsUsual, usual_said};
 ghost use Rattle.diag_bus.specs.Bus.{TookLines};
 ghost use Rattle.diag_bus.specs.Events.{line_fault};
 ghost use Rattle.diag_bus.specs.Text.{written};
@@ -10,11 +11,12 @@ ghost use Rattle.diag_bus.specs.declared.fault.BusFault.{BusFault as ABusFault};
 ghost use Rattle.diag_world.specs.Port.{Grew};
 ghost use Rattle.diag_text.specs.Bytes.{AppendsFront, Sends};
 ghost use Rattle.diag_world.specs.Server.{quiet_of};
+ghost use Rattle.diag_run.specs.Faults.{fault_at};
 ghost use Rattle.diag_run.specs.Capture.{IsBorneOut, IsFront, StopsOn, capture_text};
 
 use crate::ending::add_end;
 use diag_bus::{Bus, BusFault};
-use diag_can::{LineFault, line_end};
+use diag_can::{CanId, LineFault, first_line};
 use diag_text::write_text;
 use std::alloc::{AllocError, Global};
 use std::io::Write;
@@ -109,20 +111,29 @@ impl Capture {
             (HaltsIn self.old fault piece.now)) }
     {
         let mut rest = piece;
-        while let Some(end) = line_end(rest) {
-            if let Err(fault) = self.take_line(&rest[..end], out) {
+        while let Some(first) = first_line(rest) {
+            if let Err(fault) = self.take_line(first.whole, first.line, first.usual, out) {
                 return Err(fault);
             }
-            rest = &rest[end + 1..];
+            rest = first.after;
         }
         self.take_begun(rest, out)
     }
 
-    /// Takes the line that these bytes and an LF end. What is to be written is written where it is much.
+    /// Takes the line that these bytes and an LF end, of which this may be seen, without its CR. What is to be written is
+    /// written where it is much.
     #[inline(always)]
-    fn take_line<W: Write>(&mut self, bytes: &[u8], out: &mut W) -> Result<(), CaptureFault>
+    fn take_line<W: Write>(
+        &mut self,
+        bytes: &[u8],
+        usual: &[u8],
+        seen: Option<(CanId, usize)>,
+        out: &mut W,
+    ) -> Result<(), CaptureFault>
         requires room { self.old.lines + 1 < 2 ^ 64 }
         requires line { HasNoFeed bytes.now }
+        requires usual { IfSome seen (λ u. IsUsual usual.now u.0 u.1) }
+        requires says { IfSome seen (λ u. bus_line bytes.now ≡ Ok (usual_said usual.now u.0 u.1)) }
         ensures ok { OnOk result (Sends (W.contents out.old) (W.contents out.new)
             (GoesOn self.old self.new (bytes.now ++ 10 ∷ []))) }
         ensures lines { OnOk result (self.new.lines ≡ self.old.lines + 1) }
@@ -130,8 +141,9 @@ impl Capture {
         ensures err { IfErr result (λ fault. Sends (W.contents out.old) (W.contents out.new)
             (HaltsIn self.old fault (bytes.now ++ 10 ∷ []))) }
     {
-        if let Err(fault) = self.end_line(bytes) {
-            return Err(stop(fault, &mut self.text, out));
+        let number = self.lines + 1;
+        if let Err(fault) = self.end_line(bytes, usual, seen) {
+            return Err(stop(fault_at(number, fault), &mut self.text, out));
         }
         if self.text.len() > TEXT_LIMIT {
             return write_out(&mut self.text, out);
@@ -151,25 +163,32 @@ impl Capture {
             (HaltsIn self.old fault bytes.now)) }
     {
         let number = self.lines + 1;
-        if let Err(fault) = keep(&mut self.kept, bytes, number) {
-            return Err(stop(fault, &mut self.text, out));
+        if let Err(fault) = keep(&mut self.kept, bytes) {
+            return Err(stop(fault_at(number, fault), &mut self.text, out));
         }
         write_out(&mut self.text, out)
     }
 
     /// Gives the bus the line that these bytes and an LF end, behind what is kept of it.
     #[inline(always)]
-    fn end_line(&mut self, bytes: &[u8]) -> Result<(), CaptureFault>
+    fn end_line(
+        &mut self,
+        bytes: &[u8],
+        usual: &[u8],
+        seen: Option<(CanId, usize)>,
+    ) -> Result<(), BusFault>
         requires room { self.old.lines + 1 < 2 ^ 64 }
         requires line { HasNoFeed bytes.now }
+        requires usual { IfSome seen (λ u. IsUsual usual.now u.0 u.1) }
+        requires says { IfSome seen (λ u. bus_line bytes.now ≡ Ok (usual_said usual.now u.0 u.1)) }
         ensures ok { OnOk result (GoesOn self.old self.new (bytes.now ++ 10 ∷ []) []) }
         ensures lines { OnOk result (self.new.lines ≡ self.old.lines + 1) }
         ensures kept { OnOk result (self.new.kept.items ≡ []) }
         ensures err { IfErr result (λ fault.
-            HaltsIn self.old fault (bytes.now ++ 10 ∷ []) self.new.text.items) }
+            HaltsIn self.old (fault_at (self.old.lines + 1) fault) (bytes.now ++ 10 ∷ []) self.new.text.items) }
     {
         if self.kept.is_empty() {
-            self.take_whole(bytes)
+            self.take_whole(bytes, usual, seen)
         } else {
             self.take_kept(bytes)
         }
@@ -177,44 +196,49 @@ impl Capture {
 
     /// Gives the bus a line of which nothing is kept.
     #[inline(always)]
-    fn take_whole(&mut self, line: &[u8]) -> Result<(), CaptureFault>
+    fn take_whole(
+        &mut self,
+        line: &[u8],
+        usual: &[u8],
+        seen: Option<(CanId, usize)>,
+    ) -> Result<(), BusFault>
         requires room { self.old.lines + 1 < 2 ^ 64 }
         requires line { HasNoFeed line.now }
+        requires usual { IfSome seen (λ u. IsUsual usual.now u.0 u.1) }
+        requires says { IfSome seen (λ u. bus_line line.now ≡ Ok (usual_said usual.now u.0 u.1)) }
         requires none { self.old.kept.items ≡ [] }
         ensures ok { OnOk result (GoesOn self.old self.new (line.now ++ 10 ∷ []) []) }
         ensures lines { OnOk result (self.new.lines ≡ self.old.lines + 1) }
         ensures kept { OnOk result (self.new.kept.items ≡ []) }
         ensures err { IfErr result (λ fault.
-            HaltsIn self.old fault (line.now ++ 10 ∷ []) self.new.text.items) }
+            HaltsIn self.old (fault_at (self.old.lines + 1) fault) (line.now ++ 10 ∷ []) self.new.text.items) }
     {
-        let number = self.lines + 1;
-        if let Err(fault) = give(&mut self.bus, line, number, &mut self.text) {
+        if let Err(fault) = self.bus.take_seen(line, usual, seen, &mut self.text) {
             return Err(fault);
         }
-        self.lines = number;
+        self.lines += 1;
         Ok(())
     }
 
     /// Gives the bus the line that is kept and that these bytes end.
     #[inline(never)]
-    fn take_kept(&mut self, bytes: &[u8]) -> Result<(), CaptureFault>
+    fn take_kept(&mut self, bytes: &[u8]) -> Result<(), BusFault>
         requires room { self.old.lines + 1 < 2 ^ 64 }
         requires line { HasNoFeed bytes.now }
         ensures ok { OnOk result (GoesOn self.old self.new (bytes.now ++ 10 ∷ []) []) }
         ensures lines { OnOk result (self.new.lines ≡ self.old.lines + 1) }
         ensures kept { OnOk result (self.new.kept.items ≡ []) }
         ensures err { IfErr result (λ fault.
-            HaltsIn self.old fault (bytes.now ++ 10 ∷ []) self.new.text.items) }
+            HaltsIn self.old (fault_at (self.old.lines + 1) fault) (bytes.now ++ 10 ∷ []) self.new.text.items) }
     {
-        let number = self.lines + 1;
-        if let Err(fault) = keep(&mut self.kept, bytes, number) {
+        if let Err(fault) = keep(&mut self.kept, bytes) {
             return Err(fault);
         }
-        if let Err(fault) = give(&mut self.bus, self.kept.as_slice(), number, &mut self.text) {
+        if let Err(fault) = self.bus.take_line(self.kept.as_slice(), &mut self.text) {
             return Err(fault);
         }
         self.kept.clear();
-        self.lines = number;
+        self.lines += 1;
         Ok(())
     }
 
@@ -228,7 +252,7 @@ impl Capture {
         if self.kept.is_empty() {
             return self.close(alloc, out);
         }
-        if let Err(fault) = self.take_line(&[], out) {
+        if let Err(fault) = self.take_line(&[], &[], None, out) {
             return Err(fault);
         }
         self.close(alloc, out)
@@ -253,43 +277,29 @@ impl Capture {
     }
 }
 
-/// Adds bytes to the line that is kept, whose number this is; refuses it where it is longer than a line may be.
-fn keep(kept: &mut Vec<u8>, bytes: &[u8], number: u64) -> Result<(), CaptureFault>
+/// Adds bytes to the line that is kept; refuses it where it is longer than a line may be.
+fn keep(kept: &mut Vec<u8>, bytes: &[u8]) -> Result<(), BusFault>
     requires { vec_len kept.old ≤ 4096 }
     ensures ok { OnOk result (kept.new.items ≡ kept.old.items ++ bytes.now) }
     ensures short { vec_len kept.new ≤ 4096 }
-    ensures err { IfErr result (λ fault. (fault ≡ CaptureFault.Memory)
-        ⊎ ((fault ≡ CaptureFault.Line number (BusFault.Line LineFault.BadLine))
+    ensures err { IfErr result (λ fault. (fault ≡ BusFault.Memory)
+        ⊎ ((fault ≡ BusFault.Line LineFault.BadLine)
         × (4096 < length kept.old.items + length bytes.now))) }
 {
     if bytes.len() > LINE_LIMIT - kept.len() {
-        let fault = BusFault::Line(LineFault::BadLine);
-        return Err(CaptureFault::Line(number, fault));
+        return Err(BusFault::Line(LineFault::BadLine));
     }
     kept.extend_from_slice(bytes)?;
     Ok(())
 }
 
-/// Gives the bus a line, whose number this is.
-#[inline(always)]
-fn give(bus: &mut Bus, line: &[u8], number: u64, text: &mut Vec<u8>) -> Result<(), CaptureFault>
-    ensures ok { OnOk result (Grew text.old.items text.new.items (λ more.
-        (lines : List (List ℕ)) → TookLines bus.old lines
-        → TookLines bus.new (lines ++ line.now ∷ [])
-        × (written bus.old.output bus.old.setup (lines ++ line.now ∷ [])
-        ≡ written bus.old.output bus.old.setup lines ++ more))) }
-    ensures setup { bus.new.setup ≡ bus.old.setup }
-    ensures output { bus.new.output ≡ bus.old.output }
-    ensures err { IfErr result (λ fault. (fault ≡ CaptureFault.Memory)
-        ⊎ ((f : ABusFault) × (fault ≡ CaptureFault.Line number f)
-        × ((lines : List (List ℕ)) → TookLines bus.old lines
-        → line_fault lines line.now ≡ Some f))) }
-    ensures kept { OnErr result (text.new.items ≡ text.old.items) }
+/// What is told of a fault at the line of this number.
+fn fault_at(number: u64, fault: BusFault) -> CaptureFault
+    ensures { result ≡ fault_at number fault }
 {
-    match bus.take_line(line, text) {
-        Ok(()) => Ok(()),
-        Err(BusFault::Memory) => Err(CaptureFault::Memory),
-        Err(fault) => Err(CaptureFault::Line(number, fault)),
+    match fault {
+        BusFault::Memory => CaptureFault::Memory,
+        BusFault::Line(_) | BusFault::Late => CaptureFault::Line(number, fault),
     }
 }
 

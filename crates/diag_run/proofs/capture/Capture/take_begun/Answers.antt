@@ -1,8 +1,9 @@
-use Rattle.std.proofs.Common.{[], List, ℕ, refl, sym, subst}
+use Rattle.std.proofs.Common.{[], ◌+◌, List, ℕ, refl, sym, subst}
 use Rattle.std.proofs.lemmas.List.{append-nil}
 use Rattle.std.proofs.lemmas.Result.{IfErr-weaker, on_ok_weaker}
 use Rattle.diag_run.specs.declared.capture.CaptureFault.{CaptureFault}
 use Rattle.diag_run.specs.Capturing.{HaltsIn}
+use Rattle.diag_run.specs.Faults.{fault_at}
 use Rattle.diag_run.proofs.Pieces.{answered_halts, begun_goes_on, both_on_ok, keep_halts, write_fails}
 use Rattle.diag_run.proofs.capture.Capture.take_begun.Goals as goal
 
@@ -10,12 +11,13 @@ pub returns-in-Err-clause-err : goal.returns-in-Err-clause-err
 returns-in-Err-clause-err g c =
     let capture = c.args.self.now in
     let bytes = c.args.bytes.now in
-    let kept : HaltsIn capture c.in-Err.fault bytes capture.text.items =
-    subst (λ (b : List ℕ). HaltsIn capture c.in-Err.fault b capture.text.items) (append-nil bytes)
-    (keep_halts capture bytes [] c.in-Err.fault c.requires.line c.in-Err.ensures.err) in (
+    let kept : HaltsIn capture c.fault_at.result bytes capture.text.items =
+    subst (λ (f : CaptureFault). HaltsIn capture f bytes capture.text.items) (sym c.fault_at.ensures)
+    (subst (λ (b : List ℕ). HaltsIn capture (fault_at (capture.lines + 1) c.in-Err.fault) b capture.text.items) (append-nil bytes)
+    (keep_halts capture bytes [] c.in-Err.fault c.requires.line c.in-Err.ensures.err)) in (
       c.stop.ensures.0,
       c.stop.ensures.1,
-      answered_halts capture c.in-Err.fault c.stop.result bytes capture.text.items c.stop.ensures.0 kept c.stop.ensures.2,
+      answered_halts capture c.fault_at.result c.stop.result bytes capture.text.items c.stop.ensures.0 kept c.stop.ensures.2,
     )
 
 pub returns-clause-ok : goal.returns-clause-ok

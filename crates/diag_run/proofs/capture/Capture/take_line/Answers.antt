@@ -9,8 +9,10 @@ pub returns-in-Err-clause-err : goal.returns-in-Err-clause-err
 returns-in-Err-clause-err g c = (
   c.stop.ensures.0,
   c.stop.ensures.1,
-  answered_halts c.args.self.now c.in-Err.fault c.stop.result (c.args.bytes.now ++ 10 ∷ []) c.end_line.new.self.text.items c.stop.ensures.0
-      c.in-Err.ensures.err c.stop.ensures.2,
+  answered_halts c.args.self.now c.fault_at.result c.stop.result (c.args.bytes.now ++ 10 ∷ []) c.end_line.new.self.text.items c.stop.ensures.0
+      (subst (λ (f : CaptureFault). HaltsIn c.args.self.now f (c.args.bytes.now ++ 10 ∷ []) c.end_line.new.self.text.items) (sym c.fault_at.ensures)
+      c.in-Err.ensures.err)
+      c.stop.ensures.2,
 )
 
 pub returns-then-len-gt-TEXT_LIMIT-clause-ok : goal.returns-then-len-gt-TEXT_LIMIT-clause-ok

@@ -2,8 +2,8 @@ use Rattle.std.proofs.Common.{length}
 use Rattle.diag_run.proofs.Pieces.{SoFar}
 use Rattle.diag_run.proofs.capture.Capture.take_piece.Given as goal
 
-abbrev pub invariant-loop-end : goal.invariant-loop-end
-invariant-loop-end g l = SoFar l.initial.self l.self (g.W.Write.contents l.initial.out) (g.W.Write.contents l.out) l.piece l.rest
+abbrev pub invariant-loop-first : goal.invariant-loop-first
+invariant-loop-first g l = SoFar l.initial.self l.self (g.W.Write.contents l.initial.out) (g.W.Write.contents l.out) l.piece l.rest
 
-abbrev pub decreases-loop-end : goal.decreases-loop-end
-decreases-loop-end g l = length l.rest
+abbrev pub decreases-loop-first : goal.decreases-loop-first
+decreases-loop-first g l = length l.rest
