@@ -58,7 +58,7 @@ fn replay_all(alloc: Global, setup: &Setup, journal: &Journal) -> Result<Ecu, Re
         if setup.testers() < usize::from(entry.who.place()) {
             return Err(ReplayFault::Differs(index + 1));
         }
-        match play(alloc, &mut ecu, &entry) {
+        match play(&mut ecu, &entry) {
             Ok(true) => {}
             Ok(false) => return Err(ReplayFault::Differs(index + 1)),
             Err(_) => return Err(ReplayFault::Memory),
@@ -68,7 +68,7 @@ fn replay_all(alloc: Global, setup: &Setup, journal: &Journal) -> Result<Ecu, Re
 }
 
 /// Takes the step of an entry where the ECU's reply is the entry's; whether it is.
-fn play(alloc: Global, ecu: &mut Ecu, entry: &EntryRef<'_>) -> Result<bool, AllocError>
+fn play(ecu: &mut Ecu, entry: &EntryRef<'_>) -> Result<bool, AllocError>
     requires { IsEntry (entry_seen entry.now) }
     ensures reply { IfOk result (λ same. IsTrue same
         ↔ (option_copied entry.now.reply
@@ -78,13 +78,13 @@ fn play(alloc: Global, ecu: &mut Ecu, entry: &EntryRef<'_>) -> Result<bool, Allo
 {
     match entry.step {
         StepRef::Request { functional, bytes } => {
-            let message = Message::of(alloc, bytes)?;
-            let reply = ecu.reply(entry.who, functional, &message)?;
-            if !is_same(entry.reply, reply.as_ref()) {
-                return Ok(false);
+            let mut reply = None;
+            ecu.put_reply(entry.who, functional, bytes, &mut reply)?;
+            let same = is_same(entry.reply, reply.as_ref());
+            if same {
+                ecu.settle_answered(entry.who, functional, bytes, reply.as_ref());
             }
-            ecu.settle_answered(entry.who, functional, message.bytes(), reply.as_ref());
-            Ok(true)
+            Ok(same)
         }
         StepRef::Ticks(count) => {
             if entry.reply.is_some() {

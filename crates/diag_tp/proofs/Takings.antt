@@ -13,7 +13,7 @@ use Rattle.diag_tp.specs.declared.sent.Sent.{Sent}
 use Rattle.diag_tp.specs.declared.sending.Sending.{Sending}
 use Rattle.diag_tp.specs.Kind.{kind}
 use Rattle.diag_tp.specs.Receiver.{Partial, with_consecutive, is_complete, if_open, if_complete, open_after, completed_by, ends_block, go_on, block_answer, granted_by}
-use Rattle.diag_tp.specs.Sender.{no_flow, sender_frame, sender_event, frame_count, current_left}
+use Rattle.diag_tp.specs.Sender.{sender_frame, sender_event, frame_count, current_left}
 use Rattle.diag_tp.specs.State.{LinkState}
 use Rattle.diag_tp.specs.Wire.{Placed}
 use Rattle.diag_tp.specs.Link.{is_frame, single_only, partial_after, grant_after, IsReadHere, pending, StandsFor}
