@@ -82,6 +82,11 @@ unfoldable pub with_default : {A : Type 0} → (List ℕ → Data → Result A F
     → List ℕ → A → Result A Fault
 with_default kind ms name key default = where_default (kind key) default (get_member name ms)
 
+-- the value of a key at the top, whose name is the whole key
+abbrev pub at_top : {A : Type 0} → (List ℕ → Data → Result A Fault) → Members → List ℕ → A
+    → Result A Fault
+at_top kind ms key default = with_default kind ms key key default
+
 unfoldable pub required : {A : Type 0} → (List ℕ → Data → Result A Fault) → Members → List ℕ
     → List ℕ → Result A Fault
 required kind ms name key = where_required (kind key) (missing key) (get_member name ms)
@@ -159,11 +164,11 @@ level_at ms = do
 
 unfoldable pub timing_at : Members → Result Times Fault
 timing_at ms = do
-  p2_ms ← with_default number ms (codes "p2_ms") (codes "p2_ms") 50
-  p2_star_10ms ← with_default number ms (codes "p2_star_10ms") (codes "p2_star_10ms") 500
-  s3_ms ← with_default number ms (codes "s3_ms") (codes "s3_ms") 5000
-  n_bs_ms ← with_default number ms (codes "n_bs_ms") (codes "n_bs_ms") 1000
-  n_cr_ms ← with_default number ms (codes "n_cr_ms") (codes "n_cr_ms") 1000
+  p2_ms ← at_top number ms (codes "p2_ms") 50
+  p2_star_10ms ← at_top number ms (codes "p2_star_10ms") 500
+  s3_ms ← at_top number ms (codes "s3_ms") 5000
+  n_bs_ms ← at_top number ms (codes "n_bs_ms") 1000
+  n_cr_ms ← at_top number ms (codes "n_cr_ms") 1000
   Ok (record {
     p2_ms = p2_ms;
     p2_star_10ms = p2_star_10ms;
@@ -174,11 +179,11 @@ timing_at ms = do
 
 unfoldable pub transport_at : Members → Result LinkValues Fault
 transport_at ms = do
-  block_size ← with_default number ms (codes "block_size") (codes "block_size") 0
-  st_min ← with_default number ms (codes "st_min") (codes "st_min") 0
-  max_request ← with_default number ms (codes "max_request") (codes "max_request") 4095
-  pad ← with_default truth ms (codes "pad") (codes "pad") true
-  pad_byte ← with_default number ms (codes "pad_byte") (codes "pad_byte") 204
+  block_size ← at_top number ms (codes "block_size") 0
+  st_min ← at_top number ms (codes "st_min") 0
+  max_request ← at_top number ms (codes "max_request") 4095
+  pad ← at_top truth ms (codes "pad") true
+  pad_byte ← at_top number ms (codes "pad_byte") 204
   Ok (record {
     block_size = block_size;
     st_min = st_min;
@@ -189,10 +194,10 @@ transport_at ms = do
 
 unfoldable pub server_at : Members → Result ServerValues Fault
 server_at ms = do
-  availability ← with_default number ms (codes "availability") (codes "availability") 255
-  functional ← with_default number ms (codes "functional") (codes "functional") 2015
-  attempts ← with_default number ms (codes "attempts") (codes "attempts") 3
-  delay_ms ← with_default number ms (codes "delay_ms") (codes "delay_ms") 10000
+  availability ← at_top number ms (codes "availability") 255
+  functional ← at_top number ms (codes "functional") 2015
+  attempts ← at_top number ms (codes "attempts") 3
+  delay_ms ← at_top number ms (codes "delay_ms") 10000
   Ok (record {
     availability = availability;
     functional = functional;
@@ -202,11 +207,11 @@ server_at ms = do
 
 unfoldable pub tables_at : Members → Result SetupTables Fault
 tables_at ms = do
-  testers ← with_default (list (row tester_at)) ms (codes "tester") (codes "tester") []
-  dids ← with_default (list (row did_at)) ms (codes "did") (codes "did") []
-  trouble_codes ← with_default (list (row code_at)) ms (codes "code") (codes "code") []
-  routines ← with_default (list (row routine_at)) ms (codes "routine") (codes "routine") []
-  levels ← with_default (list (row level_at)) ms (codes "level") (codes "level") []
+  testers ← at_top (list (row tester_at)) ms (codes "tester") []
+  dids ← at_top (list (row did_at)) ms (codes "did") []
+  trouble_codes ← at_top (list (row code_at)) ms (codes "code") []
+  routines ← at_top (list (row routine_at)) ms (codes "routine") []
+  levels ← at_top (list (row level_at)) ms (codes "level") []
   Ok (record {
     testers = testers;
     dids = dids;

@@ -5,7 +5,7 @@ ghost use Rattle.diag_config.specs.Key.{KeyGives};
 ghost use Rattle.diag_config.specs.Setup.{tester_at, did_at, code_at, done_at, routine_at, row_at, level_at, timing_at, transport_at, server_at, tables_at, setup_at};
 
 use crate::fault::KeyFault;
-use crate::table::{FromTable, optional, required, with_default};
+use crate::table::{FromTable, at_top, optional, required, with_default};
 use crate::value::{Hex, Text};
 use diag_setup::{Items, RawCode, RawDid, RawKeyRow, RawLevel, RawRoutine, RawSetup, RawTester};
 use std::alloc::Global;
@@ -97,6 +97,7 @@ impl FromTable for RawCode {
     }
 }
 
+/// The code that a routine sets when it is done. Its status is looked at only where the code is given.
 #[tactic(auto, unfolding(crate::specs::Setup::done_at))]
 fn done(alloc: Global, table: &Table) -> Result<Option<RawCode>, KeyFault>
     ensures { KeyGives (λ x. x) result (done_at (table_view table.now)) }
@@ -163,15 +164,16 @@ impl FromTable for RawLevel {
     }
 }
 
+/// The keys of times.
 #[tactic(auto, unfolding(crate::specs::Setup::timing_at))]
 fn timing(alloc: Global, table: &Table) -> Result<Times, KeyFault>
     ensures { KeyGives (λ x. x) result (timing_at (table_view table.now)) }
 {
-    let p2_ms = with_default(alloc, table, "p2_ms", "p2_ms", 50u32)?;
-    let p2_star_10ms = with_default(alloc, table, "p2_star_10ms", "p2_star_10ms", 500u32)?;
-    let s3_ms = with_default(alloc, table, "s3_ms", "s3_ms", 5000u32)?;
-    let n_bs_ms = with_default(alloc, table, "n_bs_ms", "n_bs_ms", 1000u32)?;
-    let n_cr_ms = with_default(alloc, table, "n_cr_ms", "n_cr_ms", 1000u32)?;
+    let p2_ms = at_top(alloc, table, "p2_ms", 50u32)?;
+    let p2_star_10ms = at_top(alloc, table, "p2_star_10ms", 500u32)?;
+    let s3_ms = at_top(alloc, table, "s3_ms", 5000u32)?;
+    let n_bs_ms = at_top(alloc, table, "n_bs_ms", 1000u32)?;
+    let n_cr_ms = at_top(alloc, table, "n_cr_ms", 1000u32)?;
     Ok(Times {
         p2_ms,
         p2_star_10ms,
@@ -181,15 +183,16 @@ fn timing(alloc: Global, table: &Table) -> Result<Times, KeyFault>
     })
 }
 
+/// The keys of the links.
 #[tactic(auto, unfolding(crate::specs::Setup::transport_at))]
 fn transport(alloc: Global, table: &Table) -> Result<LinkValues, KeyFault>
     ensures { KeyGives (λ x. x) result (transport_at (table_view table.now)) }
 {
-    let block_size = with_default(alloc, table, "block_size", "block_size", 0u32)?;
-    let st_min = with_default(alloc, table, "st_min", "st_min", 0u32)?;
-    let max_request = with_default(alloc, table, "max_request", "max_request", 4095u32)?;
-    let pad = with_default(alloc, table, "pad", "pad", true)?;
-    let pad_byte = with_default(alloc, table, "pad_byte", "pad_byte", 204u32)?;
+    let block_size = at_top(alloc, table, "block_size", 0u32)?;
+    let st_min = at_top(alloc, table, "st_min", 0u32)?;
+    let max_request = at_top(alloc, table, "max_request", 4095u32)?;
+    let pad = at_top(alloc, table, "pad", true)?;
+    let pad_byte = at_top(alloc, table, "pad_byte", 204u32)?;
     Ok(LinkValues {
         block_size,
         st_min,
@@ -199,14 +202,15 @@ fn transport(alloc: Global, table: &Table) -> Result<LinkValues, KeyFault>
     })
 }
 
+/// The keys of the services.
 #[tactic(auto, unfolding(crate::specs::Setup::server_at))]
 fn server(alloc: Global, table: &Table) -> Result<ServerValues, KeyFault>
     ensures { KeyGives (λ x. x) result (server_at (table_view table.now)) }
 {
-    let availability = with_default(alloc, table, "availability", "availability", 255u32)?;
-    let functional = with_default(alloc, table, "functional", "functional", 2015u32)?;
-    let attempts = with_default(alloc, table, "attempts", "attempts", 3u32)?;
-    let delay_ms = with_default(alloc, table, "delay_ms", "delay_ms", 10000u32)?;
+    let availability = at_top(alloc, table, "availability", 255u32)?;
+    let functional = at_top(alloc, table, "functional", 2015u32)?;
+    let attempts = at_top(alloc, table, "attempts", 3u32)?;
+    let delay_ms = at_top(alloc, table, "delay_ms", 10000u32)?;
     Ok(ServerValues {
         availability,
         functional,
@@ -215,33 +219,16 @@ fn server(alloc: Global, table: &Table) -> Result<ServerValues, KeyFault>
     })
 }
 
+/// The keys of the lists.
 #[tactic(auto, unfolding(crate::specs::Setup::tables_at))]
 fn tables(alloc: Global, table: &Table) -> Result<SetupTables, KeyFault>
     ensures { KeyGives (λ x. x) result (tables_at (table_view table.now)) }
 {
-    let testers = with_default(
-        alloc,
-        table,
-        "tester",
-        "tester",
-        Items::<RawTester>::new(alloc),
-    )?;
-    let dids = with_default(alloc, table, "did", "did", Items::<RawDid>::new(alloc))?;
-    let dtcs = with_default(alloc, table, "code", "code", Items::<RawCode>::new(alloc))?;
-    let routines = with_default(
-        alloc,
-        table,
-        "routine",
-        "routine",
-        Items::<RawRoutine>::new(alloc),
-    )?;
-    let levels = with_default(
-        alloc,
-        table,
-        "level",
-        "level",
-        Items::<RawLevel>::new(alloc),
-    )?;
+    let testers = at_top(alloc, table, "tester", Items::<RawTester>::new(alloc))?;
+    let dids = at_top(alloc, table, "did", Items::<RawDid>::new(alloc))?;
+    let dtcs = at_top(alloc, table, "code", Items::<RawCode>::new(alloc))?;
+    let routines = at_top(alloc, table, "routine", Items::<RawRoutine>::new(alloc))?;
+    let levels = at_top(alloc, table, "level", Items::<RawLevel>::new(alloc))?;
     Ok(SetupTables {
         testers,
         dids,
@@ -251,6 +238,7 @@ fn tables(alloc: Global, table: &Table) -> Result<SetupTables, KeyFault>
     })
 }
 
+/// The setup that a table's keys say, all of them in order.
 #[tactic(auto, unfolding(crate::specs::Setup::setup_at))]
 pub fn setup(alloc: Global, table: &Table) -> Result<RawSetup, KeyFault>
     ensures { KeyGives (λ x. x) result (setup_at (table_view table.now)) }

@@ -4,7 +4,7 @@ ghost use Rattle.std.specs.Prelude.{◌≡◌, option_map, Option, Result};
 ghost use Rattle.toml.specs.Data.{get_member, Items, Members};
 ghost use Rattle.toml.specs.View.{view, table_view, items_view, array_view};
 ghost use Rattle.diag_config.specs.Key.{Fault, KeyGives};
-ghost use Rattle.diag_config.specs.Setup.{each, list, optional, required, row, with_default};
+ghost use Rattle.diag_config.specs.Setup.{at_top, each, list, optional, required, row, with_default};
 
 use crate::fault::KeyFault;
 use crate::value::FromValue;
@@ -52,6 +52,18 @@ pub fn with_default<K: FromValue>(
         None => Ok(default),
         Some(value) => K::from_value(alloc, key, value),
     }
+}
+
+/// What a key at the top of the setup says, or the default. Its name in the text is the whole key.
+pub fn at_top<K: FromValue>(
+    alloc: Global,
+    table: &Table,
+    key: &'static str,
+    default: K,
+) -> Result<K, KeyFault>
+    ensures { KeyGives K.said result (at_top K.kind (table_view table.now) key.now (K.said default)) }
+{
+    with_default(alloc, table, key, key, default)
 }
 
 /// What a key that may not be left out says. In the text its name is the last part of the key.

@@ -1,9 +1,7 @@
 -- Many ticks at once: the delay apart from the session, and the ticks in which nothing ends.
-use Rattle.std.proofs.Common.{◌≡◌, ℕ, zero, suc, ◌+◌, ◌-◌, ◌≤◌, Bool, true, false, cond, List, [], ◌∷◌, length, Option, Some, None, refl, ap, sym, ◌∙◌, arith}
-use Rattle.std.specs.Prelude.{nat_le, nat_lt, is_some, ◌==◌, if◌then◌else◌, slice_index, slice_set}
+use Rattle.std.proofs.Common.{◌≡◌, ℕ, zero, suc, ◌+◌, ◌-◌, ◌≤◌, Bool, true, false, cond, List, [], ◌∷◌, Option, Some, None, refl, ap, sym, ◌∙◌, arith}
+use Rattle.std.specs.Prelude.{nat_le, is_some, ◌==◌, if◌then◌else◌, slice_index, slice_set}
 use Rattle.std.proofs.lemmas.Bool.{lt-leb}
-use Rattle.diag_setup.specs.Setup.{who_at}
-use Rattle.diag_setup.specs.declared.raw.RawSetup.{RawSetup}
 use Rattle.diag_store.proofs.DelayLemmas.{nobody_waits}
 use Rattle.diag_store.specs.Security as security
 use Rattle.diag_store.specs.Routines.{quiet_in, quiet_ticks, state_later, rows_later, state_after_tick, ends_now, rows_after_tick, codes_after_tick}
@@ -147,14 +145,6 @@ first_part zero n whole s e = let same : whole ≡ n = omega (arith, e) in rw sa
 first_part (suc q) n whole s e = let next : whole ≡ suc (q + n) = omega (arith, e) in rw next (first_part q n (q + n) (session_ticked s) refl)
 
 -- ---- each tester
-
--- a tester is its place
-pub who_found : (setup : RawSetup) (i who : ℕ) → Some who ≡ who_at setup i → who ≡ i + 1
-who_found setup i who h = pick (nat_lt i (length setup.testers)) h
-  where
-    pick : (b : Bool) → Some who ≡ cond b (Some (i + 1)) None → who ≡ i + 1
-    pick true h = cc
-    pick false h = cc
 
 pub one_more : (s : State) (n m who count : ℕ) → who ≡ n + 1 → m ≡ n + 1 → elapse (elapse_each s n count) who count ≡ elapse_each s m count
 one_more s n m who count e f =

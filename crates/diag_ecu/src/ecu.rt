@@ -359,6 +359,7 @@ impl Ecu {
 }
 
 impl Ecu {
+    /// Whether the tester is the holder.
     pub(crate) fn is_holder(&self, who: TesterId) -> bool
         ensures { result ≡ is_holder self.now who }
     {
@@ -368,6 +369,7 @@ impl Ecu {
         }
     }
 
+    /// Whether another tester is the holder.
     pub(crate) fn is_held_by_another(&self, who: TesterId) -> bool
         ensures { result ≡ is_held_by_another self.now who }
     {

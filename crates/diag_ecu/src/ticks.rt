@@ -82,6 +82,7 @@ impl Ecu {
         self.s3_left -= count;
     }
 
+    /// One tick of the session: of its routines, then of S3.
     fn tick_session(&mut self)
         requires { IsTrue (is_some self.old.holder) }
         ensures { self.new ≡ session_ticked self.old }
@@ -90,6 +91,7 @@ impl Ecu {
         self.tick_s3();
     }
 
+    /// One tick of S3, which may end the session.
     fn tick_s3(&mut self)
         ensures { self.new ≡ s3_ticked self.old }
     {

@@ -1,7 +1,7 @@
 -- A live run from its begin to its end.
 use Rattle.std.proofs.Common.{◌≡◌, ◌⊎◌, ℕ, ◌<◌, true, false, List, [], ◌∷◌, ◌++◌, length, Option, None, Some, IfSome, inl, inr, refl, sym, ap, subst, ◌∙◌, arith}
 use Rattle.std.proofs.lemmas.List.{append-nil}
-use Rattle.std.specs.Io.KnownBytes.{Appends, Consumes, IsAtEnd, Keeps}
+use Rattle.std.specs.Io.KnownBytes.{Appends, IsAtEnd, Keeps}
 use Rattle.std.proofs.KnownBytes.{Appends-kept, Appends-nil, Appends-trans, Consumes-kept, Consumes-nil, Consumes-trans}
 use Rattle.diag_can.specs.Bus.{HasNoFeed, begun_line, bus_lines, ended_lines}
 use Rattle.diag_can.proofs.BusLines.{begun_line-line, bus_lines-begun, bus_lines-ended, ended_lines-line}
@@ -11,11 +11,10 @@ use Rattle.diag_bus.specs.Text.{written}
 use Rattle.diag_bus.specs.declared.bus.Output.{Output}
 use Rattle.diag_bus.specs.declared.bus.Output.TheVariants.{Replies}
 use Rattle.diag_bus.proofs.Runs.{run}
-use Rattle.diag_text.specs.Bytes.{Sends}
 use Rattle.diag_text.specs.declared.fault.RunFault.{RunFault}
 use Rattle.diag_text.specs.declared.fault.RunFault.TheVariants as fault
 use Rattle.diag_live.specs.Live.{capture_of, record_text}
-use Rattle.diag_live.specs.Serving.{CannotHear, GoesOn, Halts, HaltsWith, SoFar, Stands, Turned, last_feed}
+use Rattle.diag_live.specs.Serving.{CannotHear, HaltsWith, SoFar, Stands, Turned, last_feed}
 use Rattle.diag_live.specs.Stops.{IsCutShort, Lived, Stopped, StopsAt, StopsOn, TookSoFar}
 use Rattle.diag_live.specs.declared.serving.Serving.{Serving}
 use Rattle.diag_live.proofs.Records.{plain_capture, record_lines}

@@ -13,7 +13,7 @@ use Rattle.diag_bus.specs.declared.bus.Output.{Output}
 use Rattle.diag_bus.specs.declared.bus.Output.TheVariants.{Replies, Verdict}
 use Rattle.diag_bus.specs.declared.fault.BusFault.{BusFault}
 use Rattle.diag_bus.specs.declared.fault.BusFault.TheVariants as bus
-use Rattle.diag_run.specs.Capture.{IsFront, capture_text}
+use Rattle.diag_run.specs.Capture.{IsFront}
 use Rattle.diag_run.specs.Capture as captured
 use Rattle.diag_run.specs.Capturing.{HaltsIn, fault_of}
 use Rattle.diag_run.specs.Capturing as run

@@ -62,10 +62,6 @@ abbrev behind : List (List Event) → Result (List (List Event)) (ℕ × LogFaul
 behind done (Ok logs) = Ok (done ++ logs)
 behind done (Err first) = Err first
 
-behind_none : (said : Result (List (List Event)) (ℕ × LogFault)) → behind [] said ≡ said
-behind_none (Ok logs) = refl
-behind_none (Err first) = refl
-
 behind_one : (done : List (List Event)) (n : ℕ) (log : List Event) (said : Result (List (List Event)) (ℕ × LogFault))
     → behind (done ++ log ∷ []) said ≡ behind done (before_rest n (Ok log) said)
 behind_one done n log (Ok logs) = ap (λ l. Ok l) (append_assoc done (log ∷ []) logs)
@@ -79,10 +75,6 @@ pub record Finished (setup : RawSetup) (timing : Timing) (texts : List (List ℕ
   pub so_far : behind (map (λ log. log.items) done) (logs_from (length done + 1) setup timing rest) ≡ logs_of setup timing texts
 
 module _ (setup : RawSetup) (timing : Timing) (texts : List (List ℕ)) where
-  pub none_finished : (takers : List (LineTaker LogLines)) → AreLogs 1 setup timing takers → AreTaken TookLog takers texts
-      → Finished setup timing texts [] takers
-  none_finished takers logs taken = record { rest = texts; logs = logs; taken = taken; so_far = behind_none (logs_of setup timing texts) }
-
   pub all_finished : (done : List (Vec Event)) (takers : List (LineTaker LogLines)) → takers ≡ [] → Finished setup timing texts done takers
       → logs_of setup timing texts ≡ Ok (map (λ log. log.items) done)
   all_finished done takers none f = ended f.rest (subst (λ l. AreTaken TookLog l f.rest) none f.taken) f.so_far

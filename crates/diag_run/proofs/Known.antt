@@ -10,14 +10,12 @@ use Rattle.diag_setup.specs.declared.raw.RawSetup.{RawSetup}
 use Rattle.diag_text.specs.declared.fault.RunFault.{RunFault}
 use Rattle.diag_text.specs.declared.fault.RunFault.TheVariants.{Files, Config, ConfigLong, Log, JournalLine, FileLong, Memory, JournalFull, RecordsDisagree, Read, Write, Differs, Capture, Otherwise}
 use Rattle.diag_run.specs.declared.whole.Job.{Job}
-use Rattle.diag_run.specs.declared.whole.Job.TheVariants.{Replay}
-use Rattle.diag_desk.specs.declared.following.TextReplay.{TextReplay}
 use Rattle.diag_desk.specs.Following.{HasTaken}
 use Rattle.diag_text.specs.Taking.{LinesTaken}
 use Rattle.diag_text.specs.declared.taking.LineTaker.{LineTaker}
 use Rattle.diag_run.specs.declared.answer.Replaying.{Replaying}
 use Rattle.diag_run.specs.Files.{Refusal, AreKnown, AreTaken, EndsAt, Fails, FilesEnd, FilesRead, ReadEach, SaysSetup, config_of, file_long, files_from}
-use Rattle.diag_run.specs.Run.{Inputs, FilesGive, GivesReplayed, GivesRun, GivesText, IsReplayedTo, first_text, HasRead, NamesAFile, ReadsConfigFirst, TextStops, WhereKnown, answered, inputs, joined, limit, read_of, wanted}
+use Rattle.diag_run.specs.Run.{Inputs, FilesGive, GivesRun, GivesText, IsReplayedTo, HasRead, NamesAFile, ReadsConfigFirst, TextStops, WhereKnown, answered, inputs, joined, limit, read_of, wanted}
 use Rattle.diag_run.proofs.Inputs.{read_fails, read_whole}
 use Rattle.diag_run.proofs.Order.{AllLater-files, AllLater-front}
 use Rattle.diag_run.proofs.Reading.{AreKnown-length, ends_within, head_known, too_long, whole_known, with_front}
@@ -193,17 +191,6 @@ pub texts_give : {R : Type 0} (remaining : R → Option (List ℕ)) (job : Job) 
 texts_give remaining job setup old new result device texts read gives =
     files_give remaining job setup old new result device (λ read. read ≡ texts) read
     (subst (λ t. GivesText job (inputs setup t) (answered result)) (sym read.holds) gives)
-
--- and for what the replay of it came to
-pub replay_gives : {R : Type 0} (remaining : R → Option (List ℕ)) (setup : RawSetup) (old new : List R) (replay : TextReplay) (begun : List ℕ)
-    (result : Result (Vec (Vec ℕ)) RunFault)
-    → ((n : ℕ) → result ≢ Err (Read n)) → (read : FilesRead remaining 268435456 old new (IsReplayedTo setup replay begun))
-    → ((seen : List ℕ) → HasTaken setup replay seen → GivesReplayed setup (seen ++ begun) (answered result))
-    → FilesGive remaining Replay setup old new (answered result)
-replay_gives remaining setup old new replay begun result device read gives =
-    let taken = read.holds.2 in
-    files_give remaining Replay setup old new result device (IsReplayedTo setup replay begun) read
-    (subst (λ text. GivesReplayed setup text (answered result)) (sym taken.is ∙ ap first_text (sym read.holds.1)) (gives taken.lines taken.took))
 
 -- what a lent list has where all of it was lent
 pub take_seam : {A : Type 0} (n : ℕ) (xs ys : List A) → length xs ≡ n → take n (xs ++ ys) ≡ xs

@@ -501,15 +501,6 @@ refused_at output setup seen left = stops_at output setup seen [] Memory left
 
 -- ---- the lines of a piece
 
-pub GoesOn-refl : (capture : Capture) → GoesOn capture capture [] []
-GoesOn-refl capture = record {
-  setup = refl;
-  output = refl;
-  stands = λ seen wrote s.
-      subst (λ (w : List ℕ). Stands capture (seen ++ []) w) (sym (append-nil wrote))
-      (subst (λ (b : List ℕ). Stands capture b wrote) (sym (append-nil seen)) s);
-}
-
 -- the lines in front of the rest of a piece were taken
 pub record SoFar (old new : Capture) (out out' : Option (List ℕ)) (piece rest : List ℕ) : Type 0 where
   pub gone : List ℕ

@@ -1,5 +1,5 @@
 -- Reading files one after the other, as a loop does.
-use Rattle.std.proofs.Common.{subst, suc, ◌≡◌, ℕ, ◌+◌, ◌≤◌, ◌<◌, length, take, drop, set, get_or, map, List, [], ◌∷◌, ◌++◌, Option, Some, Result, Ok, Err, refl, sym, ap, ◌∙◌, append_assoc, take-append-drop, length-append, arith, le-leb, nat_le, false}
+use Rattle.std.proofs.Common.{subst, suc, ◌≡◌, ℕ, ◌+◌, ◌≤◌, ◌<◌, length, take, drop, set, get_or, map, List, [], ◌∷◌, ◌++◌, Option, Some, Result, Ok, Err, refl, sym, ap, ◌∙◌, take-append-drop, length-append, arith, le-leb, nat_le, false}
 use Rattle.std.proofs.lemmas.List.{drop_more, drop-set-lt, length-take-le, set_split, take_more, take_more_set, length-map}
 use Rattle.std.proofs.lemmas.Bool.Decides.{nat_tests}
 use Rattle.std.proofs.lemmas.List.Elements.{All-head, All-tail}
@@ -30,20 +30,7 @@ whole_known old new bytes text is read = rw is at (Consumes-whole old new text (
 
 -- ---- one more file
 
-pub regroup : {A : Type 0} → (front : List A) (x : A) (said : Result (List A) Refusal)
-    → with_front front (said >>= λ others. Ok (x ∷ others)) ≡ with_front (front ++ x ∷ []) said
-regroup {A} front x (Ok others) = ap (λ (xs : List A). Ok xs) (simp append_assoc)
-regroup front x (Err f) = refl
-
 module _ (limit : ℕ) (front : List (List ℕ)) (n : ℕ) (bytes : List ℕ) (more : List (List ℕ)) (total : Result (List (List ℕ)) Refusal) where
-  pub goes_on : length bytes ≤ limit → with_front front (files_from limit n (bytes ∷ more)) ≡ total
-      → with_front (front ++ bytes ∷ []) (files_from limit (n + 1) more) ≡ total
-  unfolding files_from
-  goes_on fits so_far =
-      let one : with_front front (files_from limit n (bytes ∷ more)) ≡ with_front (front ++ bytes ∷ []) (files_from limit (n + 1) more) =
-      rw (le-leb (length bytes) limit fits) (regroup front bytes (files_from limit (n + 1) more)) in
-      sym one ∙ so_far
-
   pub too_long : limit < length bytes → with_front front (files_from limit n (bytes ∷ more)) ≡ total → total ≡ Err (file_long n)
   unfolding files_from
   too_long long so_far =

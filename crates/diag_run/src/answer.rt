@@ -39,10 +39,8 @@ pub(crate) fn read_texts<R: Read>(alloc: Global, files: &mut [R]) -> Result<Vec<
     while texts.len() < files.len() {
         texts.push(Vec::new(alloc))?;
     }
-    match read_each(files, texts.as_mut_slice(), LOG_LIMIT) {
-        Ok(()) => Ok(texts),
-        Err(fault) => Err(fault),
-    }
+    read_each(files, texts.as_mut_slice(), LOG_LIMIT)?;
+    Ok(texts)
 }
 
 /// Plays the logs of these files on one thread, and says what the play writes. Each log is read as its lines come.
@@ -57,10 +55,7 @@ pub(crate) fn played_text<R: Read>(
     ensures { FilesGive R.remaining (Job.Serial only_journal timing) setup.now files.old files.new
         (answered result) }
 {
-    let takers = match read_logs(alloc, setup, files, timing) {
-        Ok(takers) => takers,
-        Err(fault) => return Err(fault),
-    };
+    let takers = read_logs(alloc, setup, files, timing)?;
     told_play(alloc, setup, takers, only_journal, timing)
 }
 
@@ -172,10 +167,8 @@ fn read_journal<'a, R: Read>(
         },
         begun: Vec::new(alloc),
     })?;
-    match read_each(files, takers.as_mut_slice(), JOURNAL_LIMIT) {
-        Ok(()) => Ok(takers.remove(0)),
-        Err(fault) => Err(fault),
-    }
+    read_each(files, takers.as_mut_slice(), JOURNAL_LIMIT)?;
+    Ok(takers.remove(0))
 }
 
 /// Replays the journal of the one file as it is read, and says what the replay writes.
@@ -187,10 +180,7 @@ pub(crate) fn replayed_text<R: Read>(
     requires { length files.old ≡ 1 }
     ensures { FilesGive R.remaining Job.Replay setup.now files.old files.new (answered result) }
 {
-    let taker = match read_journal(alloc, setup, files) {
-        Ok(taker) => taker,
-        Err(fault) => return Err(fault),
-    };
+    let taker = read_journal(alloc, setup, files)?;
     told_replay(alloc, setup, taker.lines.replay, taker.begun.as_slice())
 }
 

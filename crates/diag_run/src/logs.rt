@@ -93,10 +93,8 @@ pub(crate) fn read_logs<R: Read>(
     ensures ends { IfErr result (FilesEnd R.remaining 67108864 files.old files.new) }
 {
     let mut takers = first_takers(alloc, setup, timing)?;
-    match read_each(files, takers.as_mut_slice(), LOG_LIMIT) {
-        Ok(()) => Ok(takers),
-        Err(fault) => Err(fault),
-    }
+    read_each(files, takers.as_mut_slice(), LOG_LIMIT)?;
+    Ok(takers)
 }
 
 /// The events of each log that was taken, in order.

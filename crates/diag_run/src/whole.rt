@@ -83,10 +83,7 @@ fn read_counted<R: Read>(
     ensures stops { IfErr result
         (ReadingStops R.remaining job config.old config.new files.now files.now) }
 {
-    let setup = match read_config(alloc, config) {
-        Ok(setup) => setup,
-        Err(fault) => return Err(fault),
-    };
+    let setup = read_config(alloc, config)?;
     let wanted = job.wanted(&setup);
     let given = files.len();
     if wanted != given {
@@ -143,10 +140,10 @@ fn text_of<T: Threads + Wait + Sync, R: Read>(
         Job::Play {
             only_journal,
             timing,
-        } => match read_texts(alloc, files) {
-            Ok(texts) => woven_text(rt, alloc, setup, texts.as_slice(), only_journal, timing),
-            Err(fault) => Err(fault),
-        },
+        } => {
+            let texts = read_texts(alloc, files)?;
+            woven_text(rt, alloc, setup, texts.as_slice(), only_journal, timing)
+        }
         Job::Replay => text_alone(alloc, Alone::Replay, setup, files),
     }
 }
@@ -206,10 +203,7 @@ pub fn run_text<T: Threads + Wait + Sync, R: Read>(
 fn written<W: Write>(out: &mut W, made: Result<Vec<Vec<u8>>, RunFault>) -> Result<(), RunFault>
     ensures { Writes (answered made) (W.contents out.old) (W.contents out.new) result }
 {
-    let parts = match made {
-        Ok(parts) => parts,
-        Err(fault) => return Err(fault),
-    };
+    let parts = made?;
     match write_whole(out, parts.as_slice()) {
         Ok(()) => Ok(()),
         Err(_) => Err(RunFault::Write),

@@ -15,41 +15,36 @@ use Rattle.diag_setup.specs.Fits.{TesterFits, DidFits, CodeFits, OnDoneFits, Rou
 use Rattle.diag_setup.proofs.SetupLemmas.{NoneHold, none_hold}
 
 and3 : (a b c : Bool) → (a && b && c) ≡ true → (a ≡ true) × (b ≡ true) × (c ≡ true)
-and3 false b c h = cc
-and3 true false c h = cc
-and3 true true c h = (refl, refl, h)
+and3 a b c h =
+    let last = and_parts (a && b) c h in
+    let front = and_parts a b last.0 in
+    (front.0, front.1, last.1)
 
 and4 : (a b c d : Bool) → (a && b && c && d) ≡ true → (a ≡ true) × (b ≡ true) × (c ≡ true) × (d ≡ true)
-and4 false b c d h = cc
-and4 true false c d h = cc
-and4 true true false d h = cc
-and4 true true true d h = (refl, refl, refl, h)
+and4 a b c d h =
+    let last = and_parts (a && b && c) d h in
+    let front = and3 a b c last.0 in
+    (front.0, front.1, front.2, last.1)
 
 and5 : (a b c d e : Bool) → (a && b && c && d && e) ≡ true → (a ≡ true) × (b ≡ true) × (c ≡ true) × (d ≡ true) × (e ≡ true)
-and5 false b c d e h = cc
-and5 true false c d e h = cc
-and5 true true false d e h = cc
-and5 true true true false e h = cc
-and5 true true true true e h = (refl, refl, refl, refl, h)
+and5 a b c d e h =
+    let last = and_parts (a && b && c && d) e h in
+    let front = and4 a b c d last.0 in
+    (front.0, front.1, front.2, front.3, last.1)
 
 and6 : (a b c d e f : Bool) → (a && b && c && d && e && f) ≡ true → (a ≡ true) × (b ≡ true) × (c ≡ true) × (d ≡ true) × (e ≡ true) × (f ≡ true)
-and6 false b c d e f h = cc
-and6 true false c d e f h = cc
-and6 true true false d e f h = cc
-and6 true true true false e f h = cc
-and6 true true true true false f h = cc
-and6 true true true true true f h = (refl, refl, refl, refl, refl, h)
+and6 a b c d e f h =
+    let last = and_parts (a && b && c && d && e) f h in
+    let front = and5 a b c d e last.0 in
+    (front.0, front.1, front.2, front.3, front.4, last.1)
 
 and8 : (a b c d e f g i : Bool) → (a && b && c && d && e && f && g && i) ≡ true
     → (a ≡ true) × (b ≡ true) × (c ≡ true) × (d ≡ true) × (e ≡ true) × (f ≡ true) × (g ≡ true) × (i ≡ true)
-and8 false b c d e f g i h = cc
-and8 true false c d e f g i h = cc
-and8 true true false d e f g i h = cc
-and8 true true true false e f g i h = cc
-and8 true true true true false f g i h = cc
-and8 true true true true true false g i h = cc
-and8 true true true true true true false i h = cc
-and8 true true true true true true true i h = (refl, refl, refl, refl, refl, refl, refl, h)
+and8 a b c d e f g i h =
+    let last = and_parts (a && b && c && d && e && f && g) i h in
+    let next = and_parts (a && b && c && d && e && f) g last.0 in
+    let front = and6 a b c d e f next.0 in
+    (front.0, front.1, front.2, front.3, front.4, front.5, next.1, last.1)
 
 between : (low high n : ℕ) → is_between low high n ≡ true → (low ≤ n) × (n ≤ high)
 between low high n h =
@@ -100,21 +95,27 @@ numbers_fit raw h =
       delay_ms = (between 1 600000 raw.delay_ms server.2).0;
     }
 
+-- rows that are in range are so many at most, and each is
+few_rows : {X : Type 0} (test : X → Bool) (most : ℕ) (rows : List X) → (nat_le (length rows) most && list_all test rows) ≡ true → length rows ≤ most
+few_rows test most rows h = leb-true (length rows) most (and_parts (nat_le (length rows) most) (list_all test rows) h).0
+
+all_rows : {X : Type 0} (test : X → Bool) (most : ℕ) (rows : List X) → (nat_le (length rows) most && list_all test rows) ≡ true → list_all test rows ≡ true
+all_rows test most rows h = (and_parts (nat_le (length rows) most) (list_all test rows) h).1
+
 pub testers_few : (raw : RawSetup) → IsSetup raw → length raw.testers ≤ 8
-testers_few raw h = leb-true (length raw.testers) 8 (and_parts (nat_le (length raw.testers) 8) (list_all tester_is_in_range raw.testers) (parts_of raw h).3).0
+testers_few raw h = few_rows tester_is_in_range 8 raw.testers (parts_of raw h).3
 
 pub dids_few : (raw : RawSetup) → IsSetup raw → length raw.dids ≤ 64
-dids_few raw h = leb-true (length raw.dids) 64 (and_parts (nat_le (length raw.dids) 64) (list_all did_is_in_range raw.dids) (parts_of raw h).4).0
+dids_few raw h = few_rows did_is_in_range 64 raw.dids (parts_of raw h).4
 
 pub codes_few : (raw : RawSetup) → IsSetup raw → length raw.dtcs ≤ 256
-codes_few raw h = leb-true (length raw.dtcs) 256 (and_parts (nat_le (length raw.dtcs) 256) (list_all code_is_in_range raw.dtcs) (parts_of raw h).5).0
+codes_few raw h = few_rows code_is_in_range 256 raw.dtcs (parts_of raw h).5
 
 pub routines_few : (raw : RawSetup) → IsSetup raw → length raw.routines ≤ 16
-routines_few raw h = leb-true (length raw.routines) 16
-    (and_parts (nat_le (length raw.routines) 16) (list_all routine_is_in_range raw.routines) (parts_of raw h).6).0
+routines_few raw h = few_rows routine_is_in_range 16 raw.routines (parts_of raw h).6
 
 pub levels_few : (raw : RawSetup) → IsSetup raw → length raw.levels ≤ 4
-levels_few raw h = leb-true (length raw.levels) 4 (and_parts (nat_le (length raw.levels) 4) (list_all level_is_in_range raw.levels) (parts_of raw h).7).0
+levels_few raw h = few_rows level_is_in_range 4 raw.levels (parts_of raw h).7
 
 -- a test that each row passes, and what it says of a row
 each : {X : Type 0} (test : X → Bool) (P : X → Type 0) → ((x : X) → test x ≡ true → P x) → (xs : List X) → list_all test xs ≡ true → All P xs
@@ -126,8 +127,7 @@ tester-fits tester h =
     record { request = leb-true tester.request 0x7FF parts.2; response = leb-true tester.response 0x7FF parts.3 }
 
 pub testers_fit : (raw : RawSetup) → IsSetup raw → All TesterFits raw.testers
-testers_fit raw h = each tester_is_in_range TesterFits tester-fits raw.testers
-    (and_parts (nat_le (length raw.testers) 8) (list_all tester_is_in_range raw.testers) (parts_of raw h).3).1
+testers_fit raw h = each tester_is_in_range TesterFits tester-fits raw.testers (all_rows tester_is_in_range 8 raw.testers (parts_of raw h).3)
 
 code-fits : (row : RawCode) → code_is_in_range row ≡ true → CodeFits row
 code-fits row h =
@@ -135,8 +135,7 @@ code-fits row h =
     record { code = leb-true row.code 0xFFFFFE parts.0; status = leb-true row.status 0xFF parts.1 }
 
 pub codes_fit : (raw : RawSetup) → IsSetup raw → All CodeFits raw.dtcs
-codes_fit raw h = each code_is_in_range CodeFits code-fits raw.dtcs
-    (and_parts (nat_le (length raw.dtcs) 256) (list_all code_is_in_range raw.dtcs) (parts_of raw h).5).1
+codes_fit raw h = each code_is_in_range CodeFits code-fits raw.dtcs (all_rows code_is_in_range 256 raw.dtcs (parts_of raw h).5)
 
 level_in_list-fits : (levels : List RawLevel) → list_all level_is_in_range levels ≡ true → (n : ℕ) → has_key level_sub levels n ≡ true → n ≤ 65
 level_in_list-fits [] all n h = cc
@@ -160,7 +159,7 @@ known_level-fits levels all n h =
     ] refl h
 
 levels-in_range : (raw : RawSetup) → IsSetup raw → list_all level_is_in_range raw.levels ≡ true
-levels-in_range raw h = (and_parts (nat_le (length raw.levels) 4) (list_all level_is_in_range raw.levels) (parts_of raw h).7).1
+levels-in_range raw h = all_rows level_is_in_range 4 raw.levels (parts_of raw h).7
 
 abbrev KnownLevels : RawSetup → Type 0
 KnownLevels raw = (list_all (did_levels_are_known raw.levels) raw.dids ≡ true) × (list_all (routine_level_is_known raw.levels) raw.routines ≡ true)
@@ -173,8 +172,7 @@ known_levels raw h =
 
 pub dids_fit : (raw : RawSetup) → IsSetup raw → All DidFits raw.dids
 dids_fit raw h =
-    let in_range = AllPass-from_list_all did_is_in_range raw.dids
-    (and_parts (nat_le (length raw.dids) 64) (list_all did_is_in_range raw.dids) (parts_of raw h).4).1 in
+    let in_range = AllPass-from_list_all did_is_in_range raw.dids (all_rows did_is_in_range 64 raw.dids (parts_of raw h).4) in
     let known = AllPass-from_list_all (did_levels_are_known raw.levels) raw.dids (known_levels raw h).0 in
     λ k d below.
     let did = slice_index_or raw.dids k d in
@@ -193,8 +191,7 @@ on_done-fits (Some row) h = leb-true row.status 0xFF h
 
 pub routines_fit : (raw : RawSetup) → IsSetup raw → All RoutineFits raw.routines
 routines_fit raw h =
-    let in_range = AllPass-from_list_all routine_is_in_range raw.routines
-    (and_parts (nat_le (length raw.routines) 16) (list_all routine_is_in_range raw.routines) (parts_of raw h).6).1 in
+    let in_range = AllPass-from_list_all routine_is_in_range raw.routines (all_rows routine_is_in_range 16 raw.routines (parts_of raw h).6) in
     let known = AllPass-from_list_all (routine_level_is_known raw.levels) raw.routines (known_levels raw h).1 in
     λ k d below.
     let routine = slice_index_or raw.routines k d in

@@ -1,15 +1,33 @@
 //! The tests that a raw setup has to pass.
 
-ghost use Rattle.std.specs.Prelude.{◌≡◌, ◌==◌, ◌≤◌, length, not};
+ghost use Rattle.std.specs.Prelude.{◌≡◌, ◌==◌, ◌≤◌, ◌&&◌, Bool, length, nat_le, not};
 ghost use Rattle.std.specs.List.{list_all, list_any};
 ghost use Rattle.std.specs.Bool.{OnTrue};
 ghost use Rattle.diag_setup.specs.Rows.{is_between, have_one_length};
-ghost use Rattle.diag_setup.specs.Setup.{can_ids, has_name, has_repeated_name, has_no_rows, is_known_level, done_code_is_known, did_levels_are_known, routine_level_is_known, lacks_rows, has_duplicates, names_unknown_code, names_unknown_level, key_of, seed_of, fault_of, is_in_range, times_are_in_range, link_is_in_range, server_is_in_range, testers_are_in_range, dids_are_in_range, codes_are_in_range, routines_are_in_range, levels_are_in_range, tester_is_in_range, did_is_in_range, code_is_in_range, routine_is_in_range, key_row_is_in_range, level_is_in_range, is_st_min, is_name_byte, is_can_id};
+ghost use Rattle.diag_setup.specs.Setup.{can_ids, has_name, has_repeated_name, has_no_rows, is_known_level, done_code_is_known, did_levels_are_known, routine_level_is_known, lacks_rows, has_duplicates, names_unknown_code, names_unknown_level, key_of, seed_of, fault_of, is_in_range, times_are_in_range, link_is_in_range, server_is_in_range, tester_is_in_range, did_is_in_range, code_is_in_range, routine_is_in_range, key_row_is_in_range, level_is_in_range, is_st_min, is_name_byte, is_can_id};
 
 use crate::fault::SetupFault;
 use crate::keyed::{has_key, has_repeat};
 use crate::raw::{RawCode, RawDid, RawKeyRow, RawLevel, RawRoutine, RawSetup, RawTester};
 use arrayvec::ArrayVec;
+
+/// The most testers of a setup.
+const MOST_TESTERS: usize = 8;
+
+/// The most data identifiers.
+const MOST_DIDS: usize = 64;
+
+/// The most trouble codes.
+const MOST_DTCS: usize = 256;
+
+/// The most routines.
+const MOST_ROUTINES: usize = 16;
+
+/// The most security levels.
+const MOST_LEVELS: usize = 4;
+
+/// The most rows of a level.
+const MOST_KEY_ROWS: usize = 64;
 
 impl RawSetup {
     fn times_are_in_range(&self) -> bool
@@ -47,79 +65,43 @@ impl RawSetup {
         self.times_are_in_range()
             && self.link_is_in_range()
             && self.server_is_in_range()
-            && testers_are_in_range(self.testers.as_slice())
-            && dids_are_in_range(self.dids.as_slice())
-            && codes_are_in_range(self.dtcs.as_slice())
-            && routines_are_in_range(self.routines.as_slice())
-            && levels_are_in_range(self.levels.as_slice())
+            && are_in_range(self.testers.as_slice(), MOST_TESTERS)
+            && are_in_range(self.dids.as_slice(), MOST_DIDS)
+            && are_in_range(self.dtcs.as_slice(), MOST_DTCS)
+            && are_in_range(self.routines.as_slice(), MOST_ROUTINES)
+            && are_in_range(self.levels.as_slice(), MOST_LEVELS)
     }
 }
 
-fn testers_are_in_range(testers: &[RawTester]) -> bool
-    ensures answer { result ≡ testers_are_in_range testers.now }
-    ensures few { OnTrue result (length testers.now ≤ 8) }
-{
-    testers.len() <= 8 && all_testers_are_in_range(testers)
-}
+/// What may stand in a setup only within a range.
+trait Ranged {
+    ghost in_range: { Self → Bool };
 
-fn all_testers_are_in_range(testers: &[RawTester]) -> bool
-    ensures { result ≡ list_all tester_is_in_range testers.now }
-{
-    testers.iter().all(|tester| tester.is_in_range())
-}
-
-fn dids_are_in_range(dids: &[RawDid]) -> bool
-    ensures { result ≡ dids_are_in_range dids.now }
-{
-    dids.len() <= 64 && all_dids_are_in_range(dids)
-}
-
-fn all_dids_are_in_range(dids: &[RawDid]) -> bool
-    ensures { result ≡ list_all did_is_in_range dids.now }
-{
-    dids.iter().all(|did| did.is_in_range())
-}
-
-fn codes_are_in_range(codes: &[RawCode]) -> bool
-    ensures { result ≡ codes_are_in_range codes.now }
-{
-    codes.len() <= 256 && all_codes_are_in_range(codes)
-}
-
-fn all_codes_are_in_range(codes: &[RawCode]) -> bool
-    ensures { result ≡ list_all code_is_in_range codes.now }
-{
-    codes.iter().all(|row| row.is_in_range())
-}
-
-fn routines_are_in_range(routines: &[RawRoutine]) -> bool
-    ensures { result ≡ routines_are_in_range routines.now }
-{
-    routines.len() <= 16 && all_routines_are_in_range(routines)
-}
-
-fn all_routines_are_in_range(routines: &[RawRoutine]) -> bool
-    ensures { result ≡ list_all routine_is_in_range routines.now }
-{
-    routines.iter().all(|routine| routine.is_in_range())
-}
-
-fn levels_are_in_range(levels: &[RawLevel]) -> bool
-    ensures { result ≡ levels_are_in_range levels.now }
-{
-    levels.len() <= 4 && all_levels_are_in_range(levels)
-}
-
-fn all_levels_are_in_range(levels: &[RawLevel]) -> bool
-    ensures { result ≡ list_all level_is_in_range levels.now }
-{
-    levels.iter().all(|level| level.is_in_range())
-}
-
-impl RawTester {
+    /// Whether it is within its range.
     fn is_in_range(&self) -> bool
-        ensures { result ≡ tester_is_in_range self.now }
-    {
+        ensures { result ≡ in_range self.now };
+}
+
+/// Whether there are at most so many rows, each within its range.
+fn are_in_range<T: Ranged>(rows: &[T], most: usize) -> bool
+    ensures answer { result
+        ≡ (nat_le (length rows.now) most && list_all T.in_range rows.now) }
+    ensures few { OnTrue result (length rows.now ≤ most) }
+{
+    rows.len() <= most && all_in_range(rows)
+}
+
+/// Whether each row is within its range.
+fn all_in_range<T: Ranged>(rows: &[T]) -> bool
+    ensures { result ≡ list_all T.in_range rows.now }
+{
+    rows.iter().all(|row| row.is_in_range())
+}
+
+impl Ranged for RawTester {
+    ghost in_range = { tester_is_in_range };
+
+    fn is_in_range(&self) -> bool {
         is_between_len(1, 16, self.name.len())
             && is_name(self.name.as_slice())
             && is_can_id(self.request)
@@ -127,26 +109,26 @@ impl RawTester {
     }
 }
 
-impl RawDid {
-    fn is_in_range(&self) -> bool
-        ensures { result ≡ did_is_in_range self.now }
-    {
+impl Ranged for RawDid {
+    ghost in_range = { did_is_in_range };
+
+    fn is_in_range(&self) -> bool {
         self.id <= 0xFFFF && is_between_len(1, 255, self.value.len())
     }
 }
 
-impl RawCode {
-    fn is_in_range(&self) -> bool
-        ensures { result ≡ code_is_in_range self.now }
-    {
+impl Ranged for RawCode {
+    ghost in_range = { code_is_in_range };
+
+    fn is_in_range(&self) -> bool {
         self.code <= 0xFF_FFFE && self.status <= 0xFF
     }
 }
 
-impl RawRoutine {
-    fn is_in_range(&self) -> bool
-        ensures { result ≡ routine_is_in_range self.now }
-    {
+impl Ranged for RawRoutine {
+    ghost in_range = { routine_is_in_range };
+
+    fn is_in_range(&self) -> bool {
         self.id <= 0xFFFF
             && is_between(1, 600_000, self.time_ms)
             && self.result.len() <= 32
@@ -157,24 +139,24 @@ impl RawRoutine {
     }
 }
 
-impl RawKeyRow {
-    fn is_in_range(&self) -> bool
-        ensures { result ≡ key_row_is_in_range self.now }
-    {
+impl Ranged for RawKeyRow {
+    ghost in_range = { key_row_is_in_range };
+
+    fn is_in_range(&self) -> bool {
         is_between_len(1, 16, self.seed.len())
             && has_a_bit(self.seed.as_slice())
             && is_between_len(1, 16, self.key.len())
     }
 }
 
-impl RawLevel {
-    fn is_in_range(&self) -> bool
-        ensures { result ≡ level_is_in_range self.now }
-    {
+impl Ranged for RawLevel {
+    ghost in_range = { level_is_in_range };
+
+    fn is_in_range(&self) -> bool {
         is_between(1, 65, self.request_seed)
             && self.request_seed % 2 == 1
-            && self.rows.len() <= 64
-            && all_key_rows_are_in_range(self.rows.as_slice())
+            && self.rows.len() <= MOST_KEY_ROWS
+            && all_in_range(self.rows.as_slice())
             && seeds_have_one_length(self.rows.as_slice())
             && keys_have_one_length(self.rows.as_slice())
     }
@@ -240,12 +222,6 @@ fn has_a_bit(bytes: &[u8]) -> bool
     ensures { result ≡ list_any (λ b. not (b == 0)) bytes.now }
 {
     bytes.iter().any(|byte| *byte != 0)
-}
-
-fn all_key_rows_are_in_range(rows: &[RawKeyRow]) -> bool
-    ensures { result ≡ list_all key_row_is_in_range rows.now }
-{
-    rows.iter().all(|row| row.is_in_range())
 }
 
 /// The identifiers on the bus: requests, responses and the functional one.

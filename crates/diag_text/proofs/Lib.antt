@@ -1,5 +1,5 @@
 pub mod Codes
 pub mod Lines
 pub mod Pieces
-pub mod Testers
+pub mod Items
 pub mod Writing

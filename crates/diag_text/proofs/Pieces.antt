@@ -6,7 +6,7 @@ use Rattle.diag_can.specs.Bus.{HasNoFeed}
 use Rattle.diag_can.specs.Log.{is_feed}
 use Rattle.diag_can.specs.Pieces.{TakesLines}
 use Rattle.diag_text.specs.Taking.{LinesTaken}
-pub use Rattle.diag_can.proofs.Lines.{ends_at_feed, no_feed, split_at_feed}
+pub use Rattle.diag_can.proofs.Lines.{no_feed, split_at_feed}
 
 -- ---- what a line feed ends
 
@@ -28,15 +28,6 @@ no_rest (x ∷ xs) (f ∷ fs) rest is none = no_rest xs fs rest (ap (drop 1) is)
 -- ---- what is taken
 
 module _ (P Q : List ℕ → Type 0) where
-  -- a text, where no line was begun
-  pub text_taken : (text rest begun : List ℕ) → TakesLines P Q text rest → begun ≡ rest → (seen : List ℕ) → P seen → LinesTaken Q begun (seen ++ text)
-  text_taken text rest begun t same seen h = record {
-    lines = seen ++ t.front;
-    took = t.takes seen h;
-    is = ap (λ (x : List ℕ). seen ++ x) t.is ∙ sym (append_assoc seen t.front rest) ∙ ap (λ (r : List ℕ). (seen ++ t.front) ++ r) (sym same);
-    unended = subst HasNoFeed (sym same) t.begun;
-  }
-
   -- the line that was begun, and that these bytes end
   pub line_taken : (line bytes kept whole rest : List ℕ) → bytes ≡ line ++ 10 ∷ [] → whole ≡ kept ++ bytes → TakesLines P Q whole rest
       → (seen : List ℕ) → P seen → Q (seen ++ (kept ++ bytes))
@@ -61,21 +52,3 @@ module _ (P Q : List ℕ → Type 0) where
       → OnOk r ((seen : List ℕ) → LinesTaken P begun seen → LinesTaken P new (seen ++ piece))
   begun_on (Ok u) begun piece new none is = λ seen h. begun_more begun seen piece new none is h
   begun_on (Err e) begun piece new none is = tt
-
-  -- a piece where no line was begun
-  pub piece_alone : (begun seen piece new : List ℕ) → begun ≡ [] → ((lines : List ℕ) → P lines → LinesTaken Q new (lines ++ piece))
-      → LinesTaken P begun seen → LinesTaken Q new (seen ++ piece)
-  piece_alone begun seen piece new none on h =
-      let same : seen ≡ h.lines = h.is ∙ ap (λ (b : List ℕ). h.lines ++ b) none ∙ append-nil h.lines in
-      subst (λ (s : List ℕ). LinesTaken Q new (s ++ piece)) (sym same) (on h.lines h.took)
-
--- a piece whose front ends the line that was begun
-pub piece_behind : (P Q R : List ℕ → Type 0) (begun seen piece front back new : List ℕ) → front ++ back ≡ piece
-    → ((lines : List ℕ) → P lines → Q (lines ++ (begun ++ front)))
-    → ((lines : List ℕ) → Q lines → LinesTaken R new (lines ++ back))
-    → LinesTaken P begun seen → LinesTaken R new (seen ++ piece)
-piece_behind P Q R begun seen piece front back new is first second h =
-    let same : (h.lines ++ (begun ++ front)) ++ back ≡ seen ++ piece =
-    ap (λ (x : List ℕ). x ++ back) (sym (append_assoc h.lines begun front)) ∙ append_assoc (h.lines ++ begun) front back
-    ∙ ap (λ (x : List ℕ). (h.lines ++ begun) ++ x) is ∙ ap (λ (x : List ℕ). x ++ piece) (sym h.is) in
-    subst (LinesTaken R new) same (second (h.lines ++ (begun ++ front)) (first h.lines h.took))

@@ -11,7 +11,6 @@ pub use fault::{RunFault, fault_text, status};
 pub use io::{ReadFault, WriteFault, read_into, read_whole, write_text, write_whole};
 pub use taking::{LineTaker, TakeLines, TakePieces};
 pub use text::{
-    counted_text, end_text, journal_part, one_part, play_parts, play_parts_beside, play_text,
-    replay_text,
+    counted_text, end_text, journal_part, one_part, play_parts_beside, play_text, replay_text,
 };
 pub use told::{agreement_text, verdict_text};

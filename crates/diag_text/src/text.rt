@@ -17,29 +17,7 @@ use diag_world::Played;
 use std::alloc::{AllocError, Global};
 use std::thread::{Threads, join};
 
-/// All that a play writes, in parts that are made one behind the other: the reply lines of each tester, the journal,
-/// and the end. The frames are let go once their lines are made.
-///
-/// # Errors
-/// `AllocError` where memory is refused.
-pub fn play_parts(
-    alloc: Global,
-    setup: &Setup,
-    played: Played,
-    timing: Timing,
-) -> Result<Vec<Vec<u8>>, AllocError>
-    requires { length played.sent.items ≡ length setup.now.testers }
-    ensures { IfOk result (λ parts. concat (map (λ part. part.items) parts.items)
-        ≡ whole_text timing setup.now played.desk (map (λ sent. sent.items) played.sent.items)) }
-{
-    let Played { desk, sent } = played;
-    let lines = lines_from(alloc, setup, sent)?;
-    let journal = journal_part(alloc, timing, desk.journal())?;
-    let end = end_text(alloc, setup, desk.ecu())?;
-    with_end(lines, journal, end)
-}
-
-/// The same text in one piece, of a play that stays; for those who embed this crate.
+/// All that a play writes, in one piece: the reply lines of each tester, the journal, and the end.
 ///
 /// # Errors
 /// `AllocError` where memory is refused.
@@ -69,19 +47,6 @@ fn one_text(alloc: Global, parts: &[Vec<u8>]) -> Result<Vec<u8>, AllocError>
         text.extend_from_slice(part.as_slice())?;
     }
     Ok(text)
-}
-
-/// The reply lines of these frames, which are let go.
-fn lines_from(
-    alloc: Global,
-    setup: &Setup,
-    sent: Vec<Vec<Sent>>,
-) -> Result<Vec<Vec<u8>>, AllocError>
-    requires { length sent.items ≡ length setup.now.testers }
-    ensures { IfOk result (λ parts. concat (map (λ part. part.items) parts.items)
-        ≡ lines_from setup.now 1 (map (λ frames. frames.items) sent.items)) }
-{
-    lines_in_turn(alloc, setup, sent.as_slice())
 }
 
 /// The same text in parts that are made beside each other.

@@ -13,11 +13,11 @@ returns-in_err-push-clause-ends g c =
     let p = err_from_is_err_and c.from_residual-in_err-push.result c.from_residual-in_err-push.ensures.1 in
     rw (p.1, p.2) (refused_before g.R.Read.remaining 268435456 c.args.files.now (omega (arith, c.requires)))
 
-pub returns-in-Ok-clause-read : goal.returns-in-Ok-clause-read
-returns-in-Ok-clause-read g c =
+pub returns-clause-read : goal.returns-clause-read
+returns-clause-read g c =
     FilesRead-map g.R.Read.remaining 268435456 _ _ _ _
-    (journal_read c.read_each.new.takers c.as_mut_slice.result.now c.new-takers.result.items _ c.remove.result c.in-Ok.ensures.aims
+    (journal_read c.read_each.new.takers c.as_mut_slice.result.now c.new-takers.result.items _ c.remove.result c.in_ok-read_each.ensures.aims
     (c.as_mut_slice.ensures.value ∙ c.in_ok-push.ensures.items) c.new-takers.ensures.items
     (c.remove.ensures.value
-    ∙ ap (λ l. slice_index_or l 0 c.remove.result) (take_seam _ c.read_each.new.takers _ (c.in-Ok.ensures.as_many ∙ c.as_mut_slice.ensures.len))))
-    c.in-Ok.ensures.read
+    ∙ ap (λ l. slice_index_or l 0 c.remove.result) (take_seam _ c.read_each.new.takers _ (c.in_ok-read_each.ensures.as_many ∙ c.as_mut_slice.ensures.len))))
+    c.in_ok-read_each.ensures.read

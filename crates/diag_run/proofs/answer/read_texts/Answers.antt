@@ -8,8 +8,8 @@ returns-in_err-push-clause-ends g c =
     let p = err_from_is_err_and c.from_residual.result c.from_residual.ensures.1 in
     rw (p.1, p.2) (refused_before g.R.Read.remaining 67108864 c.args.files.now (search rules))
 
-pub returns-in-Ok-clause-read : goal.returns-in-Ok-clause-read
-returns-in-Ok-clause-read g c =
+pub returns-clause-read : goal.returns-clause-read
+returns-clause-read g c =
     FilesRead-map g.R.Read.remaining 67108864 _ _ _ _
     (λ read taken. kept_texts _ read taken
-    ∙ ap (map (λ text. text.items)) (sym (take_seam _ _ _ (c.in-Ok.ensures.as_many ∙ c.as_mut_slice.ensures.len)))) c.in-Ok.ensures.read
+    ∙ ap (map (λ text. text.items)) (sym (take_seam _ _ _ (c.in_ok-read_each.ensures.as_many ∙ c.as_mut_slice.ensures.len)))) c.in_ok-read_each.ensures.read

@@ -10,9 +10,9 @@ returns-in_err-takers-clause-ends g c =
     let p = err_from_is_err_and c.from_residual.result c.from_residual.ensures.1 in
     rw (p.1, p.2) (refused_before g.R.Read.remaining 67108864 c.args.files.now (omega (arith, c.requires, c.in_err-takers.ensures.some)))
 
-pub returns-in-Ok-clause-logs : goal.returns-in-Ok-clause-logs
-returns-in-Ok-clause-logs g c =
+pub returns-clause-logs : goal.returns-clause-logs
+returns-clause-logs g c =
     let logs = AreLogs 1 c.args.setup.now c.args.timing in
-    subst logs (sym (take_seam _ c.read_each.new.takers _ (c.in-Ok.ensures.as_many ∙ c.as_mut_slice.ensures.len)))
-    (AreLogs-same c.args.setup.now c.args.timing 1 c.read_each.new.takers c.as_mut_slice.result.now c.in-Ok.ensures.aims
+    subst logs (sym (take_seam _ c.read_each.new.takers _ (c.in_ok-read_each.ensures.as_many ∙ c.as_mut_slice.ensures.len)))
+    (AreLogs-same c.args.setup.now c.args.timing 1 c.read_each.new.takers c.as_mut_slice.result.now c.in_ok-read_each.ensures.aims
     (subst logs (sym c.as_mut_slice.ensures.value) c.in_ok-takers.ensures.logs))

@@ -1,4 +1,4 @@
-use Rattle.std.proofs.Common.{◌++◌, ◌+◌, ◌∙◌, take, append_assoc, arith, length-append, subst}
+use Rattle.std.proofs.Common.{◌++◌, ◌∙◌, take, append_assoc, arith, length-append, subst}
 use Rattle.std.proofs.KnownBytes.{Consumes-trans}
 use Rattle.diag_text.proofs.io.read_into.Goals as goal
 

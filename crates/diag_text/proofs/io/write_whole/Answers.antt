@@ -1,5 +1,5 @@
 use Rattle.std.proofs.Common.{rules}
-use Rattle.diag_text.proofs.Testers.{seen_at}
+use Rattle.diag_text.proofs.Items.{seen_at}
 use Rattle.diag_text.proofs.Writing.{on_fault, part_front, part_more}
 use Rattle.diag_text.proofs.io.write_whole.Goals as goal
 

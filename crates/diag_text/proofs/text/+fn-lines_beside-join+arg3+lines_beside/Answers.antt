@@ -3,7 +3,7 @@ use Rattle.std.specs.List.{concat}
 use Rattle.diag_setup.specs.Setup.{name_of}
 use Rattle.diag_text.specs.Text.{lines_of, lines_from}
 use Rattle.diag_text.proofs.Lines.{first_lines, no_lines}
-use Rattle.diag_text.proofs.Testers.{who_found}
+use Rattle.diag_world.proofs.Worlds.{who_found}
 use Rattle.diag_text.proofs.text.+fn-lines_beside-join+arg3+lines_beside.Goals as goal
 
 pub returns-in_default : goal.returns-in_default

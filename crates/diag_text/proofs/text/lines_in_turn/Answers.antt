@@ -4,7 +4,8 @@ use Rattle.std.specs.List.{concat}
 use Rattle.diag_setup.specs.Setup.{name_of}
 use Rattle.diag_text.specs.Text.{lines_of}
 use Rattle.diag_text.proofs.Lines.{lines_here, lines_done}
-use Rattle.diag_text.proofs.Testers.{seen_at, who_found}
+use Rattle.diag_world.proofs.Worlds.{who_found}
+use Rattle.diag_text.proofs.Items.{seen_at}
 use Rattle.diag_text.proofs.text.lines_in_turn.Goals as goal
 
 pub loop-index-preserved : goal.loop-index-preserved
