@@ -1,14 +1,10 @@
 //! A capture that comes piece by piece: its lines go to the bus, and what they write goes out.
 
-ghost use Rattle.std.specs.Prelude.{◌≡◌, ◌≢◌, ◌⊎◌, ◌+◌, ◌-◌, ◌<◌, ◌≤◌, ◌^◌, ◌∷◌, [], ◌++◌, ℕ, List, length, vec_len, IfOk, IfErr, IfSome, OnOk, OnErr, Some, Ok, Err};
-ghost use Rattle.std.specs.Io.KnownBytes.{Appends, Keeps};
+ghost use Rattle.std.specs.Prelude.{◌≡◌, ◌⊎◌, ◌+◌, ◌<◌, ◌≤◌, ◌^◌, ◌∷◌, [], ◌++◌, ℕ, List, length, vec_len, IfOk, IfErr, IfSome, OnOk, Ok};
+ghost use Rattle.std.specs.Io.KnownBytes.{Appends};
 ghost use Rattle.diag_can.specs.Bus.{HasNoFeed, bus_line, ended_lines};
 ghost use Rattle.diag_can.specs.Usual.{IsUsual, usual_said};
 ghost use Rattle.diag_bus.specs.Bus.{TookLines};
-ghost use Rattle.diag_bus.specs.Events.{line_fault};
-ghost use Rattle.diag_bus.specs.Text.{written};
-ghost use Rattle.diag_bus.specs.declared.fault.BusFault.{BusFault as ABusFault};
-ghost use Rattle.diag_world.specs.Port.{Grew};
 ghost use Rattle.diag_text.specs.Bytes.{AppendsFront, Sends};
 ghost use Rattle.diag_world.specs.Server.{quiet_of};
 ghost use Rattle.diag_run.specs.Faults.{fault_at};
