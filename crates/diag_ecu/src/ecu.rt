@@ -16,7 +16,6 @@ use diag_tp::Message;
 use std::alloc::{AllocError, Global};
 
 /// The ECU: the sequential server of all testers, of whom one at most is in the extended session, the holder.
-#[derive(Drop)]
 pub struct Ecu {
     pub(crate) values: ServerParameters,
     pub(crate) dids: Dids,
@@ -28,6 +27,22 @@ pub struct Ecu {
     pub(crate) s3_left: u32,
     /// Whether routines that are done set status bits (ISO 14229-1:2013, 9.9).
     pub(crate) dtc_setting_on: bool,
+}
+
+// Written out, so that a function which lets an ECU go makes one call, and doesn't go through all that it owns.
+impl Drop for Ecu {
+    fn drop(self) {
+        let Ecu {
+            values: _,
+            dids: _,
+            dtcs: _,
+            routines: _,
+            security: _,
+            holder: _,
+            s3_left: _,
+            dtc_setting_on: _,
+        } = self;
+    }
 }
 
 impl Ecu {
