@@ -14,9 +14,15 @@ use diag_tp::LinkSetup;
 use std::marker::Model;
 
 /// A setup without a fault, its tables in rising order.
-#[derive(Drop)]
 pub struct Setup {
     raw: RawSetup,
+}
+
+// Written out, so that a function which lets a setup go makes one call, and doesn't go through all that it owns.
+impl Drop for Setup {
+    fn drop(self) {
+        let Setup { raw: _ } = self;
+    }
 }
 
 impl Model for Setup {
