@@ -22,21 +22,24 @@ fn is_full(desk: &Desk) -> bool {
     journal.is_full() && journal.len() == MOST_ENTRIES && desk.ecu().holder().is_none()
 }
 
-/// Whether a full journal takes no step, and what is refused leaves the journal and the ECU as they are.
-fn stays_full(desk: &mut Desk, who: TesterId) -> bool {
+/// Whether a request is refused, since the journal is full.
+fn refuses(desk: &mut Desk, who: TesterId) -> bool {
     let session = Step::Request {
         functional: false,
         message: Message::in_place(FrameBytes::from_slice(b"\x10\x03")),
     };
-    let was_full = is_full(desk);
-    let is_refused = matches!(desk.step(who, &session), Err(StepFault::JournalFull));
-    was_full && is_refused && is_full(desk)
+    matches!(desk.step(who, &session), Err(StepFault::JournalFull))
+}
+
+/// Whether a full journal takes no step, and what is refused leaves the journal and the ECU as they are.
+fn stays_full(desk: &mut Desk, who: TesterId) -> Result<bool, Trouble> {
+    fill(desk, who)?;
+    Ok(is_full(desk) && refuses(desk, who) && is_full(desk))
 }
 
 #[test]
 fn full_journal(rt: HostRuntime) -> Result<(), Trouble> {
     let who = tester(1)?;
     let mut desk = desk_of_two(rt.alloc())?;
-    fill(&mut desk, who)?;
-    holds(Ok(stays_full(&mut desk, who)))
+    holds(stays_full(&mut desk, who))
 }

@@ -3,17 +3,28 @@
 
 use crate::trouble::{Trouble, holds};
 use diag_can::{Event, FrameBytes};
+use diag_setup::Setup;
 use diag_stored::two_testers;
-use diag_tp::{Link, Message, Pci, Request, frame_of};
+use diag_tp::{Link, LinkSetup, Message, Pci, Request, frame_of};
 use std::alloc::Global;
+
+/// The settings of the first tester's link.
+fn settings(setup: &Setup) -> Result<LinkSetup, Trouble> {
+    match setup.who(0) {
+        Some(who) => Ok(setup.link(who)),
+        None => Err(Trouble::Wrong),
+    }
+}
+
+/// The settings of the first tester's link in the stored setup.
+fn stored_settings(alloc: Global) -> Result<LinkSetup, Trouble> {
+    let setup = two_testers(alloc)?;
+    settings(&setup)
+}
 
 /// The link of the first tester.
 fn opened(alloc: Global) -> Result<Link, Trouble> {
-    let setup = two_testers(alloc)?;
-    match setup.who(0) {
-        Some(who) => Ok(Link::new(alloc, setup.link(who))),
-        None => Err(Trouble::Wrong),
-    }
+    Ok(Link::new(alloc, stored_settings(alloc)?))
 }
 
 /// The reply with the value of F190.
@@ -100,11 +111,16 @@ fn ends_in_one_byte(message: &Message) -> bool {
     }
 }
 
+/// Whether a message has these bytes and their last frame.
+fn is_long(message: &Message) -> bool {
+    message.bytes() == LONG.as_slice() && ends_in_one_byte(message)
+}
+
 /// Whether the copy of a message has its bytes and its last frame.
 fn is_copied(alloc: Global) -> Result<bool, Trouble> {
     let message = Message::new(alloc, &LONG)?;
     let copy = message.try_copy()?;
-    Ok(copy.bytes() == LONG.as_slice() && ends_in_one_byte(&copy))
+    Ok(is_long(&copy))
 }
 
 #[test]

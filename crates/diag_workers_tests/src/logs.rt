@@ -2,6 +2,7 @@
 
 use crate::trouble::{Trouble, holds};
 use diag_can::{LineFault, LogFault};
+use std::alloc::Global;
 
 const FAULTS: [(LogFault, &str); 4] = [
     (LogFault::Line(3, LineFault::BadTick), "line 3: bad tick"),
@@ -10,11 +11,16 @@ const FAULTS: [(LogFault, &str); 4] = [
     (LogFault::Memory, "memory"),
 ];
 
+/// Whether a fault is told so.
+fn is_told(alloc: Global, fault: &LogFault, wanted: &str) -> Result<bool, Trouble> {
+    let text = format!(in alloc; "{fault}")?;
+    Ok(text.as_str() == wanted)
+}
+
 #[test]
 fn faults_are_told(rt: HostRuntime) -> Result<(), Trouble> {
     for (fault, wanted) in &FAULTS {
-        let text = format!(in rt.alloc(); "{fault}")?;
-        holds(Ok(text.as_str() == *wanted))?;
+        holds(is_told(rt.alloc(), fault, wanted))?;
     }
     Ok(())
 }

@@ -86,15 +86,34 @@ fn told(alloc: Global, world: &World, setup: &Setup) -> Result<Vec<u8>, Trouble>
     Ok(text)
 }
 
-fn tells(alloc: Global) -> Result<bool, Trouble> {
-    let setup = two_testers(alloc)?;
-    let mut world = World::new(alloc, &setup)?;
-    give_all(&mut world, &setup)?;
-    let text = told(alloc, &world, &setup)?;
+/// Whether that is the text of the stored run.
+fn tells(alloc: Global, world: &World, setup: &Setup) -> Result<bool, Trouble>
+    requires { length world.now.sent ≡ length setup.now.testers }
+{
+    let text = told(alloc, world, setup)?;
     Ok(text.as_slice() == PLAYED.as_bytes())
+}
+
+/// The same behind all events.
+fn tells_all(alloc: Global, world: &mut World, setup: &Setup) -> Result<bool, Trouble>
+    requires { length world.old.sent ≡ length setup.now.testers }
+{
+    give_all(world, setup)?;
+    tells(alloc, world, setup)
+}
+
+/// The same of a world of this setup.
+fn plays(alloc: Global, setup: &Setup) -> Result<bool, Trouble> {
+    let mut world = World::new(alloc, setup)?;
+    tells_all(alloc, &mut world, setup)
+}
+
+fn stored_plays(alloc: Global) -> Result<bool, Trouble> {
+    let setup = two_testers(alloc)?;
+    plays(alloc, &setup)
 }
 
 #[test]
 fn refused_event_again(rt: HostRuntime) -> Result<(), Trouble> {
-    holds(tells(rt.alloc()))
+    holds(stored_plays(rt.alloc()))
 }

@@ -7,6 +7,7 @@ use crate::gate::seating::{gate_of_two, seat_of, tries};
 use crate::trouble::{Trouble, holds};
 use diag_desk::{Desk, StepFault};
 use diag_gate::{Door, Gate, GateDoor, Host, LockDoor};
+use diag_tp::Step;
 use std::alloc::Global;
 use std::sync::{Mutex, Wait};
 
@@ -50,19 +51,48 @@ fn door_lets_go(rt: HostRuntime) -> Result<(), Trouble> {
     holds(lets_go(&rt, rt.alloc()))
 }
 
-/// Whether each step of a door over a lock adds one entry, and a step that was refused for want of memory none.
-fn refused_adds_none<R: Wait>(rt: &R, alloc: Global, desk: &Mutex<Desk>) -> Result<bool, Trouble> {
-    let mut door = LockDoor::new(rt, alloc, desk, tester(1)?);
+/// How many entries the journal of a desk under a lock has.
+fn entries<R: Wait>(rt: &R, desk: &Mutex<Desk>) -> usize {
+    desk.lock(rt).journal().len()
+}
+
+/// Whether a step adds one entry to so many, and where it is refused for want of memory none.
+fn adds_one<R: Wait>(
+    rt: &R,
+    desk: &Mutex<Desk>,
+    door: &mut LockDoor<'_, R>,
+    step: &Step,
+    before: usize,
+) -> Result<bool, Trouble> {
+    let refused = door.step(step).err();
+    let after = entries(rt, desk);
+    match refused {
+        None => Ok(before.checked_add(1) == Some(after)),
+        Some(StepFault::Memory) if after == before => Err(Trouble::Memory),
+        Some(_) => Ok(false),
+    }
+}
+
+/// Whether each of eight steps of a door does so.
+fn add_one_each<R: Wait>(
+    rt: &R,
+    desk: &Mutex<Desk>,
+    door: &mut LockDoor<'_, R>,
+    step: &Step,
+) -> Result<bool, Trouble> {
     for before in 0..8 {
-        let answer = door.step(&request(alloc, &[0x3E, 0x00])?);
-        let after = desk.lock(rt).journal().len();
-        match answer {
-            Ok(_) if after == before + 1 => {}
-            Err(StepFault::Memory) if after == before => return Err(Trouble::Memory),
-            _ => return Ok(false),
+        if !adds_one(rt, desk, door, step, before)? {
+            return Ok(false);
         }
     }
     Ok(true)
+}
+
+/// Whether each step of a door over a lock adds one entry, and a step that was refused for want of memory none.
+fn refused_adds_none<R: Wait>(rt: &R, alloc: Global, desk: &Mutex<Desk>) -> Result<bool, Trouble> {
+    let step = request(alloc, &[0x3E, 0x00])?;
+    let mut door = LockDoor::new(rt, alloc, desk, tester(1)?);
+    add_one_each(rt, desk, &mut door, &step)
 }
 
 fn locked_room<R: Wait>(rt: &R, alloc: Global) -> Result<bool, Trouble> {

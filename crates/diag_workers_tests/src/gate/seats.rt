@@ -69,6 +69,26 @@ fn is_silent(answer: Result<Option<Message>, StepFault>) -> Result<bool, StepFau
     }
 }
 
+/// The same after a third seat's tick.
+fn step_held_after_a_tick(
+    alloc: Global,
+    gate: &Gate,
+    seat: Seat,
+    other: &mut Seat,
+    third: &mut Seat,
+    step: &Step,
+) -> Result<(Seat, Result<bool, StepFault>), Trouble>
+    requires seat { seat.gate ≡ gate.now }
+    requires other { other.old.gate ≡ gate.now }
+    requires third { third.old.gate ≡ gate.now }
+    ensures seat { IfOk result (λ r. r.0.gate ≡ gate.now) }
+    ensures other { other.new.gate ≡ other.old.gate }
+    ensures third { third.new.gate ≡ third.old.gate }
+{
+    tick(gate, third)?;
+    step_held(alloc, gate, seat, other, step)
+}
+
 /// The same, once more where memory was refused: the desk was then not kept from a third seat, whose tick tells of it.
 fn step_held_again(
     alloc: Global,
@@ -77,7 +97,7 @@ fn step_held_again(
     other: &mut Seat,
     third: &mut Seat,
     step: &Step,
-) -> Result<(Seat, bool), Trouble>
+) -> Result<(Seat, Result<bool, StepFault>), Trouble>
     requires seat { seat.gate ≡ gate.now }
     requires other { other.old.gate ≡ gate.now }
     requires third { third.old.gate ≡ gate.now }
@@ -87,12 +107,8 @@ fn step_held_again(
 {
     let (seat, silent) = step_held(alloc, gate, seat, other, step)?;
     match silent {
-        Err(StepFault::Memory) => {
-            tick(gate, third)?;
-            let (seat, silent) = step_held(alloc, gate, seat, other, step)?;
-            Ok((seat, silent?))
-        }
-        silent => Ok((seat, silent?)),
+        Err(StepFault::Memory) => { step_held_after_a_tick(alloc, gate, seat, other, third, step) }
+        silent => Ok((seat, silent)),
     }
 }
 
@@ -144,7 +160,7 @@ fn tries_again(
 }
 
 /// An entry of a physical request: its tester's place, its bytes and the bytes of its reply.
-#[derive(Drop)]
+#[derive(Clone, Copy)]
 struct Wanted {
     place: u8,
     request: &'static [u8],
@@ -215,7 +231,7 @@ fn first_steps<R: Wait>(
     let session = tries_again(alloc, gate, second, third, &[0x10, 0x03], &BUSY);
     let value = waits(rt, alloc, gate, &mut seat, &[0x22, 0xF1, 0x90], VALUE);
     bring_home(gate, host, seat);
-    Ok(session? && value? && held)
+    Ok(held? && session? && value?)
 }
 
 /// Whether a seat is given the desk; it puts the desk back.
@@ -267,19 +283,23 @@ fn all_step<R: Wait>(
     outcome
 }
 
-/// Whether what went before was right, and the desk of a gate whose seats are home has all entries. A tick beside them
-/// tells that memory was refused on the way, which is then the error.
-fn has_entries(gate: Gate, host: Host, went: bool) -> Result<bool, Trouble>
-    requires { host.gate ≡ gate }
-{
-    let desk = closed(gate, host)?;
-    let right = went && has_requests(desk.journal(), &WANTED);
-    let refused = desk.journal().len() > WANTED.len();
-    if right && refused {
+/// Whether what went before was right, and a journal has all entries. A tick beside them tells that memory was refused on
+/// the way, which is then the error.
+fn has_all(journal: &Journal, went: bool) -> Result<bool, Trouble> {
+    let right = went && has_requests(journal, &WANTED);
+    if right && journal.len() > WANTED.len() {
         Err(Trouble::Memory)
     } else {
         Ok(right)
     }
+}
+
+/// The same of the journal of a gate whose seats are home.
+fn has_entries(gate: Gate, host: Host, went: bool) -> Result<bool, Trouble>
+    requires { host.gate ≡ gate }
+{
+    let desk = closed(gate, host)?;
+    has_all(desk.journal(), went)
 }
 
 /// The calls go on to their end where memory was refused on the way.

@@ -7,7 +7,7 @@ use crate::gate::seating::{bring_home, closed, opened, seat_of};
 use crate::trouble::{Trouble, holds};
 use diag_desk::{Desk, StepFault, replay};
 use diag_gate::{Door, Gate, GateDoor, Host, Seat};
-use diag_setup::Setup;
+use diag_setup::{Setup, TesterId};
 use diag_stored::two_testers;
 use diag_tp::Step;
 use std::alloc::Global;
@@ -59,31 +59,35 @@ fn seats_step<R: Threads + Wait + Sync>(
     let one = GateDoor::new(rt, gate, a);
     let two = GateDoor::new(rt, gate, b);
     let ((one, first), (two, second)) = both_step(rt, one, two, step);
-    first?;
-    second?;
+    first.and(second)?;
     Ok((one.into_seat(), two.into_seat()))
+}
+
+/// The holder that a replay of a desk's journal leaves.
+fn replayed_holder(alloc: Global, setup: &Setup, desk: &Desk) -> Result<Option<TesterId>, Trouble> {
+    let ecu = replay(alloc, setup, desk.journal())?;
+    Ok(ecu.holder())
 }
 
 /// Whether a replay of the desk's journal of 2,000 entries leaves the same holder.
 fn has_replay(alloc: Global, setup: &Setup, desk: &Desk) -> Result<bool, Trouble> {
-    let ecu = replay(alloc, setup, desk.journal())?;
-    Ok(desk.journal().len() == 2000 && ecu.holder() == desk.ecu().holder())
+    let holder = replayed_holder(alloc, setup, desk)?;
+    Ok(desk.journal().len() == 2000 && holder == desk.ecu().holder())
 }
 
 /// Gives out two seats, has both step, and brings them home.
 fn both_enter<R: Threads + Wait + Sync>(
     rt: &R,
-    alloc: Global,
     gate: &Gate,
     host: &mut Host,
+    step: &Step,
 ) -> Result<(), Trouble>
     requires { host.old.gate ≡ gate.now }
     ensures { host.new.gate ≡ host.old.gate }
 {
     let a = seat_of(gate, host, 1)?;
     let b = seat_of(gate, host, 2)?;
-    let step = request(alloc, &[0x10, 0x03])?;
-    let (a, b) = seats_step(rt, gate, a, b, &step)?;
+    let (a, b) = seats_step(rt, gate, a, b, step)?;
     bring_home(gate, host, a);
     bring_home(gate, host, b);
     Ok(())
@@ -101,9 +105,10 @@ fn entered<R: Threads + Wait + Sync>(
     rt: &R,
     alloc: Global,
     setup: &Setup,
+    step: &Step,
 ) -> Result<Desk, Trouble> {
     let (gate, mut host) = gate_of(alloc, setup)?;
-    match both_enter(rt, alloc, &gate, &mut host) {
+    match both_enter(rt, &gate, &mut host, step) {
         Ok(()) => closed(gate, host),
         Err(trouble) => Err(trouble),
     }
@@ -114,14 +119,16 @@ fn all_enter<R: Threads + Wait + Sync>(
     rt: &R,
     alloc: Global,
     setup: &Setup,
+    step: &Step,
 ) -> Result<bool, Trouble> {
-    let desk = entered(rt, alloc, setup)?;
+    let desk = entered(rt, alloc, setup, step)?;
     has_replay(alloc, setup, &desk)
 }
 
 fn all_entered<R: Threads + Wait + Sync>(rt: &R, alloc: Global) -> Result<bool, Trouble> {
+    let step = request(alloc, &[0x10, 0x03])?;
     let setup = two_testers(alloc)?;
-    all_enter(rt, alloc, &setup)
+    all_enter(rt, alloc, &setup, &step)
 }
 
 #[test]

@@ -63,12 +63,18 @@ fn is_part(alloc: Global, journal: &Journal, place: u8, record: &[u8]) -> Result
     Ok(agree(journal, who, &record))
 }
 
+/// Whether each record is found to be what it is.
+fn are_parts(alloc: Global, journal: &Journal) -> Result<bool, Trouble> {
+    for (place, record, wanted) in &RECORDS {
+        if is_part(alloc, journal, *place, record)? != *wanted {
+            return Ok(false);
+        }
+    }
+    Ok(true)
+}
+
 #[test]
 fn agree_on_two_testers(rt: HostRuntime) -> Result<(), Trouble> {
     let journal = read_journal(rt.alloc(), JOURNAL)?;
-    for (place, record, wanted) in &RECORDS {
-        let found = is_part(rt.alloc(), &journal, *place, record)?;
-        holds(Ok(found == *wanted))?;
-    }
-    Ok(())
+    holds(are_parts(rt.alloc(), &journal))
 }

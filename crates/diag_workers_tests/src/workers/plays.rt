@@ -42,6 +42,15 @@ pub(crate) struct Left {
     pub(crate) second_begins: bool,
 }
 
+/// What a play left; its journal replays.
+fn left_by(alloc: Global, setup: &Setup, played: &Played) -> Result<Left, Trouble> {
+    is_replayed(alloc, setup, played.desk.journal())?;
+    Ok(Left {
+        right: is_readers_play(played),
+        second_begins: second_begins(played),
+    })
+}
+
 fn play_of<W: Watch + Sync, R: Threads + Wait + Sync>(
     rt: &R,
     alloc: Global,
@@ -55,11 +64,7 @@ fn play_of<W: Watch + Sync, R: Threads + Wait + Sync>(
         text_of(alloc, &SECOND_READER)?,
     ];
     let played = play(rt, alloc, setup, &texts, watch, Timing::Lines)?;
-    is_replayed(alloc, setup, played.desk.journal())?;
-    Ok(Left {
-        right: is_readers_play(&played),
-        second_begins: second_begins(&played),
-    })
+    left_by(alloc, setup, &played)
 }
 
 /// Plays the readers' logs; the frames are the same in every legal order, and the journal replays.
