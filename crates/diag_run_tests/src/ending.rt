@@ -1,12 +1,14 @@
 //! How a run ended, and why a test did not come to its end.
 
 use diag_run::Outcome;
-use std::alloc::AllocError;
+use std::alloc::{AllocError, AllocFailed};
 
 /// How a run ends: the line that it tells of a fault, and its status.
 #[derive(Clone, Copy)]
 pub struct End<'a> {
+    /// The line.
     pub line: &'a [u8],
+    /// The status.
     pub status: u8,
 }
 
@@ -33,6 +35,14 @@ fn is_fault(told: &Option<Vec<u8>>, status: u8, end: End<'_>) -> Result<bool, Al
     }
 }
 
+/// Whether the parts are the whole of what was written.
+pub fn is_whole(written: &[u8], text: [&str; 2]) -> bool {
+    let [front, rest] = text;
+    written.len() == front.len().saturating_add(rest.len())
+        && written.starts_with(front.as_bytes())
+        && written.ends_with(rest.as_bytes())
+}
+
 /// Why a test did not come to its end: memory was refused, or a run did what it must not.
 #[derive(Clone, Copy, Debug)]
 pub enum Trouble {
@@ -44,6 +54,12 @@ pub enum Trouble {
 
 impl From<AllocError> for Trouble {
     fn from(_refused: AllocError) -> Trouble {
+        Trouble::Memory
+    }
+}
+
+impl<T: Drop> From<AllocFailed<T>> for Trouble {
+    fn from(_refused: AllocFailed<T>) -> Trouble {
         Trouble::Memory
     }
 }

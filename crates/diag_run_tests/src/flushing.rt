@@ -1,6 +1,6 @@
 //! Writers whose flush fails: what was written is flushed. (The program's own standard output has nothing to flush.)
 
-use crate::ending::{End, Trouble, WELL, holds, is_end};
+use crate::ending::{End, Trouble, WELL, holds, is_end, is_whole};
 use diag_bus::Output;
 use diag_can::Timing;
 use diag_run::{Job, run_and_tell, run_bus_and_tell};
@@ -13,15 +13,16 @@ use std::thread::Threads;
 
 /// A writer that takes all. Its flush at `fails_at`, from 1, fails.
 #[derive(Drop)]
-struct Flushed {
-    taken: Vec<u8>,
+pub struct Flushed {
+    /// What it took.
+    pub taken: Vec<u8>,
     flushes: usize,
     fails_at: usize,
 }
 
 impl Flushed {
     /// A writer with room for a run's text.
-    fn failing(alloc: Global, fails_at: usize) -> Result<Flushed, AllocError> {
+    pub fn failing(alloc: Global, fails_at: usize) -> Result<Flushed, AllocError> {
         Ok(Flushed {
             taken: Vec::with_capacity(alloc, 4096)?,
             flushes: 0,
@@ -81,14 +82,6 @@ const GIVEN: [Given; 3] = [
         text: ["entries 1\n", END],
     },
 ];
-
-/// Whether the parts are the whole of what was written.
-fn is_whole(written: &[u8], text: [&str; 2]) -> bool {
-    let [front, rest] = text;
-    written.len() == front.len().saturating_add(rest.len())
-        && written.starts_with(front.as_bytes())
-        && written.ends_with(rest.as_bytes())
-}
 
 /// Whether a run whose flush at this call fails, 0 for none, ends so when its whole text was written.
 fn ends<T: Threads + Wait + Sync + AllocGlobal>(

@@ -1,6 +1,7 @@
-//! Tests of what no run of the program shows: writers whose flush fails, faults that no file brings about, and live runs on
-//! a scripted bench with a clock of its own, with devices that fail and the record run again. (`tools/devices.py` runs the
-//! built program with each read and each write failing in turn.)
+//! Tests of what no run of the program shows: writers whose flush fails, faults that no file brings about, calls for who
+//! embeds the crates (a play that is kept, and runs that take no handles), and live runs on a scripted bench with a clock of
+//! its own, with devices that fail and the record run again. (`tools/devices.py` runs the built program with each read and
+//! each write failing in turn.)
 #![tactic(auto)]
 
 #[cfg(test)]
@@ -9,5 +10,7 @@ mod ending;
 mod faults;
 #[cfg(test)]
 mod flushing;
+#[cfg(test)]
+mod kept;
 #[cfg(test)]
 mod live;

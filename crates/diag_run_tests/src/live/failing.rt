@@ -1,6 +1,6 @@
 //! Benches and writers that fail.
 
-use super::given::{Comes, Pipe, Script, Step, serves};
+use super::given::{Comes, Full, Pipe, Script, Step, serves};
 use crate::ending::{End, Trouble, holds, holds_at, is_end};
 use diag_live::run_live_and_tell;
 use diag_stored::CONFIG;
@@ -43,23 +43,18 @@ fn input_that_fails(rt: HostRuntime) -> Result<(), Trouble> {
 }
 
 /// The bytes that went to each of two writers of so much room, and how the run ended.
-fn is_cut(
-    alloc: Global,
-    room: usize,
-    record_room: usize,
-    takes_none: bool,
-) -> Result<bool, AllocError> {
+fn is_cut(alloc: Global, room: usize, record_room: usize, full: Full) -> Result<bool, AllocError> {
     let bench = Script {
         alloc,
         steps: &STEPS,
         clock: 700,
     };
     let mut out = Pipe {
-        takes_none,
+        full,
         ..Pipe::of(alloc, room)?
     };
     let mut record = Pipe {
-        takes_none,
+        full,
         ..Pipe::of(alloc, record_room)?
     };
     let outcome = run_live_and_tell(alloc, CONFIG.as_bytes(), bench, &mut out, &mut record);
@@ -75,17 +70,24 @@ fn is_first(out: &Pipe, record: &Pipe) -> bool {
         && (out.taken.len() <= 43 || record.taken.len() == RECORD.len())
 }
 
-/// An output or a record that takes no more is told, and both have a front; the record is ahead of the replies.
+/// An output that takes no more is told, and both have a front; the record is ahead of the replies.
 #[test]
-fn writers_that_fail(rt: HostRuntime) -> Result<(), Trouble> {
+fn output_that_fails(rt: HostRuntime) -> Result<(), Trouble> {
     let alloc = rt.alloc();
     for room in 0..TEXT.len() {
-        holds_at(room, is_cut(alloc, room, usize::MAX, false))?;
-        holds_at(room, is_cut(alloc, room, usize::MAX, true))?;
+        holds_at(room, is_cut(alloc, room, usize::MAX, Full::Fails))?;
+        holds_at(room, is_cut(alloc, room, usize::MAX, Full::TakesNone))?;
     }
+    Ok(())
+}
+
+/// So is a record that takes no more.
+#[test]
+fn record_that_fails(rt: HostRuntime) -> Result<(), Trouble> {
+    let alloc = rt.alloc();
     for room in 0..RECORD.len() {
-        holds_at(room, is_cut(alloc, usize::MAX, room, false))?;
-        holds_at(room, is_cut(alloc, usize::MAX, room, true))?;
+        holds_at(room, is_cut(alloc, usize::MAX, room, Full::Fails))?;
+        holds_at(room, is_cut(alloc, usize::MAX, room, Full::TakesNone))?;
     }
     Ok(())
 }

@@ -12,7 +12,9 @@ use std::io::{Error, ErrorKind, Write};
 /// What comes at a moment of the clock, in milliseconds.
 #[derive(Clone, Copy)]
 pub struct Step {
+    /// The moment.
     pub at: u64,
+    /// What comes then.
     pub comes: Comes,
 }
 
@@ -29,8 +31,11 @@ pub enum Comes {
 /// A bench that plays a script. Its clock goes to the moment that is waited for, or to that of the next step.
 #[derive(Drop)]
 pub struct Script<'a> {
+    /// Where the pieces are made.
     pub alloc: Global,
+    /// What is still to come.
     pub steps: &'a [Step],
+    /// What the clock tells.
     pub clock: u64,
 }
 
@@ -64,12 +69,24 @@ impl Bench for Script<'_> {
     }
 }
 
-/// A writer that takes so many bytes and then fails, or takes none.
+/// What a write does for which there is no room.
+#[derive(Clone, Copy, PartialEq, Eq)]
+pub enum Full {
+    /// It fails.
+    Fails,
+    /// It takes no byte.
+    TakesNone,
+}
+
+/// A writer that takes so many bytes.
 #[derive(Drop)]
 pub struct Pipe {
+    /// What it took.
     pub taken: Vec<u8>,
+    /// How many bytes it takes.
     pub room: usize,
-    pub takes_none: bool,
+    /// What a write does behind them.
+    pub full: Full,
 }
 
 /// The bytes for which a writer has memory from its start, so that a write that fails isn't want of memory.
@@ -81,7 +98,7 @@ impl Pipe {
         Ok(Pipe {
             taken: Vec::with_capacity(alloc, ROOM_AT_FIRST)?,
             room,
-            takes_none: false,
+            full: Full::Fails,
         })
     }
 
@@ -94,7 +111,7 @@ impl Pipe {
 impl Write for Pipe {
     fn write(&mut self, buf: &[u8]) -> io::Result<usize> {
         let count = buf.len().min(self.room.saturating_sub(self.taken.len()));
-        if count == 0 && !self.takes_none {
+        if count == 0 && self.full == Full::Fails {
             return Err(Error::from(ErrorKind::BrokenPipe));
         }
         self.taken.extend_from_slice(&buf[..count])?;
