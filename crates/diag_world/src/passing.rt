@@ -161,7 +161,7 @@ fn place(link: &mut Link, reply: &mut Option<Message>, out: &mut Vec<Sent>)
     }
 }
 
-/// Hands out all frames that are due. Mostly there are none, which is asked first.
+/// Hands out all frames that are due. Whether there are any is asked first, in the place of the call.
 #[inline(always)]
 fn send_due(link: &mut Link, out: &mut Vec<Sent>)
     requires room { vec_len out.old + pending link.old.state ≤ vec_capacity out.old }
