@@ -381,7 +381,7 @@ impl Link {
         ensures sender { self.new.state.sender
             ≡ sender_ticks self.old.state.setup count
             self.old.state.sender.current self.old.state.sender.waiting }
-        ensures room { self.new.room ≡ self.old.room }
+        ensures room { self.old.room ≤ self.new.room }
         ensures reply_room { self.new.reply_room ≡ self.old.reply_room }
         ensures setup { self.new.state.setup ≡ self.old.state.setup }
         ensures now { self.new.state.now ≡ min (self.old.state.now + count) last_tick }

@@ -2,7 +2,7 @@ use Rattle.std.proofs.Common.{◌≡◌, ◌≤◌, ℕ, Option, Some, None, Lis
 use Rattle.std.specs.Prelude.{IfSome, IsSome}
 use Rattle.diag_can.specs.declared.frame.Frame.{Frame}
 use Rattle.diag_tp.specs.Cut.{cut}
-use Rattle.diag_tp.specs.Link.{EachHistory, IsIdle, StandsFor, pending}
+use Rattle.diag_tp.specs.Link.{EachHistory, IsIdle, StandsFor}
 use Rattle.diag_tp.specs.Moments.{last_moment, last_time}
 use Rattle.diag_tp.specs.State.{LinkState}
 use Rattle.diag_tp.specs.Wire.{wire}
