@@ -1,15 +1,17 @@
 -- A bus takes a line more.
-use Rattle.std.proofs.Common.{◌≡◌, ◌≤◌, ℕ, ◌+◌, List, [], ◌∷◌, ◌++◌, Some, None, Ok, length, refl, ap, ap₂, subst, sym, ◌∙◌, arith}
-use Rattle.std.specs.Prelude.{slice_get}
+use Rattle.std.proofs.Common.{◌≡◌, ◌≤◌, ℕ, ◌+◌, Bool, false, List, [], ◌∷◌, ◌++◌, Some, None, Ok, length, refl, ap, ap₂, subst, sym, ◌∙◌, arith}
+use Rattle.std.specs.Prelude.{IsTrue, slice_get}
 use Rattle.diag_can.specs.Bus.{bus_line}
 use Rattle.diag_can.specs.declared.bus.BusLine.{BusLine}
+use Rattle.diag_can.specs.declared.bus.BusLine.TheVariants.{Ticks}
+use Rattle.diag_can.specs.declared.frame.Event.TheVariants as event
 use Rattle.diag_tp.specs.declared.sent.Sent.{Sent}
 use Rattle.diag_setup.specs.declared.raw.RawSetup.{RawSetup}
 use Rattle.diag_world.specs.Server.{ServerView, closing_time, server_of}
 use Rattle.diag_bus.specs.Batch.{AreSentBy, BusStands, Gave, GoesOn, HasTime, IsBy, SaidBelow, SameShape, SentIn, StartsBelow, TookTime, added, lists_of, moment_end}
 use Rattle.diag_bus.specs.Bus.{AreSound, BusState, Judges, TookLine}
 use Rattle.diag_bus.specs.Comparing.{DrawnBy, TakesLine}
-use Rattle.diag_bus.specs.Events.{fault_said, said_gives, span_said}
+use Rattle.diag_bus.specs.Events.{fault_said, said_gives, span_said, to_each}
 use Rattle.diag_bus.specs.Text.{written}
 use Rattle.diag_bus.specs.declared.bus.Output.{Output}
 use Rattle.diag_bus.specs.declared.bus.Output.TheVariants.{Replies, Journal, End, Verdict}
@@ -17,7 +19,7 @@ use Rattle.diag_bus.specs.declared.clock.Clock.{Clock}
 use Rattle.diag_bus.specs.declared.comparing.Comparisons.{Comparisons}
 use Rattle.diag_bus.specs.declared.mid_line.MidLine.{MidLine}
 use Rattle.diag_bus.proofs.Faults.{well_more}
-use Rattle.diag_bus.proofs.Lines.{line_taken}
+use Rattle.diag_bus.proofs.Lines.{line_taken, said_ticks}
 use Rattle.diag_bus.proofs.Paces.{line_paced, sent_nothing}
 use Rattle.diag_bus.proofs.Stamps.{bus_line_low}
 use Rattle.diag_bus.proofs.Texts.{wrote}
@@ -68,6 +70,16 @@ took_line bus setup line said old begun taken done clock clock' compared compare
           ∙ (ap (λ o. written o setup lines ++ added begun.output taken.text.items setup clock'.start (lists_of taken)) first.output
           ∙ ap (λ o. written old.output setup lines ++ added o taken.text.items setup clock'.start (lists_of taken)) (sym second.output))),
     ))
+
+-- ticks to each tester are what a line gives that says so many
+pub ticks_gave : (setup : RawSetup) (clock : Clock) (begun taken : MidLine) (count : ℕ)
+    → Gave begun taken (to_each (length setup.testers) (event.Ticks count))
+    → Gave begun taken (said_gives setup clock.reference (Ticks count))
+ticks_gave setup clock begun taken count gave = subst (λ L. Gave begun taken L) (said_ticks setup clock.reference (Ticks count) count refl) gave
+
+-- no verdict is wanted where that was found so
+pub judged_not : (is : Bool) → is ≡ false → IsTrue is → ⊥
+judged_not is none some = cc
 
 -- ---- what holds whatever the bus took
 

@@ -3,6 +3,7 @@
 ghost use Rattle.std.specs.Prelude.{◌≡◌, ◌≤◌, ◌↔◌, [], ◌++◌, ℕ, List, length, IfOk, IfSome, OnOk, OnErr, IsTrue, Ok};
 ghost use Rattle.diag_can.specs.Bus.{bus_line};
 ghost use Rattle.diag_can.specs.Usual.{IsUsual, usual_said};
+ghost use Rattle.diag_can.specs.declared.bus.BusLine.TheVariants.{Ticks};
 ghost use Rattle.diag_world.specs.Port.{Grew};
 ghost use Rattle.diag_world.specs.Server.{quiet_of};
 ghost use Rattle.diag_bus.specs.Batch.{lists_of};
@@ -11,7 +12,7 @@ ghost use Rattle.diag_bus.specs.Comparing.{TakesLine};
 ghost use Rattle.diag_bus.specs.Text.{ecu_after, written};
 ghost use Rattle.diag_bus.specs.Verdict.{recorded, verdict};
 
-use crate::clock::{Clock, next_time, next_usual, silence};
+use crate::clock::{Clock, next_ticks, next_time, next_usual, silence};
 use crate::comparing::Comparisons;
 use crate::fault::BusFault;
 use crate::filled::Filled;
@@ -19,7 +20,7 @@ use crate::mid_line::MidLine;
 use crate::request_ids::RequestIds;
 use crate::verdict::Verdict;
 use crate::writing::{Drawn, writers_of};
-use diag_can::{BusLine, CanId, LineWriter, read_bus_line, ticks_said, usual_line};
+use diag_can::{BusLine, CanId, LineWriter, TickCount, read_bus_line, ticks_said, usual_line};
 use diag_desk::write_header_at;
 use diag_ecu::Ecu;
 use diag_setup::{Setup, TesterId};
@@ -212,7 +213,7 @@ impl Bus {
         ensures output { self.new.output ≡ self.old.output }
     {
         if self.line.output.is_verdict() {
-            return self.take_other(line, text);
+            return self.take_read(line, text);
         }
         let (moment, time) = next_usual(&self.clock, line, usual, id, at)?;
         let span = silence(self.clock.reference, moment);
@@ -236,9 +237,52 @@ impl Bus {
         ensures setup { self.new.setup ≡ self.old.setup }
         ensures output { self.new.output ≡ self.old.output }
     {
-        if let Some(count) = ticks_said(line) {
-            return self.take_said(line, &BusLine::Ticks(count), text);
+        match ticks_said(line) {
+            Some(count) => self.take_ticks(line, count, text),
+            None => self.take_read(line, text),
         }
+    }
+
+    /// Takes a line that says so many ticks.
+    #[inline(never)]
+    fn take_ticks(
+        &mut self,
+        line: &[u8],
+        count: TickCount,
+        text: &mut Vec<u8>,
+    ) -> Result<(), BusFault>
+        requires says { bus_line line.now ≡ Ok (Ticks count) }
+        ensures took { OnOk result
+            (Grew text.old.items text.new.items (TookLine self.old self.new line.now)) }
+        ensures fault { IsItsFault self.old line.now result }
+        ensures first { IsRefused self.old line.now result }
+        ensures err { OnErr result (text.new.items ≡ text.old.items) }
+        ensures setup { self.new.setup ≡ self.old.setup }
+        ensures output { self.new.output ≡ self.old.output }
+    {
+        if self.line.output.is_verdict() {
+            return self.take_read(line, text);
+        }
+        let time = next_ticks(&self.clock, line, count)?;
+        self.clock.go_on_by(count, time);
+        self.line.begin();
+        self.line.give_each(&self.setup, count)?;
+        let (writers, batch) = (&mut self.writers, &mut self.batch);
+        let (setup, clock) = (&self.setup, &self.clock);
+        Ok(self.line.write(setup, clock, writers, batch, text)?)
+    }
+
+    /// Takes a line by the value that says all of it.
+    #[inline(never)]
+    fn take_read(&mut self, line: &[u8], text: &mut Vec<u8>) -> Result<(), BusFault>
+        ensures took { OnOk result
+            (Grew text.old.items text.new.items (TookLine self.old self.new line.now)) }
+        ensures fault { IsItsFault self.old line.now result }
+        ensures first { IsRefused self.old line.now result }
+        ensures err { OnErr result (text.new.items ≡ text.old.items) }
+        ensures setup { self.new.setup ≡ self.old.setup }
+        ensures output { self.new.output ≡ self.old.output }
+    {
         match read_bus_line(line) {
             Ok(said) => self.take_said(line, &said, text),
             Err(fault) => Err(BusFault::Line(fault)),

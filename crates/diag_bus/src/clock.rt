@@ -8,12 +8,12 @@ ghost use Rattle.diag_can.specs.Reading.{later};
 ghost use Rattle.diag_bus.specs.Batch.{GoesOn, SaidBelow, StartsBelow, started_at};
 ghost use Rattle.diag_bus.specs.Events.{fault_said, span_said};
 ghost use Rattle.diag_can.specs.Log.{silence};
-ghost use Rattle.diag_can.specs.declared.bus.BusLine.TheVariants.{Stamped};
+ghost use Rattle.diag_can.specs.declared.bus.BusLine.TheVariants.{Stamped, Ticks};
 ghost use Rattle.diag_can.specs.declared.frame.Frame.{Frame as AFrame};
 ghost use Rattle.diag_can.specs.declared.log.Timing.TheVariants.{Stamps};
 
 use crate::fault::BusFault;
-use diag_can::{BusLine, CanId, usual_moment};
+use diag_can::{BusLine, CanId, TickCount, usual_moment};
 
 /// Where the bus's time begins.
 #[derive(Clone, Copy, Debug, PartialEq, Eq)]
@@ -59,6 +59,19 @@ impl Clock {
             BusLine::Empty | BusLine::Ticks(_) => self.time = time,
             BusLine::Stamped { moment, frame: _ } => self.go_on_to(*moment, time),
         }
+    }
+
+    /// Goes on by so many ticks, behind which each tester's clock tells this time.
+    #[inline(always)]
+    pub(crate) fn go_on_by(&mut self, count: TickCount, time: u64)
+        requires { time ≡ self.old.time + count }
+        ensures on { GoesOn self.old (Ticks count) self.new }
+        ensures start { (most : ℕ) → StartsBelow self.old.start most
+            → StartsBelow self.new.start most }
+    {
+        // (for its contract: what the line says)
+        let _ = count;
+        self.time = time;
     }
 
     /// Goes on by a stamped line of this moment, whatever its frame is.
@@ -161,6 +174,22 @@ pub(crate) fn next_time(clock: &Clock, line: &[u8], said: &BusLine) -> Result<u6
     // (for its contract: what the line says)
     let _ = line;
     later_time(clock, span_of(clock.reference, said))
+}
+
+/// What each tester's clock tells behind a line that says so many ticks; its fault where it has one.
+#[inline(always)]
+pub(crate) fn next_ticks(clock: &Clock, line: &[u8], count: TickCount) -> Result<u64, BusFault>
+    requires says { bus_line line.now ≡ Ok (Ticks count) }
+    ensures time { IfOk result (λ time. time ≡ clock.now.time + count) }
+    ensures early { IfOk result (λ time. time ≤ closing_time) }
+    ensures well { IfOk result (λ time. fault_said (bus_line line.now)
+        (clock.now.time + span_said clock.now.reference (bus_line line.now)) ≡ None) }
+    ensures fault { IfErr result (λ fault. fault_said (bus_line line.now)
+        (clock.now.time + span_said clock.now.reference (bus_line line.now)) ≡ Some fault) }
+{
+    // (for its contract: what the line says)
+    let _ = line;
+    later_time(clock, u64::from(count.get()))
 }
 
 /// The moment of a line of the usual form, and what each tester's clock tells behind it; its fault where it has one. `usual`

@@ -161,7 +161,7 @@ impl MidLine {
 
     /// Gives the server so many ticks of each tester, in order.
     #[inline(always)]
-    fn give_each(&mut self, setup: &Setup, count: TickCount) -> Result<(), AllocError>
+    pub fn give_each(&mut self, setup: &Setup, count: TickCount) -> Result<(), AllocError>
         requires in_setup { length self.old.server.links ≡ length setup.now.testers }
         requires lists { length self.old.drawn.items ≡ length setup.now.testers }
         requires early { HasTime self.old.server count }
