@@ -98,21 +98,16 @@ impl Link {
         self.sender.next_frame(&self.setup)
     }
 
-    /// The frame of a reply that has a single one, where nothing else is to be sent.
+    /// The bytes of a reply's frame, where it has a single one and nothing else is to be sent.
     #[inline(always)]
-    pub(crate) fn lone_frame(&self, message: &Message) -> Option<Frame>
-        ensures some { IfSome result (λ frame.
-            (cut message.now self.now.state.setup.pad ≡ frame.bytes ∷ [])
-            × (frame.id ≡ self.now.state.setup.ids.response)) }
+    pub(crate) fn lone_bytes(&self, message: &Message) -> Option<FrameBytes>
+        ensures some { IfSome result (λ bytes.
+            cut message.now self.now.state.setup.pad ≡ bytes ∷ []) }
         ensures found { IsSome result
             ↔ (IsIdle self.now.state × (length message.now ≤ 7)) }
     {
         if self.grant.is_none() && self.sender.is_free() {
-            let bytes = lone_frame(message, self.setup.pad)?;
-            return Some(Frame {
-                id: self.setup.ids.response,
-                bytes,
-            });
+            return lone_frame(message, self.setup.pad);
         }
         None
     }
