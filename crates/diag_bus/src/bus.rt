@@ -261,7 +261,7 @@ impl Bus {
         ensures output { self.new.output ≡ self.old.output }
     {
         if self.line.output.is_verdict() {
-            return self.take_read(line, text);
+            return self.take_judged_ticks(line, count, text);
         }
         let time = next_ticks(&self.clock, line, count)?;
         self.clock.go_on_by(count, time);
@@ -270,6 +270,26 @@ impl Bus {
         let (writers, batch) = (&mut self.writers, &mut self.batch);
         let (setup, clock) = (&self.setup, &self.clock);
         Ok(self.line.write(setup, clock, writers, batch, text)?)
+    }
+
+    /// The same where a verdict is wanted.
+    #[inline(never)]
+    fn take_judged_ticks(
+        &mut self,
+        line: &[u8],
+        count: TickCount,
+        text: &mut Vec<u8>,
+    ) -> Result<(), BusFault>
+        requires says { bus_line line.now ≡ Ok (Ticks count) }
+        ensures took { OnOk result
+            (Grew text.old.items text.new.items (TookLine self.old self.new line.now)) }
+        ensures fault { IsItsFault self.old line.now result }
+        ensures first { IsRefused self.old line.now result }
+        ensures err { OnErr result (text.new.items ≡ text.old.items) }
+        ensures setup { self.new.setup ≡ self.old.setup }
+        ensures output { self.new.output ≡ self.old.output }
+    {
+        self.take_said(line, &BusLine::Ticks(count), text)
     }
 
     /// Takes a line by the value that says all of it.
