@@ -6,8 +6,8 @@ ghost use Rattle.hex.specs.Hex.{encode_upper};
 ghost use Rattle.diag_can.specs.Reply.{zero_filled, seconds_text, thousandths_text, stamp, frame_text, reply_line};
 
 use crate::frame::{CanId, Frame, FrameBytes};
+use crate::hex_text::{add, digits_of_eight};
 use crate::table::{decimals, digits};
-use crate::upper::{add, digits_of_eight};
 use itoa::Buffer;
 use std::alloc::AllocError;
 use std::mem;

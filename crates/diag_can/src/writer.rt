@@ -4,8 +4,8 @@ ghost use Rattle.std.specs.Prelude.{◌≡◌, ◌<◌, ◌≤◌, ◌+◌, ◌/
 ghost use Rattle.diag_can.specs.Reply.{name_text, reply_line, seconds_text, stamp};
 
 use crate::frame::{CanId, Frame};
+use crate::hex_text::add;
 use crate::reply::{add_data, identifier, seconds_text, thousandths_text, write_line};
-use crate::upper::add;
 use std::alloc::{AllocError, Global};
 use std::marker::Model;
 use std::mem;

@@ -1,6 +1,6 @@
 use Rattle.std.proofs.Common.{◌≡◌, ◌+◌, ◌*◌, ◌++◌, length, vec_len, vec_capacity}
 use Rattle.hex.specs.Hex.{encode_upper}
-use Rattle.diag_can.proofs.upper.add_hex.Given as goal
+use Rattle.diag_can.proofs.hex_text.add_hex.Given as goal
 
 abbrev pub invariant-loop-eight : goal.invariant-loop-eight
 invariant-loop-eight l = record {

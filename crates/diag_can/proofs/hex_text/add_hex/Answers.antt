@@ -1,6 +1,6 @@
 use Rattle.std.proofs.Common.{ℕ, List, arith, ◌∙◌, ap, ◌++◌}
 use Rattle.diag_can.proofs.Hex.{upper_eight}
-use Rattle.diag_can.proofs.upper.add_hex.Goals as goal
+use Rattle.diag_can.proofs.hex_text.add_hex.Goals as goal
 
 pub loop-eight-preserved : goal.loop-eight-preserved
 loop-eight-preserved c =

@@ -1,6 +1,6 @@
 use Rattle.std.proofs.Common.{arith}
 use Rattle.diag_can.proofs.Hex.{none_written, two_written, three_written}
-use Rattle.diag_can.proofs.upper.add_few.Goals as goal
+use Rattle.diag_can.proofs.hex_text.add_few.Goals as goal
 
 pub returns-in-empty-clause-items : goal.returns-in-empty-clause-items
 returns-in-empty-clause-items c = none_written _ _ (omega (arith, c.in-empty.len_below))

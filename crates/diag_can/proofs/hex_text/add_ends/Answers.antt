@@ -1,6 +1,6 @@
 use Rattle.std.proofs.Common.{◌≡◌, ◌+◌, ◌-◌, ◌*◌, length, arith}
 use Rattle.diag_can.proofs.Hex.{ends_written}
-use Rattle.diag_can.proofs.upper.add_ends.Goals as goal
+use Rattle.diag_can.proofs.hex_text.add_ends.Goals as goal
 
 pub returns-clause-items : goal.returns-clause-items
 returns-clause-items c =

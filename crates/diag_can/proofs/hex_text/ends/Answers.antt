@@ -1,7 +1,7 @@
 use Rattle.std.proofs.Common.{◌≡◌, ℕ, ◌-◌, List, ◌++◌, length, take, drop, length-append, length-drop, ◌∙◌, ap, arith}
 use Rattle.std.proofs.lemmas.List.{take_all, length-take-le}
 use Rattle.std.proofs.lemmas.Simd.{pick_l_whole}
-use Rattle.diag_can.proofs.upper.ends.Goals as goal
+use Rattle.diag_can.proofs.hex_text.ends.Goals as goal
 
 pub returns : goal.returns
 returns c =

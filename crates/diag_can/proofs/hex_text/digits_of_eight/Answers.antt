@@ -1,7 +1,7 @@
 use Rattle.std.proofs.Common.{rules, arith}
 use Rattle.std.proofs.lemmas.Simd.{zip2_splat, Each1-all, Each2-splat}
 use Rattle.diag_can.proofs.Hex.{eight_digits}
-use Rattle.diag_can.proofs.upper.digits_of_eight.Goals as goal
+use Rattle.diag_can.proofs.hex_text.digits_of_eight.Goals as goal
 
 pub nonzero_div-high : goal.nonzero_div-high
 nonzero_div-high c = Each2-splat _ c.args.bytes.now 8 16 (Each1-all _ (λ a. omega arith) _)
