@@ -118,10 +118,10 @@ fn push_time(events: &mut Vec<Event>, ms: u64) -> Result<(), LogFault>
     if ms == 0 {
         return Ok(());
     }
-    for _ in 0..ms / 60000 {
+    for _ in 0..ms / u64::from(TickCount::MAX) {
         push_event(events, Event::Ticks(TickCount::longest()))?;
     }
-    match TickCount::new((ms % 60000) as u16) {
+    match TickCount::new((ms % u64::from(TickCount::MAX)) as u16) {
         None => Ok(()),
         Some(rest) => push_event(events, Event::Ticks(rest)),
     }

@@ -33,7 +33,7 @@ fn is_decimal(text: &[u8]) -> bool
 fn ticks_of(count: u64) -> Option<TickCount>
     ensures { result ≡ ticks_of count }
 {
-    if count <= 60000 {
+    if count <= u64::from(TickCount::MAX) {
         TickCount::new(count as u16)
     } else {
         None
