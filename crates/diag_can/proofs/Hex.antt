@@ -18,11 +18,6 @@ use Rattle.std.proofs.lemmas.Slice.{take-put_mid}
 use borrow.Rule.Slice.PartMut.{put_mid}
 use Rattle.diag_can.specs.declared.table.TheConstants.{DIGITS}
 
-upper-append : (bytes : List ℕ) (b : ℕ) → encode_upper (bytes ++ b ∷ []) ≡ encode_upper bytes ++ encode_upper (b ∷ [])
-unfolding encode_with
-upper-append [] b = refl
-upper-append (x ∷ bytes) b = ap (λ text. slice_index upper_digits (x / 16) ∷ slice_index upper_digits (x % 16) ∷ text) (upper-append bytes b)
-
 -- the hex of two parts
 pub upper-parts : (a b : List ℕ) → encode_upper (a ++ b) ≡ encode_upper a ++ encode_upper b
 unfolding encode_with

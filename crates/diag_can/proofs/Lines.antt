@@ -3,7 +3,7 @@ use Rattle.std.proofs.Common.{◌≡◌, ◌==◌, ℕ, ◌+◌, ◌<◌, true, 
 use Rattle.std.specs.List.{slice_split}
 use Rattle.std.proofs.lemmas.Bool.{false_from_ne_true}
 use Rattle.std.proofs.lemmas.Grind.{get_or_default_zero}
-use Rattle.std.proofs.lemmas.List.{drop_more, map-append, take_more}
+use Rattle.std.proofs.lemmas.List.{drop_more, map-append}
 use Rattle.memchr.specs.Find.{IsFirstByte}
 use Rattle.diag_can.specs.Bus.{HasNoFeed, begun_line, bus_lines, whole_pieces}
 use Rattle.diag_can.specs.Log.{is_feed, without_return, lines_of_pieces, lines_of}
@@ -19,11 +19,6 @@ split_at_feed text end found =
     let there = feed_there text end found in
     let rest : drop end text ≡ 10 ∷ drop (end + 1) text = drop_more text end 0 there.0 ∙ ap (λ (c : ℕ). c ∷ drop (end + 1) text) there.1 in
     sym (take-append-drop end text) ∙ ap (λ (r : List ℕ). take end text ++ r) rest
-
-pub ends_at_feed : (text : List ℕ) (end : ℕ) → IsFirstByte is_feed text (Some end) → take (end + 1) text ≡ take end text ++ 10 ∷ []
-ends_at_feed text end found =
-    let there = feed_there text end found in
-    take_more text end 0 there.0 ∙ ap (λ (c : ℕ). take end text ++ c ∷ []) there.1
 
 pub no_feed : (text : List ℕ) → IsFirstByte is_feed text None → HasNoFeed text
 no_feed text none = λ k d lt. ap is_feed (get_or_default_zero text k d lt) ∙ false_from_ne_true _ (none k (omega arith) lt)

@@ -83,15 +83,6 @@ all_taken P Q text takes = record {
 }
 
 module _ (ids : Ids) (timing : Timing) (old new : LogReader) (text : List ℕ) where
-  pub well_taken : (rest : List ℕ) → old.fault ≡ None → new.fault ≡ old.fault
-      → TakesLines (HasLines ids timing old) (HasLines ids timing new) text rest → TakesLines (HasRead ids timing old) (HasRead ids timing new) text rest
-  well_taken rest well still t = record {
-    front = t.front;
-    is = t.is;
-    begun = t.begun;
-    takes = λ seen h. record { well = λ _. t.takes seen (h.well well); fault = λ fault some. cc (sym well ∙ sym still ∙ some) };
-  }
-
   -- a line in the text is at fault
   pub fault_taken : (fault : LogFault) → old.fault ≡ None → new.fault ≡ Some fault
       → ((seen more : List ℕ) → HasLines ids timing old seen → events (seen ++ (text ++ more)) ids timing ≡ Err fault)

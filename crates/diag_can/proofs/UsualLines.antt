@@ -4,15 +4,13 @@ use Rattle.std.specs.Prelude.{IsOk}
 use Rattle.std.specs.List.{AllPass, prefix_len}
 use Rattle.std.proofs.lemmas.Bool.{eq-eqb, ne_eqb, not-true, not-false, eqb-true, cases_eq}
 use Rattle.std.proofs.lemmas.Bool.Decides.{nat_tests}
-use Rattle.std.proofs.lemmas.List.{get_or-drop, get_or-take, take_all, drop_all, length-take-le}
+use Rattle.std.proofs.lemmas.List.{get_or-drop, take_all, drop_all, length-take-le}
 use Rattle.std.proofs.lemmas.List.Sums.{prefix_len_is}
 use Rattle.std.proofs.lemmas.List.Elements.{All-from_get_or}
-use Rattle.std.proofs.lemmas.Grind.{get_or_default_zero}
 use Rattle.hex.specs.Hex.{is_hex_digit, decode_of}
 use Rattle.hex.proofs.HexLemmas.{decode_of-digits}
 use Rattle.diag_can.specs.Stamp.{is_digit, is_space, is_no_space, behind, behind_run, digits_of, moment_of}
 use Rattle.diag_can.proofs.Pairs.{is_ok-value}
-use Rattle.diag_can.specs.declared.frame.Event.TheVariants.{Physical, Functional}
 use Rattle.diag_can.specs.declared.bus.BusLine.TheVariants.{Stamped}
 use Rattle.diag_can.specs.Line.{line_event, frame_moment, event_moment, stamped_frame, is_time, is_passed_over, frame_data, frame_event, event_of, id_of}
 use Rattle.diag_can.specs.Bus.{bus_line, line_says, text_frame, frame_of}
@@ -171,20 +169,6 @@ usual_parts line place id text framed cut run is hash long few even digits =
     (ap (λ (t : List ℕ). behind 35 (drop 3 t)) (sym whole) ∙ hash ∙ ap (λ (t : List ℕ). Some t) behind_hash)
     (omega arith) even (λ k from to. digits k (omega arith) to)
 
--- ---- digits of a run
-
-pub passes-front : (p : ℕ → Bool) (xs : List ℕ) (n : ℕ) → n ≤ length xs → AllPass p xs → AllPass p (take n xs)
-passes-front p xs n le all = λ k d lt.
-    let inside : k < n = omega (arith, lt, length-take-le n xs le) in
-    ap p (get_or-take n xs k d inside) ∙ all k d (omega (arith, inside, le))
-
-pub passes-run : (p : ℕ → Bool) (xs : List ℕ) (i w n : ℕ) → i + n ≤ length xs → IsRunIn p xs i w n → AllPass p (take n (drop i xs))
-passes-run p xs i w n le r = λ k d lt.
-    let count = length-take-le n (drop i xs) (omega (arith, length-drop i xs)) in
-    let inside : k < n = omega (arith, lt, count) in
-    ap p (get_or-take n (drop i xs) k d inside ∙ get_or-drop i xs k d ∙ get_or_default_zero xs (i + k) d (omega (arith, inside, le)))
-    ∙ r.pass (i + k) (omega arith) (omega (arith, inside))
-
 -- ---- what such a line says
 
 module _ (line : List ℕ) (id at : ℕ) (u : IsUsual line id at) where
@@ -200,18 +184,6 @@ module _ (line : List ℕ) (id at : ℕ) (u : IsUsual line id at) where
   moment-event ids = let plain = u.framed.is_frame in let is = u.framed.stamped in let event = u.event ids in rw (plain, is, event) refl
 
   -- of what stands behind the `#`
-  pub is-physical : (ids : Ids) (bytes : List ℕ) → decode_of (drop at line) ≡ Ok bytes → (id == ids.request) ≡ true
-      → (line_event line ids ≡ Ok (Some (Physical bytes))) × (Some (usual_moment line) ≡ frame_moment ids line)
-  is-physical ids bytes is own =
-      let all = u.decoded bytes is in
-      (says-event ids ∙ rw (all, own) refl, sym (moment-event ids ∙ rw (all, own) refl))
-
-  pub is-functional : (ids : Ids) (bytes : List ℕ) → decode_of (drop at line) ≡ Ok bytes → (id == ids.request) ≡ false → (id == ids.functional) ≡ true
-      → (line_event line ids ≡ Ok (Some (Functional bytes))) × (Some (usual_moment line) ≡ frame_moment ids line)
-  is-functional ids bytes is other own =
-      let all = u.decoded bytes is in
-      (says-event ids ∙ rw (all, other, own) refl, sym (moment-event ids ∙ rw (all, other, own) refl))
-
   pub is-foreign : (ids : Ids) → (id == ids.request) ≡ false → (id == ids.functional) ≡ false
       → (line_event line ids ≡ Ok None) × (None ≡ frame_moment ids line)
   is-foreign ids other another =
