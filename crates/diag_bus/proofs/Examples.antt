@@ -5,7 +5,7 @@ use Rattle.diag_can.specs.declared.fault.LineFault.TheVariants.{BadTick}
 use Rattle.diag_can.specs.declared.frame.Event.{Event}
 use Rattle.diag_bus.specs.declared.fault.BusFault.TheVariants.{Line}
 use Rattle.diag_can.specs.declared.frame.Event.TheVariants.{Physical, Functional, Ticks}
-use Rattle.diag_setup.specs.TwoTesters.{two_testers}
+use Rattle.diag_setup.specs.ExampleSetup.{two_testers}
 use Rattle.diag_bus.specs.Events.{bus_events}
 use Rattle.diag_bus.specs.Text.{bus_moment, start_after}
 

@@ -9,7 +9,7 @@ use Rattle.diag_tp.specs.Reception.{open_at}
 use Rattle.diag_tp.specs.Sending.{course}
 use Rattle.diag_tp.specs.Wire.{wire, sendings, grant}
 use Rattle.diag_can.specs.Bus.{bus_lines}
-use Rattle.diag_setup.specs.TwoTesters.{two_testers}
+use Rattle.diag_setup.specs.ExampleSetup.{two_testers}
 use Rattle.diag_bus.specs.Verdict.{agreement_text, verdict, verdict_text}
 use Rattle.diag_bus.specs.declared.verdict.Verdict.{Verdict}
 use Rattle.diag_bus.specs.declared.verdict.Verdict.TheVariants.{Agrees}

@@ -3,7 +3,7 @@ use Rattle.std.proofs.Common.{◌≡◌, [], ◌∷◌, Some, Ok, refl, codes}
 use Rattle.diag_setup.specs.declared.raw.RawTester.{RawTester}
 use Rattle.diag_setup.specs.declared.fault.SetupFault.TheVariants.{Range, Empty, DuplicateId, UnknownCode, UnknownLevel}
 use Rattle.diag_setup.specs.Setup.{checked, fault_of}
-use Rattle.diag_setup.specs.TwoTesters.{two_testers, tester, did, routine}
+use Rattle.diag_setup.specs.ExampleSetup.{two_testers, tester, did, routine}
 
 abbrev tester_a : RawTester
 tester_a = tester (codes "A") 0x7E0 0x7E8

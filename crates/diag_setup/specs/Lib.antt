@@ -2,4 +2,4 @@ pub mod Rows
 pub mod Setup
 pub mod Fits
 pub mod Fault
-pub mod TwoTesters
+pub mod ExampleSetup

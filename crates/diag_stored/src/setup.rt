@@ -3,7 +3,7 @@
 
 ghost use Rattle.std.specs.Prelude.{◌≡◌, IfOk};
 ghost use Rattle.diag_setup.specs.Setup.{sorted};
-ghost use Rattle.diag_setup.specs.TwoTesters.{key_row, level, routine, code, did, tester, two_testers};
+ghost use Rattle.diag_setup.specs.ExampleSetup.{key_row, level, routine, code, did, tester, two_testers};
 
 use diag_setup::{
     Items, RawCode, RawDid, RawKeyRow, RawLevel, RawRoutine, RawSetup, RawTester, Setup,

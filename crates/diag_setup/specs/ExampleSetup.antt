@@ -1,4 +1,4 @@
--- A setup of two testers, as it is before its tables are sorted.
+-- The setup of the worked examples, two testers, as it is before its tables are sorted.
 use Rattle.std.specs.Prelude.{ℕ, true, List, [], ◌∷◌, Some, codes}
 use Rattle.diag_setup.specs.declared.raw.RawSetup.{RawSetup}
 use Rattle.diag_setup.specs.declared.raw.RawTester.{RawTester}
