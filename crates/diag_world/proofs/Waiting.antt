@@ -47,14 +47,6 @@ quiet_each (first ∷ links) zero count link less at =
     subst (λ (l : LinkState). count < quiet l) same (omega (arith, less))
 quiet_each (first ∷ links) (suc i) count link less at = quiet_each links i count link (omega (arith, less)) at
 
-pub waited_none : (s : ServerState) (count : ℕ) → Waited s s 0 count
-waited_none s count = record {
-  many = refl;
-  time = λ i link at. (let fits : link.now ≤ link.now + count = omega arith in (link, at, fits));
-  rest = λ i above. refl;
-  served = λ setup M K h. (K, subst (λ N. Serves setup s N K) (sym (append-nil M)) h, λ t. ap (λ N. sent_to setup N K t) (append-nil M));
-}
-
 -- one tester more
 pub waited_more : (a b c : ServerState) (n who count : ℕ) → who ≡ n + 1 → Waited a b n count
     → Settled b c who (Ticks count) (Some (entry_of_ticks who count)) [] → Waited a c (n + 1) count

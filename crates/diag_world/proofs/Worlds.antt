@@ -83,11 +83,6 @@ pub on_ok : {X Y : Type 0} (P Q : Type 0) (r : Result X Y) → (P → Q) → OnO
 on_ok P Q (Ok x) f h = f h
 on_ok P Q (Err y) f h = h
 
--- the same of two clauses
-pub on_both : {X Y : Type 0} (P Q Z : Type 0) (r : Result X Y) → (P → Q → Z) → OnOk r P → OnOk r Q → OnOk r Z
-on_both P Q Z (Ok x) f p q = f p q
-on_both P Q Z (Err y) f p q = tt
-
 -- and of what an Err says
 pub on_err : {X Y : Type 0} (P Q : Type 0) (r : Result X Y) → (P → Q) → OnErr r P → OnErr r Q
 on_err P Q (Ok x) f h = h

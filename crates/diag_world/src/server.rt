@@ -199,14 +199,6 @@ impl Server {
     {
         &self.ecu
     }
-
-    /// The ECU as the run has made it.
-    pub fn into_ecu(self) -> Ecu
-        ensures { result ≡ self.ecu }
-    {
-        let Server { ecu, links: _ } = self;
-        ecu
-    }
 }
 
 /// Takes an event at a link, and has its entry kept. Refused, link, ECU and frames are as before.
