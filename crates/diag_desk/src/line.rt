@@ -188,7 +188,7 @@ fn count_in(text: &[u8]) -> Option<TickCount>
     ensures none { IfNone result (IsNoCount text.now) }
 {
     let number = number_in(text)?;
-    if number < 1 || 60000 < number {
+    if number < 1 || u64::from(TickCount::MAX) < number {
         return None;
     }
     TickCount::new(number as u16)

@@ -1,5 +1,5 @@
 //! Reading entries of the usual form, whose reply is the ECU's: their text is gone through once.
-ghost use Rattle.std.specs.Prelude.{◌≡◌, ◌≤◌, ◌+◌, ◌++◌, ◌∷◌, [], IfOk, IfNone, IfSome, IsTrue, ◌↔◌, decimal, length, option_copied, option_map};
+ghost use Rattle.std.specs.Prelude.{◌≡◌, ◌≤◌, ◌+◌, ◌++◌, ◌∷◌, [], IfOk, IfNone, IfSome, decimal, length, option_copied, option_map};
 ghost use Rattle.hex.specs.Hex.{encode_upper};
 ghost use Rattle.diag_ecu.specs.Lent.{lent_bytes};
 ghost use Rattle.diag_desk.specs.Entry.{IsReply};
@@ -83,25 +83,19 @@ fn number_front(text: &[u8]) -> Option<NumberFront<'_>>
     let [first, tail @ ..] = text else {
         return None;
     };
-    if !is_digit(*first) || *first == b'0' {
+    if !first.is_ascii_digit() || *first == b'0' {
         return None;
     }
     let mut number = u32::from(*first - b'0');
     let mut rest = tail;
     while let [digit, tail @ ..] = rest {
-        if !is_digit(*digit) || 6000 < number {
+        if !digit.is_ascii_digit() || u32::from(TickCount::MAX) / 10 < number {
             break;
         }
         number = number * 10 + u32::from(*digit - b'0');
         rest = tail;
     }
     Some(NumberFront { number, rest })
-}
-
-fn is_digit(byte: u8) -> bool
-    ensures { IsTrue result ↔ ((48 ≤ byte) × (byte ≤ 57)) }
-{
-    b'0' <= byte && byte <= b'9'
 }
 
 /// The count of ticks and the line's end at the front of a text.
@@ -115,7 +109,7 @@ pub(crate) fn count_front(text: &[u8]) -> Option<CountFront<'_>>
     let Some(rest) = behind(b'\n', front.rest) else {
         return None;
     };
-    if 60000 < front.number {
+    if u32::from(TickCount::MAX) < front.number {
         return None;
     }
     let Some(count) = TickCount::new(front.number as u16) else {
