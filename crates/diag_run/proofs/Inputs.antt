@@ -7,8 +7,8 @@ use Rattle.diag_setup.specs.declared.raw.RawSetup.{RawSetup}
 use Rattle.diag_config.specs.Key.{◌>>=◌}
 use Rattle.diag_text.specs.declared.fault.RunFault.{RunFault}
 use Rattle.diag_text.specs.declared.fault.RunFault.TheVariants.{Files, Config, ConfigLong, Log, JournalLine, FileLong, Memory, JournalFull, RecordsDisagree, Read, Write, Differs, Capture, Otherwise}
-use Rattle.diag_run.specs.declared.whole.Job.{Job}
-use Rattle.diag_run.specs.declared.whole.Job.TheVariants.{Serial, Play, Replay}
+use Rattle.diag_run.specs.declared.file_run.Job.{Job}
+use Rattle.diag_run.specs.declared.file_run.Job.TheVariants.{Serial, Play, Replay}
 use Rattle.diag_run.specs.Files.{Refusal, wrong_count, Fails, ConfigFails, config_of, files_from}
 use Rattle.diag_run.specs.Run.{Inputs, inputs, HasRead, ReadingStops, RunStops, AnswersFault, wanted, limit, read_of, GivesRun}
 

@@ -9,7 +9,7 @@ use Rattle.diag_config.specs.Key.{◌>>=◌}
 use Rattle.diag_setup.specs.declared.raw.RawSetup.{RawSetup}
 use Rattle.diag_text.specs.declared.fault.RunFault.{RunFault}
 use Rattle.diag_text.specs.declared.fault.RunFault.TheVariants.{Files, Config, ConfigLong, Log, JournalLine, FileLong, Memory, JournalFull, RecordsDisagree, Read, Write, Differs, Capture, Otherwise}
-use Rattle.diag_run.specs.declared.whole.Job.{Job}
+use Rattle.diag_run.specs.declared.file_run.Job.{Job}
 use Rattle.diag_desk.specs.Following.{HasTaken}
 use Rattle.diag_text.specs.Taking.{LinesTaken}
 use Rattle.diag_text.specs.declared.taking.LineTaker.{LineTaker}

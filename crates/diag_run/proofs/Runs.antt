@@ -4,7 +4,7 @@ use Rattle.std.specs.Global.{Vec}
 use Rattle.std.specs.Io.KnownBytes.{Keeps}
 use Rattle.diag_text.specs.declared.fault.RunFault.{RunFault}
 use Rattle.diag_text.specs.declared.fault.RunFault.TheVariants.{Read, Write}
-use Rattle.diag_run.specs.declared.whole.Job.{Job}
+use Rattle.diag_run.specs.declared.file_run.Job.{Job}
 use Rattle.diag_run.specs.Run.{HasRead, GivesRun, NamesAFile, RunStops, TextStops, WhereKnown, Writes, Wrote, WroteFront, answered, joined, read_of}
 use Rattle.diag_run.proofs.Inputs.{HasRead-map, no_write, run_stops}
 

@@ -27,12 +27,12 @@ use Rattle.diag_workers.specs.Play.{logs_of}
 use Rattle.diag_text.specs.Text.{journal_part, whole_text, replay_text}
 use Rattle.diag_text.specs.declared.fault.RunFault.{RunFault}
 use Rattle.diag_text.specs.declared.fault.RunFault.TheVariants.{Files, JournalLine, Memory, JournalFull, Read, Write, Differs}
-use Rattle.diag_run.specs.declared.whole.Outcome.{Outcome}
-use Rattle.diag_run.specs.declared.whole.Outcome.TheVariants as outcome
-use Rattle.diag_run.specs.declared.whole.Alone.{Alone}
-use Rattle.diag_run.specs.declared.whole.Alone.TheVariants as alone
-use Rattle.diag_run.specs.declared.whole.Job.{Job}
-use Rattle.diag_run.specs.declared.whole.Job.TheVariants.{Serial, Play, Replay}
+use Rattle.diag_run.specs.declared.file_run.Outcome.{Outcome}
+use Rattle.diag_run.specs.declared.file_run.Outcome.TheVariants as outcome
+use Rattle.diag_run.specs.declared.file_run.Alone.{Alone}
+use Rattle.diag_run.specs.declared.file_run.Alone.TheVariants as alone
+use Rattle.diag_run.specs.declared.file_run.Job.{Job}
+use Rattle.diag_run.specs.declared.file_run.Job.TheVariants.{Serial, Play, Replay}
 
 -- what needs no thread of its own, as a job
 abbrev pub job_of : Alone → Job

@@ -8,10 +8,10 @@ ghost use Rattle.diag_run.specs.Files.{AreTaken, FilesEnd, FilesRead, or_bad_log
 ghost use Rattle.diag_run.specs.Logs.{AreLogs, TookLog};
 ghost use Rattle.diag_run.specs.Run.{FilesGive, GivesPlayed, GivesWoven, GivesReplayed, IsReplayedTo, played_text, answered, joined};
 
+use crate::file_run::Job;
 use crate::files::{LOG_LIMIT, read_each};
 use crate::logs::{LogLines, finish_logs, read_logs};
 use crate::serial::serial_text;
-use crate::whole::Job;
 use diag_can::Timing;
 use diag_desk::{TextFault, TextReplay};
 use diag_setup::Setup;

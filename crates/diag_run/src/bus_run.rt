@@ -9,8 +9,8 @@ ghost use Rattle.diag_run.specs.Capturing.{GoesOn, StopsWithin, fault_of, Follow
 ghost use Rattle.diag_run.specs.Run.{TellsOf};
 
 use crate::capture::{Capture, CaptureFault};
+use crate::file_run::Outcome;
 use crate::files::read_config;
-use crate::whole::Outcome;
 use diag_bus::{Bus, Output};
 use diag_text::{RunFault, fault_text, status};
 use std::alloc::Global;

@@ -6,14 +6,14 @@ mod bus_run;
 mod capture;
 mod ending;
 mod entering;
+mod file_run;
 mod files;
 mod logs;
 mod playing;
 mod replies;
 mod serial;
-mod whole;
 
 pub use bus_run::{run_bus, run_bus_and_tell, run_fault};
 pub use capture::{Capture, CaptureFault};
+pub use file_run::{Alone, Job, Outcome, run, run_alone, run_and_tell, run_text};
 pub use files::read_config;
-pub use whole::{Alone, Job, Outcome, run, run_alone, run_and_tell, run_text};

@@ -1,5 +1,5 @@
 use Rattle.diag_run.proofs.Known.{files_made}
-use Rattle.diag_run.proofs.whole.run_text.Goals as goal
+use Rattle.diag_run.proofs.file_run.run_text.Goals as goal
 
 pub returns-in-Ok : goal.returns-in-Ok
 returns-in-Ok g c =

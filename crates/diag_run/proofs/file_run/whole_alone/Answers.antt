@@ -1,6 +1,6 @@
 use Rattle.diag_run.specs.Run.{job_of}
 use Rattle.diag_run.proofs.Known.{files_made}
-use Rattle.diag_run.proofs.whole.whole_alone.Goals as goal
+use Rattle.diag_run.proofs.file_run.whole_alone.Goals as goal
 
 pub returns-in-Ok : goal.returns-in-Ok
 returns-in-Ok g c =

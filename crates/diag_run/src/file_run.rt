@@ -1,4 +1,4 @@
-//! A whole run: the config and the files in, one text out.
+//! A run over files: the config and the files in, one text out.
 
 ghost use Rattle.std.specs.Prelude.{◌≡◌, ◌≢◌, ℕ, List, length, IfOk, IfErr, OnOk, Some, Ok, Err};
 ghost use Rattle.std.specs.Io.KnownBytes.{Keeps};

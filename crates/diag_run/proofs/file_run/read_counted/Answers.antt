@@ -2,7 +2,7 @@ use Rattle.std.proofs.Common.{◌≡◌, Ok, arith}
 use Rattle.diag_run.specs.Files.{config_of}
 use Rattle.diag_run.proofs.Inputs.{miscounted}
 use Rattle.diag_run.proofs.Reading.{AreKnown-length}
-use Rattle.diag_run.proofs.whole.read_counted.Goals as goal
+use Rattle.diag_run.proofs.file_run.read_counted.Goals as goal
 
 pub returns-then-wanted-given-clause-fails : goal.returns-then-wanted-given-clause-fails
 returns-then-wanted-given-clause-fails g c bytes known config_is files_are =

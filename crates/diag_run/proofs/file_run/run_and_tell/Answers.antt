@@ -1,5 +1,5 @@
 use Rattle.std.proofs.Common.{rules}
-use Rattle.diag_run.proofs.whole.run_and_tell.Goals as goal
+use Rattle.diag_run.proofs.file_run.run_and_tell.Goals as goal
 
 pub returns-in-Err-clause-fault : goal.returns-in-Err-clause-fault
 returns-in-Err-clause-fault g c = (c.in-Err.fault, search rules, search rules, c.status.ensures)
