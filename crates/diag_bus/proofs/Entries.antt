@@ -1,9 +1,10 @@
 -- The text of one entry more.
 use Rattle.std.proofs.Common.{◌≡◌, ℕ, ◌+◌, Option, Some, None, List, ◌++◌, refl, ap, sym, ◌∙◌}
 use Rattle.std.proofs.lemmas.List.{append-nil}
-use Rattle.std.specs.Prelude.{IfSome, true}
+use Rattle.std.specs.Prelude.{IfSome}
 use Rattle.std.specs.Option.{option_to_list}
 use Rattle.diag_desk.specs.declared.entry.Entry.{Entry}
+use Rattle.diag_desk.specs.declared.version.JournalVersion.TheVariants.{Stamped}
 use Rattle.diag_desk.specs.Text.{ended, entry_line, journal_text_at, stamped_line, ticks_in, ticks_of}
 use Rattle.diag_desk.proofs.ReadLemmas.{journal_text_at_more}
 use Rattle.diag_bus.specs.Batch.{entered, entry_added}
@@ -18,4 +19,4 @@ entered_more End K asked now h = refl
 entered_more Verdict K asked now h = refl
 entered_more Journal K None now h = ap journal_text_at (append-nil K) ∙ sym (append-nil (journal_text_at K))
 entered_more Journal K (Some k) now h =
-    journal_text_at_more K k ∙ ap (λ t. journal_text_at K ++ ended (stamped_line true (t + ticks_in k.step) (entry_line k))) (sym h)
+    journal_text_at_more K k ∙ ap (λ t. journal_text_at K ++ ended (stamped_line Stamped (t + ticks_in k.step) (entry_line k))) (sym h)

@@ -1,5 +1,5 @@
 -- What the server stands for in the midst of a line, beside what the line has drawn so far; and between two lines.
-use Rattle.std.specs.Prelude.{◌≡◌, ◌≤◌, ◌<◌, ◌⊎◌, ◌^◌, ℕ, ◌+◌, IfSome, true, List, [], ◌∷◌, ◌++◌, length, map, Option, Some, None, Ok, slice_get}
+use Rattle.std.specs.Prelude.{◌≡◌, ◌≤◌, ◌<◌, ◌⊎◌, ◌^◌, ℕ, ◌+◌, IfSome, List, [], ◌∷◌, ◌++◌, length, map, Option, Some, None, Ok, slice_get}
 use Rattle.std.specs.List.{All}
 use Rattle.diag_can.specs.declared.bus.BusLine.{BusLine}
 use Rattle.diag_can.specs.declared.bus.BusLine.TheVariants.{Empty, Ticks, Stamped}
@@ -9,6 +9,7 @@ use Rattle.diag_tp.specs.declared.sent.Sent.{Sent}
 use Rattle.diag_tp.specs.State.{LinkState}
 use Rattle.diag_setup.specs.declared.raw.RawSetup.{RawSetup}
 use Rattle.diag_desk.specs.declared.entry.Entry.{Entry}
+use Rattle.diag_desk.specs.declared.version.JournalVersion.TheVariants as version
 use Rattle.diag_desk.specs.Text.{ended, entry_line, journal_text_at, stamped_line, ticks_in}
 use Rattle.diag_world.specs.Port.{time_after}
 use Rattle.diag_world.specs.Server.{ServerState, ServerView, Serves, closing_time, quiet_of, sent_to, server_of}
@@ -34,7 +35,7 @@ entered Verdict journal = []
 abbrev pub entry_added : Output → ℕ → Option Entry → List ℕ
 entry_added Replies now asked = []
 entry_added Journal now None = []
-entry_added Journal now (Some e) = ended (stamped_line true (now + ticks_in e.step) (entry_line e))
+entry_added Journal now (Some e) = ended (stamped_line version.Stamped (now + ticks_in e.step) (entry_line e))
 entry_added End now asked = []
 entry_added Verdict now asked = []
 

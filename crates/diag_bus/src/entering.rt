@@ -1,7 +1,7 @@
 //! The entries of the run's journal, as they are written.
 
 use crate::bus::Output;
-use diag_desk::StepFault;
+use diag_desk::{JournalVersion, StepFault};
 use diag_setup::TesterId;
 use diag_tp::{Message, Step};
 use diag_world::{Keeper, enter_step};
@@ -33,7 +33,7 @@ impl<'a> Keeper for LineEntries<'a> {
     ) -> Result<(), StepFault> {
         match self.output {
             Output::Journal => {
-                enter_step(self.text, true, before, who, step, reply)?;
+                enter_step(self.text, JournalVersion::Stamped, before, who, step, reply)?;
                 Ok(())
             }
             Output::Replies | Output::End | Output::Verdict => Ok(()),

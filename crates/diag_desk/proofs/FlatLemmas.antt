@@ -1,5 +1,5 @@
 -- The flat representation of a journal: a head reads what it was given, and goes on to do so as bytes are appended.
-use Rattle.std.proofs.Common.{◌≡◌, ℕ, zero, suc, ◌+◌, ◌<◌, ◌≤◌, List, [], ◌∷◌, ◌++◌, length, take, drop, Option, Some, None, slice_index_or, slice_get, refl, sym, ap, ◌∙◌, arith, length-append, length-drop}
+use Rattle.std.proofs.Common.{◌≡◌, ℕ, zero, suc, ◌+◌, ◌<◌, ◌≤◌, List, [], ◌∷◌, ◌++◌, length, take, drop, Some, None, slice_index_or, slice_get, refl, sym, ap, ◌∙◌, arith, length-append, length-drop}
 use Rattle.std.specs.Prelude.{map, option_map}
 use Rattle.std.proofs.lemmas.List.{take-append-le, drop-append-le, map-append}
 use Rattle.std.proofs.lemmas.Option.{slice_get-map, slice_get-get_or}

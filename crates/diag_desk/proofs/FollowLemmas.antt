@@ -1,5 +1,5 @@
 -- Replaying a journal's text as it is read: what one entry more makes of it.
-use Rattle.std.proofs.Common.{◌≡◌, ℕ, ◌+◌, ◌-◌, ◌≤◌, Bool, true, false, List, [], ◌∷◌, ◌++◌, length, Some, None, refl, sym, ap, ◌∙◌, subst, arith, take, slice_get, length-append, append-nil, inl, inr}
+use Rattle.std.proofs.Common.{◌≡◌, ℕ, ◌+◌, ◌-◌, ◌≤◌, List, [], ◌∷◌, ◌++◌, length, Some, None, refl, sym, ap, ◌∙◌, subst, arith, take, slice_get, length-append}
 use Rattle.std.proofs.Math.Seq.{take-append_seam}
 use Rattle.std.proofs.lemmas.List.{take-append-le}
 use Rattle.std.proofs.lemmas.Option.{same_Some}
@@ -9,11 +9,10 @@ use Rattle.diag_desk.specs.declared.entry.Entry.{Entry}
 use Rattle.diag_desk.specs.declared.following.Play.{Play}
 use Rattle.diag_desk.specs.declared.following.TextFault.{TextFault}
 use Rattle.diag_desk.specs.declared.following.TextFault.TheVariants.{Line, Differs, Memory}
-use Rattle.diag_desk.specs.Fault.{FaultAt, IsTextOf}
+use Rattle.diag_desk.specs.Fault.{FaultAt}
 use Rattle.diag_desk.specs.Following.{Plays, TextDiffers}
 use Rattle.diag_desk.specs.Legal.{after, after_step, reply_to}
 use Rattle.diag_desk.specs.Replay.{DiffersAt, IsRun}
-use Rattle.diag_desk.specs.Text.{text_of}
 use Rattle.diag_desk.proofs.Runs.{differs_at, keeps_legal, testers_more}
 
 at_end : (past : List Entry) (e : Entry) → slice_get (past ++ e ∷ []) (length past) ≡ Some e

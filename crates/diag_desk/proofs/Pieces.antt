@@ -1,13 +1,14 @@
 -- A journal's text that comes in pieces: what one line more makes of it, and where a line stops it.
-use Rattle.std.proofs.Common.{◌≡◌, ◌==◌, ℕ, ◌+◌, ◌<◌, Bool, true, false, cond, Option, List, [], ◌∷◌, ◌++◌, length, Some, None, refl, sym, ap, ◌∙◌, subst, arith, inl, inr, append_assoc, append-nil, length-append}
+use Rattle.std.proofs.Common.{◌≡◌, ◌==◌, ℕ, ◌+◌, ◌<◌, true, false, cond, List, [], ◌∷◌, ◌++◌, length, Some, None, refl, sym, ap, ◌∙◌, subst, arith, inl, inr, append_assoc, append-nil, length-append}
 use Rattle.std.specs.Prelude.{option_map}
-use Rattle.std.proofs.lemmas.Bool.{eqb-true}
 use Rattle.std.proofs.lemmas.List.{append_cancel_right}
 use Rattle.std.proofs.lemmas.List.Elements.{All-cons, All-head, All-nil, All-tail}
 use Rattle.diag_setup.specs.declared.raw.RawSetup.{RawSetup}
 use Rattle.diag_can.specs.Bus.{HasNoFeed}
 use Rattle.diag_can.specs.Log.{is_feed}
 use Rattle.diag_desk.specs.declared.entry.Entry.{Entry}
+use Rattle.diag_desk.specs.declared.version.JournalVersion.{JournalVersion}
+use Rattle.diag_desk.specs.declared.version.JournalVersion.TheVariants.{Plain, Stamped}
 use Rattle.diag_desk.specs.declared.following.Follower.{Follower}
 use Rattle.diag_desk.specs.declared.following.TextReplay.{TextReplay}
 use Rattle.diag_desk.specs.Cut.{begun, cut}
@@ -17,18 +18,10 @@ use Rattle.diag_desk.specs.PartRead.{HasNoNext}
 use Rattle.diag_can.specs.Pieces.{TakesLines}
 use Rattle.diag_can.proofs.Pieces.{all_taken}
 use Rattle.diag_desk.specs.Text.{ended, header, line_after, text_of}
-use Rattle.diag_desk.proofs.CutText.{cut-joins, one_cut}
+use Rattle.diag_desk.proofs.CutText.{back, cut-joins, front, one_cut}
 use Rattle.diag_desk.proofs.ReadLemmas.{header_fault, stuck_at_end, stuck_at_line, stuck_fault, text_begins, text_one}
 
 -- ---- cutting a text
-
-abbrev before : Option (List ℕ × List ℕ) → List ℕ
-before (Some p) = p.0
-before None = []
-
-abbrev behind : Option (List ℕ × List ℕ) → List ℕ
-behind (Some p) = p.1
-behind None = []
 
 -- a text that is cut is cut there, whatever follows it
 cut_more : (c : ℕ) (t a b more : List ℕ) → cut c t ≡ Some (a, b) → cut c (t ++ more) ≡ Some (a, b ++ more)
@@ -36,14 +29,14 @@ cut_more c [] a b more h = cc h
 cut_more c (x ∷ xs) a b more h =
     elim (x == c) as (λ v. (x == c) ≡ v → cond v (Some ([], xs)) (option_map (begun x) (cut c xs)) ≡ Some (a, b) → cut c (x ∷ (xs ++ more)) ≡ Some (a, b ++ more)) [
       | true ↦ λ e k.
-          let first : [] ≡ a = ap before k in
-          let rest : xs ≡ b = ap behind k in
+          let first : [] ≡ a = ap front k in
+          let rest : xs ≡ b = ap back k in
           rw (e, ← first, ← rest) refl
       | false ↦ λ e k.
           elim (cut c xs) as (λ o. cut c xs ≡ o → option_map (begun x) o ≡ Some (a, b) → cut c (x ∷ (xs ++ more)) ≡ Some (a, b ++ more)) [
             | Some p ↦ λ q m.
-                let first : x ∷ p.0 ≡ a = ap before m in
-                let rest : p.1 ≡ b = ap behind m in
+                let first : x ∷ p.0 ≡ a = ap front m in
+                let rest : p.1 ≡ b = ap back m in
                 rw (e, cut_more c xs p.0 p.1 more q, ← first, ← rest) refl
             | None ↦ λ q m. cc m
           ] refl k
@@ -69,9 +62,9 @@ no_feed (x ∷ xs) h =
     ] refl h
 
 -- a line behind the text so far
-line_more : (stamped : Bool) (es : List Entry) (e : Entry) (text line : List ℕ) → text ≡ text_of stamped es → line ≡ ended (line_after stamped es e)
-    → text ++ line ≡ text_of stamped (es ++ e ∷ [])
-line_more stamped es e text line t l = (λ i. t i ++ l i) ∙ sym (text_one stamped es e)
+line_more : (version : JournalVersion) (es : List Entry) (e : Entry) (text line : List ℕ) → text ≡ text_of version es → line ≡ ended (line_after version es e)
+    → text ++ line ≡ text_of version (es ++ e ∷ [])
+line_more version es e text line t l = (λ i. t i ++ l i) ∙ sym (text_one version es e)
 
 -- ---- a follower
 
@@ -82,7 +75,7 @@ FrontFollowed setup old new text rest = (front : List ℕ)
     × ((seen : List ℕ) → HasFollowed setup old seen → HasFollowed setup new (seen ++ front))
 
 -- a line that was cut, as one at the front of the text
-pub cut_followed : (setup : RawSetup) (f mid new : Follower) (past : List Entry) (rest line after : List ℕ) → mid.stamped ≡ f.stamped
+pub cut_followed : (setup : RawSetup) (f mid new : Follower) (past : List Entry) (rest line after : List ℕ) → mid.version ≡ f.version
     → cut 10 rest ≡ Some (line, after) → Followed setup mid new past line → FollowedIn setup f new past rest after
 cut_followed setup f mid new past rest line after same cuts took = record {
   entry = took.entry;
@@ -96,17 +89,17 @@ module _ (setup : RawSetup) (f new : Follower) (rest after : List ℕ) (one : (p
     line_of : (seen : List ℕ) → HasFollowed setup f seen → (line : List ℕ) × (rest ≡ line ++ after)
     line_of seen at =
         let took = one at.past at.follows in (
-          ended (line_after f.stamped at.past took.entry),
-          took.line ∙ sym (append_assoc (line_after f.stamped at.past took.entry) (10 ∷ []) after),
+          ended (line_after f.version at.past took.entry),
+          took.line ∙ sym (append_assoc (line_after f.version at.past took.entry) (10 ∷ []) after),
         )
 
     pub is_shorter : (seen : List ℕ) → HasFollowed setup f seen → length after < length rest
     is_shorter seen at =
         let took = one at.past at.follows in
         let long = ap length took.line in
-        omega (arith, long, length-append (line_after f.stamped at.past took.entry) (10 ∷ after))
+        omega (arith, long, length-append (line_after f.version at.past took.entry) (10 ∷ after))
 
-    one_more : new.stamped ≡ f.stamped → (line seen : List ℕ) → rest ≡ line ++ after → HasFollowed setup f seen → HasFollowed setup new (seen ++ line)
+    one_more : new.version ≡ f.version → (line seen : List ℕ) → rest ≡ line ++ after → HasFollowed setup f seen → HasFollowed setup new (seen ++ line)
     unfolding line_of
     one_more same line seen is at =
         let took = one at.past at.follows in
@@ -115,11 +108,11 @@ module _ (setup : RawSetup) (f new : Follower) (rest after : List ℕ) (one : (p
         record {
           past = at.past ++ took.entry ∷ [];
           follows = took.follows;
-          is = line_more f.stamped at.past took.entry seen line at.is equal ∙ ap (λ b. text_of b (at.past ++ took.entry ∷ [])) (sym same);
+          is = line_more f.version at.past took.entry seen line at.is equal ∙ ap (λ b. text_of b (at.past ++ took.entry ∷ [])) (sym same);
         }
 
     -- one line more behind a front
-    pub front_more : new.stamped ≡ f.stamped → (old : Follower) (text seen : List ℕ) → HasFollowed setup old seen → FrontFollowed setup old f text rest
+    pub front_more : new.version ≡ f.version → (old : Follower) (text seen : List ℕ) → HasFollowed setup old seen → FrontFollowed setup old f text rest
         → FrontFollowed setup old new text after
     front_more same old text seen h so_far =
         let line = line_of (seen ++ so_far.0) (so_far.2 seen h) in (
@@ -129,7 +122,7 @@ module _ (setup : RawSetup) (f new : Follower) (rest after : List ℕ) (one : (p
         )
 
 -- behind a front no line ends
-pub front_taken : (setup : RawSetup) (old f new : Follower) (text rest : List ℕ) → new.stamped ≡ f.stamped
+pub front_taken : (setup : RawSetup) (old f new : Follower) (text rest : List ℕ) → new.version ≡ f.version
     → ((past : List Entry) → Follows setup f past → Follows setup new past) → cut 10 rest ≡ None → FrontFollowed setup old f text rest
     → TakesLines (HasFollowed setup old) (HasFollowed setup new) text rest
 front_taken setup old f new text rest same follows none so_far = record {
@@ -142,22 +135,22 @@ front_taken setup old f new text rest same follows none so_far = record {
 }
 
 -- a line that is no entry's is the first at fault, whatever follows it
-pub line_fault : (setup : RawSetup) (old f new : Follower) (text rest line after : List ℕ) → new.stamped ≡ f.stamped
+pub line_fault : (setup : RawSetup) (old f new : Follower) (text rest line after : List ℕ) → new.version ≡ f.version
     → ((past : List Entry) → Follows setup f past → Follows setup new past)
-    → cut 10 rest ≡ Some (line, after) → ((past : List Entry) → Follows setup new past → HasNoNext (read_so_far new.stamped past) line)
+    → cut 10 rest ≡ Some (line, after) → ((past : List Entry) → Follows setup new past → HasNoNext (read_so_far new.version past) line)
     → FrontFollowed setup old f text rest → (seen : List ℕ) → HasFollowed setup old seen → (more : List ℕ)
     → FaultAt (seen ++ (text ++ more)) (new.count + 2)
 line_fault setup old f new text rest line after same follows cuts wrong so_far seen h more =
     let at = so_far.2 seen h in
     let now = follows at.past at.follows in
     let count = now.count in
-    let whole : seen ++ (text ++ more) ≡ text_of new.stamped at.past ++ (rest ++ more) =
+    let whole : seen ++ (text ++ more) ≡ text_of new.version at.past ++ (rest ++ more) =
     ap (λ t. seen ++ (t ++ more)) so_far.1 ∙ ap (λ t. seen ++ t) (append_assoc so_far.0 rest more) ∙ sym (append_assoc seen so_far.0 (rest ++ more))
     ∙ ap (λ t. t ++ (rest ++ more)) (at.is ∙ ap (λ b. text_of b at.past) (sym same)) in
     let more_cuts = cut_more 10 rest line after more cuts in
     let some : rest ++ more ≡ [] → ⊥ = λ empty. cc (sym more_cuts ∙ ap (cut 10) empty) in
-    stuck_fault new.stamped at.past _ (rest ++ more) (new.count + 2) now.journal whole (omega arith)
-    (stuck_at_line (read_so_far new.stamped at.past) (rest ++ more) line (after ++ more) now.journal some more_cuts (wrong at.past now))
+    stuck_fault new.version at.past _ (rest ++ more) (new.count + 2) now.journal whole (omega arith)
+    (stuck_at_line (read_so_far new.version at.past) (rest ++ more) line (after ++ more) now.journal some more_cuts (wrong at.past now))
 
 -- ---- the replay of a text
 
@@ -165,22 +158,6 @@ same_number : (n m : ℕ) → Some n ≡ Some m → n ≡ m
 same_number n m same = cc
 
 module _ (setup : RawSetup) (old new : TextReplay) (text : List ℕ) where
-  pub entries_taken : (rest : List ℕ) → old.headed ≡ true → old.fault ≡ None → new.headed ≡ true → new.fault ≡ None
-      → TakesLines (HasFollowed setup old.follower) (HasFollowed setup new.follower) text rest
-      → TakesLines (HasTaken setup old) (HasTaken setup new) text rest
-  entries_taken rest headed well still none t = record {
-    front = t.front;
-    is = t.is;
-    begun = t.begun;
-    takes = λ seen h. record {
-      well = λ _. record {
-        unheaded = λ no. cc (sym still ∙ no);
-        headed = λ _. t.takes seen ((h.well well).headed headed);
-      };
-      fault = λ n some. cc (sym none ∙ some);
-    };
-  }
-
   -- the line of that number is at fault
   pub fault_taken : (n : ℕ) → new.fault ≡ Some n → ((seen : List ℕ) → HasTaken setup old seen → (more : List ℕ) → FaultAt (seen ++ (text ++ more)) n)
       → TakesLines (HasTaken setup old) (HasTaken setup new) text []
@@ -210,18 +187,18 @@ module _ (setup : RawSetup) (r : TextReplay) (unheaded : r.headed ≡ false) (we
   none_before = ((h.well well).unheaded unheaded).0
 
   -- a first line that is no header
-  pub no_header : (text first rest : List ℕ) → cut 10 text ≡ Some (first, rest) → ((stamped : _) → first ≡ header stamped → ⊥) → (more : List ℕ)
+  pub no_header : (text first rest : List ℕ) → cut 10 text ≡ Some (first, rest) → ((version : _) → first ≡ header version → ⊥) → (more : List ℕ)
       → FaultAt (seen ++ (text ++ more)) 1
   no_header text first rest cuts none more =
       subst (λ s. FaultAt (s ++ (text ++ more)) 1) (sym none_before) (header_fault (text ++ more)
-      (λ stamped back other. none stamped (one_cut 10 (text ++ more) _ _ _ _ (cut_more 10 text first rest more cuts) other).0))
+      (λ version back other. none version (one_cut 10 (text ++ more) _ _ _ _ (cut_more 10 text first rest more cuts) other).0))
 
   pub unended_header : (begun : List ℕ) → HasNoFeed begun → FaultAt (seen ++ begun) 1
   unended_header begun none =
-      subst (λ s. FaultAt (s ++ begun) 1) (sym none_before) (header_fault begun (λ stamped back cuts. cc (sym (uncut begun none) ∙ cuts)))
+      subst (λ s. FaultAt (s ++ begun) 1) (sym none_before) (header_fault begun (λ version back cuts. cc (sym (uncut begun none) ∙ cuts)))
 
   pub header_taken : (new : TextReplay) (first : List ℕ) → new.fault ≡ None → new.headed ≡ true → new.follower.clocks ≡ r.follower.clocks
-      → new.follower.count ≡ r.follower.count → new.follower.play ≡ r.follower.play → first ≡ header new.follower.stamped
+      → new.follower.count ≡ r.follower.count → new.follower.play ≡ r.follower.play → first ≡ header new.follower.version
       → HasTaken setup new (first ++ 10 ∷ [])
   header_taken new first none headed clocks count play is =
       let before = ((h.well well).unheaded unheaded).1 in
@@ -236,7 +213,7 @@ module _ (setup : RawSetup) (r : TextReplay) (unheaded : r.headed ≡ false) (we
               count = count ∙ before.count;
               play = rw play before.play;
             };
-            is = text_begins new.follower.stamped (first ++ 10 ∷ []) first [] refl is ∙ append-nil (text_of new.follower.stamped []);
+            is = text_begins new.follower.version (first ++ 10 ∷ []) first [] refl is ∙ append-nil (text_of new.follower.version []);
           };
         };
         fault = λ n some. cc (sym none ∙ some);
@@ -258,20 +235,20 @@ headed_taken setup old mid new text first rest begun cuts head t = record {
 
 -- ---- its end
 
-whole_of : (text : List ℕ) (past : List Entry) (stamped : Bool) → text ≡ text_of stamped past → IsTextOf text past
-whole_of text past true is = inr is
-whole_of text past false is = inl is
+whole_of : (text : List ℕ) (past : List Entry) (version : JournalVersion) → text ≡ text_of version past → IsTextOf text past
+whole_of text past Stamped is = inr is
+whole_of text past Plain is = inl is
 
 -- a last line that no line feed ends
 pub unended_line : (setup : RawSetup) (r : TextReplay) (seen begun : List ℕ) → HasFollowed setup r.follower seen → HasNoFeed begun → (begun ≡ [] → ⊥)
     → FaultAt (seen ++ begun) (r.follower.count + 2)
 unended_line setup r seen begun at none some =
     let count = at.follows.count in
-    stuck_fault r.follower.stamped at.past _ begun (r.follower.count + 2) at.follows.journal (ap (λ s. s ++ begun) at.is) (omega arith)
-    (stuck_at_end r.follower.stamped at.past begun at.follows.journal some (uncut begun none))
+    stuck_fault r.follower.version at.past _ begun (r.follower.count + 2) at.follows.journal (ap (λ s. s ++ begun) at.is) (omega arith)
+    (stuck_at_end r.follower.version at.past begun at.follows.journal some (uncut begun none))
 
 -- a text that ends with a line feed
 pub whole_text : (setup : RawSetup) (r : TextReplay) (seen begun : List ℕ) → (at : HasFollowed setup r.follower seen) → length begun ≡ 0
     → IsTextOf (seen ++ begun) at.past
-whole_text setup r seen [] at none = whole_of _ at.past r.follower.stamped (append-nil seen ∙ at.is)
+whole_text setup r seen [] at none = whole_of _ at.past r.follower.version (append-nil seen ∙ at.is)
 whole_text setup r seen (c ∷ begun) at none = absurd (omega (arith, none))

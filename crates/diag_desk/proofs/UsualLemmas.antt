@@ -51,11 +51,6 @@ pair_spelled high low v hb lb is byte =
 
 -- ---- hex at the front
 
-upper-append : (bytes : List ℕ) (b : ℕ) → encode_upper (bytes ++ b ∷ []) ≡ encode_upper bytes ++ encode_upper (b ∷ [])
-unfolding encode_with
-upper-append [] b = refl
-upper-append (x ∷ bytes) b = ap (λ text. slice_index upper_digits (x / 16) ∷ slice_index upper_digits (x % 16) ∷ text) (upper-append bytes b)
-
 pub front-none : (text : List ℕ) → text ≡ encode_upper [] ++ text
 unfolding encode_with
 front-none text = refl
@@ -65,7 +60,7 @@ pub front-more : (text bytes next rest tail : List ℕ) (b high low : ℕ) → t
     → encode_upper (b ∷ []) ≡ high ∷ low ∷ [] → next ≡ bytes ++ b ∷ [] → text ≡ encode_upper next ++ tail
 front-more text bytes next rest tail b high low t r pair n =
     t ∙ ap (λ l. encode_upper bytes ++ l) (r ∙ ap (λ l. l ++ tail) (sym pair)) ∙ sym (append_assoc (encode_upper bytes) (encode_upper (b ∷ [])) tail)
-    ∙ ap (λ l. l ++ tail) (sym (upper-append bytes b)) ∙ ap (λ l. encode_upper l ++ tail) (sym n)
+    ∙ ap (λ l. l ++ tail) (sym (upper-parts bytes (b ∷ []))) ∙ ap (λ l. encode_upper l ++ tail) (sym n)
 
 -- the two bytes at the front, and what follows them
 pub front_two : (rest : List ℕ) → 2 ≤ length rest → rest ≡ get_or rest 0 0 ∷ get_or rest 1 0 ∷ take (length rest - 2) (drop 2 rest)

@@ -1,6 +1,7 @@
 -- Which line of a text is the first at fault.
-use Rattle.std.specs.Prelude.{◌≡◌, ◌≤◌, ◌<◌, ◌+◌, ◌-◌, ◌⊎◌, ℕ, Bool, List, ◌++◌, length}
+use Rattle.std.specs.Prelude.{◌≡◌, ◌≤◌, ◌<◌, ◌+◌, ◌-◌, ◌⊎◌, ℕ, List, ◌++◌, length}
 use Rattle.diag_desk.specs.declared.entry.Entry.{Entry}
+use Rattle.diag_desk.specs.declared.version.JournalVersion.{JournalVersion}
 use Rattle.diag_desk.specs.Entry.{IsJournal}
 use Rattle.diag_desk.specs.Text.{text_of, journal_text, journal_text_at}
 
@@ -9,12 +10,12 @@ IsTextOf text entries = (text ≡ journal_text entries) ⊎ (text ≡ journal_te
 
 -- the first n lines of a text are a journal's: the header, and n - 1 entries
 pub record Begins (text : List ℕ) (n : ℕ) : Type 0 where
-  pub stamped : Bool
+  pub version : JournalVersion
   pub entries : List Entry
   pub rest : List ℕ
   pub journal : IsJournal entries
   pub lines : length entries + 1 ≡ n
-  pub is : text ≡ text_of stamped entries ++ rest
+  pub is : text ≡ text_of version entries ++ rest
 
 -- line n, from 1, is the first at fault: the lines before it are a journal's, with it they are none's, and the text is
 -- none's

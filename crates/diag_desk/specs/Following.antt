@@ -5,6 +5,8 @@ use Rattle.hex.specs.Hex.{encode_upper}
 use Rattle.diag_ecu.specs.Respond.{after_request, reply}
 use Rattle.diag_ecu.specs.State.{State, opening}
 use Rattle.diag_desk.specs.declared.entry.Entry.{Entry}
+use Rattle.diag_desk.specs.declared.version.JournalVersion.{JournalVersion}
+use Rattle.diag_desk.specs.declared.version.JournalVersion.TheVariants.{Plain}
 use Rattle.diag_desk.specs.declared.following.Follower.{Follower}
 use Rattle.diag_desk.specs.declared.following.Play.{Play}
 use Rattle.diag_desk.specs.declared.following.TextReplay.{TextReplay}
@@ -36,8 +38,8 @@ pub record TextDiffers (setup : RawSetup) (text : List ℕ) (n : ℕ) : Type 0 w
 abbrev pub AreTold : List ℕ → Type 0
 AreTold ticks = (past : List Entry) × IsJournal past × Tells ticks past
 
-abbrev pub read_so_far : Bool → List Entry → PartRead
-read_so_far stamped past = record { stamped = stamped; entries = past }
+abbrev pub read_so_far : JournalVersion → List Entry → PartRead
+read_so_far version past = record { version = version; entries = past }
 
 -- what a play has made of the entries so far: the ECU is where they lead, or one differs
 pub record Plays (setup : RawSetup) (play : Play) (past : List Entry) : Type 0 where
@@ -55,7 +57,7 @@ pub record Follows (setup : RawSetup) (f : Follower) (past : List Entry) : Type 
 pub record Followed (setup : RawSetup) (f new : Follower) (past : List Entry) (text : List ℕ) : Type 0 where
   pub entry : Entry
   pub is_entry : IsEntry entry
-  pub line : line_after f.stamped past entry ≡ text
+  pub line : line_after f.version past entry ≡ text
   pub follows : Follows setup new (past ++ entry ∷ [])
 
 -- a request and its reply at the front of a text, which are the ECU's, and what follows their line
@@ -68,7 +70,7 @@ pub record Answered (s new : State) (who : ℕ) (functional : Bool) (text rest :
 
 -- the next entry has room and no stamp, none before it differs, and its tester is in the setup
 pub record IsUsual (setup : RawSetup) (f : Follower) (who : ℕ) : Type 0 where
-  pub stamped : f.stamped ≡ false
+  pub version : f.version ≡ Plain
   pub count : f.count < most_entries
   pub differs : f.play.differs ≡ None
   pub tester : who ≤ length setup.testers
@@ -76,14 +78,14 @@ pub record IsUsual (setup : RawSetup) (f : Follower) (who : ℕ) : Type 0 where
 -- one line more at the front of a text, and what follows it
 pub record FollowedIn (setup : RawSetup) (f new : Follower) (past : List Entry) (text rest : List ℕ) : Type 0 where
   pub entry : Entry
-  pub line : text ≡ line_after f.stamped past entry ++ 10 ∷ rest
+  pub line : text ≡ line_after f.version past entry ++ 10 ∷ rest
   pub follows : Follows setup new (past ++ entry ∷ [])
 
 -- this is the text of the entries that were read and played so far
 pub record HasFollowed (setup : RawSetup) (f : Follower) (text : List ℕ) : Type 0 where
   pub past : List Entry
   pub follows : Follows setup f past
-  pub is : text ≡ text_of f.stamped past
+  pub is : text ≡ text_of f.version past
 
 -- no line is at fault: nothing was taken before the header, and behind it the text of some entries
 pub record IsWell (setup : RawSetup) (r : TextReplay) (text : List ℕ) : Type 0 where

@@ -1,9 +1,11 @@
 -- The text of a journal: a header, and a line for each entry. There is one spelling.
-use Rattle.std.specs.Prelude.{◌≢◌, ◌≤◌, ◌<◌, ◌^◌, ◌+◌, ◌/◌, ◌%◌, ◌==◌, ◌&&◌, ◌||◌, ℕ, Bool, true, false, nat_le, List, [], ◌∷◌, ◌++◌, codes, decimal, Option, Some, None, unwrap_or, if◌then◌else◌}
+use Rattle.std.specs.Prelude.{◌≢◌, ◌≤◌, ◌<◌, ◌^◌, ◌+◌, ◌/◌, ◌%◌, ◌==◌, ◌&&◌, ◌||◌, ℕ, Bool, nat_le, List, [], ◌∷◌, ◌++◌, codes, decimal, Option, Some, None, unwrap_or, if◌then◌else◌}
 use Rattle.hex.specs.Hex.{encode_upper, hex_digit_value}
 use Rattle.diag_tp.specs.declared.step.Step.{Step}
 use Rattle.diag_tp.specs.declared.step.Step.TheVariants.{Request, Ticks}
 use Rattle.diag_desk.specs.declared.entry.Entry.{Entry}
+use Rattle.diag_desk.specs.declared.version.JournalVersion.{JournalVersion}
+use Rattle.diag_desk.specs.declared.version.JournalVersion.TheVariants.{Plain, Stamped}
 use Rattle.diag_desk.specs.Entry.{IsEntry, IsMessage}
 
 -- the two digits of a number below 100
@@ -36,34 +38,36 @@ abbrev pub ticks_of : ℕ → List Entry → ℕ
 ticks_of who [] = 0
 ticks_of who (e ∷ entries) = (if e.who == who then ticks_in e.step else 0) + ticks_of who entries
 
-abbrev pub stamped_line : Bool → ℕ → List ℕ → List ℕ
-stamped_line stamped at line = if stamped then decimal at ++ (codes " " ++ line) else line
+abbrev pub stamped_line : JournalVersion → ℕ → List ℕ → List ℕ
+stamped_line Plain at line = line
+stamped_line Stamped at line = decimal at ++ (codes " " ++ line)
 
 -- the line of an entry after others; its stamp is the ticks of its tester up to and with it
-abbrev pub line_after : Bool → List Entry → Entry → List ℕ
-line_after stamped past e =
-    stamped_line stamped (ticks_of e.who past + ticks_in e.step) (entry_line e)
+abbrev pub line_after : JournalVersion → List Entry → Entry → List ℕ
+line_after version past e =
+    stamped_line version (ticks_of e.who past + ticks_in e.step) (entry_line e)
 
 abbrev pub ended : List ℕ → List ℕ
 ended line = line ++ codes "\n"
 
-abbrev pub lines_after : Bool → List Entry → List Entry → List ℕ
-lines_after stamped past [] = []
-lines_after stamped past (e ∷ entries) =
-    ended (line_after stamped past e) ++ lines_after stamped (past ++ e ∷ []) entries
+abbrev pub lines_after : JournalVersion → List Entry → List Entry → List ℕ
+lines_after version past [] = []
+lines_after version past (e ∷ entries) =
+    ended (line_after version past e) ++ lines_after version (past ++ e ∷ []) entries
 
-abbrev pub header : Bool → List ℕ
-header stamped = if stamped then codes "diag-journal 2" else codes "diag-journal 1"
+abbrev pub header : JournalVersion → List ℕ
+header Plain = codes "diag-journal 1"
+header Stamped = codes "diag-journal 2"
 
--- the text of version 2, which is stamped, and of version 1
-abbrev pub text_of : Bool → List Entry → List ℕ
-text_of stamped entries = ended (header stamped) ++ lines_after stamped [] entries
+-- the text of a version
+abbrev pub text_of : JournalVersion → List Entry → List ℕ
+text_of version entries = ended (header version) ++ lines_after version [] entries
 
 abbrev pub journal_text : List Entry → List ℕ
-journal_text entries = text_of false entries
+journal_text entries = text_of Plain entries
 
 abbrev pub journal_text_at : List Entry → List ℕ
-journal_text_at entries = text_of true entries
+journal_text_at entries = text_of Stamped entries
 
 -- a digit as the journal writes it
 abbrev pub is_upper_digit : ℕ → Bool

@@ -1,5 +1,5 @@
 //! How the journal keeps its entries: a small head for each, and the bytes of all messages in one list.
-ghost use Rattle.std.specs.Prelude.{◌≡◌, ◌≤◌, ◌+◌, ◌++◌, ◌∷◌, [], length, OnErr, IfOk, ◌/◌, None, option_map, option_copied, unwrap_or, vec_len, vec_capacity};
+ghost use Rattle.std.specs.Prelude.{◌≡◌, ◌≤◌, ◌+◌, ◌++◌, [], length, OnErr, IfOk, ◌/◌, option_map, option_copied, unwrap_or, vec_len, vec_capacity};
 ghost use Rattle.diag_desk.specs.Entries.{entry};
 ghost use Rattle.diag_desk.specs.Entry.{entry_seen, HasNoReply, step_len, entry_bytes, IsEntry, IsMessage, IsReply};
 ghost use Rattle.hex.specs.Hex.{IsBytes};

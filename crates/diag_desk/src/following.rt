@@ -1,5 +1,5 @@
 //! Replaying a journal's text as it is read, entry by entry; none is kept.
-ghost use Rattle.std.specs.Prelude.{◌≡◌, ◌+◌, ◌++◌, ◌∷◌, ◌≤◌, ◌↔◌, ◌≢◌, [], false, true, ℕ, List, length, Err, None, IfOk, IfErr, IfSome, IfNone, OnOk, IsTrue, option_copied, option_map};
+ghost use Rattle.std.specs.Prelude.{◌≡◌, ◌+◌, ◌++◌, ◌∷◌, ◌≤◌, ◌↔◌, ◌≢◌, [], true, ℕ, List, length, Err, None, IfOk, IfErr, IfSome, IfNone, OnOk, IsTrue, option_copied, option_map};
 ghost use Rattle.std.specs.Bool.{OnTrue, OnFalse};
 ghost use Rattle.hex.specs.Hex.{encode_upper};
 ghost use Rattle.diag_setup.specs.declared.raw.RawSetup.{RawSetup};
@@ -21,11 +21,12 @@ use crate::entry::MOST_ENTRIES;
 use crate::flat::{append_hex, decoded_len, tell_bytes};
 use crate::line::{Line, LineStep, cut};
 use crate::next::{LineFault, clock_with, next_line};
-use crate::read::{JournalFault, is_stamped};
+use crate::read::{JournalFault, version_of};
 use crate::usual::{
     ReadFront, behind, behind_lent, behind_reply, count_front, is_functional, line_front,
     read_front, read_request, short_front,
 };
+use crate::version::JournalVersion;
 use diag_ecu::Ecu;
 use diag_setup::{Setup, TesterId};
 use diag_tp::Message;
@@ -69,7 +70,7 @@ pub(crate) struct Play {
 /// What is known of the entries that were read so far.
 #[derive(Drop)]
 pub(crate) struct Follower {
-    stamped: bool,
+    version: JournalVersion,
     clocks: Clocks,
     count: usize,
     play: Play,
@@ -322,7 +323,7 @@ impl Follower {
         ensures { (setup : RawSetup) → ecu ≡ opening setup → Follows setup result [] }
     {
         Follower {
-            stamped: false,
+            version: JournalVersion::Plain,
             clocks: Clocks::new(),
             count: 0,
             play: Play {
@@ -344,9 +345,12 @@ impl Follower {
         ensures none { IfNone result ((past : List Entry)
             → Follows setup.now self.old past
             → Follows setup.now self.new past) }
-        ensures stamped { self.new.stamped ≡ self.old.stamped }
+        ensures version { self.new.version ≡ self.old.version }
     {
-        if self.stamped || self.count >= MOST_ENTRIES || self.play.differs.is_some() {
+        let JournalVersion::Plain = self.version else {
+            return None;
+        };
+        if self.count >= MOST_ENTRIES || self.play.differs.is_some() {
             return None;
         }
         let Some(front) = line_front(text) else {
@@ -378,7 +382,7 @@ impl Follower {
         ensures none { IfNone result ((past : List Entry)
             → Follows setup.now self.old past
             → Follows setup.now self.new past) }
-        ensures stamped { self.new.stamped ≡ self.old.stamped }
+        ensures version { self.new.version ≡ self.old.version }
     {
         // (for its contract: a place is at most 8)
         let _place = who.place();
@@ -399,7 +403,7 @@ impl Follower {
             → FollowedIn setup.now self.old self.new past
             (fronted (48 + who) (kind_code kind.Ticks) text.now) rest.now) }
         ensures none { IfNone result (self.new ≡ self.old) }
-        ensures stamped { self.new.stamped ≡ self.old.stamped }
+        ensures version { self.new.version ≡ self.old.version }
     {
         let _place = who.place();
         let Some(front) = count_front(text) else {
@@ -418,13 +422,13 @@ impl Follower {
         ensures ok { OnOk result ((past : List Entry)
             → Follows setup.now self.old past
             → Followed setup.now self.old self.new past line.now) }
-        ensures stamped { self.new.stamped ≡ self.old.stamped }
+        ensures version { self.new.version ≡ self.old.version }
         ensures wrong { IfErr result (λ fault. fault ≡ LineFault.Wrong
             → (past : List Entry)
             → Follows setup.now self.old past
-            → HasNoNext (read_so_far self.old.stamped past) line.now) }
+            → HasNoNext (read_so_far self.old.version past) line.now) }
     {
-        let Some(entry) = next_line(self.stamped, &self.clocks, line) else {
+        let Some(entry) = next_line(self.version, &self.clocks, line) else {
             return Err(LineFault::Wrong);
         };
         if self.count >= MOST_ENTRIES {
@@ -530,12 +534,12 @@ impl TextReplay {
         let Some((first, rest)) = cut(text, b'\n') else {
             return Ok(text);
         };
-        let Some(stamped) = is_stamped(first) else {
+        let Some(version) = version_of(first) else {
             self.fault = Some(1);
             return Ok(&[]);
         };
         self.headed = true;
-        self.follower.stamped = stamped;
+        self.follower.version = version;
         self.take_entries(alloc, setup, rest)
     }
 

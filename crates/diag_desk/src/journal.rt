@@ -7,6 +7,7 @@ ghost use Rattle.diag_desk.specs.Line.{HasHex, line_entry};
 use crate::entry::{EntryRef, MOST_ENTRIES};
 use crate::flat::{Head, entry_at, head_of, head_of_line, len_of, step_len};
 use crate::line::Line;
+use crate::version::JournalVersion;
 use diag_setup::TesterId;
 use diag_tp::{Message, Step};
 use std::alloc::{AllocError, Global};
@@ -173,9 +174,12 @@ impl Journal {
         self.bytes.reserve(step_len(step) + Message::MAX)
     }
 
-    /// No fewer bytes than a text of the journal has.
-    pub(crate) fn text_room(&self, stamped: bool) -> usize {
-        let line = if stamped { STAMP + LINE } else { LINE };
+    /// No fewer bytes than the journal's text of this version has.
+    pub(crate) fn text_room(&self, version: JournalVersion) -> usize {
+        let line = match version {
+            JournalVersion::Plain => LINE,
+            JournalVersion::Stamped => STAMP + LINE,
+        };
         self.bytes
             .len()
             .saturating_mul(2)

@@ -17,6 +17,7 @@ mod sixteen;
 mod table;
 mod text;
 mod usual;
+mod version;
 
 pub use desk::{Desk, StepFault, put_reply, settle_answered};
 pub use entry::{Entry, EntryRef, MOST_ENTRIES, StepRef};
@@ -26,3 +27,4 @@ pub use laws::{prefixes_are_legal, texts_have_one_journal, writes_follow_unlocki
 pub use read::{JournalFault, read_journal};
 pub use replaying::{ReplayFault, replay};
 pub use text::{journal_text, journal_text_at, write_entry, write_header, write_header_at};
+pub use version::JournalVersion;

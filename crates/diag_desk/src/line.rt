@@ -1,10 +1,10 @@
 //! Reading one line of a journal's text.
-ghost use Rattle.std.specs.Prelude.{◌≡◌, ◌≢◌, ℕ, ◌≤◌, ◌<◌, ◌^◌, ◌+◌, length, IfSome, IfNone, IsTrue, IsNone, Some, None, MatchOption, slice_index, ◌↔◌, decimal, option_copied};
+ghost use Rattle.std.specs.Prelude.{◌≡◌, ◌≢◌, ℕ, ◌≤◌, ◌<◌, ◌^◌, ◌+◌, IfSome, IfNone, IsTrue, Some, None, MatchOption, slice_index, ◌↔◌, decimal, option_copied};
 ghost use Rattle.std.specs.Bool.{OnTrue, OnFalse};
 ghost use Rattle.std.specs.List.{list_all};
-ghost use Rattle.diag_desk.specs.Text.{IsNoMessage, IsNoReply, IsNoCount, IsNoNumber, IsNoEntry, is_upper_digit, reply_text};
+ghost use Rattle.diag_desk.specs.Text.{IsNoMessage, IsNoReply, IsNoCount, IsNoNumber, IsNoEntry, is_upper_digit};
 ghost use Rattle.diag_desk.specs.Cut.{cut};
-ghost use Rattle.diag_desk.specs.Line.{IsHex, IsHexReply, IsRead, IsReadStep, IsNoStep, IsReadReply, request_kind, kind_code, decoded, fronted, IsNoFront};
+ghost use Rattle.diag_desk.specs.Line.{IsHex, IsRead, IsReadStep, IsNoStep, IsReadReply, request_kind, kind_code, fronted, IsNoFront};
 ghost use Rattle.diag_desk.specs.declared.line.Kind.{Kind as IsKind};
 
 use crate::table::upper_value;

@@ -1,5 +1,5 @@
 //! The entry of the line that comes next in a journal's text.
-ghost use Rattle.std.specs.Prelude.{◌≡◌, ◌≢◌, ◌+◌, List, IfSome, IfNone};
+ghost use Rattle.std.specs.Prelude.{◌≡◌, ◌+◌, List, IfSome, IfNone};
 ghost use Rattle.diag_desk.specs.declared.entry.Entry.{Entry};
 ghost use Rattle.diag_desk.specs.Clocks.{Tells};
 ghost use Rattle.diag_desk.specs.Entry.{IsJournal, IsEntry};
@@ -10,6 +10,7 @@ ghost use Rattle.diag_desk.specs.Text.{line_after, ticks_in, ticks_of};
 
 use crate::clocks::Clocks;
 use crate::line::{Line, LineStep, cut, entry_in, is_decimal};
+use crate::version::JournalVersion;
 
 /// Why a line was not taken.
 #[derive(Clone, Copy, Drop)]
@@ -34,19 +35,23 @@ pub(crate) fn clock_with(clocks: &Clocks, line: &Line<'_>) -> u64
 }
 
 /// The entry of the line that comes next, after the entries of which the clocks tell.
-pub(crate) fn next_line<'a>(stamped: bool, clocks: &Clocks, line: &'a [u8]) -> Option<Line<'a>>
+pub(crate) fn next_line<'a>(
+    version: JournalVersion,
+    clocks: &Clocks,
+    line: &'a [u8],
+) -> Option<Line<'a>>
     requires told { AreTold clocks.now.ticks }
     ensures hex { IfSome result (λ read. HasHex read.step) }
     ensures entry { IfSome result (λ read. IsEntry (line_entry read)) }
     ensures some { IfSome result (λ read. (past : List Entry)
         → Tells clocks.now.ticks past
-        → line_after stamped past (line_entry read) ≡ line.now) }
+        → line_after version past (line_entry read) ≡ line.now) }
     ensures none { IfNone result ((past : List Entry)
         → IsJournal past
         → Tells clocks.now.ticks past
-        → IsNoNext (read_so_far stamped past) line.now) }
+        → IsNoNext (read_so_far version past) line.now) }
 {
-    if !stamped {
+    if let JournalVersion::Plain = version {
         return entry_in(line);
     }
     let Some((at, line)) = cut(line, b' ') else {

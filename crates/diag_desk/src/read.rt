@@ -1,16 +1,17 @@
 //! Reading a journal's text.
-ghost use Rattle.std.specs.Prelude.{◌≡◌, ◌≢◌, ◌+◌, ◌≤◌, ◌<◌, [], ℕ, Bool, length, IfOk, IfErr, IfSome, IfNone, OnOk, OnErr, Ok, Err, List, MatchResult};
+ghost use Rattle.std.specs.Prelude.{◌≡◌, ◌≢◌, [], ℕ, IfOk, IfErr, IfSome, IfNone, OnOk, List, MatchResult};
 ghost use Rattle.diag_desk.specs.declared.entry.Entry.{Entry};
+ghost use Rattle.diag_desk.specs.declared.version.JournalVersion.{JournalVersion};
 ghost use Rattle.diag_desk.specs.Fault.{FaultAt, IsTextOf};
-ghost use Rattle.diag_desk.specs.Entry.{IsJournal, IsEntry};
-ghost use Rattle.diag_desk.specs.Line.{line_entry};
+ghost use Rattle.diag_desk.specs.Entry.{IsJournal};
 ghost use Rattle.diag_desk.specs.PartRead.{HasNoNext, Took};
-ghost use Rattle.diag_desk.specs.Text.{header, ticks_in, ticks_of};
+ghost use Rattle.diag_desk.specs.Text.{header};
 
 use crate::clocks::Clocks;
 use crate::journal::{Journal, JournalPush};
 use crate::line::cut;
 use crate::next::{LineFault, clock_with, next_line};
+use crate::version::JournalVersion;
 use std::alloc::Global;
 use std::marker::Model;
 use thiserror::Error;
@@ -29,7 +30,7 @@ pub enum JournalFault {
 /// What was read so far.
 #[derive(Drop)]
 struct Reader {
-    stamped: bool,
+    version: JournalVersion,
     journal: Journal,
     clocks: Clocks,
 }
@@ -42,17 +43,17 @@ impl Model for Reader {
     ghost use Rattle.diag_desk.specs.Clocks.{Tells};
     ghost use Rattle.diag_desk.specs.Entry.{IsJournal};
 
-    ghost view = { λ r. record { stamped = r.stamped; entries = r.journal.entries } };
+    ghost view = { λ r. record { version = r.version; entries = r.journal.entries } };
 
     ghost invariant = { λ r. IsJournal r.journal.entries × Tells r.clocks.ticks r.journal.entries };
 }
 
 impl Reader {
-    fn new(alloc: Global, stamped: bool) -> Reader
-        ensures { result ≡ record { stamped = stamped; entries = [] } }
+    fn new(alloc: Global, version: JournalVersion) -> Reader
+        ensures { result ≡ record { version = version; entries = [] } }
     {
         Reader {
-            stamped,
+            version,
             journal: Journal::new(alloc),
             clocks: Clocks::new(),
         }
@@ -65,7 +66,7 @@ impl Reader {
             fault ≡ LineFault.Wrong → HasNoNext self.old line.now) }
         ensures journal { IsJournal self.new.entries }
     {
-        let Some(entry) = next_line(self.stamped, &self.clocks, line) else {
+        let Some(entry) = next_line(self.version, &self.clocks, line) else {
             return Err(LineFault::Wrong);
         };
         let clock = clock_with(&self.clocks, &entry);
@@ -80,15 +81,15 @@ impl Reader {
     }
 }
 
-/// Whether a header is that of a stamped text; None where it is none.
-pub(crate) fn is_stamped(line: &[u8]) -> Option<bool>
-    ensures some { IfSome result (λ stamped. line.now ≡ header stamped) }
-    ensures none { IfNone result ((stamped : Bool) → line.now ≢ header stamped) }
+/// The version of a header; None where it is none.
+pub(crate) fn version_of(line: &[u8]) -> Option<JournalVersion>
+    ensures some { IfSome result (λ version. line.now ≡ header version) }
+    ensures none { IfNone result ((version : JournalVersion) → line.now ≢ header version) }
 {
     if line == b"diag-journal 1".as_slice() {
-        Some(false)
+        Some(JournalVersion::Plain)
     } else if line == b"diag-journal 2".as_slice() {
-        Some(true)
+        Some(JournalVersion::Stamped)
     } else {
         None
     }
@@ -125,10 +126,10 @@ fn read_lines(alloc: Global, text: &[u8]) -> Result<Journal, JournalFault>
     let Some((first, mut rest)) = cut(text, b'\n') else {
         return Err(JournalFault::Line(1));
     };
-    let Some(stamped) = is_stamped(first) else {
+    let Some(version) = version_of(first) else {
         return Err(JournalFault::Line(1));
     };
-    let mut reader = Reader::new(alloc, stamped);
+    let mut reader = Reader::new(alloc, version);
     let mut number = 2;
     while !rest.is_empty() {
         let Some((line, after)) = cut(rest, b'\n') else {

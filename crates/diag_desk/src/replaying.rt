@@ -1,6 +1,6 @@
 //! Replaying a journal.
-ghost use Rattle.std.specs.Prelude.{◌≡◌, ◌≢◌, ◌↔◌, ℕ, IfOk, IfErr, IsTrue, option_copied};
-ghost use Rattle.std.specs.Bool.{OnTrue, OnFalse};
+ghost use Rattle.std.specs.Prelude.{◌≡◌, ◌↔◌, ℕ, IfOk, IfErr, IsTrue, option_copied};
+ghost use Rattle.std.specs.Bool.{OnTrue};
 ghost use Rattle.diag_ecu.specs.State.{opening};
 ghost use Rattle.diag_desk.specs.Entry.{IsEntry, entry_seen, step_seen};
 ghost use Rattle.diag_desk.specs.Legal.{after, after_step, reply_to};

@@ -1,5 +1,5 @@
 //! Writing the text of a journal, in one buffer.
-ghost use Rattle.std.specs.Prelude.{◌≡◌, ◌≤◌, ◌<◌, ◌+◌, ◌*◌, ◌^◌, ◌++◌, [], true, length, OnOk, OnErr, IfOk, IfSome, codes, decimal, option_copied, unwrap_or, vec_len, vec_capacity};
+ghost use Rattle.std.specs.Prelude.{◌≡◌, ◌≤◌, ◌<◌, ◌+◌, ◌*◌, ◌^◌, ◌++◌, [], length, OnOk, OnErr, IfOk, IfSome, codes, decimal, option_copied, unwrap_or, vec_len, vec_capacity};
 ghost use Rattle.diag_desk.specs.Entries.{entry};
 ghost use Rattle.diag_desk.specs.Entry.{entry_seen, messages_len, step_seen};
 ghost use Rattle.diag_desk.specs.Text.{ended, entry_line, header, journal_text, journal_text_at, reply_text, stamped_line, text_of, ticks_in};
@@ -8,6 +8,7 @@ use crate::clocks::Clocks;
 use crate::entry::{EntryRef, StepRef};
 use crate::journal::Journal;
 use crate::numerals::add_decimal;
+use crate::version::JournalVersion;
 use diag_can::{add_bytes, add_hex};
 use diag_setup::TesterId;
 use std::alloc::{AllocError, Global};
@@ -20,7 +21,7 @@ use std::mem;
 pub fn journal_text(alloc: Global, journal: &Journal) -> Result<Vec<u8>, AllocError>
     ensures { IfOk result (λ text. text.items ≡ journal_text journal.now.entries) }
 {
-    write_all(alloc, journal, false)
+    write_all(alloc, journal, JournalVersion::Plain)
 }
 
 /// The text of version 2: the line `diag-journal 2`, then the lines of version 1, each with the ticks of its tester up
@@ -28,7 +29,7 @@ pub fn journal_text(alloc: Global, journal: &Journal) -> Result<Vec<u8>, AllocEr
 pub fn journal_text_at(alloc: Global, journal: &Journal) -> Result<Vec<u8>, AllocError>
     ensures { IfOk result (λ text. text.items ≡ journal_text_at journal.now.entries) }
 {
-    write_all(alloc, journal, true)
+    write_all(alloc, journal, JournalVersion::Stamped)
 }
 
 /// Appends the header of version 2, as the text of a journal without entries has it.
@@ -38,35 +39,38 @@ pub fn write_header_at(text: &mut Vec<u8>) -> Result<(), AllocError>
     ensures ok { OnOk result (text.new.items ≡ text.old.items ++ journal_text_at []) }
     ensures err { OnErr result (text.new.items ≡ text.old.items) }
 {
-    write_header(text, true)
+    write_header(text, JournalVersion::Stamped)
 }
 
-/// Appends the line of an entry: in version 2 where the text is stamped, else in version 1; `before` is the ticks of its
-/// tester before it.
+/// Appends the line of an entry in this version; `before` is the ticks of its tester before it.
 ///
 /// After an error the bytes that stood there are as before.
 #[inline(always)]
 pub fn write_entry(
     text: &mut Vec<u8>,
-    stamped: bool,
+    version: JournalVersion,
     before: u64,
     entry: &EntryRef<'_>,
 ) -> Result<(), AllocError>
     requires { before ≤ 2 ^ 63 }
     ensures ok { OnOk result (text.new.items ≡ text.old.items
-        ++ ended (stamped_line stamped (before + ticks_in (step_seen entry.now.step))
+        ++ ended (stamped_line version (before + ticks_in (step_seen entry.now.step))
         (entry_line (entry_seen entry.now)))) }
     ensures err { OnErr result (text.new.items ≡ text.old.items) }
 {
     let at = before + ticks_in(&entry.step);
-    write_line(text, stamped, at, entry.who, &entry.step, entry.reply)
+    write_line(text, version, at, entry.who, &entry.step, entry.reply)
 }
 
-fn write_all(alloc: Global, journal: &Journal, stamped: bool) -> Result<Vec<u8>, AllocError>
-    ensures { IfOk result (λ text. text.items ≡ text_of stamped journal.now.entries) }
+fn write_all(
+    alloc: Global,
+    journal: &Journal,
+    version: JournalVersion,
+) -> Result<Vec<u8>, AllocError>
+    ensures { IfOk result (λ text. text.items ≡ text_of version journal.now.entries) }
 {
-    let mut text = Vec::with_capacity(alloc, journal.text_room(stamped))?;
-    write_header(&mut text, stamped)?;
+    let mut text = Vec::with_capacity(alloc, journal.text_room(version))?;
+    write_header(&mut text, version)?;
     let mut clocks = Clocks::new();
     for index in 0..journal.len() {
         let Some(entry) = journal.get(index) else {
@@ -75,7 +79,7 @@ fn write_all(alloc: Global, journal: &Journal, stamped: bool) -> Result<Vec<u8>,
         let clock = clocks.at(entry.who) + ticks_in(&entry.step);
         write_line(
             &mut text,
-            stamped,
+            version,
             clock,
             entry.who,
             &entry.step,
@@ -86,17 +90,16 @@ fn write_all(alloc: Global, journal: &Journal, stamped: bool) -> Result<Vec<u8>,
     Ok(text)
 }
 
-/// Appends the header: of version 2 where the text is stamped, else of version 1.
+/// Appends the header of this version.
 ///
 /// After an error the bytes that stood there are as before.
-pub fn write_header(text: &mut Vec<u8>, stamped: bool) -> Result<(), AllocError>
-    ensures ok { OnOk result (text.new.items ≡ text.old.items ++ ended (header stamped)) }
+pub fn write_header(text: &mut Vec<u8>, version: JournalVersion) -> Result<(), AllocError>
+    ensures ok { OnOk result (text.new.items ≡ text.old.items ++ ended (header version)) }
     ensures err { OnErr result (text.new.items ≡ text.old.items) }
 {
-    if stamped {
-        text.extend_from_slice(b"diag-journal 2\n")
-    } else {
-        text.extend_from_slice(b"diag-journal 1\n")
+    match version {
+        JournalVersion::Plain => text.extend_from_slice(b"diag-journal 1\n"),
+        JournalVersion::Stamped => text.extend_from_slice(b"diag-journal 2\n"),
     }
 }
 
@@ -111,18 +114,18 @@ fn ticks_in(step: &StepRef<'_>) -> u64
     }
 }
 
-/// Appends the line of an entry, where it is stamped with its stamp first; room for the whole line is made first.
+/// Appends the line of an entry, in version 2 behind its stamp; room for the whole line is made first.
 #[inline(always)]
 fn write_line(
     text: &mut Vec<u8>,
-    stamped: bool,
+    version: JournalVersion,
     clock: u64,
     who: TesterId,
     step: &StepRef<'_>,
     reply: Option<&[u8]>,
 ) -> Result<(), AllocError>
     ensures ok { OnOk result (text.new.items ≡ text.old.items
-        ++ ended (stamped_line stamped clock
+        ++ ended (stamped_line version clock
         (entry_line (entry who (step_seen step.now) (option_copied reply.entry))))) }
     ensures err { OnErr result (text.new.items ≡ text.old.items) }
 {
@@ -133,7 +136,7 @@ fn write_line(
     let alloc = *text.allocator();
     // (in a variable of its own, so that the text's place and length stay in registers)
     let mut line = mem::replace(text, Vec::new(alloc));
-    if stamped {
+    if let JournalVersion::Stamped = version {
         add_stamp(&mut line, clock);
     }
     add_entry(&mut line, who, step, reply);

@@ -35,7 +35,7 @@ use Rattle.diag_bus.specs.Batch.{IsBy}
 use Rattle.diag_bus.proofs.Batches.{clock_told}
 use Rattle.diag_text.specs.Text.{end_text, journal_part, lines_from, lines_of}
 use Rattle.diag_text.proofs.Lines.{concat_more}
-use Rattle.diag_run.specs.Playing.{AreTexts, AreUnwritten, Enters, EntersMore, EntersOne, IsReady, Plays, Replies, Terms, Took, WroteTo, is_stamped, parts_text}
+use Rattle.diag_run.specs.Playing.{AreTexts, AreUnwritten, Enters, EntersMore, EntersOne, IsReady, Plays, Replies, Terms, Took, WroteTo, version_of, parts_text}
 use Rattle.diag_run.specs.Run.{played_text}
 use Rattle.diag_run.specs.declared.entering.JournalLines.{JournalLines}
 use Rattle.diag_run.specs.declared.replies.ReplyLines.{ReplyLines}
@@ -44,20 +44,20 @@ use Rattle.diag_run.specs.declared.playing.Playing.{Playing}
 -- ---- the journal's text
 
 -- an entry more
-pub enters_more : (old new : JournalLines) (before : ℕ) (k : Entry) → new.stamped ≡ old.stamped → new.count ≡ old.count + 1
-    → new.text.items ≡ old.text.items ++ ended (stamped_line old.stamped (before + ticks_in k.step) (entry_line k))
+pub enters_more : (old new : JournalLines) (before : ℕ) (k : Entry) → new.version ≡ old.version → new.count ≡ old.count + 1
+    → new.text.items ≡ old.text.items ++ ended (stamped_line old.version (before + ticks_in k.step) (entry_line k))
     → EntersMore old new before (Some k)
-enters_more old new before k version count text = λ stamped K h told. record {
-  version = version ∙ h.version;
-  text = text ∙ (λ j. h.text j ++ ended (stamped_line (h.version j) (told j + ticks_in k.step) (entry_line k))) ∙ sym (text_one stamped K k);
+enters_more old new before k same count text = λ version K h told. record {
+  same = same ∙ h.same;
+  text = text ∙ (λ j. h.text j ++ ended (stamped_line (h.same j) (told j + ticks_in k.step) (entry_line k))) ∙ sym (text_one version K k);
   number = omega (arith, count, h.number, length-append K (k ∷ []));
 }
 
 -- what is kept of an event, with or without an entry
 module _ (old new : JournalLines) (now : ℕ) where
   enters_asked : (asked : Option Entry) → HasKept EntersOne old new now asked → EntersMore old new now asked
-  enters_asked None kept = λ stamped K h told.
-      subst (Enters new stamped) (sym (append-nil K)) (subst (λ (l : JournalLines). Enters l stamped K) (sym kept) h)
+  enters_asked None kept = λ version K h told.
+      subst (Enters new version) (sym (append-nil K)) (subst (λ (l : JournalLines). Enters l version K) (sym kept) h)
   enters_asked (Some k) kept = kept.0
 
   pub count_asked : (asked : Option Entry) → HasKept EntersOne old new now asked → new.count ≡ old.count + length (option_to_list asked)
@@ -104,13 +104,13 @@ settled_out old new who e asked before after none grew =
 pub took_more : (old new : Playing) (who : ℕ) (e : Event) → 1 ≤ who → old.out.items ≡ []
     → ServerTook EntersOne (server_of old.server) (server_of new.server) old.journal new.journal who e old.out.items new.out.items
     → Took old new who e
-took_more old new who e some none took = λ setup stamped M K serves h.
+took_more old new who e some none took = λ setup version M K serves h.
     let moved = took.sent.holds.moved in
     let place : who ≡ (who - 1) + 1 = omega (arith, some) in
     record {
       asked = took.asked;
       served = (settled_out (server_of old.server) (server_of new.server) who e took.asked old.out.items new.out.items none took.sent).served setup M K serves;
-      enters = enters_asked old.journal new.journal moved.before.now took.asked took.kept stamped K h
+      enters = enters_asked old.journal new.journal moved.before.now took.asked took.kept version K h
           (clock_told setup (server_of old.server) M K who (who - 1) moved.before took.asked serves place moved.found took.early took.by);
     }
 
@@ -173,7 +173,7 @@ pub plays_more : (old mid new : Playing) (who : ℕ) (e : Event) → 1 ≤ who �
     → new.server ≡ mid.server → new.journal ≡ mid.journal → WroteTo mid.lines.items new.lines.items (who - 1) mid.out.items
     → (terms : Terms) (M : List (ℕ × Event)) → Plays terms old M → Plays terms new (M ++ (who, e) ∷ [])
 plays_more old mid new who e some took lines server journal wrote terms M h =
-    let entered = took terms.setup (is_stamped terms.timing) M h.entries h.serves h.journal in
+    let entered = took terms.setup (version_of terms.timing) M h.entries h.serves h.journal in
     let served = entered.served in
     let K' = h.entries ++ option_to_list entered.asked in
     let M' = M ++ (who, e) ∷ [] in
@@ -181,7 +181,7 @@ plays_more old mid new who e some took lines server journal wrote terms M h =
     record {
       entries = K';
       serves = subst (λ s. Serves terms.setup (server_of s) M' K') (sym server) served.serves;
-      journal = subst (λ j. Enters j (is_stamped terms.timing) K') (sym journal) entered.enters;
+      journal = subst (λ j. Enters j (version_of terms.timing) K') (sym journal) entered.enters;
       many = wrote.many ∙ (ap (λ ls. length ls.items) lines ∙ h.many);
       each = λ i tester at.
           let was = wrote.each i tester at in
@@ -209,7 +209,7 @@ unfolding wire grant sendings
 nothing_drawn s = refl
 
 pub plays_begin : (terms : Terms) (playing : Playing) → Serves terms.setup (server_of playing.server) [] []
-    → Enters playing.journal (is_stamped terms.timing) []
+    → Enters playing.journal (version_of terms.timing) []
     → AreUnwritten terms.setup playing.lines.items → length playing.lines.items ≡ (if terms.only_journal then 0 else length terms.setup.testers)
     → Plays terms playing []
 plays_begin terms playing serves enters none many = record {
@@ -235,7 +235,7 @@ ready_begins setup playing serves none out = record {
 -- ---- the end
 
 -- the journal's text, as a run writes it
-journal_said : (timing : Timing) (K : List Entry) → text_of (is_stamped timing) K ≡ journal_part timing K
+journal_said : (timing : Timing) (K : List Entry) → text_of (version_of timing) K ≡ journal_part timing K
 journal_said Lines K = refl
 journal_said Stamps K = refl
 

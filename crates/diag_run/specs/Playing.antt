@@ -1,5 +1,5 @@
 -- What a serial play has written of the events that it took.
-use Rattle.std.specs.Prelude.{◌≡◌, ◌≢◌, ◌≤◌, ◌⊎◌, ℕ, ◌+◌, ◌*◌, Bool, true, false, if◌then◌else◌, List, [], ◌++◌, length, map, Option, Some, IfSome, IsSome, slice_get}
+use Rattle.std.specs.Prelude.{◌≡◌, ◌≢◌, ◌≤◌, ◌⊎◌, ℕ, ◌+◌, ◌*◌, Bool, if◌then◌else◌, List, [], ◌++◌, length, map, Option, Some, IfSome, IsSome, slice_get}
 use Rattle.std.specs.Global.{Vec}
 use Rattle.std.specs.List.{concat}
 use Rattle.std.specs.Option.{option_to_list}
@@ -11,6 +11,8 @@ use Rattle.diag_setup.specs.Setup.{link_of, name_of}
 use Rattle.diag_tp.specs.declared.sent.Sent.{Sent}
 use Rattle.diag_tp.specs.Gives.{gives}
 use Rattle.diag_desk.specs.declared.entry.Entry.{Entry}
+use Rattle.diag_desk.specs.declared.version.JournalVersion.{JournalVersion}
+use Rattle.diag_desk.specs.declared.version.JournalVersion.TheVariants.{Plain, Stamped}
 use Rattle.diag_desk.specs.Entry.{most_entries}
 use Rattle.diag_desk.specs.Text.{text_of, ticks_of}
 use Rattle.diag_world.specs.Server.{EachRun, Served, Serves, sent_to, server_of}
@@ -27,25 +29,25 @@ pub record Terms : Type 0 where
   pub only_journal : Bool
   pub timing : Timing
 
--- whether the journal's text is of version 2
-abbrev pub is_stamped : Timing → Bool
-is_stamped Lines = false
-is_stamped Stamps = true
+-- the version of the journal's text
+abbrev pub version_of : Timing → JournalVersion
+version_of Lines = Plain
+version_of Stamps = Stamped
 
 -- ---- the journal's text
 
 -- the text of these entries, of which there are so many
-pub record Enters (lines : JournalLines) (stamped : Bool) (K : List Entry) : Type 0 where
-  pub version : lines.stamped ≡ stamped
-  pub text : lines.text.items ≡ text_of stamped K
+pub record Enters (lines : JournalLines) (version : JournalVersion) (K : List Entry) : Type 0 where
+  pub same : lines.version ≡ version
+  pub text : lines.text.items ≡ text_of version K
   pub number : lines.count ≡ length K
 
 -- the text has the entry of an event more, if it gives one, whose tester's clock told this before it
 abbrev pub EntersMore : JournalLines → JournalLines → ℕ → Option Entry → Type 0
-EntersMore old new before asked = (stamped : Bool) (K : List Entry)
-    → Enters old stamped K
+EntersMore old new before asked = (version : JournalVersion) (K : List Entry)
+    → Enters old version K
     → IfSome asked (λ k. before ≡ ticks_of k.who K)
-    → Enters new stamped (K ++ option_to_list asked)
+    → Enters new version (K ++ option_to_list asked)
 
 -- the text has this entry more, and no more than a journal may have
 abbrev pub EntersOne : JournalLines → ℕ → Entry → JournalLines → Type 0
@@ -97,25 +99,25 @@ pub record IsReady (playing : Playing) : Type 0 where
 pub record Plays (terms : Terms) (playing : Playing) (M : List (ℕ × Event)) : Type 0 where
   pub entries : List Entry
   pub serves : Serves terms.setup (server_of playing.server) M entries
-  pub journal : Enters playing.journal (is_stamped terms.timing) entries
+  pub journal : Enters playing.journal (version_of terms.timing) entries
   pub many : length playing.lines.items
       ≡ (if terms.only_journal then 0 else length terms.setup.testers)
   pub each : (i : ℕ) (tester : ReplyLines) → slice_get playing.lines.items i ≡ Some tester
       → Replies (name_of terms.setup (i + 1)) tester (sent_to terms.setup M entries (i + 1))
 
 -- a tester's event more: the server took it, its entry is written, and what it draws waits
-pub record Entered (playing : Playing) (setup : RawSetup) (stamped : Bool) (M : List (ℕ × Event))
+pub record Entered (playing : Playing) (setup : RawSetup) (version : JournalVersion) (M : List (ℕ × Event))
     (K : List Entry) (who : ℕ) (e : Event) : Type 0 where
   pub asked : Option Entry
   pub served : Served setup (server_of playing.server) M K who e asked playing.out.items
-  pub enters : Enters playing.journal stamped (K ++ option_to_list asked)
+  pub enters : Enters playing.journal version (K ++ option_to_list asked)
 
 -- the same of all that the server and the journal's text stand for
 abbrev pub Took : Playing → Playing → ℕ → Event → Type 0
-Took old new who e = (setup : RawSetup) (stamped : Bool) (M : List (ℕ × Event)) (K : List Entry)
+Took old new who e = (setup : RawSetup) (version : JournalVersion) (M : List (ℕ × Event)) (K : List Entry)
     → Serves setup (server_of old.server) M K
-    → Enters old.journal stamped K
-    → Entered new setup stamped M K who e
+    → Enters old.journal version K
+    → Entered new setup version M K who e
 
 -- the event gives a step, for which there is no room
 abbrev pub IsFull : Playing → ℕ → Event → Type 0

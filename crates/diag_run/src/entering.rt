@@ -1,10 +1,10 @@
 //! The text of a play's journal, as it is written entry by entry.
 
 ghost use Rattle.std.specs.Prelude.{◌≡◌, [], IfOk};
-ghost use Rattle.diag_run.specs.Playing.{Enters, is_stamped};
+ghost use Rattle.diag_run.specs.Playing.{Enters, version_of};
 
 use diag_can::Timing;
-use diag_desk::{MOST_ENTRIES, StepFault, write_header};
+use diag_desk::{JournalVersion, MOST_ENTRIES, StepFault, write_header};
 use diag_setup::TesterId;
 use diag_tp::{Message, Step};
 use diag_world::{Keeper, enter_step};
@@ -15,8 +15,8 @@ use std::alloc::{AllocError, Global};
 pub struct JournalLines {
     /// The text.
     pub text: Vec<u8>,
-    /// Whether it is of version 2.
-    pub stamped: bool,
+    /// Its version.
+    pub version: JournalVersion,
     /// How many entries it has.
     pub count: usize,
 }
@@ -24,18 +24,18 @@ pub struct JournalLines {
 impl JournalLines {
     /// The text of a journal without entries: of version 2 where stamps carry time.
     pub fn new(alloc: Global, timing: Timing) -> Result<JournalLines, AllocError>
-        ensures enters { IfOk result (λ lines. Enters lines (is_stamped timing) []) }
+        ensures enters { IfOk result (λ lines. Enters lines (version_of timing) []) }
         ensures none { IfOk result (λ lines. lines.count ≡ 0) }
     {
-        let stamped = match timing {
-            Timing::Lines => false,
-            Timing::Stamps => true,
+        let version = match timing {
+            Timing::Lines => JournalVersion::Plain,
+            Timing::Stamps => JournalVersion::Stamped,
         };
         let mut text = Vec::new(alloc);
-        write_header(&mut text, stamped)?;
+        write_header(&mut text, version)?;
         Ok(JournalLines {
             text,
-            stamped,
+            version,
             count: 0,
         })
     }
@@ -62,7 +62,7 @@ impl Keeper for JournalLines {
         if self.count >= MOST_ENTRIES {
             return Err(StepFault::JournalFull);
         }
-        enter_step(&mut self.text, self.stamped, before, who, step, reply)?;
+        enter_step(&mut self.text, self.version, before, who, step, reply)?;
         self.count += 1;
         Ok(())
     }

@@ -6,7 +6,7 @@ ghost use Rattle.diag_desk.specs.Entry.{step_seen};
 ghost use Rattle.diag_desk.specs.Text.{ended, entry_line, stamped_line, ticks_in};
 ghost use Rattle.diag_world.specs.Server.{closing_time};
 
-use diag_desk::{EntryRef, StepFault, StepRef, write_entry};
+use diag_desk::{EntryRef, JournalVersion, StepFault, StepRef, write_entry};
 use diag_setup::TesterId;
 use diag_tp::{Message, Step};
 use std::alloc::AllocError;
@@ -43,12 +43,12 @@ pub trait Keeper {
         ensures place { place self.new ≡ place self.old };
 }
 
-/// Appends the line of the entry of a step and its reply: in version 2 where the text is stamped, else in version 1;
-/// `before` is the ticks of its tester before it. (Not inlined: what a line is made of is passed in registers.)
+/// Appends the line of the entry of a step and its reply in this version; `before` is the ticks of its tester before
+/// it. (Not inlined: what a line is made of is passed in registers.)
 #[inline(never)]
 pub fn enter_step(
     text: &mut Vec<u8>,
-    stamped: bool,
+    version: JournalVersion,
     before: u64,
     who: TesterId,
     step: &Step,
@@ -56,7 +56,7 @@ pub fn enter_step(
 ) -> Result<(), AllocError>
     requires early { before ≤ closing_time }
     ensures { OnOk result (text.new.items ≡ text.old.items
-        ++ ended (stamped_line stamped (before + ticks_in step.now)
+        ++ ended (stamped_line version (before + ticks_in step.now)
         (entry_line (entry who step.now (option_copied reply.entry))))) }
 {
     let entry = EntryRef {
@@ -64,7 +64,7 @@ pub fn enter_step(
         step: show_step(step),
         reply: reply.map(Message::bytes),
     };
-    write_entry(text, stamped, before, &entry)?;
+    write_entry(text, version, before, &entry)?;
     Ok(())
 }
 

@@ -4,31 +4,31 @@ use Rattle.diag_desk.proofs.CutText.{cut-joins, one_cut}
 use Rattle.diag_desk.proofs.ReadLemmas.{fault_at, header_fault, stuck_at_end, stuck_at_line, stuck_fault, text_begins, text_more}
 use Rattle.diag_desk.proofs.read.read_lines.Goals as goal
 
-pub returns-in_default-is_stamped-clause-line : goal.returns-in_default-is_stamped-clause-line
-returns-in_default-is_stamped-clause-line c = λ n e.
+pub returns-in_default-version_of-clause-line : goal.returns-in_default-version_of-clause-line
+returns-in_default-version_of-clause-line c = λ n e.
     fault_at c.args.text.now 1 n (header_fault c.args.text.now
-    (λ stamped rest cuts. c.in_default-is_stamped.ensures.none stamped (one_cut 10 c.args.text.now _ _ _ _ c.in-Some.ensures cuts).0)) e
+    (λ version rest cuts. c.in_default-version_of.ensures.none version (one_cut 10 c.args.text.now _ _ _ _ c.in-Some.ensures cuts).0)) e
 
 pub loop-rest-init : goal.loop-rest-init
 loop-rest-init c =
-    let start : c.args.text.now ≡ text_of c.in-Some-is_stamped.stamped [] ++ c.in-Some.rest.now =
-    text_begins c.in-Some-is_stamped.stamped c.args.text.now c.in-Some.first.now c.in-Some.rest.now (cut-joins 10 _ _ _ c.in-Some.ensures)
-    c.in-Some-is_stamped.ensures.some in
+    let start : c.args.text.now ≡ text_of c.in-Some-version_of.version [] ++ c.in-Some.rest.now =
+    text_begins c.in-Some-version_of.version c.args.text.now c.in-Some.first.now c.in-Some.rest.now (cut-joins 10 _ _ _ c.in-Some.ensures)
+    c.in-Some-version_of.ensures.some in
     rw c.new-reader.ensures (record { journal = (tt, omega arith); text = start; number = refl })
 
 pub returns-in_default-cut-clause-line : goal.returns-in_default-cut-clause-line
 returns-in_default-cut-clause-line c = λ n e.
     let inv = c.loop-rest.invariant in
     fault_at c.args.text.now c.loop-rest.number n
-    (stuck_fault c.loop-rest.reader.stamped c.loop-rest.reader.entries c.args.text.now c.loop-rest.rest.now c.loop-rest.number inv.journal inv.text inv.number
-    (stuck_at_end c.loop-rest.reader.stamped c.loop-rest.reader.entries c.loop-rest.rest.now inv.journal
+    (stuck_fault c.loop-rest.reader.version c.loop-rest.reader.entries c.args.text.now c.loop-rest.rest.now c.loop-rest.number inv.journal inv.text inv.number
+    (stuck_at_end c.loop-rest.reader.version c.loop-rest.reader.entries c.loop-rest.rest.now inv.journal
     (λ empty. let none = ap length empty in search rules) c.in_default-cut.ensures)) e
 
 pub returns-in-Err-Wrong-clause-line : goal.returns-in-Err-Wrong-clause-line
 returns-in-Err-Wrong-clause-line c = λ n e.
     let inv = c.loop-rest.invariant in
     fault_at c.args.text.now c.loop-rest.number n
-    (stuck_fault c.loop-rest.reader.stamped c.loop-rest.reader.entries c.args.text.now c.loop-rest.rest.now c.loop-rest.number inv.journal inv.text inv.number
+    (stuck_fault c.loop-rest.reader.version c.loop-rest.reader.entries c.args.text.now c.loop-rest.rest.now c.loop-rest.number inv.journal inv.text inv.number
     (stuck_at_line c.loop-rest.reader c.loop-rest.rest.now c.in-Some-cut.line.now c.in-Some-cut.after.now inv.journal
     (λ empty. let none = ap length empty in search rules) c.in-Some-cut.ensures (c.in-Err-Wrong.ensures.wrong c.in-Err-Wrong.field-0-is))) e
 
@@ -41,11 +41,11 @@ pub loop-rest-preserved : goal.loop-rest-preserved
 loop-rest-preserved c =
     let inv = c.loop-rest.invariant in
     let took = c.in-Ok.ensures.ok in
-    let text = text_more c.loop-rest.reader.stamped c.loop-rest.reader.entries took.entry c.args.text.now c.loop-rest.rest.now c.in-Some-cut.line.now
+    let text = text_more c.loop-rest.reader.version c.loop-rest.reader.entries took.entry c.args.text.now c.loop-rest.rest.now c.in-Some-cut.line.now
     c.in-Some-cut.after.now inv.text
     (cut-joins 10 _ _ _ c.in-Some-cut.ensures) took.line in
     record {
       journal = c.take.ensures.journal;
-      text = text ∙ (λ i. text_of (sym took.stamped i) (sym took.entries i) ++ c.in-Some-cut.after.now);
+      text = text ∙ (λ i. text_of (sym took.version i) (sym took.entries i) ++ c.in-Some-cut.after.now);
       number = omega (arith, inv.number, ap length took.entries, length-append c.loop-rest.reader.entries (took.entry ∷ []));
     }

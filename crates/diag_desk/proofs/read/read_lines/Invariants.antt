@@ -7,7 +7,7 @@ use Rattle.diag_desk.proofs.read.read_lines.Given as goal
 abbrev pub invariant-loop-rest : goal.invariant-loop-rest
 invariant-loop-rest l = record {
   journal : IsJournal l.reader.entries;
-  text : l.fn.text ≡ text_of l.reader.stamped l.reader.entries ++ l.rest;
+  text : l.fn.text ≡ text_of l.reader.version l.reader.entries ++ l.rest;
   number : l.number ≡ length l.reader.entries + 2;
 }
 

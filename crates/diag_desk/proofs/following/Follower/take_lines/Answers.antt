@@ -11,7 +11,7 @@ loop-alloc-smaller-in-Some c =
 pub loop-alloc-preserved-in-Some : goal.loop-alloc-preserved-in-Some
 loop-alloc-preserved-in-Some c =
     front_more c.args.setup.now c.loop-alloc.self c.take_usual.new.self c.loop-alloc.rest.now c.in-Some.after.now c.in-Some.ensures.some
-    c.in-Some.ensures.stamped c.args.self.now c.args.text.now c.requires.0 c.requires.1 c.loop-alloc.invariant
+    c.in-Some.ensures.version c.args.self.now c.args.text.now c.requires.0 c.requires.1 c.loop-alloc.invariant
 
 pub overflow_add-number : goal.overflow_add-number
 overflow_add-number c =
@@ -21,7 +21,7 @@ overflow_add-number c =
 
 pub returns-in_default-cut-clause-ok : goal.returns-in_default-cut-clause-ok
 returns-in_default-cut-clause-ok c =
-    front_taken c.args.setup.now c.args.self.now c.loop-alloc.self c.take_usual.new.self c.args.text.now c.loop-alloc.rest.now c.in_default.ensures.stamped
+    front_taken c.args.setup.now c.args.self.now c.loop-alloc.self c.take_usual.new.self c.args.text.now c.loop-alloc.rest.now c.in_default.ensures.version
     c.in_default.ensures.none c.in_default-cut.ensures c.loop-alloc.invariant
 
 pub take-requires : goal.take-requires
@@ -33,19 +33,19 @@ pub returns-in-Err-Wrong-clause-line : goal.returns-in-Err-Wrong-clause-line
 returns-in-Err-Wrong-clause-line c = λ n is seen h more.
     fault_at _ (c.take_usual.new.self.count + 2) n
     (line_fault c.args.setup.now c.args.self.now c.loop-alloc.self c.take_usual.new.self c.args.text.now c.loop-alloc.rest.now c.in-Some-cut.line.now
-    c.in-Some-cut.after.now c.in_default.ensures.stamped c.in_default.ensures.none c.in-Some-cut.ensures
+    c.in-Some-cut.after.now c.in_default.ensures.version c.in_default.ensures.none c.in-Some-cut.ensures
     (c.in-Err-Wrong.ensures.wrong c.in-Err-Wrong.field-0-is) c.loop-alloc.invariant seen h more) is
 
 pub loop-alloc-smaller : goal.loop-alloc-smaller
 loop-alloc-smaller c =
     is_shorter c.args.setup.now c.loop-alloc.self c.take.new.self c.loop-alloc.rest.now c.in-Some-cut.after.now
     (λ past h. cut_followed c.args.setup.now c.loop-alloc.self c.take_usual.new.self c.take.new.self past c.loop-alloc.rest.now c.in-Some-cut.line.now
-    c.in-Some-cut.after.now c.in_default.ensures.stamped c.in-Some-cut.ensures (c.in-Ok.ensures.ok past (c.in_default.ensures.none past h))) _
+    c.in-Some-cut.after.now c.in_default.ensures.version c.in-Some-cut.ensures (c.in-Ok.ensures.ok past (c.in_default.ensures.none past h))) _
     (c.loop-alloc.invariant.2 c.requires.0 c.requires.1)
 
 pub loop-alloc-preserved : goal.loop-alloc-preserved
 loop-alloc-preserved c =
     front_more c.args.setup.now c.loop-alloc.self c.take.new.self c.loop-alloc.rest.now c.in-Some-cut.after.now
     (λ past h. cut_followed c.args.setup.now c.loop-alloc.self c.take_usual.new.self c.take.new.self past c.loop-alloc.rest.now c.in-Some-cut.line.now
-    c.in-Some-cut.after.now c.in_default.ensures.stamped c.in-Some-cut.ensures (c.in-Ok.ensures.ok past (c.in_default.ensures.none past h)))
-    (c.in-Ok.ensures.stamped ∙ c.in_default.ensures.stamped) c.args.self.now c.args.text.now c.requires.0 c.requires.1 c.loop-alloc.invariant
+    c.in-Some-cut.after.now c.in_default.ensures.version c.in-Some-cut.ensures (c.in-Ok.ensures.ok past (c.in_default.ensures.none past h)))
+    (c.in-Ok.ensures.version ∙ c.in_default.ensures.version) c.args.self.now c.args.text.now c.requires.0 c.requires.1 c.loop-alloc.invariant

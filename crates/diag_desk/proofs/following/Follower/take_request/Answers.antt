@@ -27,7 +27,7 @@ returns-clause-some c = λ past f.
     record {
       entry = e;
       line = usual_line functional who answered.message said _ c.args.text.now rest refl answered.is
-          ∙ ap (λ b. line_after b past e ++ 10 ∷ rest) (sym c.requires.usual.stamped);
+          ∙ ap (λ b. line_after b past e ++ 10 ∷ rest) (sym c.requires.usual.version);
       follows = record {
         journal = journal_more past (past ++ e ∷ []) e f.journal is (λ full. absurd (omega arith)) refl;
         clocks = clocks_more past (past ++ e ∷ []) e old.clocks.ticks c.set.new.self.ticks c.at.result is f.clocks refl

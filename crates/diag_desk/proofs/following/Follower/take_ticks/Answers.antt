@@ -34,7 +34,7 @@ returns-clause-some c = λ past f.
     let told = f.clocks.each who (omega (arith, place)) in
     record {
       entry = e;
-      line = ticks_line who count _ c.args.text.now rest refl c.in-Some.ensures.is ∙ ap (λ b. line_after b past e ++ 10 ∷ rest) (sym c.requires.usual.stamped);
+      line = ticks_line who count _ c.args.text.now rest refl c.in-Some.ensures.is ∙ ap (λ b. line_after b past e ++ 10 ∷ rest) (sym c.requires.usual.version);
       follows = record {
         journal = journal_more past (past ++ e ∷ []) e f.journal is (λ full. absurd (omega arith)) refl;
         clocks = clocks_more past (past ++ e ∷ []) e old.clocks.ticks c.set.new.self.ticks _ is f.clocks refl

@@ -9,18 +9,18 @@ returns-then-is_some c = behind_fault c.args.setup.now c.args.self.now c.args.te
 pub returns-in_default : goal.returns-in_default
 returns-in_default c = none_taken _ c.args.text.now c.in_default.ensures
 
-pub returns-in_default-is_stamped : goal.returns-in_default-is_stamped
-returns-in_default-is_stamped c =
+pub returns-in_default-version_of : goal.returns-in_default-version_of
+returns-in_default-version_of c =
     fault_taken c.args.setup.now c.args.self.now _ c.args.text.now 1 refl (λ seen h more.
     no_header c.args.setup.now c.args.self.now (search rules) (search rules) seen h c.args.text.now c.in-Some.first.now c.in-Some.rest.now c.in-Some.ensures
-    (λ stamped is. c.in_default-is_stamped.ensures.none stamped is) more)
+    (λ version is. c.in_default-version_of.ensures.none version is) more)
 
 pub take_entries-requires-2-clause-taken : goal.take_entries-requires-2-clause-taken
 take_entries-requires-2-clause-taken c = (
   c.in-Some.first.now ++ 10 ∷ [],
   header_taken c.args.setup.now c.args.self.now (search rules) (search rules) c.requires.0 c.requires.1 _ c.in-Some.first.now (search rules) refl refl refl
       refl
-      c.in-Some-is_stamped.ensures.some,
+      c.in-Some-version_of.ensures.some,
 )
 
 pub returns : goal.returns
@@ -31,5 +31,5 @@ returns c =
     c.in-Some.ensures
     (λ seen h. (
       none_before c.args.setup.now c.args.self.now (search rules) none seen h,
-      header_taken c.args.setup.now c.args.self.now (search rules) none seen h _ c.in-Some.first.now none refl refl refl refl c.in-Some-is_stamped.ensures.some,
+      header_taken c.args.setup.now c.args.self.now (search rules) none seen h _ c.in-Some.first.now none refl refl refl refl c.in-Some-version_of.ensures.some,
     )) t) c.take_entries-2.ensures

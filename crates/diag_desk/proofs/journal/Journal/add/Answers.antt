@@ -1,4 +1,4 @@
-use Rattle.std.proofs.Common.{◌≡◌, ◌∷◌, ◌++◌, [], ap, sym, ◌∙◌, length}
+use Rattle.std.proofs.Common.{ap, sym, ◌∙◌, length}
 use Rattle.std.specs.Prelude.{option_copied}
 use Rattle.diag_desk.specs.Entries.{entry}
 use Rattle.diag_desk.specs.Entry.{Kept, entry_bytes}
