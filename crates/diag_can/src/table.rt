@@ -1,6 +1,6 @@
 //! Hex digits, by a table.
 
-ghost use Rattle.std.specs.Prelude.{◌≡◌, ◌<◌, ◌≤◌, ◌+◌, ◌/◌, ◌%◌, ◌∷◌, [], Some, IsSome, slice_index, unwrap_or};
+ghost use Rattle.std.specs.Prelude.{◌≡◌, ◌<◌, ◌≤◌, ◌+◌, ◌/◌, ◌%◌, ◌∷◌, [], Some, IsSome, unwrap_or};
 ghost use Rattle.hex.specs.Hex.{encode_upper, hex_digit_value};
 ghost use Rattle.diag_can.specs.Line.{pair};
 

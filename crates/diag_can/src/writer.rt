@@ -1,7 +1,7 @@
 //! The lines of the frames that one tester was sent, one behind the other: what they have in common is made once.
 
-ghost use Rattle.std.specs.Prelude.{◌≡◌, ◌<◌, ◌≤◌, ◌+◌, ◌/◌, ◌^◌, ◌++◌, codes, length, take, IfOk, OnOk, OnErr, vec_len, vec_capacity};
-ghost use Rattle.diag_can.specs.Reply.{name_text, reply_line, seconds_text, stamp};
+ghost use Rattle.std.specs.Prelude.{◌≡◌, ◌<◌, ◌≤◌, ◌+◌, ◌/◌, ◌^◌, ◌++◌, codes, take, IfOk, OnOk, OnErr, vec_len, vec_capacity};
+ghost use Rattle.diag_can.specs.Reply.{reply_line, stamp};
 
 use crate::frame::{CanId, Frame};
 use crate::hex_text::add;
