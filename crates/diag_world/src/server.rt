@@ -32,13 +32,11 @@ ghost use Rattle.diag_tp.specs.Gives.{gives};
 ghost use Rattle.diag_tp.specs.Link.{EachHistory, pending, quiet};
 ghost use Rattle.diag_tp.specs.Moments.{last_time};
 ghost use Rattle.diag_setup.specs.Setup.{link_of};
-ghost use Rattle.diag_ecu.specs.State.{State};
-ghost use Rattle.diag_ecu.specs.Elapse.{elapse_each};
 ghost use Rattle.diag_desk.specs.declared.entry.Entry.{Entry as AnEntry};
 ghost use Rattle.diag_desk.specs.Legal.{after, reply_to};
 ghost use Rattle.diag_world.specs.Weaving.{items_of};
 ghost use Rattle.diag_world.specs.Port.{step_in};
-ghost use Rattle.diag_world.specs.Server.{answer_to, closing_time, entry_of, quiet_of, server_of, state_at, went_to, AreEarly, EachRun, HasKept, IsClosed, LinkTook, Serves, ServerTook, TookNothing, Waited};
+ghost use Rattle.diag_world.specs.Server.{answer_to, closing_time, entry_of, quiet_of, server_of, went_to, AreEarly, EachRun, HasKept, IsClosed, LinkTook, Serves, ServerTook, TookNothing, Waited};
 
 use crate::keeper::Keeper;
 use crate::lazy_link::LazyLink;
