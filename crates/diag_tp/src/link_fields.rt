@@ -51,7 +51,7 @@ ghost use Rattle.diag_tp.specs.Taken.{
   granted_after,
   sender_after,
 };
-ghost use Rattle.diag_tp.specs.Quiet.{reception_quiet, sender_quiet};
+ghost use Rattle.diag_tp.specs.Quiet.{reception_quiet, sender_quiet, reception_later, current_later};
 ghost use Rattle.diag_tp.specs.Link.{
   is_frame,
   last_tick,
@@ -387,15 +387,15 @@ impl Link {
         self.sender.pass(&self.setup, count);
     }
 
-    /// For how many ticks nothing falls due and nothing ends, from the fields.
+    /// For how many ticks nothing falls due and nothing ends, once so many have passed, from the fields.
     #[inline(always)]
-    pub(crate) fn quiet_ticks(&self) -> u64
-        ensures { result
-            ≡ max (min (reception_quiet self.now.state.setup.n_cr self.now.state.partial)
-            (sender_quiet self.now.state.sender.current)) 1 }
+    pub(crate) fn quiet_ticks(&self, passed: u64) -> u64
+        ensures { result ≡ max (min (reception_quiet self.now.state.setup.n_cr
+            (reception_later passed self.now.state.partial))
+            (sender_quiet (current_later passed self.now.state.sender.current))) 1 }
     {
-        let reception = self.receiver.quiet(self.setup.n_cr.get());
-        reception.min(self.sender.quiet()).max(1)
+        let reception = self.receiver.quiet(self.setup.n_cr.get(), passed);
+        reception.min(self.sender.quiet(passed)).max(1)
     }
 }
 

@@ -3,12 +3,13 @@
 ghost use Rattle.std.specs.Prelude.{
   ◌≡◌,
   ◌<◌,
+  ◌≤◌,
   ◌-◌,
   Some,
   None,
   if◌then◌else◌,
 };
-ghost use Rattle.diag_tp.specs.Quiet.{phase_quiet};
+ghost use Rattle.diag_tp.specs.Quiet.{phase_quiet, phase_later};
 ghost use Rattle.diag_tp.specs.Sending.{gap_ticks, flow_decision, block_size};
 ghost use Rattle.diag_tp.specs.Sender.{
   frames_of,
@@ -41,6 +42,18 @@ impl Phase {
     {
         match self {
             Phase::AwaitsFlow { ticks } | Phase::InBlock { ticks, .. } => *ticks,
+        }
+    }
+
+    /// So many ticks, of those that are left.
+    #[inline(always)]
+    pub(crate) fn pass_quietly(&mut self, count: u64)
+        requires few { count ≤ phase_quiet self.old }
+        ensures { self.new ≡ phase_later count self.old }
+    {
+        match self {
+            Phase::AwaitsFlow { ticks } => *ticks = (u64::from(*ticks) - count) as u16,
+            Phase::InBlock { ticks, .. } => *ticks = (u64::from(*ticks) - count) as u16,
         }
     }
 }

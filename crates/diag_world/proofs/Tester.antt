@@ -1,5 +1,6 @@
 -- What a call at a tester's link says of the server.
-use Rattle.std.proofs.Common.{◌≡◌, ◌<◌, ◌≤◌, ℕ, ◌+◌, ◌-◌, Option, Some, List, get_or, length, refl, ap, ap₂, subst, sym, ◌∙◌, arith, inl, inr}
+use Rattle.std.proofs.Common.{◌≡◌, ◌<◌, ◌≤◌, ℕ, ◌+◌, ◌-◌, Option, Some, List, get_or, length, refl, ap, ap₂, subst, sym, ◌∙◌, arith}
+use Rattle.std.proofs.lemmas.List.{length-map}
 use Rattle.std.proofs.Math.Seq.{map-set_same}
 use Rattle.std.proofs.lemmas.Option.{get_or_from_slice_get, slice_get_read, slice_get-map}
 use Rattle.std.specs.Prelude.{slice_get, slice_set}
@@ -8,16 +9,17 @@ use Rattle.diag_can.specs.declared.frame.Event.{Event}
 use Rattle.diag_tp.specs.declared.sent.Sent.{Sent}
 use Rattle.diag_tp.specs.Moments.{last_time}
 use Rattle.diag_tp.specs.State.{LinkState, LinkView}
-use Rattle.diag_tp.specs.Link.{pending}
 use Rattle.diag_setup.specs.Setup.{link_of}
 use Rattle.diag_ecu.specs.State.{State}
 use Rattle.diag_desk.specs.declared.entry.Entry.{Entry}
 use Rattle.diag_desk.specs.Entries.{own}
 use Rattle.diag_world.specs.Port.{PortStands}
-use Rattle.diag_world.specs.Server.{AllDrained, EachRun, HasKept, IsClosed, LinkTook, PortWent, ServerState, ServerTook, ServerView, Settled, closing_time, server_of, state_at}
+use Rattle.diag_world.specs.Server.{EachRun, HasKept, IsClosed, LinkTook, PortWent, ServerState, ServerTook, ServerView, Settled, closing_time, server_of, state_at}
 use Rattle.diag_world.specs.Weaving.{items_of}
 use Rattle.diag_world.proofs.Serving.{port_at, server_went}
-use Rattle.diag_world.proofs.Worlds.{set_cases}
+use Rattle.diag_world.specs.Lazy.{caught_up}
+use Rattle.diag_world.specs.declared.lazy_link.LazyLink.{LazyLink}
+use Rattle.diag_world.proofs.Lazy.{seen_links}
 
 -- a server of this ECU and these links
 abbrev view_of : State → List LinkView → ServerView
@@ -29,36 +31,33 @@ pub record IsAt (ecu : State) (links : List LinkView) (now : ServerView) (who i 
   pub is : who ≡ i + 1
   pub found : slice_get links i ≡ Some link
 
--- the tester's link stands where it was read
-module _ {ecu : State} {links : List LinkView} {now : ServerView} {who place at : ℕ} {link : LinkView} (seen : view_of ecu links ≡ now)
+-- the tester's link stands where it was read, and as it is once it has caught up
+module _ {ecu : State} (links : List LazyLink) {now : ServerView} (passed : ℕ) {who place at : ℕ} {lazy : LazyLink} (seen : view_of ecu (seen_links passed links) ≡ now)
     (in_setup : who ≤ length now.links) (same : place ≡ who) (fits : (1 ≤ place) × (place ≤ 8)) (index : at ≡ place)
-    (read : link ≡ get_or links (at - 1) link) where
-  pub link_at : IsAt ecu links now who (at - 1) link
-  link_at =
+    (read : lazy ≡ get_or links (at - 1) lazy) where
+  pub lazy_at : slice_get links (at - 1) ≡ Some lazy
+  lazy_at =
       let within : at - 1 < length links = omega (
         arith,
         in_setup,
         ap (λ (v : ServerView). length v.links) seen,
+        length-map links (λ l. caught_up passed l),
         same,
         fits.0,
         index,
       ) in
-      record {
-        seen = seen;
-        is = omega (arith, same, fits.0, index);
-        found = slice_get_read links (length links) (at - 1) link refl within read;
-      }
+      slice_get_read links (length links) (at - 1) lazy refl within read
+
+  pub link_at : (link : LinkView) → link ≡ caught_up passed lazy → IsAt ecu (seen_links passed links) now who (at - 1) link
+  link_at link is = record {
+    seen = seen;
+    is = omega (arith, same, fits.0, index);
+    found = slice_get-map (λ l. caught_up passed l) links (at - 1) ∙ (ap (option_map (λ l. caught_up passed l)) lazy_at ∙ ap Some (sym is));
+  }
 
 -- what stands at one place is one
 same_item : {X : Type 0} (x y : X) (o : Option X) → o ≡ Some x → o ≡ Some y → x ≡ y
 same_item x y o at at' = cc
-
--- no frame is due where a link was written that has none
-pub drained_set : (links : List LinkView) (i : ℕ) (link' : LinkView) → AllDrained links → pending link'.state ≡ 0 → AllDrained (slice_set links i link')
-drained_set links i link' drained none = λ j link at. elim (set_cases links i j link' link at) [
-  | inl p ↦ subst (λ (l : LinkView). pending l.state ≡ 0) (sym p.1) none
-  | inr p ↦ drained j link p.1
-]
 
 -- what is known of the tester there
 module _ {ecu : State} {links : List LinkView} {now : ServerView} {who i : ℕ} {link : LinkView} (here : IsAt ecu links now who i link) where

@@ -3,4 +3,5 @@ pub mod Channel
 pub mod Weaving
 pub mod World
 pub mod Port
+pub mod Lazy
 pub mod Server

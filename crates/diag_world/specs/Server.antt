@@ -11,7 +11,7 @@ use Rattle.diag_tp.specs.Gives.{gives}
 use Rattle.diag_tp.specs.Moments.{counted_from, is_tick}
 use Rattle.diag_tp.specs.Placing.{drawn}
 use Rattle.diag_tp.specs.State.{LinkState, LinkView}
-use Rattle.diag_tp.specs.Link.{EachHistory, pending, quiet}
+use Rattle.diag_tp.specs.Link.{EachHistory, quiet}
 use Rattle.diag_tp.specs.Quiet.{always}
 use Rattle.diag_setup.specs.declared.raw.RawSetup.{RawSetup}
 use Rattle.diag_setup.specs.Setup.{link_of}
@@ -150,10 +150,6 @@ pub record IsClosed (links : List LinkState) (place : ℕ) : Type 0 where
 -- no link has come past its closing time
 abbrev pub AreEarly : List LinkState → Type 0
 AreEarly links = (i : ℕ) (link : LinkState) → slice_get links i ≡ Some link → link.now ≤ closing_time
-
--- no link has a frame that is due
-abbrev pub AllDrained : List LinkView → Type 0
-AllDrained links = (i : ℕ) (link : LinkView) → slice_get links i ≡ Some link → pending link.state ≡ 0
 
 -- P holds of the setup, and of each interleaving and journal that the server stands for
 abbrev pub EachRun : ServerState → (RawSetup → List (ℕ × Event) → List Entry → Type 0) → Type 0

@@ -4,6 +4,7 @@
 mod channel;
 mod keeper;
 mod laws;
+mod lazy_link;
 mod passing;
 mod port;
 mod serial_play;

@@ -59,14 +59,13 @@ fn is_quiet_for(link: &Link, count: TickCount) -> bool
 
 /// Lets so many ticks pass, in which nothing falls due.
 #[inline(always)]
-pub(crate) fn pass_quiet(link: &mut Link, count: TickCount)
+fn pass_quiet(link: &mut Link, count: TickCount)
     requires drained { pending link.old.state ≡ 0 }
     requires quiet { count < quiet link.old.state }
     ensures passed { Passed link.old.state link.new.state count [] }
     ensures time { link.new.state.now ≡ min (link.old.state.now + count) last_tick }
     ensures drained { pending link.new.state ≡ 0 }
     ensures waiting { waiting_count link.new.state ≤ waiting_count link.old.state }
-    ensures rest { quiet link.old.state ≤ quiet link.new.state + count }
     ensures most { count ≤ 60000 }
 {
     let _most = count.get();

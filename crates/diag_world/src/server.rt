@@ -32,16 +32,15 @@ ghost use Rattle.diag_tp.specs.Gives.{gives};
 ghost use Rattle.diag_tp.specs.Link.{EachHistory, pending, quiet};
 ghost use Rattle.diag_tp.specs.Moments.{last_time};
 ghost use Rattle.diag_setup.specs.Setup.{link_of};
-ghost use Rattle.diag_ecu.specs.State.{State};
-ghost use Rattle.diag_ecu.specs.Elapse.{elapse_each};
 ghost use Rattle.diag_desk.specs.declared.entry.Entry.{Entry as AnEntry};
 ghost use Rattle.diag_desk.specs.Legal.{after, reply_to};
 ghost use Rattle.diag_world.specs.Weaving.{items_of};
 ghost use Rattle.diag_world.specs.Port.{step_in};
-ghost use Rattle.diag_world.specs.Server.{answer_to, closing_time, entry_of, quiet_of, server_of, state_at, went_to, AllDrained, AreEarly, EachRun, HasKept, IsClosed, LinkTook, Serves, ServerTook, TookNothing, Waited};
+ghost use Rattle.diag_world.specs.Server.{answer_to, closing_time, entry_of, quiet_of, server_of, went_to, AreEarly, EachRun, HasKept, IsClosed, LinkTook, Serves, ServerTook, TookNothing, Waited};
 
 use crate::keeper::Keeper;
-use crate::passing::{pass, pass_quiet};
+use crate::lazy_link::LazyLink;
+use crate::passing::pass;
 use crate::port::{Prepared, prepare, settle, step};
 use diag_can::{Event, TickCount};
 use diag_desk::{StepFault, put_reply, settle_answered};
@@ -71,29 +70,40 @@ const CLOSING_TIME: u64 = 1 << 63;
 
 /// The ECU and each tester's link.
 ///
+/// Ticks in which no link does anything are counted, and a link takes them with its next event.
+///
 /// It keeps no history: its contract is the relation `Serves`, from each interleaving and journal that it stands for to
 /// those with one event more. `take` makes all growths, has the event answered and its entry kept by whoever keeps the
 /// journal, and only then takes the event, which can't fail.
 pub struct Server {
     ecu: Ecu,
-    links: Vec<Link>,
+    links: Vec<LazyLink>,
+    /// How many ticks have passed for all links in which none did anything.
+    passed: u64,
 }
 
 // Written out, so that a function which lets a server go makes one call, and doesn't go through all that it owns.
 impl Drop for Server {
     fn drop(self) {
-        let Server { ecu: _, links: _ } = self;
+        let Server {
+            ecu: _,
+            links: _,
+            passed: _,
+        } = self;
     }
 }
 
 impl Model for Server {
-    ghost use Rattle.diag_world.specs.Server.{ServerView, AllDrained};
+    ghost use Rattle.std.specs.Prelude.{map};
+    ghost use Rattle.diag_world.specs.Lazy.{caught_up, AreLazy};
+    ghost use Rattle.diag_world.specs.Server.{ServerView};
 
     ghost Value = { ServerView };
 
-    ghost view = { λ s. record { ecu = s.ecu; links = s.links.items } };
+    ghost view = { λ s.
+        record { ecu = s.ecu; links = map (λ lazy. caught_up s.passed lazy) s.links.items } };
 
-    ghost invariant = { λ s. AllDrained s.links.items };
+    ghost invariant = { λ s. AreLazy s.passed s.links.items };
 }
 
 impl Server {
@@ -107,9 +117,13 @@ impl Server {
             let Some(who) = setup.who(index) else {
                 unreachable!()
             };
-            links.push_reserved(Link::new(alloc, setup.link(who)));
+            links.push_reserved(LazyLink::new(alloc, setup.link(who)));
         }
-        Ok(Server { ecu, links })
+        Ok(Server {
+            ecu,
+            links,
+            passed: 0,
+        })
     }
 
     /// Takes an event of a tester, has the entry that it gives kept, and hands out the frames that it draws.
@@ -142,8 +156,9 @@ impl Server {
             → IsClosed (server_of self.old).links (who - 1) }
     {
         let index = usize::from(who.place()) - 1;
-        let link = &mut self.links[index];
-        take_at(link, &mut self.ecu, who, event, keeper, out)
+        let lazy = &mut self.links[index];
+        lazy.catch_up(self.passed);
+        take_at(&mut lazy.link, &mut self.ecu, who, event, keeper, out)
     }
 
     /// Takes so many ticks of each tester, in order, in which no link does anything. The entries that they give have no
@@ -156,7 +171,7 @@ impl Server {
         ensures waited { Waited (server_of self.old) (server_of self.new) (length setup.now.testers) count }
         ensures rest { quiet_of (server_of self.old).links ≤ quiet_of (server_of self.new).links + count }
     {
-        pass_each(self.links.as_mut_slice(), count);
+        self.passed = self.passed.saturating_add(u64::from(count.get()));
         self.ecu.ticks_each(setup, count);
     }
 
@@ -166,7 +181,7 @@ impl Server {
         ensures { IfSome (slice_get self.now.links (who - 1)) (λ link. result ≡ link.state.now) }
     {
         let index = usize::from(who.place()) - 1;
-        self.links[index].now()
+        self.links[index].now(self.passed)
     }
 
     /// For how many ticks of every tester no frame falls due and no reception or wait ends, before the last of them: the
@@ -177,7 +192,7 @@ impl Server {
     {
         let mut least = u64::MAX;
         for link in &self.links {
-            least = least.min(link.drained_quiet());
+            least = least.min(link.quiet(self.passed));
         }
         least
     }
@@ -190,7 +205,7 @@ impl Server {
         ensures some { 1 ≤ result }
     {
         let index = usize::from(who.place()) - 1;
-        self.links[index].drained_quiet()
+        self.links[index].quiet(self.passed)
     }
 
     /// The ECU as the run has made it.
@@ -322,23 +337,4 @@ fn answer_at<K: Keeper>(
     keeper.keep(link.now(), who, step, reply.as_ref())?;
     settle_answered(ecu, who, step, reply.as_ref());
     Ok(())
-}
-
-/// Lets so many ticks pass at each link, in which it does nothing.
-#[inline(always)]
-fn pass_each(links: &mut [Link], count: TickCount)
-    requires drained { AllDrained links.old }
-    requires quiet { count < quiet_of (map (λ l. l.state) links.old) }
-    requires early { AreEarly (map (λ l. l.state) links.old) }
-    ensures many { length links.new ≡ length links.old }
-    ensures waited { (ecu : State) → Waited (state_at ecu links.old)
-        (state_at (elapse_each ecu (length links.old) count) links.new)
-        (length links.old) count }
-    ensures rest { quiet_of (map (λ l. l.state) links.old)
-        ≤ quiet_of (map (λ l. l.state) links.new) + count }
-    ensures drained { AllDrained links.new }
-{
-    for index in 0..links.len() {
-        pass_quiet(&mut links[index], count);
-    }
 }

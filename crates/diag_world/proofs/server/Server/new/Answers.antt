@@ -3,8 +3,10 @@ use Rattle.std.proofs.lemmas.Grind.{common_steps}
 use Rattle.std.proofs.lemmas.List.{length-map}
 use Rattle.diag_setup.specs.Setup.{link_of}
 use Rattle.diag_tp.specs.State.{LinkView, LinkState}
-use Rattle.diag_tp.specs.Link.{pending}
+use Rattle.diag_world.specs.Lazy.{IsLazy, caught_up}
 use Rattle.diag_world.specs.Port.{PortStands}
+use Rattle.diag_world.specs.declared.lazy_link.LazyLink.{LazyLink}
+use Rattle.diag_world.proofs.Lazy.{later_drained, seen_links}
 use Rattle.diag_world.proofs.Serving.{fresh_port}
 use Rattle.diag_world.proofs.Worlds.{push_cases, map_cases, who_found}
 use Rattle.diag_world.proofs.server.Server.new.Goals as goal
@@ -18,17 +20,17 @@ loop-index-preserved c =
     let fresh = c.new-in-loop-index.ensures in
     record {
       count = ap length grown ∙ omega (arith, length-append before (one ∷ []), inv.count);
-      stand = λ i link at. elim (push_cases before i one link (rw grown at at)) [
+      stand = λ i lazy at. elim (push_cases before i one lazy (rw grown at at)) [
         | inl p ↦ (
             let place : c.in-Some.who ≡ i + 1 = omega (arith, p.0, inv.count, who_found c.args.setup.now c.loop-index.index c.in-Some.who c.in-Some.ensures) in
-            subst (λ (x : LinkView). PortStands (link_of c.args.setup.now (i + 1)) x.state [] []) (sym p.1)
-            (subst (λ s. PortStands s one.state [] []) (c.link.ensures ∙ ap (link_of c.args.setup.now) place)
-            (fresh_port c.link.result one.state fresh.stands fresh.drained)))
-        | inr p ↦ inv.stand i link p
+            subst (λ (x : LazyLink). PortStands (link_of c.args.setup.now (i + 1)) (caught_up 0 x).state [] []) (sym p.1)
+            (subst (λ s. PortStands s (caught_up 0 one).state [] []) (c.link.ensures ∙ ap (link_of c.args.setup.now) place)
+            (fresh_port c.link.result (caught_up 0 one).state fresh.stands (later_drained _ one.link.state fresh.lazy.drained))))
+        | inr p ↦ inv.stand i lazy p
       ];
-      drained = λ i link at. elim (push_cases before i one link (rw grown at at)) [
-        | inl p ↦ subst (λ (x : LinkView). pending x.state ≡ 0) (sym p.1) fresh.drained
-        | inr p ↦ inv.drained i link p
+      lazy = λ i lazy at. elim (push_cases before i one lazy (rw grown at at)) [
+        | inl p ↦ subst (λ x. IsLazy 0 x) (sym p.1) fresh.lazy
+        | inr p ↦ inv.lazy i lazy p
       ];
       room = omega (arith, inv.room, c.push_reserved.ensures.capacity);
     }
@@ -37,18 +39,20 @@ pub push_reserved-requires : goal.push_reserved-requires
 push_reserved-requires c = omega (arith, c.loop-index.invariant.room, c.loop-index.invariant.count, c.testers-index-end.ensures.same)
 
 pub invariant_of-result : goal.invariant_of-result
-invariant_of-result c = c.loop-index.invariant.drained
+invariant_of-result c = c.loop-index.invariant.lazy
 
 pub returns : goal.returns
 returns c =
     let links = c.loop-index.links.items in
+    let seen = seen_links 0 links in
     let state = λ (l : LinkView). l.state in
     record {
       legal = tt;
       ecu = c.in_ok-ecu.ensures;
-      testers = length-map links state ∙ omega (arith, c.loop-index.invariant.count, c.testers-index-end.ensures.same);
+      testers = length-map seen state ∙ (length-map links (λ l. caught_up 0 l) ∙ omega (arith, c.loop-index.invariant.count, c.testers-index-end.ensures.same));
       run = refl;
       ports = λ i link at.
-          let t = map_cases state links i link at in
-          subst (λ (l : LinkState). PortStands (link_of c.args.setup.now (i + 1)) l [] []) (sym t.2) (c.loop-index.invariant.stand i t.0 t.1);
+          let t = map_cases state seen i link at in
+          let u = map_cases (λ l. caught_up 0 l) links i t.0 t.1 in
+          subst (λ (l : LinkState). PortStands (link_of c.args.setup.now (i + 1)) l [] []) (sym (t.2 ∙ ap state u.2)) (c.loop-index.invariant.stand i u.0 u.1);
     }

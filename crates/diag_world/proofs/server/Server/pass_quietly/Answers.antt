@@ -1,25 +1,61 @@
-use Rattle.std.proofs.Common.{◌≡◌, length, ap, subst, sym, ◌∙◌}
-use Rattle.std.proofs.lemmas.List.{with_items_is}
+use Rattle.std.proofs.Common.{◌≡◌, ◌≤◌, ◌+◌, min, length, map, ap, subst, sym, ◌∙◌, arith}
 use Rattle.diag_ecu.specs.Elapse.{elapse_each}
 use Rattle.diag_ecu.specs.State.{State}
-use Rattle.diag_world.specs.Server.{ServerView, Waited, server_of, state_at}
+use Rattle.diag_tp.specs.Link.{last_tick, view_later}
+use Rattle.diag_tp.specs.State.{LinkView}
+use Rattle.diag_world.specs.Server.{ServerView, Waited, quiet_of, server_of, state_at}
+use Rattle.diag_world.proofs.Lazy.{all_passed, are_quiet, rest_all, seen_links, seen_passed, waited_all}
 use Rattle.diag_world.proofs.server.Server.pass_quietly.Goals as goal
+
+pub invariant_of-self : goal.invariant_of-self
+invariant_of-self c =
+    let passed = c.self.inside.passed in
+    let passed' = c.saturating_add-self-inside.result in
+    let links = c.self.inside.links.items in
+    let count = c.args.count in
+    let sum : passed' ≡ min (passed + count) last_tick = omega (arith, c.saturating_add-self-inside.ensures, c.from.ensures, c.get.ensures.value) in
+    let some : 1 ≤ count = omega (arith, c.get.ensures.value, c.get.ensures.in_range.0) in
+    let most : count ≤ 60000 = omega (arith, c.get.ensures.value, c.get.ensures.in_range.1) in
+    let quiet = are_quiet passed count links c.args.self.now.links (ap (λ (v : ServerView). v.links) c.self.view_is) c.self.invariant c.requires.quiet c.requires.early in
+    λ i lazy at. (all_passed passed passed' count links sum c.self.invariant some most quiet i lazy at).after
 
 pub returns-clause-waited : goal.returns-clause-waited
 returns-clause-waited c =
-    let ecu = c.self.inside.ecu in
+    let passed = c.self.inside.passed in
+    let passed' = c.saturating_add-self-inside.result in
     let links = c.self.inside.links.items in
-    let new = c.pass_each.new.links in
-    let n = length c.args.setup.now.testers in
     let count = c.args.count in
-    let many : length links ≡ n = ap (λ (s : ServerView). length s.links) c.self.view_is ∙ c.requires.in_setup in
-    let all = subst (λ ls. Waited (state_at ecu ls) (state_at (elapse_each ecu (length ls) count) new) (length ls) count) c.as_mut_slice.ensures.value
-    (c.pass_each.ensures.waited ecu) in
-    let waited : Waited (state_at ecu links) (state_at (elapse_each ecu n count) new) n count =
-    subst (λ m. Waited (state_at ecu links) (state_at (elapse_each ecu m count) new) m count) many all in
-    let gone : Waited (state_at ecu links) (state_at c.ticks_each.new.self new) n count =
-    subst (λ (s : State). Waited (state_at ecu links) (state_at s new) n count) (sym c.ticks_each.ensures) waited in
-    let kept = with_items_is c.self.inside.links new
-    (c.pass_each.ensures.many ∙ (ap length c.as_mut_slice.ensures.value ∙ sym c.self.inside.links.ok.0)) in
-    subst (λ ls. Waited (server_of c.args.self.now) (state_at c.ticks_each.new.self ls) n count) (sym kept)
-    (subst (λ (s : ServerView). Waited (server_of s) (state_at c.ticks_each.new.self new) n count) c.self.view_is gone)
+    let ecu = c.self.inside.ecu in
+    let n = length c.args.setup.now.testers in
+    let seen = seen_links passed links in
+    let later = map (λ l. view_later count l) seen in
+    let sum : passed' ≡ min (passed + count) last_tick = omega (arith, c.saturating_add-self-inside.ensures, c.from.ensures, c.get.ensures.value) in
+    let some : 1 ≤ count = omega (arith, c.get.ensures.value, c.get.ensures.in_range.0) in
+    let most : count ≤ 60000 = omega (arith, c.get.ensures.value, c.get.ensures.in_range.1) in
+    let quiet = are_quiet passed count links c.args.self.now.links (ap (λ (v : ServerView). v.links) c.self.view_is) c.self.invariant c.requires.quiet c.requires.early in
+    let next = all_passed passed passed' count links sum c.self.invariant some most quiet in
+    let many : length seen ≡ n = ap (λ (v : ServerView). length v.links) c.self.view_is ∙ c.requires.in_setup in
+    let waited : Waited (state_at ecu seen) (state_at (elapse_each ecu n count) later) n count =
+    subst (λ m. Waited (state_at ecu seen) (state_at (elapse_each ecu m count) later) m count) many (waited_all ecu count seen some most quiet) in
+    let gone : Waited (state_at ecu seen) (state_at c.ticks_each.new.self later) n count =
+    subst (λ (s : State). Waited (state_at ecu seen) (state_at s later) n count) (sym c.ticks_each.ensures) waited in
+    let kept : Waited (state_at ecu seen) (state_at c.ticks_each.new.self (seen_links passed' links)) n count =
+    subst (λ ls. Waited (state_at ecu seen) (state_at c.ticks_each.new.self ls) n count) (sym (seen_passed passed passed' count links next)) gone in
+    subst (λ (v : ServerView). Waited (server_of v) (state_at c.ticks_each.new.self (seen_links passed' links)) n count) c.self.view_is kept
+
+pub returns-clause-rest : goal.returns-clause-rest
+returns-clause-rest c =
+    let passed = c.self.inside.passed in
+    let passed' = c.saturating_add-self-inside.result in
+    let links = c.self.inside.links.items in
+    let count = c.args.count in
+    let state = λ (l : LinkView). l.state in
+    let seen = seen_links passed links in
+    let sum : passed' ≡ min (passed + count) last_tick = omega (arith, c.saturating_add-self-inside.ensures, c.from.ensures, c.get.ensures.value) in
+    let some : 1 ≤ count = omega (arith, c.get.ensures.value, c.get.ensures.in_range.0) in
+    let most : count ≤ 60000 = omega (arith, c.get.ensures.value, c.get.ensures.in_range.1) in
+    let quiet = are_quiet passed count links c.args.self.now.links (ap (λ (v : ServerView). v.links) c.self.view_is) c.self.invariant c.requires.quiet c.requires.early in
+    let next = all_passed passed passed' count links sum c.self.invariant some most quiet in
+    let rest : quiet_of (map state seen) ≤ quiet_of (map state (seen_links passed' links)) + count =
+    subst (λ ls. quiet_of (map state seen) ≤ quiet_of (map state ls) + count) (sym (seen_passed passed passed' count links next)) (rest_all count seen quiet.drained) in
+    subst (λ (v : ServerView). quiet_of (map state v.links) ≤ quiet_of (map state (seen_links passed' links)) + count) c.self.view_is rest

@@ -1,20 +1,41 @@
-use Rattle.std.proofs.Common.{◌≡◌, ◌<◌, ◌+◌, min, ap, sym, ◌∙◌, length, take, map, arith, ◌++◌, ◌∷◌, []}
-use Rattle.std.proofs.lemmas.List.{map-append, take_more}
-use Rattle.diag_tp.specs.Link.{quiet}
-use Rattle.diag_world.specs.Server.{quiet_of}
-use Rattle.diag_world.proofs.Quiet.{quiet_push}
+use Rattle.std.proofs.Common.{◌≡◌, Some, ap, ◌∙◌, length, map, refl, subst, arith}
+use Rattle.std.proofs.lemmas.List.{length-map, take_all}
+use Rattle.std.proofs.lemmas.Option.{slice_get_read}
+use Rattle.std.specs.Prelude.{slice_get}
+use Rattle.diag_tp.specs.State.{LinkView}
+use Rattle.diag_world.specs.Lazy.{caught_up}
+use Rattle.diag_world.specs.Server.{ServerView, quiet_of}
+use Rattle.diag_world.proofs.Lazy.{seen_at}
+use Rattle.diag_world.proofs.Quiet.{quiet_more}
 use Rattle.diag_world.proofs.server.Server.quiet.Goals as goal
+
+-- the link stands at its place
+found : (c : goal.After-link-item) → slice_get c.self.inside.links.items c.loop-link.link-index ≡ Some c.link-item.result
+found c =
+    subst (λ ls. slice_get ls c.loop-link.link-index ≡ Some c.link-item.result) c.deref-link-items.ensures.value
+    (slice_get_read c.deref-link-items.result.now _ c.loop-link.link-index c.link-item.result refl c.loop-link-test.true c.link-item.is)
+
+pub quiet-requires : goal.quiet-requires
+quiet-requires c = record { lazy = c.self.invariant c.loop-link.link-index c.link-item.result (found c) }
 
 pub loop-link-preserved : goal.loop-link-preserved
 loop-link-preserved c =
-    let links = c.deref-link-items.result.now in
     let i = c.loop-link.link-index in
-    let link = c.link-item.result in
-    let within : i < length links = c.loop-link-test.true in
-    let before = map (λ l. l.state) (take i links) in
-    let grown = take_more links i link within ∙ ap (λ x. take i links ++ x ∷ []) (sym c.link-item.is) in
-    let more : quiet_of (map (λ l. l.state) (take (i + 1) links)) ≡ min (quiet_of before) (quiet link.state) =
-    ap (λ xs. quiet_of (map (λ l. l.state) xs)) grown ∙ (ap quiet_of (map-append (λ l. l.state) (take i links) (link ∷ [])) ∙ quiet_push before link.state) in (
-      omega (arith, more, c.loop-link.invariant.0, c.min-least.ensures, c.drained_quiet.ensures.is),
-      omega (arith, c.loop-link.invariant.1, c.min-least.ensures, c.drained_quiet.ensures.some),
+    let lazy = c.link-item.result in
+    let at : slice_get c.self.inside.links.items i ≡ Some lazy =
+    subst (λ ls. slice_get ls i ≡ Some lazy) c.deref-link-items.ensures.value
+    (slice_get_read c.deref-link-items.result.now _ i lazy refl c.loop-link-test.true c.link-item.is) in
+    let seen = seen_at c.self.inside.passed i i c.self.inside.links.items lazy c.args.self.now.links (ap (λ (v : ServerView). v.links) c.self.view_is) refl at in
+    let more = quiet_more c.args.self.now.links i (caught_up c.self.inside.passed lazy) seen in (
+      omega (arith, more, c.loop-link.invariant.0, c.min-least.ensures, c.quiet.ensures.is),
+      omega (arith, c.loop-link.invariant.1, c.min-least.ensures, c.quiet.ensures.some),
     )
+
+pub returns-clause-is : goal.returns-clause-is
+returns-clause-is c =
+    let links = c.args.self.now.links in
+    let many = ap (λ (v : ServerView). length v.links) c.self.view_is in
+    let size = length-map c.self.inside.links.items (λ l. caught_up c.self.inside.passed l) in
+    let items = ap length c.deref-link-items.ensures.value in
+    c.loop-link.invariant.0 ∙ ap (λ ls. quiet_of (map (λ (l : LinkView). l.state) ls))
+    (take_all c.loop-link.link-index links (omega (arith, many, size, items, c.loop-link-test.false)))

@@ -1,0 +1,20 @@
+use Rattle.std.proofs.Common.{◌≡◌, refl, subst, sym}
+use Rattle.std.specs.Prelude.{IfSome}
+use Rattle.diag_tp.specs.Link.{quiet}
+use Rattle.diag_tp.specs.State.{LinkView}
+use Rattle.diag_world.specs.Lazy.{caught_up}
+use Rattle.diag_world.proofs.Tester.{lazy_at, link_at, seen_there}
+use Rattle.diag_world.proofs.server.Server.quiet_at.Goals as goal
+
+pub quiet-requires : goal.quiet-requires
+quiet-requires c =
+    record {
+      lazy = c.self.invariant _ _ (lazy_at c.self.inside.links.items c.self.inside.passed c.self.view_is c.requires.in_setup
+          c.place.ensures.same c.place.ensures.fits c.from-index.ensures c.index.ensures);
+    }
+
+pub returns-clause-is : goal.returns-clause-is
+returns-clause-is c =
+    let here = link_at c.self.inside.links.items c.self.inside.passed c.self.view_is c.requires.in_setup c.place.ensures.same c.place.ensures.fits c.from-index.ensures
+    c.index.ensures (caught_up c.self.inside.passed c.index.result.now) refl in
+    subst (λ o. IfSome o (λ (link : LinkView). c.quiet.result ≡ quiet link.state)) (sym (seen_there here)) c.quiet.ensures.is
