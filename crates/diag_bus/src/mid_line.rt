@@ -23,6 +23,9 @@ use diag_tp::Sent;
 use diag_world::{Server, ServerFault};
 use std::alloc::AllocError;
 
+/// The most milliseconds that one count of ticks gives.
+const LONGEST_COUNT: u64 = 60_000;
+
 /// The server in the midst of a line, with what the line has drawn and entered so far.
 #[derive(Drop)]
 pub struct MidLine {
@@ -193,7 +196,7 @@ impl MidLine {
         ensures pace { TookTime self.old.server self.new.server ms }
         ensures sent { OnOk result (SentIn self.old self.new ms) }
     {
-        if ms >= 60000 {
+        if ms >= LONGEST_COUNT {
             return self.pass_parts(setup, ms);
         }
         match TickCount::new(ms as u16) {
@@ -202,7 +205,7 @@ impl MidLine {
         }
     }
 
-    /// The same by 60000 each, and last the rest.
+    /// The same by the longest count each, and last the rest.
     #[inline(never)]
     fn pass_parts(&mut self, setup: &Setup, ms: u64) -> Result<(), AllocError>
         requires in_setup { length self.old.server.links ≡ length setup.now.testers }
@@ -215,10 +218,10 @@ impl MidLine {
         ensures pace { TookTime self.old.server self.new.server ms }
         ensures sent { OnOk result (SentIn self.old self.new ms) }
     {
-        for part in 0..ms / 60000 {
+        for part in 0..ms / LONGEST_COUNT {
             self.give_each(setup, TickCount::longest())?;
         }
-        match TickCount::new((ms % 60000) as u16) {
+        match TickCount::new((ms % LONGEST_COUNT) as u16) {
             None => Ok(()),
             Some(rest) => self.give_each(setup, rest),
         }
