@@ -1,14 +1,16 @@
 //! A line of a capture, given to the server: its time to every tester, and its frame to those it is for.
 
-ghost use Rattle.std.specs.Prelude.{◌≡◌, ◌≢◌, ◌≤◌, ◌<◌, ◌-◌, ℕ, List, [], ◌∷◌, ◌++◌, Ok, Some, length, map, slice_get, IfSome, IsSome, OnOk, OnErr};
+ghost use Rattle.std.specs.Prelude.{◌≡◌, ◌≢◌, ◌≤◌, ◌<◌, ◌-◌, ℕ, List, Option, [], ◌∷◌, ◌++◌, Ok, Some, length, map, slice_get, IfSome, IsSome, OnOk, OnErr};
 ghost use Rattle.std.specs.List.{flat_map};
 ghost use Rattle.diag_can.specs.declared.frame.Event.{Event as AnEvent};
 ghost use Rattle.diag_can.specs.Log.{waited};
 ghost use Rattle.diag_can.specs.Usual.{IsUsual, usual_bytes};
 ghost use Rattle.diag_tp.specs.Moments.{counted_from};
 ghost use Rattle.diag_tp.specs.declared.sent.Sent.{Sent as ASent};
+ghost use Rattle.diag_setup.specs.declared.raw.RawSetup.{RawSetup};
 ghost use Rattle.diag_world.specs.Server.{closing_time};
 ghost use Rattle.diag_bus.specs.Events.{frame_to, said_gives, span_said, to_each};
+ghost use Rattle.diag_bus.specs.declared.clock.Start.{Start as AStart};
 ghost use Rattle.diag_bus.specs.Requests.{AreFilled, AreNamesOf, AreRequestsOf, IsOwner, given};
 
 use crate::bus::Output;
@@ -95,8 +97,21 @@ impl MidLine {
                     write_drawn(setup, clock, writers, &mut self.drawn, batch, text)
                 }
             },
+            Output::Journal | Output::End | Output::Verdict => self.write_entries(text),
+        }
+    }
+
+    /// Adds the line's entries where a journal is wanted. Refused, the text is as it was.
+    #[inline(never)]
+    fn write_entries(&self, text: &mut Vec<u8>) -> Result<(), AllocError>
+        requires { self.now.output ≢ Output.Replies }
+        ensures ok { OnOk result ((setup : RawSetup) (start : Option AStart) → text.new.items ≡ text.old.items
+            ++ added self.now.output self.now.text.items setup start (lists_of self.now)) }
+        ensures err { OnErr result (text.new.items ≡ text.old.items) }
+    {
+        match self.output {
             Output::Journal => text.extend_from_slice(self.text.as_slice()),
-            Output::End | Output::Verdict => Ok(()),
+            Output::Replies | Output::End | Output::Verdict => Ok(()),
         }
     }
 
