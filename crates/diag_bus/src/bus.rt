@@ -2,6 +2,7 @@
 
 ghost use Rattle.std.specs.Prelude.{◌≡◌, ◌≤◌, ◌↔◌, [], ◌++◌, ℕ, List, length, IfOk, IfSome, OnOk, OnErr, IsTrue, Ok};
 ghost use Rattle.diag_can.specs.Bus.{bus_line};
+ghost use Rattle.diag_can.specs.Seen.{IsSeen};
 ghost use Rattle.diag_can.specs.Usual.{IsUsual, usual_said};
 ghost use Rattle.diag_can.specs.declared.bus.BusLine.TheVariants.{Ticks};
 ghost use Rattle.diag_world.specs.Port.{Grew};
@@ -20,7 +21,7 @@ use crate::mid_line::MidLine;
 use crate::request_ids::RequestIds;
 use crate::verdict::Verdict;
 use crate::writing::{Drawn, writers_of};
-use diag_can::{BusLine, CanId, LineWriter, TickCount, read_bus_line, ticks_said, usual_line};
+use diag_can::{BusLine, CanId, LineWriter, Seen, TickCount, read_bus_line, usual_line};
 use diag_desk::write_header_at;
 use diag_ecu::Ecu;
 use diag_setup::{Setup, TesterId};
@@ -160,12 +161,12 @@ impl Bus {
     {
         match usual_line(line) {
             Some((usual, id, at)) => self.take_usual(line, usual, id, at, text),
-            None => self.take_other(line, text),
+            None => self.take_read(line, text),
         }
     }
 
-    /// The same of a line of which this may be seen already: `usual` is the line without its CR, which is of the usual form
-    /// with this identifier, its data beginning there.
+    /// The same of a line of which this is seen already; `usual` is the line without its CR. Of ticks no value is made that
+    /// could hold a frame.
     ///
     /// # Errors
     /// As `take_line`.
@@ -174,11 +175,10 @@ impl Bus {
         &mut self,
         line: &[u8],
         usual: &[u8],
-        seen: Option<(CanId, usize)>,
+        seen: Seen,
         text: &mut Vec<u8>,
     ) -> Result<(), BusFault>
-        requires usual { IfSome seen (λ u. IsUsual usual.now u.0 u.1) }
-        requires says { IfSome seen (λ u. bus_line line.now ≡ Ok (usual_said usual.now u.0 u.1)) }
+        requires { IsSeen line.now usual.now seen }
         ensures took { OnOk result
             (Grew text.old.items text.new.items (TookLine self.old self.new line.now)) }
         ensures fault { IsItsFault self.old line.now result }
@@ -188,12 +188,14 @@ impl Bus {
         ensures output { self.new.output ≡ self.old.output }
     {
         match seen {
-            Some((id, at)) => self.take_usual(line, usual, id, at, text),
-            None => self.take_line(line, text),
+            Seen::Usual(id, at) => self.take_usual(line, usual, id, at, text),
+            Seen::Ticks(count) => self.take_ticks(line, count, text),
+            Seen::Nothing => self.take_line(line, text),
         }
     }
 
     /// Takes a line of the usual form.
+    #[inline(always)]
     fn take_usual(
         &mut self,
         line: &[u8],
@@ -224,23 +226,6 @@ impl Bus {
         let (writers, batch) = (&mut self.writers, &mut self.batch);
         let (setup, clock) = (&self.setup, &self.clock);
         Ok(self.line.write(setup, clock, writers, batch, text)?)
-    }
-
-    /// Takes a line whatever its form is. Of ticks no value is made that could hold a frame.
-    #[inline(never)]
-    fn take_other(&mut self, line: &[u8], text: &mut Vec<u8>) -> Result<(), BusFault>
-        ensures took { OnOk result
-            (Grew text.old.items text.new.items (TookLine self.old self.new line.now)) }
-        ensures fault { IsItsFault self.old line.now result }
-        ensures first { IsRefused self.old line.now result }
-        ensures err { OnErr result (text.new.items ≡ text.old.items) }
-        ensures setup { self.new.setup ≡ self.old.setup }
-        ensures output { self.new.output ≡ self.old.output }
-    {
-        match ticks_said(line) {
-            Some(count) => self.take_ticks(line, count, text),
-            None => self.take_read(line, text),
-        }
     }
 
     /// Takes a line that says so many ticks.

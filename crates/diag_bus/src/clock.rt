@@ -153,10 +153,11 @@ fn later_time(clock: &Clock, span: u64) -> Result<u64, BusFault>
     ensures late { IfErr result
         (λ fault. (fault ≡ BusFault.Late) × (closing_time < clock.now.time + span)) }
 {
-    match clock.time.checked_add(span) {
-        Some(time) if time <= CLOSING_TIME => Ok(time),
-        _ => Err(BusFault::Late),
+    let time = clock.time.saturating_add(span);
+    if time > CLOSING_TIME {
+        return Err(BusFault::Late);
     }
+    Ok(time)
 }
 
 /// What each tester's clock tells behind a line that says this; its fault where it has one. Nothing is asked of memory.

@@ -1,14 +1,16 @@
 //! A line of a capture, given to the server: its time to every tester, and its frame to those it is for.
 
-ghost use Rattle.std.specs.Prelude.{◌≡◌, ◌≢◌, ◌≤◌, ◌<◌, ◌-◌, ℕ, List, [], ◌∷◌, ◌++◌, Ok, Some, length, map, slice_get, IfSome, IsSome, OnOk, OnErr};
+ghost use Rattle.std.specs.Prelude.{◌≡◌, ◌≢◌, ◌≤◌, ◌<◌, ◌-◌, ℕ, List, Option, [], ◌∷◌, ◌++◌, Ok, Some, length, map, slice_get, IfSome, IsSome, OnOk, OnErr};
 ghost use Rattle.std.specs.List.{flat_map};
 ghost use Rattle.diag_can.specs.declared.frame.Event.{Event as AnEvent};
 ghost use Rattle.diag_can.specs.Log.{waited};
 ghost use Rattle.diag_can.specs.Usual.{IsUsual, usual_bytes};
 ghost use Rattle.diag_tp.specs.Moments.{counted_from};
 ghost use Rattle.diag_tp.specs.declared.sent.Sent.{Sent as ASent};
+ghost use Rattle.diag_setup.specs.declared.raw.RawSetup.{RawSetup};
 ghost use Rattle.diag_world.specs.Server.{closing_time};
 ghost use Rattle.diag_bus.specs.Events.{frame_to, said_gives, span_said, to_each};
+ghost use Rattle.diag_bus.specs.declared.clock.Start.{Start as AStart};
 ghost use Rattle.diag_bus.specs.Requests.{AreFilled, AreNamesOf, AreRequestsOf, IsOwner, given};
 
 use crate::bus::Output;
@@ -22,6 +24,9 @@ use diag_setup::{Setup, TesterId};
 use diag_tp::Sent;
 use diag_world::{Server, ServerFault};
 use std::alloc::AllocError;
+
+/// The most milliseconds that one count of ticks gives.
+const LONGEST_COUNT: u64 = 60_000;
 
 /// The server in the midst of a line, with what the line has drawn and entered so far.
 #[derive(Drop)]
@@ -92,8 +97,21 @@ impl MidLine {
                     write_drawn(setup, clock, writers, &mut self.drawn, batch, text)
                 }
             },
+            Output::Journal | Output::End | Output::Verdict => self.write_entries(text),
+        }
+    }
+
+    /// Adds the line's entries where a journal is wanted. Refused, the text is as it was.
+    #[inline(never)]
+    fn write_entries(&self, text: &mut Vec<u8>) -> Result<(), AllocError>
+        requires { self.now.output ≢ Output.Replies }
+        ensures ok { OnOk result ((setup : RawSetup) (start : Option AStart) → text.new.items ≡ text.old.items
+            ++ added self.now.output self.now.text.items setup start (lists_of self.now)) }
+        ensures err { OnErr result (text.new.items ≡ text.old.items) }
+    {
+        match self.output {
             Output::Journal => text.extend_from_slice(self.text.as_slice()),
-            Output::End | Output::Verdict => Ok(()),
+            Output::Replies | Output::End | Output::Verdict => Ok(()),
         }
     }
 
@@ -193,7 +211,7 @@ impl MidLine {
         ensures pace { TookTime self.old.server self.new.server ms }
         ensures sent { OnOk result (SentIn self.old self.new ms) }
     {
-        if ms >= 60000 {
+        if ms >= LONGEST_COUNT {
             return self.pass_parts(setup, ms);
         }
         match TickCount::new(ms as u16) {
@@ -202,7 +220,7 @@ impl MidLine {
         }
     }
 
-    /// The same by 60000 each, and last the rest.
+    /// The same by the longest count each, and last the rest.
     #[inline(never)]
     fn pass_parts(&mut self, setup: &Setup, ms: u64) -> Result<(), AllocError>
         requires in_setup { length self.old.server.links ≡ length setup.now.testers }
@@ -215,10 +233,10 @@ impl MidLine {
         ensures pace { TookTime self.old.server self.new.server ms }
         ensures sent { OnOk result (SentIn self.old self.new ms) }
     {
-        for part in 0..ms / 60000 {
+        for part in 0..ms / LONGEST_COUNT {
             self.give_each(setup, TickCount::longest())?;
         }
-        match TickCount::new((ms % 60000) as u16) {
+        match TickCount::new((ms % LONGEST_COUNT) as u16) {
             None => Ok(()),
             Some(rest) => self.give_each(setup, rest),
         }

@@ -8,6 +8,9 @@ use diag_can::CanId;
 use diag_setup::{Setup, TesterId};
 use std::alloc::{AllocError, Global};
 
+/// How many identifiers of 11 bits there are.
+const IDENTIFIERS: u16 = 2048;
+
 /// Whose the frames of an identifier are.
 #[derive(Clone, Copy, Debug, PartialEq, Eq)]
 pub enum Owner {
@@ -32,7 +35,7 @@ impl RequestIds {
         ensures { IfOk result (λ ids. AreRequestsOf setup.now ids) }
     {
         let mut owners = Vec::new(alloc);
-        for number in 0..2048 {
+        for number in 0..IDENTIFIERS {
             let Some(id) = CanId::new(number) else {
                 unreachable!()
             };

@@ -103,6 +103,9 @@ pub(crate) fn writers_of(alloc: Global, setup: &Setup) -> Result<Vec<LineWriter>
 pub(crate) fn is_in_order(frames: &[Sent]) -> bool
     ensures { IsTrue result → IsNonDecreasingBy (λ f. f.at) frames.now }
 {
+    if frames.len() < 2 {
+        return true;
+    }
     let mut last = 0;
     for sent in frames {
         if sent.at < last {
@@ -142,6 +145,31 @@ fn write_one(
 /// as it was.
 #[inline(always)]
 pub(crate) fn write_own(
+    setup: &Setup,
+    clock: &Clock,
+    writers: &mut Vec<LineWriter>,
+    place: usize,
+    frames: &[Sent],
+    text: &mut Vec<u8>,
+) -> Result<(), AllocError>
+    requires names { AreNamesOf setup.now writers.old.items }
+    requires tester { place < length setup.now.testers }
+    requires start { StartsBelow clock.now.start moment_end }
+    requires sent { All (λ f. f.at ≤ closing_time) frames.now }
+    ensures ok { OnOk result (text.new.items ≡ text.old.items
+        ++ flat_map (λ sent. line_of setup.now clock.now.start (drawn_for (place + 1) sent)) frames.now) }
+    ensures err { OnErr result (text.new.items ≡ text.old.items) }
+    ensures names { writers.new.items ≡ writers.old.items }
+{
+    match frames {
+        [sent] => write_one(setup, clock, writers, place, sent, text),
+        _ => write_each(setup, clock, writers, place, frames, text),
+    }
+}
+
+/// The same, however many they are.
+#[inline(never)]
+fn write_each(
     setup: &Setup,
     clock: &Clock,
     writers: &mut Vec<LineWriter>,

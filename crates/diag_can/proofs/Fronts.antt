@@ -94,14 +94,14 @@ begins_with byte (c ∷ xs) rest is =
       | false ↦ λ _ none. cc none
     ] refl is
 
-without_its_cr : (line : List ℕ) → without_return (line ++ 13 ∷ []) ≡ line
+pub without_its_cr : (line : List ℕ) → without_return (line ++ 13 ∷ []) ≡ line
 without_its_cr line =
     let before : length (line ++ 13 ∷ []) - 1 ≡ length line = omega (arith, length-append line (13 ∷ [])) in
     let last : drop (length (line ++ 13 ∷ []) - 1) (line ++ 13 ∷ []) ≡ 13 ∷ [] = rw before (drop-append_seam line (13 ∷ [])) in
     rw last (rw before (take_at line (13 ∷ []) (length line) refl))
 
 -- a text without what follows its first line feed, and without that
-front_is : (text whole after : List ℕ) → text ≡ whole ++ 10 ∷ after → take (length text - length after - 1) text ≡ whole
+pub front_is : (text whole after : List ℕ) → text ≡ whole ++ 10 ∷ after → take (length text - length after - 1) text ≡ whole
 front_is text whole after is =
     let size : length text - length after - 1 ≡ length whole = omega (arith, ap length is, length-append whole (10 ∷ after)) in
     rw size (ap (take (length whole)) is ∙ take_at whole (10 ∷ after) (length whole) refl)

@@ -63,11 +63,6 @@ line_says (c ∷ line) =
 abbrev pub bus_line : List ℕ → Result BusLine LineFault
 bus_line piece = if nat_lt 4096 (length piece) then Err BadLine else line_says (without_return piece)
 
--- the milliseconds that a `tick` line gives
-abbrev pub ticks_said : Result BusLine LineFault → Option ℕ
-ticks_said (Ok (Ticks count)) = Some count
-ticks_said _ = None
-
 -- ---- lines of a text
 
 -- the pieces between line feeds: an empty last piece is no line

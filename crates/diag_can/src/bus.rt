@@ -1,19 +1,18 @@
 //! The lines of a capture of a whole bus.
 
-ghost use Rattle.std.specs.Prelude.{◌≡◌, IfSome, Ok};
-ghost use Rattle.diag_can.specs.Bus.{bus_line, data_frame, line_says, text_frame, ticks_said};
-ghost use Rattle.diag_can.specs.Line.{line_event};
-ghost use Rattle.diag_can.specs.Bus.{said_for, SameForms};
-ghost use Rattle.diag_can.specs.declared.bus.BusLine.TheVariants.{Ticks};
+ghost use Rattle.std.specs.Prelude.{◌≡◌, ◌≤◌, length, take, IfSome, MatchOption, Ok, Some};
+ghost use Rattle.diag_can.specs.Bus.{HasNoFeed, SameForms, bus_line, data_frame, line_says, text_frame};
+ghost use Rattle.diag_can.specs.Line.{tick_count};
+ghost use Rattle.diag_can.specs.Seen.{IsFront, seen_usual};
 ghost use Rattle.diag_can.specs.Usual.{IsUsual, usual_said};
 
 use crate::fault::LineFault;
 use crate::frame::{CanId, Frame, TickCount};
 use crate::line::{frame_data, hex_run, id_of, is_passed_over, short_id};
-use crate::log::without_return;
-use crate::read::{stamped_frame, tick_count};
-use crate::stamp::behind;
-use crate::usual::{bytes_at, usual_frame, usual_moment};
+use crate::log::{other_front, without_return};
+use crate::read::{stamped_frame, tick_count, ticks_of};
+use crate::stamp::{behind, number_run};
+use crate::usual::{behind_end, bytes_at, usual_frame, usual_front, usual_moment};
 
 /// What a line of a capture says.
 #[derive(Debug, Drop)]
@@ -116,22 +115,6 @@ pub fn usual_line(piece: &[u8]) -> Option<(&[u8], CanId, usize)>
     Some((line, id, at))
 }
 
-/// How many milliseconds a whole line of a capture gives, from its bytes without LF, where it is a well `tick` line.
-#[inline(always)]
-pub fn ticks_said(piece: &[u8]) -> Option<TickCount>
-    ensures is { result ≡ ticks_said (bus_line piece.now) }
-    ensures says { IfSome result (λ count. bus_line piece.now ≡ Ok (Ticks count)) }
-{
-    if piece.len() > LONGEST_LINE {
-        return None;
-    }
-    let line = without_return(piece);
-    if !line.starts_with(b"tick") {
-        return None;
-    }
-    tick_count(&line[4..])
-}
-
 /// What a whole line of a capture says, from its bytes without LF.
 pub fn read_bus_line(piece: &[u8]) -> Result<BusLine, LineFault>
     ensures { result ≡ bus_line piece.now }
@@ -143,6 +126,115 @@ pub fn read_bus_line(piece: &[u8]) -> Result<BusLine, LineFault>
     match usual_says(line) {
         Some(said) => Ok(said),
         None => line_says(line),
+    }
+}
+
+/// What is seen of a line of a capture by one look at it and at its end.
+#[derive(Clone, Copy)]
+pub enum Seen {
+    /// It is of the usual form, has a frame of this identifier, and there that's data begin in the line without its CR.
+    Usual(CanId, usize),
+    /// It gives that many milliseconds.
+    Ticks(TickCount),
+    /// Nothing: it may say anything.
+    Nothing,
+}
+
+/// The first line of a capture's text, which an LF ends.
+#[derive(Clone, Copy)]
+pub struct BusFront<'a> {
+    /// The line without its LF.
+    pub whole: &'a [u8],
+    /// The same without one CR at its end.
+    pub line: &'a [u8],
+    /// What follows the LF.
+    pub after: &'a [u8],
+    /// What is seen of it.
+    pub seen: Seen,
+}
+
+/// What is seen of a line of which this is seen as of a log's.
+#[inline(always)]
+fn seen_usual(usual: Option<(CanId, usize)>) -> Seen
+    ensures { result ≡ seen_usual usual }
+{
+    match usual {
+        Some((id, at)) => Seen::Usual(id, at),
+        None => Seen::Nothing,
+    }
+}
+
+/// The count at the front of what stands behind the letters of a `tick` line, and how many bytes say it.
+#[inline(always)]
+fn count_front(text: &[u8]) -> Option<(TickCount, usize)>
+    ensures is { IfSome result (λ r. tick_count (take r.1 text.now) ≡ Some r.0) }
+    ensures fits { IfSome result (λ r. r.1 ≤ length text.now) }
+    ensures few { IfSome result (λ r. r.1 ≤ 13) }
+{
+    let Some(digits) = behind(b' ', text) else {
+        return Some((TickCount::new(1)?, 0));
+    };
+    let (run, value) = number_run(digits);
+    if run < 1 || run > 12 || digits[0] == b'0' {
+        return None;
+    }
+    Some((ticks_of(value)?, run + 1))
+}
+
+/// The first line of a capture's text where it is a well `tick` line: its end is looked for behind its count.
+#[inline(always)]
+fn ticks_front(text: &[u8]) -> Option<BusFront<'_>>
+    ensures { IfSome result (λ first.
+        IsFront text.now first.whole.now first.line.now first.after.now first.seen) }
+{
+    let [b't', b'i', b'c', b'k', rest @ ..] = text else {
+        return None;
+    };
+    let (count, len) = count_front(rest)?;
+    let after = behind_end(&rest[len..])?;
+    Some(BusFront {
+        whole: &text[..text.len() - after.len() - 1],
+        line: &text[..4 + len],
+        after,
+        seen: Seen::Ticks(count),
+    })
+}
+
+/// The first line of a capture's text, where an LF ends it, and what is seen of it: most lines are of the usual form or well
+/// `tick` lines.
+#[inline(always)]
+pub fn first_bus_line(text: &[u8]) -> Option<BusFront<'_>>
+    ensures { MatchOption result (HasNoFeed text.now) (λ first.
+        IsFront text.now first.whole.now first.line.now first.after.now first.seen) }
+{
+    match usual_front(text) {
+        Some(first) => Some(BusFront {
+            whole: first.whole,
+            line: first.line,
+            after: first.after,
+            seen: seen_usual(first.usual),
+        }),
+        None => other_bus_line(text),
+    }
+}
+
+/// The same of a line that isn't of the usual form.
+#[inline(always)]
+fn other_bus_line(text: &[u8]) -> Option<BusFront<'_>>
+    ensures { MatchOption result (HasNoFeed text.now) (λ first.
+        IsFront text.now first.whole.now first.line.now first.after.now first.seen) }
+{
+    match ticks_front(text) {
+        Some(first) => Some(first),
+        None => match other_front(text) {
+            Some(first) => Some(BusFront {
+                whole: first.whole,
+                line: first.line,
+                after: first.after,
+                seen: Seen::Nothing,
+            }),
+            None => None,
+        },
     }
 }
 

@@ -75,7 +75,7 @@ pub fn first_line(text: &[u8]) -> Option<FirstLine<'_>>
 }
 
 /// The same, whatever its form is.
-fn other_front(text: &[u8]) -> Option<FirstLine<'_>>
+pub fn other_front(text: &[u8]) -> Option<FirstLine<'_>>
     ensures { MatchOption result (HasNoFeed text.now) (λ first.
         IsFirstLine text.now first.whole.now first.line.now first.after.now first.usual) }
 {

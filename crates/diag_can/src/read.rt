@@ -30,7 +30,7 @@ fn is_decimal(text: &[u8]) -> bool
 }
 
 /// That many ticks, 1 to 60000.
-fn ticks_of(count: u64) -> Option<TickCount>
+pub fn ticks_of(count: u64) -> Option<TickCount>
     ensures { result ≡ ticks_of count }
 {
     if count <= u64::from(TickCount::MAX) {

@@ -95,7 +95,7 @@ fn digits_of(least: usize, most: usize, text: &[u8]) -> Option<(&[u8], &[u8])>
 }
 
 /// How many digits stand at the front, and the number that they write where they are at most 12.
-fn number_run(text: &[u8]) -> (usize, u64)
+pub fn number_run(text: &[u8]) -> (usize, u64)
     ensures count { result.0 ≡ prefix_len is_digit text.now }
     ensures fits { result.0 ≤ length text.now }
     ensures value { result.0 ≤ 12 → result.1 ≡ decimal_value (take result.0 text.now) }

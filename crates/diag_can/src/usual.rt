@@ -66,7 +66,7 @@ pub struct FirstLine<'a> {
 
 /// What follows an LF, or a CR and an LF, at the front of a text.
 #[inline(always)]
-fn behind_end(text: &[u8]) -> Option<&[u8]>
+pub fn behind_end(text: &[u8]) -> Option<&[u8]>
     ensures is { IfSome result (λ after.
         (text.now ≡ 10 ∷ after.now) ⊎ (text.now ≡ 13 ∷ 10 ∷ after.now)) }
     ensures shorter { IfSome result (λ after. length after.now < length text.now) }

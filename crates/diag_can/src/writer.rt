@@ -64,6 +64,8 @@ impl Front {
 #[derive(Drop)]
 struct KeptStamp {
     at: u64,
+    /// When its second began.
+    second: u64,
     seconds: [u8; 12],
     thousandths: [u8; 8],
 }
@@ -77,6 +79,7 @@ impl KeptStamp {
     {
         KeptStamp {
             at: 0,
+            second: 0,
             seconds: seconds_text(0),
             thousandths: thousandths_text(0),
         }
@@ -93,10 +96,10 @@ impl KeptStamp {
         if at == self.at {
             return;
         }
-        if at / 1000 != self.at / 1000 {
+        if at < self.second || at - self.second >= 1000 {
             return self.set_all(at);
         }
-        self.thousandths = thousandths_text(at % 1000);
+        self.thousandths = thousandths_text(at - self.second);
         self.at = at;
     }
 
@@ -109,6 +112,7 @@ impl KeptStamp {
     {
         self.seconds = seconds_text(at / 1000);
         self.thousandths = thousandths_text(at % 1000);
+        self.second = at - at % 1000;
         self.at = at;
     }
 

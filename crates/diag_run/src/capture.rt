@@ -1,9 +1,9 @@
 //! A capture that comes piece by piece: its lines go to the bus, and what they write goes out.
 
-ghost use Rattle.std.specs.Prelude.{◌≡◌, ◌⊎◌, ◌+◌, ◌<◌, ◌≤◌, ◌^◌, ◌∷◌, [], ◌++◌, ℕ, List, length, vec_len, IfOk, IfErr, IfSome, OnOk, Ok};
+ghost use Rattle.std.specs.Prelude.{◌≡◌, ◌⊎◌, ◌+◌, ◌<◌, ◌≤◌, ◌^◌, ◌∷◌, [], ◌++◌, ℕ, List, length, vec_len, IfOk, IfErr, OnOk};
 ghost use Rattle.std.specs.Io.KnownBytes.{Appends};
-ghost use Rattle.diag_can.specs.Bus.{HasNoFeed, bus_line, ended_lines};
-ghost use Rattle.diag_can.specs.Usual.{IsUsual, usual_said};
+ghost use Rattle.diag_can.specs.Bus.{HasNoFeed, ended_lines};
+ghost use Rattle.diag_can.specs.Seen.{IsSeen};
 ghost use Rattle.diag_bus.specs.Bus.{TookLines};
 ghost use Rattle.diag_text.specs.Bytes.{AppendsFront, Sends};
 ghost use Rattle.diag_world.specs.Server.{quiet_of};
@@ -12,7 +12,7 @@ ghost use Rattle.diag_run.specs.Capture.{IsBorneOut, IsFront, StopsOn, capture_t
 
 use crate::ending::add_end;
 use diag_bus::{Bus, BusFault};
-use diag_can::{CanId, LineFault, first_line};
+use diag_can::{LineFault, Seen, first_bus_line};
 use diag_text::write_text;
 use std::alloc::{AllocError, Global};
 use std::io::Write;
@@ -107,8 +107,8 @@ impl Capture {
             (HaltsIn self.old fault piece.now)) }
     {
         let mut rest = piece;
-        while let Some(first) = first_line(rest) {
-            if let Err(fault) = self.take_line(first.whole, first.line, first.usual, out) {
+        while let Some(first) = first_bus_line(rest) {
+            if let Err(fault) = self.take_line(first.whole, first.line, first.seen, out) {
                 return Err(fault);
             }
             rest = first.after;
@@ -116,20 +116,19 @@ impl Capture {
         self.take_begun(rest, out)
     }
 
-    /// Takes the line that these bytes and an LF end, of which this may be seen, without its CR. What is to be written is
-    /// written where it is much.
+    /// Takes the line that these bytes and an LF end, of which this is seen; `usual` is it without its CR. What is to be
+    /// written is written where it is much.
     #[inline(always)]
     fn take_line<W: Write>(
         &mut self,
         bytes: &[u8],
         usual: &[u8],
-        seen: Option<(CanId, usize)>,
+        seen: Seen,
         out: &mut W,
     ) -> Result<(), CaptureFault>
         requires room { self.old.lines + 1 < 2 ^ 64 }
         requires line { HasNoFeed bytes.now }
-        requires usual { IfSome seen (λ u. IsUsual usual.now u.0 u.1) }
-        requires says { IfSome seen (λ u. bus_line bytes.now ≡ Ok (usual_said usual.now u.0 u.1)) }
+        requires seen { IsSeen bytes.now usual.now seen }
         ensures ok { OnOk result (Sends (W.contents out.old) (W.contents out.new)
             (GoesOn self.old self.new (bytes.now ++ 10 ∷ []))) }
         ensures lines { OnOk result (self.new.lines ≡ self.old.lines + 1) }
@@ -167,16 +166,10 @@ impl Capture {
 
     /// Gives the bus the line that these bytes and an LF end, behind what is kept of it.
     #[inline(always)]
-    fn end_line(
-        &mut self,
-        bytes: &[u8],
-        usual: &[u8],
-        seen: Option<(CanId, usize)>,
-    ) -> Result<(), BusFault>
+    fn end_line(&mut self, bytes: &[u8], usual: &[u8], seen: Seen) -> Result<(), BusFault>
         requires room { self.old.lines + 1 < 2 ^ 64 }
         requires line { HasNoFeed bytes.now }
-        requires usual { IfSome seen (λ u. IsUsual usual.now u.0 u.1) }
-        requires says { IfSome seen (λ u. bus_line bytes.now ≡ Ok (usual_said usual.now u.0 u.1)) }
+        requires seen { IsSeen bytes.now usual.now seen }
         ensures ok { OnOk result (GoesOn self.old self.new (bytes.now ++ 10 ∷ []) []) }
         ensures lines { OnOk result (self.new.lines ≡ self.old.lines + 1) }
         ensures kept { OnOk result (self.new.kept.items ≡ []) }
@@ -192,16 +185,10 @@ impl Capture {
 
     /// Gives the bus a line of which nothing is kept.
     #[inline(always)]
-    fn take_whole(
-        &mut self,
-        line: &[u8],
-        usual: &[u8],
-        seen: Option<(CanId, usize)>,
-    ) -> Result<(), BusFault>
+    fn take_whole(&mut self, line: &[u8], usual: &[u8], seen: Seen) -> Result<(), BusFault>
         requires room { self.old.lines + 1 < 2 ^ 64 }
         requires line { HasNoFeed line.now }
-        requires usual { IfSome seen (λ u. IsUsual usual.now u.0 u.1) }
-        requires says { IfSome seen (λ u. bus_line line.now ≡ Ok (usual_said usual.now u.0 u.1)) }
+        requires seen { IsSeen line.now usual.now seen }
         requires none { self.old.kept.items ≡ [] }
         ensures ok { OnOk result (GoesOn self.old self.new (line.now ++ 10 ∷ []) []) }
         ensures lines { OnOk result (self.new.lines ≡ self.old.lines + 1) }
@@ -248,7 +235,7 @@ impl Capture {
         if self.kept.is_empty() {
             return self.close(alloc, out);
         }
-        if let Err(fault) = self.take_line(&[], &[], None, out) {
+        if let Err(fault) = self.take_line(&[], &[], Seen::Nothing, out) {
             return Err(fault);
         }
         self.close(alloc, out)

@@ -22,7 +22,7 @@ returns-in-Some-clause-ok c =
     let some : 1 ≤ c.args.ms = (c.in-Some.ensures.found.0 refl).0 in
     on_ok _ _ c.give_each.result (λ gave.
     subst (λ L. Gave c.args.self.now c.give_each.new.self L)
-    (waited_few (length c.args.setup.now.testers) c.args.ms c.in-Some.count c.in-Some.ensures.value some c.if-ms-ge60000.false) gave)
+    (waited_few (length c.args.setup.now.testers) c.args.ms c.in-Some.count c.in-Some.ensures.value some c.if-ms-ge-LONGEST_COUNT.false) gave)
     c.give_each.ensures.ok
 
 pub returns-in-Some-clause-pace : goal.returns-in-Some-clause-pace

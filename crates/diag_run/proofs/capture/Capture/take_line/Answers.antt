@@ -1,4 +1,5 @@
 use Rattle.std.proofs.Common.{◌∷◌, [], ◌++◌, refl, sym, subst}
+use Rattle.std.proofs.KnownBytes.{Appends-nil}
 use Rattle.std.proofs.lemmas.Result.{IfErr-weaker, on_ok_weaker}
 use Rattle.diag_run.specs.declared.capture.CaptureFault.{CaptureFault}
 use Rattle.diag_run.specs.Capturing.{HaltsIn}
@@ -32,3 +33,6 @@ returns-then-len-gt-TEXT_LIMIT-clause-err g c =
           (write_halts c.args.self.now c.end_line.new.self (c.args.bytes.now ++ 10 ∷ []) failed.1.0 c.in_default.ensures.ok (failed.1.1, failed.1.2)),
     ))
     c.write_out.ensures.err
+
+pub returns-clause-ok : goal.returns-clause-ok
+returns-clause-ok g c = ([], Appends-nil _, c.in_default.ensures.ok)

@@ -2,7 +2,7 @@ use Rattle.std.proofs.Common.{◌+◌, ◌∙◌, subst, sym}
 use Rattle.diag_bus.specs.Requests.{AreNamesOf}
 use Rattle.diag_bus.specs.Text.{drawn_for, line_of}
 use Rattle.diag_bus.proofs.Texts.{lines_more}
-use Rattle.diag_bus.proofs.writing.write_own.Goals as goal
+use Rattle.diag_bus.proofs.writing.write_each.Goals as goal
 
 pub write_one-requires-clause-names : goal.write_one-requires-clause-names
 write_one-requires-clause-names c = subst (AreNamesOf c.args.setup.now) (sym c.loop-sent.invariant.names) c.requires.names

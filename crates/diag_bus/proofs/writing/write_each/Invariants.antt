@@ -1,7 +1,7 @@
 use Rattle.std.proofs.Common.{◌≡◌, ◌+◌, ◌++◌, take}
 use Rattle.std.specs.List.{flat_map}
 use Rattle.diag_bus.specs.Text.{drawn_for, line_of}
-use Rattle.diag_bus.proofs.writing.write_own.Given as goal
+use Rattle.diag_bus.proofs.writing.write_each.Given as goal
 
 abbrev pub invariant-loop-sent : goal.invariant-loop-sent
 invariant-loop-sent l = record {
