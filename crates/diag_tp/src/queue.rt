@@ -68,8 +68,22 @@ impl Queue {
         }
     }
 
-    /// Makes room for one more reply. Refused where memory is, and where the queue is full.
+    /// Makes room for one more reply. Refused where memory is, and where the queue is full. Nearly always there is room.
+    #[inline(always)]
     pub(crate) fn make_room(&mut self) -> Result<(), AllocError>
+        ensures ok { OnOk result (0 < self.new.room) }
+        ensures kept { self.old.room ≤ self.new.room }
+        ensures same { self.new.replies ≡ self.old.replies }
+    {
+        if self.replies.len() < self.replies.capacity().min(MOST_WAITING) {
+            return Ok(());
+        }
+        self.grow()
+    }
+
+    /// The same where there is none.
+    #[inline(never)]
+    fn grow(&mut self) -> Result<(), AllocError>
         ensures ok { OnOk result (0 < self.new.room) }
         ensures kept { self.old.room ≤ self.new.room }
         ensures same { self.new.replies ≡ self.old.replies }

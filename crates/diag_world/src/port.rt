@@ -82,9 +82,9 @@ pub(crate) fn prepare(
             Ok(Prepared::Ticks)
         }
         Event::Physical(_) | Event::Functional(_) => {
-            let taken = link.begin(event)?;
             let most = link.backlog().saturating_add(2) as usize;
             out.reserve(most)?;
+            let taken = link.begin(event)?;
             Ok(Prepared::Frame(taken))
         }
     }

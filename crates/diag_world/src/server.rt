@@ -30,12 +30,13 @@ ghost use Rattle.std.specs.Prelude.{
 ghost use Rattle.diag_can.specs.declared.frame.Event.{Event as AnEvent};
 ghost use Rattle.diag_tp.specs.Gives.{gives};
 ghost use Rattle.diag_tp.specs.Link.{EachHistory, pending, quiet};
-ghost use Rattle.diag_tp.specs.Moments.{last_time};
+ghost use Rattle.diag_tp.specs.Moments.{is_tick, last_time};
 ghost use Rattle.diag_setup.specs.Setup.{link_of};
 ghost use Rattle.diag_desk.specs.declared.entry.Entry.{Entry as AnEntry};
 ghost use Rattle.diag_desk.specs.Legal.{after, reply_to};
 ghost use Rattle.diag_world.specs.Weaving.{items_of};
-ghost use Rattle.diag_world.specs.Port.{step_in};
+ghost use Rattle.diag_world.specs.Channel.{RepliesToFrame};
+ghost use Rattle.diag_world.specs.Port.{HasRoomFor, step_in};
 ghost use Rattle.diag_world.specs.Server.{answer_to, closing_time, entry_of, quiet_of, server_of, went_to, AreEarly, EachRun, HasKept, IsClosed, LinkTook, Serves, ServerTook, TookNothing, Waited};
 
 use crate::keeper::Keeper;
@@ -46,7 +47,7 @@ use diag_can::{Event, TickCount};
 use diag_desk::{StepFault, put_reply, settle_answered};
 use diag_ecu::Ecu;
 use diag_setup::{Setup, TesterId};
-use diag_tp::{Link, Message, Sent, Step};
+use diag_tp::{Link, Message, Sent, Step, Taken};
 use std::alloc::{AllocError, Global};
 use std::marker::Model;
 use thiserror::Error;
@@ -274,10 +275,80 @@ fn take_early<K: Keeper>(
         return pass_at(link, ecu, who, *count, keeper, out);
     }
     let prepared = prepare(link, event, out)?;
+    match &prepared {
+        Prepared::Frame(Taken::Functional | Taken::Single) => {
+            take_read(link, ecu, who, event, &prepared, keeper, out)
+        }
+        _ => take_other(link, ecu, who, event, &prepared, keeper, out),
+    }
+}
+
+/// Takes a frame that was read and has room, and has its entry kept. (Inlined where it is a SingleFrame, whose request then
+/// stays in registers.)
+#[inline(always)]
+fn take_read<K: Keeper>(
+    link: &mut Link,
+    ecu: &mut Ecu,
+    who: TesterId,
+    event: &Event,
+    prepared: &Prepared,
+    keeper: &mut K,
+    out: &mut Vec<Sent>,
+) -> Result<(), StepFault>
+    requires drained { pending link.old.state ≡ 0 }
+    requires early { link.old.state.now ≤ closing_time }
+    requires room { HasRoomFor
+        link.old event.now prepared.now (vec_len out.old) (vec_capacity out.old) }
+    requires step { EachHistory link.old.state (λ s E A Q.
+        step_in link.old prepared.now ≡ gives s E event.now) }
+    requires replies { IfSome (step_in link.old prepared.now) (λ step. RepliesToFrame event.now step) }
+    requires ticks { IsTrue (is_tick event.now) → IsSome (step_in link.old prepared.now) }
+    ensures took { OnOk result (LinkTook K.keeps ecu.old ecu.new link.old link.new keeper.old keeper.new
+        who event.now out.old.items out.new.items) }
+    ensures place { K.place keeper.new ≡ K.place keeper.old }
+    ensures drained { pending link.new.state ≡ 0 }
+    ensures err { OnErr result
+        (TookNothing link.old link.new ecu.old ecu.new out.old.items out.new.items) }
+    ensures full { result ≡ Err StepFault.JournalFull
+        → K.is_full keeper.old
+        × EachHistory link.old.state (λ s E A Q. IsSome (gives s E event.now)) }
+{
     let mut reply = None;
-    answer_at(link, ecu, who, &prepared, keeper, &mut reply)?;
-    settle(link, event, &prepared, &mut reply, out);
+    answer_at(link, ecu, who, prepared, keeper, &mut reply)?;
+    settle(link, event, prepared, &mut reply, out);
     Ok(())
+}
+
+/// The same of any other frame.
+#[inline(never)]
+fn take_other<K: Keeper>(
+    link: &mut Link,
+    ecu: &mut Ecu,
+    who: TesterId,
+    event: &Event,
+    prepared: &Prepared,
+    keeper: &mut K,
+    out: &mut Vec<Sent>,
+) -> Result<(), StepFault>
+    requires drained { pending link.old.state ≡ 0 }
+    requires early { link.old.state.now ≤ closing_time }
+    requires room { HasRoomFor
+        link.old event.now prepared.now (vec_len out.old) (vec_capacity out.old) }
+    requires step { EachHistory link.old.state (λ s E A Q.
+        step_in link.old prepared.now ≡ gives s E event.now) }
+    requires replies { IfSome (step_in link.old prepared.now) (λ step. RepliesToFrame event.now step) }
+    requires ticks { IsTrue (is_tick event.now) → IsSome (step_in link.old prepared.now) }
+    ensures took { OnOk result (LinkTook K.keeps ecu.old ecu.new link.old link.new keeper.old keeper.new
+        who event.now out.old.items out.new.items) }
+    ensures place { K.place keeper.new ≡ K.place keeper.old }
+    ensures drained { pending link.new.state ≡ 0 }
+    ensures err { OnErr result
+        (TookNothing link.old link.new ecu.old ecu.new out.old.items out.new.items) }
+    ensures full { result ≡ Err StepFault.JournalFull
+        → K.is_full keeper.old
+        × EachHistory link.old.state (λ s E A Q. IsSome (gives s E event.now)) }
+{
+    take_read(link, ecu, who, event, prepared, keeper, out)
 }
 
 /// The same of ticks, whose entry has no reply.
