@@ -12,7 +12,7 @@ use std::alloc::{AllocError, Global};
 const IDENTIFIERS: u16 = 2048;
 
 /// Whose the frames of an identifier are.
-#[derive(Clone, Copy, Debug, PartialEq, Eq)]
+#[derive(Clone, Copy)]
 pub enum Owner {
     /// No tester's.
     Nobody,
