@@ -1,8 +1,8 @@
 //! The keys of a table.
 
 ghost use Rattle.std.specs.Prelude.{◌≡◌, option_map, Option, Result};
-ghost use Rattle.toml.specs.Data.{get_member, Items, Members};
-ghost use Rattle.toml.specs.View.{view, table_view, items_view, array_view};
+ghost use Rattle.toml.specs.Data.{get_member, Members};
+ghost use Rattle.toml.specs.View.{view, table_view, items_view};
 ghost use Rattle.diag_config.specs.Key.{Fault, KeyGives};
 ghost use Rattle.diag_config.specs.Setup.{at_top, each, list, optional, required, row, with_default};
 

@@ -1,16 +1,16 @@
 //! Kinds of TOML value, each read in one way.
 
-ghost use Rattle.std.specs.Prelude.{◌≡◌, ℕ, Bool, List, Result, Option, option_map, map};
-ghost use Rattle.toml.specs.Data.{Data, Members, get_member};
-ghost use Rattle.toml.specs.View.{view, table_view};
+ghost use Rattle.std.specs.Prelude.{ℕ, Bool, List, Result};
+ghost use Rattle.toml.specs.Data.{Data};
+ghost use Rattle.toml.specs.View.{view};
 ghost use Rattle.diag_config.specs.Key.{Fault, KeyGives};
-ghost use Rattle.diag_config.specs.Setup.{number, truth, text, hex, list, optional, required};
+ghost use Rattle.diag_config.specs.Setup.{number, truth, text, hex};
 
 use crate::fault::KeyFault;
 use diag_setup::Items;
 use hex::FromHexError;
 use std::alloc::Global;
-use toml::{Table, Value};
+use toml::Value;
 
 /// What a value of one kind says.
 pub trait FromValue: Sized + Drop {

@@ -3,7 +3,7 @@ ghost use Rattle.std.specs.Prelude.{◌≡◌, ◌≤◌, ◌+◌, ◌++◌, ◌
 ghost use Rattle.hex.specs.Hex.{encode_upper};
 ghost use Rattle.diag_ecu.specs.Lent.{lent_bytes};
 ghost use Rattle.diag_desk.specs.Entry.{IsReply};
-ghost use Rattle.diag_desk.specs.Line.{fronted, kind_code, request_kind};
+ghost use Rattle.diag_desk.specs.Line.{request_kind};
 ghost use Rattle.diag_desk.specs.Text.{reply_text};
 
 use crate::flat::{bytes_of, tell_bytes};
@@ -12,7 +12,6 @@ use crate::sixteen::{is_upper_of, upper_front};
 use crate::table::pair_value;
 use diag_can::{FrameBytes, TickCount, hex_digits};
 use diag_ecu::Lent;
-use diag_setup::TesterId;
 use diag_tp::Message;
 use std::alloc::AllocError;
 

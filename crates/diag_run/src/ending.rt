@@ -1,6 +1,6 @@
 //! What the end of a capture adds.
 
-ghost use Rattle.std.specs.Prelude.{◌≡◌, ◌++◌, ℕ, List, IfErr, OnOk, OnErr};
+ghost use Rattle.std.specs.Prelude.{◌≡◌, ℕ, List, IfErr, OnOk, OnErr};
 ghost use Rattle.diag_bus.specs.Bus.{TookLines};
 ghost use Rattle.diag_run.specs.Capture.{IsBorneOut, closing};
 ghost use Rattle.diag_run.specs.Ending.{IsEndFault};

@@ -1,6 +1,6 @@
 //! Rows with a key of their own.
 
-ghost use Rattle.std.specs.Prelude.{◌≡◌, ℕ, false};
+ghost use Rattle.std.specs.Prelude.{◌≡◌, false};
 ghost use Rattle.diag_setup.specs.Rows.{has_key, has_repeat, in_order};
 ghost use Rattle.diag_setup.specs.Setup.{did_id, dtc_code, routine_id, level_sub, itself};
 

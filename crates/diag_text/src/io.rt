@@ -1,7 +1,7 @@
 //! Reading a whole file and writing a whole text, by loops of their own.
 
-ghost use Rattle.std.specs.Prelude.{◌≡◌, ◌+◌, ◌++◌, ◌<◌, ◌^◌, ◌≤◌, ℕ, List, length, map, take, IfOk, IfSome, OnOk, OnErr, IsOk, IsErr, Err, Some};
-ghost use Rattle.std.specs.Io.KnownBytes.{Appends, Consumes, IsAtEnd, Keeps};
+ghost use Rattle.std.specs.Prelude.{◌≡◌, ◌+◌, ◌++◌, ◌<◌, ◌^◌, ◌≤◌, ℕ, List, length, map, IfOk, IfSome, OnOk, OnErr, IsOk, IsErr, Err};
+ghost use Rattle.std.specs.Io.KnownBytes.{Appends, Consumes, IsAtEnd};
 ghost use Rattle.std.specs.List.{concat};
 ghost use Rattle.diag_text.specs.Bytes.{AppendsFront, Takes};
 

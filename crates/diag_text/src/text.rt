@@ -1,14 +1,12 @@
 //! The texts that a run writes.
 
-ghost use Rattle.std.specs.Prelude.{◌≡◌, ◌+◌, ◌++◌, ◌≤◌, codes, length, map, IfOk, OnOk};
+ghost use Rattle.std.specs.Prelude.{◌≡◌, ◌+◌, ◌++◌, ◌≤◌, length, map, IfOk, OnOk};
 ghost use Rattle.std.specs.List.{concat};
 ghost use Rattle.std.specs.Thread.{IsSync};
-ghost use Rattle.hex.specs.Hex.{encode_upper};
-ghost use Rattle.diag_store.specs.Dtcs.{row_pair};
 ghost use Rattle.diag_text.specs.Text.{lines_of, lines_from, journal_part, holder_name, extended_session, extended_lines, holder_lines, code_line, code_lines, end_text, whole_text, replay_text};
 
 use diag_can::{LineWriter, Timing, write_hex};
-use diag_desk::{Desk, Journal, journal_text, journal_text_at};
+use diag_desk::{Journal, journal_text, journal_text_at};
 use diag_ecu::Ecu;
 use diag_setup::{Setup, TesterId};
 use diag_store::DtcMemory;
