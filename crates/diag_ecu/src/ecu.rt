@@ -142,7 +142,7 @@ impl Ecu {
             [0x22, high, low] => return self.put_read_reply(who, functional, *high, *low, answer),
             [0x3E, 0x00] => *answer = Some(say(&[0x7E, 0x00])),
             [0x3E, 0x80] => *answer = None,
-            _ => *answer = self.any_reply(who, functional, p)?,
+            _ => return self.put_any_reply(who, functional, p, answer),
         }
         Ok(())
     }
@@ -204,26 +204,29 @@ impl Ecu {
 }
 
 impl Ecu {
-    /// The reply to any request.
+    /// Puts the reply to any request in its place.
     #[inline(never)]
-    fn any_reply(
+    fn put_any_reply(
         &self,
         who: TesterId,
         functional: bool,
         p: &[u8],
-    ) -> Result<Option<Message>, AllocError>
+        answer: &mut Option<Message>,
+    ) -> Result<(), AllocError>
         requires { 1 ≤ length p.now }
-        ensures { IfOk result (λ r. r ≡ reply self.now who functional p.now) }
+        ensures { OnOk result (answer.new ≡ reply self.now who functional p.now) }
     {
         let Some(service) = Service::of(p[0]) else {
-            return Ok(negative_reply(functional, p[0], Nrc::ServiceNotSupported));
+            *answer = negative_reply(functional, p[0], Nrc::ServiceNotSupported);
+            return Ok(());
         };
         let row = service.row();
-        match self.refusal(who, service, row, p) {
-            Some(nrc) => Ok(negative_reply(functional, p[0], nrc)),
-            None if row.asks_for_silence(p) => Ok(None),
-            None => self.positive_reply(who, service, p),
-        }
+        *answer = match self.refusal(who, service, row, p) {
+            Some(nrc) => negative_reply(functional, p[0], nrc),
+            None if row.asks_for_silence(p) => None,
+            None => self.positive_reply(who, service, p)?,
+        };
+        Ok(())
     }
 
     /// The code of the first check of the service that holds.

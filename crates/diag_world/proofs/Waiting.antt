@@ -22,6 +22,14 @@ counted_suc a (suc n) = ap (λ w. a ∷ w) (counted_suc (suc a) n ∙ ap (λ m. 
 pub counted_more : (a n : ℕ) → counted_from a (n + 1) ≡ counted_from a n ++ (a + n) ∷ []
 counted_more a n = let e : n + 1 ≡ suc n = omega arith in ap (counted_from a) e ∙ counted_suc a n
 
+pub waited_none : (s : ServerState) (count : ℕ) → Waited s s 0 count
+waited_none s count = record {
+  many = refl;
+  time = λ i link at. (let fits : link.now ≤ link.now + count = omega arith in (link, at, fits));
+  rest = λ i above. refl;
+  served = λ setup M K h. (K, subst (λ N. Serves setup s N K) (sym (append-nil M)) h, λ t. ap (λ N. sent_to setup N K t) (append-nil M));
+}
+
 -- one tester more
 pub each_more : (n : ℕ) (e : Event) (who : ℕ) → who ≡ n + 1 → each_of (n + 1) e ≡ each_of n e ++ (who, e) ∷ []
 each_more n e who is = ap (map (λ t. (t, e))) (counted_more 1 n)

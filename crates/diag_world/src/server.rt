@@ -277,16 +277,54 @@ fn take_early<K: Keeper>(
     let prepared = prepare(link, event, out)?;
     match &prepared {
         Prepared::Frame(Taken::Functional | Taken::Single) => {
-            take_read(link, ecu, who, event, &prepared, keeper, out)
+            take_single(link, ecu, who, event, &prepared, keeper, out)
         }
         _ => take_other(link, ecu, who, event, &prepared, keeper, out),
     }
 }
 
-/// Takes a frame that was read and has room, and has its entry kept. (Inlined where it is a SingleFrame, whose request then
-/// stays in registers.)
+/// Takes a SingleFrame that was read and has room, and has its entry kept. (What isn't one goes a way of its own, so that here
+/// the request stays in registers.)
 #[inline(always)]
-fn take_read<K: Keeper>(
+fn take_single<K: Keeper>(
+    link: &mut Link,
+    ecu: &mut Ecu,
+    who: TesterId,
+    event: &Event,
+    prepared: &Prepared,
+    keeper: &mut K,
+    out: &mut Vec<Sent>,
+) -> Result<(), StepFault>
+    requires drained { pending link.old.state ≡ 0 }
+    requires early { link.old.state.now ≤ closing_time }
+    requires room { HasRoomFor
+        link.old event.now prepared.now (vec_len out.old) (vec_capacity out.old) }
+    requires single { step_in link.old prepared.now ≡ Some link.old.noted }
+    requires step { EachHistory link.old.state (λ s E A Q.
+        step_in link.old prepared.now ≡ gives s E event.now) }
+    requires replies { IfSome (step_in link.old prepared.now) (λ step. RepliesToFrame event.now step) }
+    requires ticks { IsTrue (is_tick event.now) → IsSome (step_in link.old prepared.now) }
+    ensures took { OnOk result (LinkTook K.keeps ecu.old ecu.new link.old link.new keeper.old keeper.new
+        who event.now out.old.items out.new.items) }
+    ensures place { K.place keeper.new ≡ K.place keeper.old }
+    ensures drained { pending link.new.state ≡ 0 }
+    ensures err { OnErr result
+        (TookNothing link.old link.new ecu.old ecu.new out.old.items out.new.items) }
+    ensures full { result ≡ Err StepFault.JournalFull
+        → K.is_full keeper.old
+        × EachHistory link.old.state (λ s E A Q. IsSome (gives s E event.now)) }
+{
+    let mut reply = None;
+    answer_noted(link, ecu, who, keeper, &mut reply)?;
+    settle(link, event, prepared, &mut reply, out);
+    Ok(())
+}
+
+/// The same of any other frame that was read and has room. (Called cold, so that the compiler takes a SingleFrame for the usual
+/// one, and inlines what answers it.)
+#[cold]
+#[inline(never)]
+fn take_other<K: Keeper>(
     link: &mut Link,
     ecu: &mut Ecu,
     who: TesterId,
@@ -317,38 +355,6 @@ fn take_read<K: Keeper>(
     answer_at(link, ecu, who, prepared, keeper, &mut reply)?;
     settle(link, event, prepared, &mut reply, out);
     Ok(())
-}
-
-/// The same of any other frame.
-#[inline(never)]
-fn take_other<K: Keeper>(
-    link: &mut Link,
-    ecu: &mut Ecu,
-    who: TesterId,
-    event: &Event,
-    prepared: &Prepared,
-    keeper: &mut K,
-    out: &mut Vec<Sent>,
-) -> Result<(), StepFault>
-    requires drained { pending link.old.state ≡ 0 }
-    requires early { link.old.state.now ≤ closing_time }
-    requires room { HasRoomFor
-        link.old event.now prepared.now (vec_len out.old) (vec_capacity out.old) }
-    requires step { EachHistory link.old.state (λ s E A Q.
-        step_in link.old prepared.now ≡ gives s E event.now) }
-    requires replies { IfSome (step_in link.old prepared.now) (λ step. RepliesToFrame event.now step) }
-    requires ticks { IsTrue (is_tick event.now) → IsSome (step_in link.old prepared.now) }
-    ensures took { OnOk result (LinkTook K.keeps ecu.old ecu.new link.old link.new keeper.old keeper.new
-        who event.now out.old.items out.new.items) }
-    ensures place { K.place keeper.new ≡ K.place keeper.old }
-    ensures drained { pending link.new.state ≡ 0 }
-    ensures err { OnErr result
-        (TookNothing link.old link.new ecu.old ecu.new out.old.items out.new.items) }
-    ensures full { result ≡ Err StepFault.JournalFull
-        → K.is_full keeper.old
-        × EachHistory link.old.state (λ s E A Q. IsSome (gives s E event.now)) }
-{
-    take_read(link, ecu, who, event, prepared, keeper, out)
 }
 
 /// The same of ticks, whose entry has no reply.
@@ -407,5 +413,30 @@ fn answer_at<K: Keeper>(
     put_reply(ecu, who, step, reply)?;
     keeper.keep(link.now(), who, step, reply.as_ref())?;
     settle_answered(ecu, who, step, reply.as_ref());
+    Ok(())
+}
+
+/// The same of the request of one frame, which its link has noted.
+#[inline(always)]
+fn answer_noted<K: Keeper>(
+    link: &Link,
+    ecu: &mut Ecu,
+    who: TesterId,
+    keeper: &mut K,
+    reply: &mut Option<Message>,
+) -> Result<(), StepFault>
+    requires early { link.now.state.now ≤ closing_time }
+    requires none { reply.old ≡ None }
+    ensures reply { OnOk result (reply.new ≡ answer_to ecu.old who (Some link.now.noted)) }
+    ensures kept { OnOk result (HasKept K.keeps keeper.old keeper.new link.now.state.now
+        (entry_of who (Some link.now.noted) reply.new)) }
+    ensures ecu { OnOk result (ecu.new ≡ went_to ecu.old who (Some link.now.noted)) }
+    ensures place { K.place keeper.new ≡ K.place keeper.old }
+    ensures err { OnErr result (ecu.new ≡ ecu.old) }
+    ensures full { result ≡ Err StepFault.JournalFull → K.is_full keeper.old }
+{
+    put_reply(ecu, who, link.noted(), reply)?;
+    keeper.keep(link.now(), who, link.noted(), reply.as_ref())?;
+    settle_answered(ecu, who, link.noted(), reply.as_ref());
     Ok(())
 }

@@ -1,7 +1,7 @@
 use Rattle.diag_world.specs.Port.{step_in}
 use Rattle.diag_world.specs.Server.{entry_of}
 use Rattle.diag_world.proofs.Serving.{port_went}
-use Rattle.diag_world.proofs.server.take_read.Goals as goal
+use Rattle.diag_world.proofs.server.take_other.Goals as goal
 
 pub returns-clause-took : goal.returns-clause-took
 returns-clause-took g c =
