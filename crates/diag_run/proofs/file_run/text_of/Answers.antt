@@ -1,6 +1,6 @@
 use Rattle.diag_run.specs.declared.whole.Job.TheVariants.{Play}
 use Rattle.diag_run.proofs.Known.{texts_give}
-use Rattle.diag_run.proofs.whole.text_of.Goals as goal
+use Rattle.diag_run.proofs.file_run.text_of.Goals as goal
 
 pub returns-in_ok-texts-in-Play : goal.returns-in_ok-texts-in-Play
 returns-in_ok-texts-in-Play g c =
