@@ -84,10 +84,11 @@ stands_later s link E A Q n some few none stands =
 -- ---- ticks that pass for a link
 
 -- a link that has caught up, and no frame of which is due
-pub caught_still : (passed : ℕ) (lazy : LazyLink) → lazy.taken ≡ passed → pending lazy.link.state ≡ 0 → passed ≤ lazy.link.state.now → IsLazy passed lazy
-caught_still passed lazy taken none told =
+pub caught_still : (passed : ℕ) (lazy : LazyLink) → lazy.taken ≡ passed → pending lazy.link.state ≡ 0 → passed ≤ lazy.link.state.now
+    → lazy.link.state.now ≤ last_tick → IsLazy passed lazy
+caught_still passed lazy taken none told fits =
     let some = some_quiet lazy.link.state none in
-    record { drained = none; marked = omega (arith, taken); told = omega (arith, taken, told); idle = omega (arith, taken, some) }
+    record { drained = none; marked = omega (arith, taken); told = omega (arith, taken, told); fits = fits; idle = omega (arith, taken, some) }
 
 -- a link catches up
 pub caught : (passed : ℕ) (lazy new : LazyLink) → passed ≤ last_tick → IsLazy passed lazy → new.link ≡ caught_up passed lazy → new.taken ≡ passed → IsLazy passed new
@@ -96,7 +97,7 @@ caught passed lazy new fits h link taken =
     let state : new.link.state ≡ quiet_later n lazy.link.state = ap (λ (v : LinkView). v.state) link in
     let none : pending new.link.state ≡ 0 = ap pending state ∙ later_drained n lazy.link.state h.drained in
     let clock : new.link.state.now ≡ min (lazy.link.state.now + n) last_tick = ap (λ (l : LinkState). l.now) state ∙ later_now n lazy.link.state in
-    caught_still passed new taken none (omega (arith, clock, h.marked, h.told, fits))
+    caught_still passed new taken none (omega (arith, clock, h.marked, h.told, fits)) (omega (arith, clock))
 
 -- what it is then, it is at once
 pub seen_caught : (passed : ℕ) (lazy : LazyLink) → lazy.taken ≡ passed → lazy.link.state.now ≤ last_tick → caught_up passed lazy ≡ lazy.link
@@ -124,6 +125,7 @@ has_passed passed passed' count lazy is h some most few early =
         drained = h.drained;
         marked = omega (arith, sum, h.marked);
         told = h.told;
+        fits = h.fits;
         idle = omega (arith, more, left);
       };
       seen = rw (more, sym (later_more n count lazy.link.state)) refl;

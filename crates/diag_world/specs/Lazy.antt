@@ -1,6 +1,6 @@
 -- A link that takes ticks late in which it does nothing.
 use Rattle.std.specs.Prelude.{◌≡◌, ◌≤◌, ◌<◌, ◌-◌, ℕ, List, Some, slice_get}
-use Rattle.diag_tp.specs.Link.{pending, quiet, view_later}
+use Rattle.diag_tp.specs.Link.{last_tick, pending, quiet, view_later}
 use Rattle.diag_tp.specs.State.{LinkView}
 use Rattle.diag_world.specs.declared.lazy_link.LazyLink.{LazyLink}
 
@@ -13,6 +13,7 @@ pub record IsLazy (passed : ℕ) (lazy : LazyLink) : Type 0 where
   pub drained : pending lazy.link.state ≡ 0
   pub marked : lazy.taken ≤ passed
   pub told : lazy.taken ≤ lazy.link.state.now
+  pub fits : lazy.link.state.now ≤ last_tick
   pub idle : passed - lazy.taken < quiet lazy.link.state
 
 abbrev pub AreLazy : ℕ → List LazyLink → Type 0

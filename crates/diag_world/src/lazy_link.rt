@@ -36,6 +36,9 @@ impl LazyLink {
         ensures taken { self.new.taken ≡ passed }
         ensures lazy { IsLazy passed self.new }
     {
+        if self.taken == passed {
+            return;
+        }
         self.link.advance_quietly(passed - self.taken);
         self.taken = passed;
     }

@@ -5,7 +5,7 @@ use Rattle.diag_world.proofs.Lazy.{caught_still, view_none}
 use Rattle.diag_world.proofs.lazy_link.LazyLink.new.Goals as goal
 
 pub returns-clause-lazy : goal.returns-clause-lazy
-returns-clause-lazy c = caught_still 0 _ refl c.new.ensures.drained (omega arith)
+returns-clause-lazy c = caught_still 0 _ refl c.new.ensures.drained (omega arith) (omega (arith, c.new.ensures.time))
 
 pub returns-clause-stands : goal.returns-clause-stands
 returns-clause-stands c =

@@ -25,7 +25,7 @@ invariant_of-self g c =
     c.args.event.now c.args.out.now.items c.take_at.new.out.items c.take_at.result
     (caught_told c.self.inside.passed _ c.catch_up.new.self.link c.catch_up.ensures.link) c.take_at.ensures.took c.take_at.ensures.err in
     set_lazy c.self.inside.passed (c.from-index.result - 1) c.self.inside.links.items next c.self.invariant
-    (caught_still c.self.inside.passed next c.catch_up.ensures.taken c.take_at.ensures.drained (omega (arith, told.0, c.catch_up.ensures.lazy.told, c.catch_up.ensures.taken)))
+    (caught_still c.self.inside.passed next c.catch_up.ensures.taken c.take_at.ensures.drained (omega (arith, told.0, c.catch_up.ensures.lazy.told, c.catch_up.ensures.taken)) told.1)
 
 pub returns-clause-took : goal.returns-clause-took
 returns-clause-took g c =
