@@ -1,6 +1,6 @@
 //! The bus: the server, and what is kept of a capture between two of its lines.
 
-ghost use Rattle.std.specs.Prelude.{◌≡◌, ◌≢◌, ◌≤◌, ◌↔◌, [], ◌++◌, ℕ, List, length, IfOk, OnOk, OnErr, IsTrue, Ok};
+ghost use Rattle.std.specs.Prelude.{◌≡◌, ◌≤◌, ◌↔◌, [], ◌++◌, ℕ, List, length, IfOk, OnOk, OnErr, IsTrue, Ok};
 ghost use Rattle.diag_can.specs.Bus.{bus_line};
 ghost use Rattle.diag_can.specs.Seen.{IsSeen};
 ghost use Rattle.diag_can.specs.Usual.{IsUsual, usual_said};
@@ -160,10 +160,8 @@ impl Bus {
         ensures output { self.new.output ≡ self.old.output }
     {
         match usual_line(line) {
-            Some((usual, id, at)) if !self.line.output.is_verdict() => {
-                self.take_usual(line, usual, id, at, text)
-            }
-            _ => self.take_read(line, text),
+            Some((usual, id, at)) => self.take_usual(line, usual, id, at, text),
+            None => self.take_read(line, text),
         }
     }
 
@@ -190,22 +188,13 @@ impl Bus {
         ensures output { self.new.output ≡ self.old.output }
     {
         match seen {
-            Seen::Usual(id, at) if !self.line.output.is_verdict() => {
-                self.take_usual(line, usual, id, at, text)
-            }
-            // (where a call answers, its answer is moved: else the answer of the line above stood in memory, too)
-            Seen::Ticks(count) => match self.take_ticks(line, count, text) {
-                Ok(()) => Ok(()),
-                Err(fault) => Err(fault),
-            },
-            Seen::Usual(_, _) | Seen::Nothing => match self.take_line(line, text) {
-                Ok(()) => Ok(()),
-                Err(fault) => Err(fault),
-            },
+            Seen::Usual(id, at) => self.take_usual(line, usual, id, at, text),
+            Seen::Ticks(count) => self.take_ticks(line, count, text),
+            Seen::Nothing => self.take_line(line, text),
         }
     }
 
-    /// Takes a line of the usual form, where no verdict is wanted.
+    /// Takes a line of the usual form.
     #[inline(always)]
     fn take_usual(
         &mut self,
@@ -217,7 +206,6 @@ impl Bus {
     ) -> Result<(), BusFault>
         requires usual { IsUsual usual.now id at }
         requires says { bus_line line.now ≡ Ok (usual_said usual.now id at) }
-        requires judged { self.old.output ≢ Output.Verdict }
         ensures took { OnOk result
             (Grew text.old.items text.new.items (TookLine self.old self.new line.now)) }
         ensures fault { IsItsFault self.old line.now result }
@@ -226,6 +214,9 @@ impl Bus {
         ensures setup { self.new.setup ≡ self.old.setup }
         ensures output { self.new.output ≡ self.old.output }
     {
+        if self.line.output.is_verdict() {
+            return self.take_read(line, text);
+        }
         let (moment, time) = next_usual(&self.clock, line, usual, id, at)?;
         let span = silence(self.clock.reference, moment);
         self.clock.go_on_at(moment, time);

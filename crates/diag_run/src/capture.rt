@@ -1,6 +1,6 @@
 //! A capture that comes piece by piece: its lines go to the bus, and what they write goes out.
 
-ghost use Rattle.std.specs.Prelude.{◌≡◌, ◌⊎◌, ◌+◌, ◌<◌, ◌≤◌, ◌^◌, ◌∷◌, [], ◌++◌, ℕ, List, length, vec_len, IfOk, IfErr, OnErr, OnOk};
+ghost use Rattle.std.specs.Prelude.{◌≡◌, ◌⊎◌, ◌+◌, ◌<◌, ◌≤◌, ◌^◌, ◌∷◌, [], ◌++◌, ℕ, List, length, vec_len, IfOk, IfErr, OnOk};
 ghost use Rattle.std.specs.Io.KnownBytes.{Appends};
 ghost use Rattle.diag_can.specs.Bus.{HasNoFeed, ended_lines};
 ghost use Rattle.diag_can.specs.Seen.{IsSeen};
@@ -136,8 +136,8 @@ impl Capture {
         ensures err { IfErr result (λ fault. Sends (W.contents out.old) (W.contents out.new)
             (HaltsIn self.old fault (bytes.now ++ 10 ∷ []))) }
     {
+        let number = self.lines + 1;
         if let Err(fault) = self.end_line(bytes, usual, seen) {
-            let number = self.lines + 1;
             return Err(stop(fault_at(number, fault), &mut self.text, out));
         }
         if self.text.len() > TEXT_LIMIT {
@@ -175,15 +175,11 @@ impl Capture {
         ensures kept { OnOk result (self.new.kept.items ≡ []) }
         ensures err { IfErr result (λ fault.
             HaltsIn self.old (fault_at (self.old.lines + 1) fault) (bytes.now ++ 10 ∷ []) self.new.text.items) }
-        ensures still { OnErr result (self.new.lines ≡ self.old.lines) }
     {
         if self.kept.is_empty() {
-            return self.take_whole(bytes, usual, seen);
-        }
-        // (moved, so that the answer to a whole line doesn't stand in memory where that of this call does)
-        match self.take_kept(bytes) {
-            Ok(()) => Ok(()),
-            Err(fault) => Err(fault),
+            self.take_whole(bytes, usual, seen)
+        } else {
+            self.take_kept(bytes)
         }
     }
 
@@ -199,7 +195,6 @@ impl Capture {
         ensures kept { OnOk result (self.new.kept.items ≡ []) }
         ensures err { IfErr result (λ fault.
             HaltsIn self.old (fault_at (self.old.lines + 1) fault) (line.now ++ 10 ∷ []) self.new.text.items) }
-        ensures still { OnErr result (self.new.lines ≡ self.old.lines) }
     {
         if let Err(fault) = self.bus.take_seen(line, usual, seen, &mut self.text) {
             return Err(fault);
@@ -218,7 +213,6 @@ impl Capture {
         ensures kept { OnOk result (self.new.kept.items ≡ []) }
         ensures err { IfErr result (λ fault.
             HaltsIn self.old (fault_at (self.old.lines + 1) fault) (bytes.now ++ 10 ∷ []) self.new.text.items) }
-        ensures still { OnErr result (self.new.lines ≡ self.old.lines) }
     {
         if let Err(fault) = keep(&mut self.kept, bytes) {
             return Err(fault);

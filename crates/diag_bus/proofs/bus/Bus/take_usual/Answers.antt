@@ -1,10 +1,9 @@
-use Rattle.std.proofs.Common.{◌<◌, ◌∙◌, ap, subst, sym, arith}
+use Rattle.std.proofs.Common.{◌<◌, subst, sym, arith}
 use Rattle.diag_can.specs.Usual.{usual_said}
 use Rattle.diag_bus.specs.Batch.{added, lists_of, moment_end}
-use Rattle.diag_bus.specs.Bus.{BusState}
 use Rattle.diag_bus.specs.Requests.{AreNamesOf}
 use Rattle.diag_bus.proofs.Stamps.{bus_line_low}
-use Rattle.diag_bus.proofs.Taking.{has_time, sent_in_time, sound_written, took_line}
+use Rattle.diag_bus.proofs.Taking.{has_time, judged_not, sent_in_time, sound_written, took_line}
 use Rattle.diag_bus.proofs.Usual.{sound_usual, usual_gave, usual_on}
 use Rattle.diag_bus.proofs.bus.Bus.take_usual.Goals as goal
 
@@ -25,7 +24,7 @@ returns-clause-took c =
           (usual_gave inside.setup inside.clock c.begin.new.self taken usual c.args.id c.args.at c.in_ok-moment.moment c.silence-span.result read.moment
           c.silence-span.ensures c.in_ok-take_usual.ensures.ok)
           c.take_usual.ensures.shape
-          (λ judged. absurd (c.requires.judged (ap (λ (b : BusState). b.output) (sym c.self.view_is) ∙ judged)))
+          (λ judged. absurd (judged_not c.is_verdict.result c.if-is_verdict.false (c.is_verdict.ensures.1 judged)))
           c.write.ensures.server c.write.ensures.shape;
     }
 

@@ -1,9 +1,8 @@
-use Rattle.std.proofs.Common.{◌+◌, ◌∷◌, [], ◌++◌, refl, sym, subst}
+use Rattle.std.proofs.Common.{◌∷◌, [], ◌++◌, refl, sym, subst}
 use Rattle.std.proofs.KnownBytes.{Appends-nil}
 use Rattle.std.proofs.lemmas.Result.{IfErr-weaker, on_ok_weaker}
 use Rattle.diag_run.specs.declared.capture.CaptureFault.{CaptureFault}
 use Rattle.diag_run.specs.Capturing.{HaltsIn}
-use Rattle.diag_run.specs.Faults.{fault_at}
 use Rattle.diag_run.proofs.Pieces.{answered_halts, both_on_ok, sent_on, write_halts}
 use Rattle.diag_run.proofs.capture.Capture.take_line.Goals as goal
 
@@ -13,8 +12,7 @@ returns-in-Err-clause-err g c = (
   c.stop.ensures.1,
   answered_halts c.args.self.now c.fault_at.result c.stop.result (c.args.bytes.now ++ 10 ∷ []) c.end_line.new.self.text.items c.stop.ensures.0
       (subst (λ (f : CaptureFault). HaltsIn c.args.self.now f (c.args.bytes.now ++ 10 ∷ []) c.end_line.new.self.text.items) (sym c.fault_at.ensures)
-      (subst (λ n. HaltsIn c.args.self.now (fault_at (n + 1) c.in-Err.fault) (c.args.bytes.now ++ 10 ∷ []) c.end_line.new.self.text.items)
-      (sym c.in-Err.ensures.still) c.in-Err.ensures.err))
+      c.in-Err.ensures.err)
       c.stop.ensures.2,
 )
 
