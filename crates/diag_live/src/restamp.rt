@@ -1,9 +1,10 @@
 //! A line as it stands in the capture of a live run.
 
-ghost use Rattle.std.specs.Prelude.{◌≡◌, ◌++◌, map, length, IfOk, OnOk};
+ghost use Rattle.std.specs.Prelude.{◌≡◌, ◌++◌, length, IfOk, OnOk};
 ghost use Rattle.std.specs.List.{after_first};
 ghost use Rattle.diag_live.specs.Live.{capture_of, is_close, passed, record_text, restamped, tick_line, with_feed};
 
+use diag_can::TickCount;
 use memchr::memchr;
 use std::alloc::AllocError;
 
@@ -11,7 +12,7 @@ use std::alloc::AllocError;
 const NULL_STAMP: &[u8] = b"(0.000000)";
 
 /// The most ticks of a line.
-const MOST_TICKS: u64 = 60_000;
+const MOST_TICKS: u64 = TickCount::MAX as u64;
 
 /// Adds a line to a capture, with the null stamp in place of its own, and an LF.
 pub(crate) fn add_restamped(text: &mut Vec<u8>, line: &[u8]) -> Result<(), AllocError>

@@ -1,7 +1,7 @@
 //! A live run: the config, then the bus as it goes.
 
 ghost use Rattle.std.specs.Prelude.{◌≡◌, ◌⊎◌, IfOk, IfErr, OnOk};
-ghost use Rattle.diag_live.specs.Serving.{CannotHear, HaltsWith, Stands, Turned};
+ghost use Rattle.diag_live.specs.Serving.{CannotHear, HaltsWith, Turned};
 ghost use Rattle.diag_live.specs.Stops.{Lived, LivedWith, Stopped, StoppedWith};
 ghost use Rattle.diag_run.specs.Run.{TellsOf};
 
