@@ -16,7 +16,7 @@ use crate::fault::BusFault;
 use diag_can::{BusLine, CanId, TickCount, usual_moment};
 
 /// Where the bus's time begins.
-#[derive(Clone, Copy, Debug, PartialEq, Eq)]
+#[derive(Clone, Copy)]
 pub struct Start {
     /// The moment of the first stamped line, in milliseconds.
     pub moment: u64,
@@ -25,7 +25,7 @@ pub struct Start {
 }
 
 /// What is kept of the time of the lines so far.
-#[derive(Clone, Copy, Debug, PartialEq, Eq)]
+#[derive(Clone, Copy)]
 pub struct Clock {
     /// The greatest moment of the stamped lines.
     pub reference: Option<u64>,

@@ -4,7 +4,7 @@ ghost use Rattle.std.specs.Prelude.{◌≡◌, if◌then◌else◌};
 ghost use Rattle.diag_bus.specs.Requests.{filled_at};
 
 /// Which of the testers' lists may have frames, so that the others needn't be looked at.
-#[derive(Clone, Copy, Debug, PartialEq, Eq)]
+#[derive(Clone, Copy)]
 pub enum Filled {
     /// None of them.
     Nowhere,

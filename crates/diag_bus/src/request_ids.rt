@@ -9,7 +9,7 @@ use diag_setup::{Setup, TesterId};
 use std::alloc::{AllocError, Global};
 
 /// Whose the frames of an identifier are.
-#[derive(Clone, Copy, Debug, PartialEq, Eq)]
+#[derive(Clone, Copy)]
 pub enum Owner {
     /// No tester's.
     Nobody,

@@ -16,7 +16,7 @@ use diag_tp::Sent;
 use std::alloc::{AllocError, Global};
 
 /// A frame that a tester is sent.
-#[derive(Debug, Drop)]
+#[derive(Drop)]
 pub struct Drawn {
     /// The tester.
     pub who: TesterId,

@@ -13,7 +13,7 @@ use std::alloc::{AllocError, Global};
 const LINE_LIMIT: usize = 4096;
 
 /// Why the lines that were heard can't be followed.
-#[derive(Clone, Copy, Debug, PartialEq, Eq, Drop)]
+#[derive(Clone, Copy, Drop)]
 pub(crate) enum HearFault {
     /// The line of that number, from 1, is the first at fault.
     Line(u64, LineFault),

@@ -11,7 +11,7 @@ pub trait Watch {
 }
 
 /// Takes no notice.
-#[derive(Clone, Copy, Debug)]
+#[derive(Clone, Copy)]
 pub struct NoWatch;
 
 impl Watch for NoWatch {

@@ -48,7 +48,7 @@ pub(crate) fn gives_step(link: &Link, event: &Event) -> bool
 }
 
 /// An event that was read and has room. The step that it gives is lent.
-#[derive(Debug, Drop)]
+#[derive(Drop)]
 pub enum Prepared {
     /// A frame, as its link read it.
     Frame(Taken),

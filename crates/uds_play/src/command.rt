@@ -14,7 +14,7 @@ use std::alloc::{AllocError, Global};
 const VERSION: &str = "0.1.0";
 
 /// What the words ask for.
-#[derive(Debug, Drop)]
+#[derive(Drop)]
 pub struct Request<'a> {
     /// The path of the setup.
     pub config: &'a str,
@@ -23,7 +23,7 @@ pub struct Request<'a> {
 }
 
 /// What to do, and over what.
-#[derive(Debug, Drop)]
+#[derive(Drop)]
 pub enum Task<'a> {
     /// A job over the logs, in the testers' order, or over the journal, by their paths.
     Files {
@@ -42,7 +42,7 @@ pub enum Task<'a> {
 }
 
 /// Why nothing is run.
-#[derive(Debug, Drop)]
+#[derive(Drop)]
 pub enum Refusal {
     /// `--help` or `--version`, with clap's text.
     Told(String),
