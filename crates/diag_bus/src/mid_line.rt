@@ -26,7 +26,7 @@ use diag_world::{Server, ServerFault};
 use std::alloc::AllocError;
 
 /// The most milliseconds that one count of ticks gives.
-const LONGEST_COUNT: u64 = 60_000;
+const LONGEST_COUNT: u64 = TickCount::MAX as u64;
 
 /// The server in the midst of a line, with what the line has drawn and entered so far.
 #[derive(Drop)]
