@@ -1,4 +1,4 @@
-use Rattle.diag_run.specs.declared.whole.Job.TheVariants.{Play}
+use Rattle.diag_run.specs.declared.file_run.Job.TheVariants.{Play}
 use Rattle.diag_run.proofs.Known.{texts_give}
 use Rattle.diag_run.proofs.file_run.text_of.Goals as goal
 
