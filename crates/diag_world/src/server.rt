@@ -1,6 +1,7 @@
 //! The server as it streams: the ECU and the testers' links, and neither a journal nor the frames that were sent.
 
 ghost use Rattle.std.specs.Prelude.{
+  ℕ,
   ◌≡◌,
   ◌≤◌,
   ◌<◌,
@@ -36,8 +37,8 @@ ghost use Rattle.diag_desk.specs.declared.entry.Entry.{Entry as AnEntry};
 ghost use Rattle.diag_desk.specs.Legal.{after, reply_to};
 ghost use Rattle.diag_world.specs.Weaving.{items_of};
 ghost use Rattle.diag_world.specs.Channel.{RepliesToFrame};
-ghost use Rattle.diag_world.specs.Port.{HasRoomFor, step_in};
-ghost use Rattle.diag_world.specs.Server.{answer_to, closing_time, entry_of, quiet_of, server_of, went_to, AreEarly, EachRun, HasKept, IsClosed, LinkTook, Serves, ServerTook, TookNothing, Waited};
+ghost use Rattle.diag_world.specs.Port.{Grew, HasRoomFor, step_in};
+ghost use Rattle.diag_world.specs.Server.{answer_to, closing_time, entry_of, quiet_of, server_of, went_to, AreEarly, EachRun, HasKept, IsClosed, LinkTook, PortWent, Serves, ServerTook, TookNothing, Waited};
 
 use crate::keeper::Keeper;
 use crate::lazy_link::LazyLink;
@@ -279,6 +280,10 @@ fn take_early<K: Keeper>(
         Prepared::Frame(Taken::Functional | Taken::Single) => {
             take_single(link, ecu, who, event, &prepared, keeper, out)
         }
+        Prepared::Frame(Taken::Ignored | Taken::Read(_)) => {
+            take_silent(link, event, &prepared, out);
+            Ok(())
+        }
         _ => take_other(link, ecu, who, event, &prepared, keeper, out),
     }
 }
@@ -318,6 +323,26 @@ fn take_single<K: Keeper>(
     answer_noted(link, ecu, who, keeper, &mut reply)?;
     settle(link, event, prepared, &mut reply, out);
     Ok(())
+}
+
+/// The same of a frame that asks nothing.
+#[cold]
+#[inline(never)]
+fn take_silent(link: &mut Link, event: &Event, prepared: &Prepared, out: &mut Vec<Sent>)
+    requires drained { pending link.old.state ≡ 0 }
+    requires early { link.old.state.now ≤ closing_time }
+    requires room { HasRoomFor
+        link.old event.now prepared.now (vec_len out.old) (vec_capacity out.old) }
+    requires silent { step_in link.old prepared.now ≡ None }
+    requires step { EachHistory link.old.state (λ s E A Q.
+        step_in link.old prepared.now ≡ gives s E event.now) }
+    requires ticks { IsTrue (is_tick event.now) → IsSome (step_in link.old prepared.now) }
+    ensures took { (ecu : State) (who : ℕ) → Grew out.old.items out.new.items (λ more.
+        PortWent ecu ecu link.old link.new who event.now None more) }
+    ensures drained { pending link.new.state ≡ 0 }
+{
+    let mut reply = None;
+    settle(link, event, prepared, &mut reply, out);
 }
 
 /// The same of any other frame that was read and has room. (Called cold, so that the compiler takes a SingleFrame for the usual
