@@ -19,12 +19,12 @@ ghost use Rattle.diag_can.specs.Bus.{HasNoFeed};
 use crate::clocks::Clocks;
 use crate::entry::MOST_ENTRIES;
 use crate::flat::{append_hex, decoded_len, tell_bytes};
-use crate::line::{Line, LineStep, cut, line_front};
+use crate::line::{Line, LineStep, cut};
 use crate::next::{LineFault, clock_with, next_line};
 use crate::read::{JournalFault, version_of};
 use crate::usual::{
-    ReadFront, behind, behind_lent, behind_reply, count_front, is_functional, read_front,
-    read_request, short_front,
+    ReadFront, behind, behind_lent, behind_reply, count_front, is_functional, line_front,
+    read_front, read_request, short_front,
 };
 use crate::version::JournalVersion;
 use diag_ecu::Ecu;

@@ -39,14 +39,6 @@ pub(crate) struct Line<'a> {
     pub step: LineStep<'a>,
 }
 
-/// What a line says first, and what follows that.
-#[derive(Clone, Copy)]
-pub(crate) struct LineFront<'a> {
-    pub who: TesterId,
-    pub kind: Kind,
-    pub rest: &'a [u8],
-}
-
 /// What stands before and after the first of some byte.
 pub(crate) fn cut(text: &[u8], byte: u8) -> Option<(&[u8], &[u8])>
     ensures { MatchOption result (cut byte text.now ≡ None) (λ parts.
@@ -63,40 +55,23 @@ pub(crate) fn entry_in(line: &[u8]) -> Option<Line<'_>>
     ensures some { IfSome result (IsRead line.now) }
     ensures none { IfNone result (IsNoEntry line.now) }
 {
-    let Some(front) = line_front(line) else {
-        return None;
-    };
-    let Some(step) = step_in(front.kind, front.rest) else {
-        return None;
-    };
-    Some(Line {
-        who: front.who,
-        step,
-    })
-}
-
-/// The place and the kind at the front of a line.
-#[inline(always)]
-pub(crate) fn line_front(line: &[u8]) -> Option<LineFront<'_>>
-    ensures place { IfSome result (λ front. (1 ≤ front.who) × (front.who ≤ 8)) }
-    ensures is { IfSome result (λ front.
-        line.now ≡ fronted (48 + front.who) (kind_code front.kind) front.rest.now) }
-    ensures none { IfNone result (IsNoEntry line.now) }
-{
-    let Some((place, letter, rest)) = front_of(line) else {
+    let Some((place, kind, body)) = front_of(line) else {
         return None;
     };
     let Some(who) = place_in(place) else {
         return None;
     };
-    let Some(kind) = kind_in(letter) else {
+    let Some(kind) = kind_in(kind) else {
         return None;
     };
-    Some(LineFront { who, kind, rest })
+    let Some(step) = step_in(kind, body) else {
+        return None;
+    };
+    Some(Line { who, step })
 }
 
 /// The place and the kind of a line, one byte each, and what follows the space after them.
-fn front_of(line: &[u8]) -> Option<(u8, u8, &[u8])>
+pub(crate) fn front_of(line: &[u8]) -> Option<(u8, u8, &[u8])>
     ensures { MatchOption result (IsNoFront line.now) (λ parts.
         line.now ≡ fronted parts.0 parts.1 parts.2.now) }
 {
@@ -107,7 +82,7 @@ fn front_of(line: &[u8]) -> Option<(u8, u8, &[u8])>
 }
 
 /// The tester whose place is a digit.
-fn place_in(digit: u8) -> Option<TesterId>
+pub(crate) fn place_in(digit: u8) -> Option<TesterId>
     ensures some { IfSome result (λ who. (48 + who ≡ digit) × (1 ≤ who) × (who ≤ 8)) }
     ensures none { IfNone result ((who : ℕ) → 1 ≤ who → who ≤ 8 → 48 + who ≢ digit) }
 {
@@ -118,7 +93,7 @@ fn place_in(digit: u8) -> Option<TesterId>
 }
 
 /// The kind whose letter this is.
-fn kind_in(letter: u8) -> Option<Kind>
+pub(crate) fn kind_in(letter: u8) -> Option<Kind>
     ensures some { IfSome result (λ kind. kind_code kind ≡ letter) }
     ensures none { IfNone result ((kind : IsKind) → kind_code kind ≢ letter) }
 {

@@ -3,17 +3,26 @@ ghost use Rattle.std.specs.Prelude.{◌≡◌, ◌≤◌, ◌+◌, ◌++◌, ◌
 ghost use Rattle.hex.specs.Hex.{encode_upper};
 ghost use Rattle.diag_ecu.specs.Lent.{lent_bytes};
 ghost use Rattle.diag_desk.specs.Entry.{IsReply};
-ghost use Rattle.diag_desk.specs.Line.{request_kind};
+ghost use Rattle.diag_desk.specs.Line.{fronted, kind_code, request_kind};
 ghost use Rattle.diag_desk.specs.Text.{reply_text};
 
 use crate::flat::{bytes_of, tell_bytes};
-use crate::line::Kind;
+use crate::line::{Kind, front_of, kind_in, place_in};
 use crate::sixteen::{is_upper_of, upper_front};
 use crate::table::pair_value;
 use diag_can::{FrameBytes, TickCount, hex_digits};
 use diag_ecu::Lent;
+use diag_setup::TesterId;
 use diag_tp::Message;
 use std::alloc::AllocError;
+
+/// What a line says first, and what follows that.
+#[derive(Clone, Copy)]
+pub(crate) struct LineFront<'a> {
+    pub who: TesterId,
+    pub kind: Kind,
+    pub rest: &'a [u8],
+}
 
 /// A number in decimal, and what follows it.
 #[derive(Clone, Copy)]
@@ -35,6 +44,24 @@ pub(crate) struct ReadFront<'a> {
 pub(crate) struct CountFront<'a> {
     pub count: TickCount,
     pub rest: &'a [u8],
+}
+
+/// The place and the kind at the front of a text.
+pub(crate) fn line_front(text: &[u8]) -> Option<LineFront<'_>>
+    ensures place { IfSome result (λ front. (1 ≤ front.who) × (front.who ≤ 8)) }
+    ensures is { IfSome result (λ front.
+        text.now ≡ fronted (48 + front.who) (kind_code front.kind) front.rest.now) }
+{
+    let Some((place, letter, rest)) = front_of(text) else {
+        return None;
+    };
+    let Some(who) = place_in(place) else {
+        return None;
+    };
+    let Some(kind) = kind_in(letter) else {
+        return None;
+    };
+    Some(LineFront { who, kind, rest })
 }
 
 /// Whether a request's line is a functional one; None of a line of ticks.
