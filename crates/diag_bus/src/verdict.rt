@@ -7,7 +7,7 @@ use diag_can::FrameBytes;
 use diag_setup::TesterId;
 
 /// A frame that the recording has of the unit's.
-#[derive(Drop)]
+#[derive(Debug, Drop)]
 pub struct Recorded {
     /// The number of its line, from 1.
     pub line: u64,
@@ -16,7 +16,7 @@ pub struct Recorded {
 }
 
 /// A frame of the recording that isn't the one that the server sends at its place.
-#[derive(Drop)]
+#[derive(Debug, Drop)]
 pub struct Difference {
     /// The number of its line, from 1.
     pub line: u64,
@@ -27,7 +27,7 @@ pub struct Difference {
 }
 
 /// What is to be said of a recording beside the frames that the server sends.
-#[derive(Drop)]
+#[derive(Debug, Drop)]
 pub enum Verdict {
     /// Of each tester the recording has just the frames that the server sends.
     Agrees,

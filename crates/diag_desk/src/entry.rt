@@ -19,7 +19,7 @@ pub struct Entry {
 }
 
 /// A step that the journal keeps; a request has 1 to 65535 bytes.
-#[derive(Clone, Copy)]
+#[derive(Clone, Copy, Debug)]
 pub enum StepRef<'a> {
     /// A complete request, and whether it came on the functional identifier.
     Request { functional: bool, bytes: &'a [u8] },
@@ -28,7 +28,7 @@ pub enum StepRef<'a> {
 }
 
 /// An entry that the journal keeps; a reply has 1 to 65535 bytes.
-#[derive(Clone, Copy)]
+#[derive(Clone, Copy, Debug)]
 pub struct EntryRef<'a> {
     /// The tester, by its place.
     pub who: TesterId,

@@ -4,7 +4,7 @@ ghost use Rattle.std.specs.Prelude.{◌≡◌, ℕ, List, Option, None};
 ghost use Rattle.diag_live.specs.Bench.{Hears};
 
 /// What was heard of the input.
-#[derive(Drop)]
+#[derive(Debug, Drop)]
 pub enum Heard {
     /// These bytes of it came.
     Piece(Vec<u8>),

@@ -24,7 +24,7 @@ const LINE_LIMIT: usize = 4096;
 const TEXT_LIMIT: usize = 65_536;
 
 /// Why a capture could not be followed to its end.
-#[derive(Drop)]
+#[derive(Debug, PartialEq, Eq, Drop)]
 pub enum CaptureFault {
     /// The line of that number, from 1, is the first at fault.
     Line(u64, BusFault),

@@ -16,7 +16,7 @@ use std::sync::Wait;
 use std::thread::Threads;
 
 /// What a run does with its files.
-#[derive(Clone, Copy)]
+#[derive(Clone, Copy, Debug, PartialEq, Eq)]
 pub enum Job {
     /// Plays the logs on one thread, one event of each in turn.
     Serial { only_journal: bool, timing: Timing },
@@ -39,7 +39,7 @@ impl Job {
 }
 
 /// What a run does that needs no thread.
-#[derive(Clone, Copy)]
+#[derive(Clone, Copy, Debug, PartialEq, Eq)]
 pub enum Alone {
     /// As `Job::Serial`.
     Serial { only_journal: bool, timing: Timing },

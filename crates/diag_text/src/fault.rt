@@ -16,7 +16,7 @@ use std::fmt;
 
 /// The first fault in the order of a run: the config, the number of files, the files in their order, what they say,
 /// the play or the replay, the writing. File 0 is the config.
-#[derive(Debug, Drop)]
+#[derive(Debug, PartialEq, Eq, Drop)]
 pub enum RunFault {
     /// Another number of files than the setup has testers, or than the one journal of a replay.
     Files { wanted: usize, given: usize },

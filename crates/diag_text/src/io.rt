@@ -12,7 +12,7 @@ use std::io::{Read, Write};
 use thiserror::Error;
 
 /// Why a file was not read whole.
-#[derive(Clone, Copy, Debug, Error)]
+#[derive(Clone, Copy, Debug, PartialEq, Eq, Error)]
 pub enum ReadFault {
     /// A read failed.
     #[error("cannot read")]
@@ -26,7 +26,7 @@ pub enum ReadFault {
 }
 
 /// A write or a flush failed, or a write took no byte.
-#[derive(Clone, Copy, Debug, Error)]
+#[derive(Clone, Copy, Debug, PartialEq, Eq, Error)]
 #[error("cannot write")]
 pub struct WriteFault;
 
