@@ -33,6 +33,7 @@ ghost use Rattle.diag_tp.specs.Gives.{gives};
 ghost use Rattle.diag_tp.specs.Link.{EachHistory, pending, quiet};
 ghost use Rattle.diag_tp.specs.Moments.{is_tick, last_time};
 ghost use Rattle.diag_setup.specs.Setup.{link_of};
+ghost use Rattle.diag_ecu.specs.State.{State};
 ghost use Rattle.diag_desk.specs.declared.entry.Entry.{Entry as AnEntry};
 ghost use Rattle.diag_desk.specs.Legal.{after, reply_to};
 ghost use Rattle.diag_world.specs.Weaving.{items_of};
