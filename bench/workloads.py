@@ -9,9 +9,9 @@
 
 It prints a table in Markdown, a row for each workload: lines a second (the quickest of five runs, in which the two
 executables take turns), the instructions of the program for a line more, by valgrind's callgrind where that is installed
-(they are the same in each run, and don't feel what else the machine does), and the most memory of the process in KiB,
-looked at every two milliseconds. Where two executables are given it is also checked that they write the same bytes. The
-program is built first where none is given.
+(they are the same in each run, and don't feel what else the machine does), and the most memory of the process in KiB
+(of five runs, each looked at five times a millisecond). Where two executables are given it is also checked that they
+write the same bytes. The program is built first where none is given.
 """
 import argparse
 import os
@@ -148,7 +148,7 @@ def peak(program, words):
             with open(f"/proc/{child.pid}/status", encoding="ascii") as it:
                 told = re.search(r"VmHWM:\s+(\d+)", it.read())
             most = max(most, int(told[1])) if told else most
-            time.sleep(0.002)
+            time.sleep(0.0002)
     return most
 
 
@@ -182,7 +182,7 @@ def measure(room, name, programs, work, lines):
         sys.exit(f"workloads: {name}: the two write other bytes")
     runs = [[seconds(it, words) for it in programs] for _ in range(5)]
     speed = [f"{lines / min(each):,.0f}" for each in zip(*runs)]
-    memory = [f"{peak(it, words):,}" for it in programs]
+    memory = [f"{max(peak(it, words) for _ in range(5)):,}" for it in programs]
     print(f"| {' | '.join([name, *speed, *cost, *memory])} |", flush=True)
 
 

@@ -12,7 +12,7 @@ The workloads are those of bench/workloads.py. For each it is seen that both wri
 journal and the end too, where the command has them), and a row in Markdown tells the instructions of each for a line
 more (by valgrind's callgrind, of two short runs the difference), the processor's nanoseconds for a line more (its own
 and the system's for it: the least of fifteen runs, in which the two take turns, less the least of runs with a tenth of
-the lines), the most memory of each in KiB (of five runs, each looked at every two milliseconds), and how many times the
+the lines), the most memory of each in KiB (of five runs, each looked at five times a millisecond), and how many times the
 twin's the program's are. The last row has the geometric means of these. Instructions are the same in each run; times
 feel what else the machine does. The twin is built by the line that stands in main.rs, which wants `rustc`.
 """
