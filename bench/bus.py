@@ -21,7 +21,7 @@ import tempfile
 import time
 
 sys.dont_write_bytecode = True
-from runs import NAMES, PROGRAM, TOP, setup, stamped, turn
+from runs import NAMES, PROGRAM, TOP, peak_memory, setup, stamped, turn
 
 # as many lines as make a journal that `serial` can hold, which gives each tester's ticks an entry of their own
 LINES = 250_000
@@ -98,12 +98,6 @@ def beside_bus(room):
         whole, lines = recording(room, config, testers)
         for command in ("bus", "verify"):
             measure(f"{command}, testers: {testers}", [command, config, whole], lines)
-
-
-def peak_memory(child):
-    """The most memory that the process had so far, in KiB. (What is told of a child that has ended counts what this process had as it began.)"""
-    with open(f"/proc/{child.pid}/status", encoding="ascii") as it:
-        return int(re.search(r"VmHWM:\s+(\d+)", it.read())[1])
 
 
 def feed(child, lines):

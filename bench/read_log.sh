@@ -15,14 +15,18 @@ printf '%s\n' 'Handles allowed: none.' > "$work/HANDLES"
 for lines in 62500 250000 1000000; do
   log=$work/$lines.log
   awk -v n="$lines" 'BEGIN { for (i = 0; i < n; i++) printf "(%010d.%03d000) can0 %s#0322F190CCCCCCCC\n", i / 1000, i % 1000, i % 2 ? "123" : "7E0" }' > "$log"
-  python3 - "$work/crates/read_log/out/read_log" "$log" "$lines" <<'END'
-import resource, subprocess, sys
+  PYTHONPATH=$top/bench python3 -B - "$work/crates/read_log/out/read_log" "$log" "$lines" <<'END'
+import sys, tempfile
+from runs import watched
 program, log, lines = sys.argv[1], sys.argv[2], int(sys.argv[3])
-told = subprocess.run([program, log], capture_output=True, text=True, check=True).stdout.strip()
-peak = resource.getrusage(resource.RUSAGE_CHILDREN).ru_maxrss
-took = int(told.split(" events in ")[1].split()[0]) if " events in " in told else 0
-rate = f"{lines * 1_000_000 // took} lines per second" if took else "no time"
-print(f"{lines} lines: {rate}, {peak} KiB at most ({told})")
+with tempfile.TemporaryFile("w+") as out:
+    _, peak = watched([program, log], out=out)
+    out.seek(0)
+    told = out.read().strip()
+if " events in " not in told:
+    sys.exit(f"read_log: {told}")
+took = int(told.split(" events in ")[1].split()[0])
+print(f"{lines} lines: {lines * 1_000_000 // took} lines per second, {peak} KiB at most ({told})")
 END
   rm "$log"
 done

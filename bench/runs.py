@@ -12,6 +12,7 @@ A log is a mixed one: of twelve lines, three are of other identifiers, two are t
 is answered in one frame, a read of the identification with its flow control, a write in two frames, and a functional request.
 """
 import os
+import re
 import subprocess
 import sys
 import tempfile
@@ -51,18 +52,29 @@ def log(tester, lines):
         yield stamped(number, texts[number % len(texts)])
 
 
+def peak_memory(child):
+    """The most memory that a process had so far, in KiB, and 0 once it has ended. (What is told of a child that has ended
+    counts what this process had as it began.)"""
+    with open(f"/proc/{child.pid}/status", encoding="ascii") as it:
+        told = re.search(r"VmHWM:\s+(\d+)", it.read())
+    return int(told[1]) if told else 0
+
+
+def watched(words, each=0.001, out=subprocess.DEVNULL):
+    """Runs the words, and returns the seconds that this took and the most memory in KiB, looked at each so many seconds."""
+    begun, peak = time.monotonic(), 0
+    with subprocess.Popen(words, stdout=out) as child:
+        while child.poll() is None:
+            peak = max(peak, peak_memory(child))
+            time.sleep(each)
+    if child.returncode:
+        sys.exit(f"{' '.join(words)} ended with status {child.returncode}")
+    return time.monotonic() - begun, peak
+
+
 def run(words):
     """Returns the seconds and the peak memory in KiB of the quickest of three runs."""
-    runs = []
-    for _ in range(3):
-        begun = time.monotonic()
-        child = subprocess.Popen([PROGRAM, *words], stdout=subprocess.DEVNULL)
-        _, status, used = os.wait4(child.pid, 0)
-        took = time.monotonic() - begun
-        if status:
-            sys.exit(f"runs: {' '.join(words)} ended with status {os.waitstatus_to_exitcode(status)}")
-        runs.append((took, used.ru_maxrss))
-    return min(runs)
+    return min(watched([PROGRAM, *words]) for _ in range(3))
 
 
 def measure(room, command, testers, lines):

@@ -24,7 +24,7 @@ import tempfile
 import time
 
 sys.dont_write_bytecode = True
-from runs import NAMES, PROGRAM, TOP, setup, stamped, turn
+from runs import NAMES, PROGRAM, TOP, setup, stamped, turn, watched
 
 # the lines of the two short runs whose difference tells the instructions of a line
 SHORT = 3_000
@@ -142,14 +142,7 @@ def seconds(program, words):
 
 def peak(program, words):
     """The most memory in KiB, as the process told it last."""
-    most = 0
-    with subprocess.Popen([program, *words], stdout=subprocess.DEVNULL) as child:
-        while child.poll() is None:
-            with open(f"/proc/{child.pid}/status", encoding="ascii") as it:
-                told = re.search(r"VmHWM:\s+(\d+)", it.read())
-            most = max(most, int(told[1])) if told else most
-            time.sleep(0.0002)
-    return most
+    return watched([program, *words], 0.0002)[1]
 
 
 def instructions(program, words):

@@ -34,9 +34,10 @@ TOP = os.path.dirname(os.path.dirname(os.path.abspath(__file__)))
 PROGRAM = "crates/uds_play/out/uds_play"
 # those whose commands are run
 DOCUMENTS = ["README.md", "docs/USE.md", "docs/VIEW.md", "demo/README.md", "CONTRIBUTING.md"]
-# those that tell of the names of crates
-NAMING = ["README.md", "CONTRIBUTING.md", *(f"docs/{it}.md" for it in
-          ("ARCHITECTURE", "DECISIONS", "DEFINITIONS", "EVIDENCE", "PROMISES"))]
+# the one that tells of names which are gone, too
+CHANGES = "CHANGELOG.md"
+# names in the documents that are no names of the repository's
+OF_OTHERS = {"can_logger", "can_logconvert"}
 RUN = ("./uds_play", "tools/", "sort ", "sed ", "diff ", "grep ", "rt lemma ")
 STAND_INS = {"candump": "sed -n 1,10p demo/bus.log", "canplayer": "cat"}
 # programs that a machine may not have, with Debian's packages of them
@@ -255,7 +256,18 @@ def missing_names(text, known):
     """The names of two words or more in backticks, as `two_words` and `TwoWords`, that stand nowhere."""
     spans = re.findall(r"`([^`\n]+)`", text)
     names = {it for span in spans for it in words_of(span) if re.search(r"[a-z]_[a-z]|[a-z][A-Z]", it)}
-    return sorted(names - known - set(OTHERS))
+    return sorted(names - known - set(OTHERS) - OF_OTHERS)
+
+
+def unexplained():
+    """The words of contracts, as `TwoWords`, that docs/PROMISES.md cites and docs/DEFINITIONS.md doesn't have."""
+    defined = set()
+    for path in glob.glob(f"{TOP}/crates/*/specs/*.antt"):
+        defined |= set(re.findall(r"^(?:\w+ )*pub (?:record |data |abbrev )?([A-Z]\w*)", whole(path), re.MULTILINE))
+    cited = set()
+    for span in re.findall(r"`([^`\n]+)`", whole(f"{TOP}/docs/PROMISES.md")):
+        cited |= words_of(span)
+    return sorted(cited & defined - words_of(whole(f"{TOP}/docs/DEFINITIONS.md")))
 
 
 def look():
@@ -265,9 +277,11 @@ def look():
         name, text = os.path.relpath(path, TOP), whole(path)
         missing = missing_files(text)
         told(not missing, f"{name}: the files that it tells of are there", ", ".join(missing))
-        if name in NAMING:
+        if name != CHANGES:
             missing = missing_names(text, known)
             told(not missing, f"{name}: the names that it tells of are there", ", ".join(missing))
+    missing = unexplained()
+    told(not missing, "docs/PROMISES.md: docs/DEFINITIONS.md has the words that it cites", ", ".join(missing))
 
 
 def main():

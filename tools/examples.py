@@ -1,7 +1,8 @@
 #!/usr/bin/env python3
 """Runs the worked examples by the built program, and compares whole outputs and statuses: those of runs/examples.txt,
 those of runs/refusals.txt, and those whose logs or journals are built here. Of a play that ends well the slow twin of
-tools/uds_link.py has to agree, too. The last line is 'N passed, M failed'."""
+tools/uds_link.py has to agree, too. The last line is 'N passed, M failed'. With `--files NAME FOLDER` it only writes the
+files of that example of runs/examples.txt."""
 import os
 import subprocess
 import sys
@@ -81,10 +82,23 @@ def text(parts, name):
     return "".join(f"{it}\n" for it in parts.get(name, []))
 
 
+def files_of(parts):
+    """An example's setup and its two logs."""
+    a = text(parts, "log") or log(parts.get("a", []))
+    return [text(parts, "keys") + SETUP, a, log(parts.get("b", []))]
+
+
+def write_example(name, room):
+    """Writes the files of an example of runs/examples.txt into a folder: its setup, its logs, and what it prints."""
+    parts = next(it for it in of_file() if it["name"] == name)
+    for file, what in zip(("setup", "a", "b", "prints"), [*files_of(parts), text(parts, "prints")]):
+        with open(f"{room}/{file}", "w") as it:
+            it.write(what)
+
+
 def run_file():
     for parts in of_file():
-        a = text(parts, "log") or log(parts.get("a", []))
-        files = [text(parts, "keys") + SETUP, a, log(parts.get("b", []))]
+        files = files_of(parts)
         for job in ("serial",) if "b" in parts else ("serial", "play"):
             words = [job, *parts.get("flags", [])]
             tells = "".join(parts.get("tells", []))
@@ -153,10 +167,10 @@ SIZES = {"0004": 4, "0005": 5, "00ED": 237, "00EE": 238, "0100": 255}
 
 
 def read_of(name, asked, length, last):
-    """A read of these identifiers, whose reply has so many bytes, and whose last frame this is."""
+    """A read of these identifiers, whose reply has so many bytes, and whose last frame this is. Those without a size are unknown."""
     tables = "".join(f'\n[[did]]\nid = 0x{it}\nvalue = "{"00" * size}"\n' for it, size in SIZES.items())
     request = "22" + "".join(asked)
-    reply = "62" + "".join(it + "00" * SIZES[it] for it in asked)
+    reply = "62" + "".join(it + "00" * SIZES[it] for it in asked if it in SIZES)
     frames = framed(reply)
     told(len(reply) == 2 * length and frames[-1] == last, f"{name}: {len(frames)} frames", f": {frames[-1]}")
     lines = [*of_requests(read_setup(SETUP), [request]), *["7E0#300000"] * (length > 7)]
@@ -172,6 +186,7 @@ def many_reads():
     read_of("a reply of 4095 bytes", ["0100"] * 15 + ["00ED"], 4095, "2900CCCCCCCCCCCC")
     read_of("a reply of 4096 bytes", ["0100"] * 15 + ["00EE"], 4096, "29000000000000CC")
     read_of("many-identifiers", ["0100"] * 254, 65279, "2E0000CCCCCCCCCC")
+    read_of("many-identifiers, a long one beside an unknown one", ["0100", "FFFF"], 258, "24" + "00" * 7)
 
 
 def two_routines():
@@ -368,6 +383,9 @@ def read_while_written():
 
 
 def main():
+    if sys.argv[1:2] == ["--files"]:
+        write_example(*sys.argv[2:])
+        return 0
     if not os.access(PROGRAM, os.X_OK):
         print(f"examples: {PROGRAM} isn't built\n0 passed, 1 failed")
         return 1

@@ -99,6 +99,16 @@ sweep_test() {
   good "$name: $total requests, one of each $step"
 }
 
+# sweep_example PROGRAM NAME: a serial run of that worked example
+sweep_example() {
+  mkdir -p "$room/example"
+  if tools/examples.py --files "$2" "$room/example" 2> "$room/err"; then
+    sweep_run "$2" 0 "$room/example/prints" '' "$1" serial "$room/example/setup" "$room/example/a" "$room/example/b"
+  else
+    bad "$2: there is no such example"
+  fi
+}
+
 # sweep_program: the runs of the program
 sweep_program() {
   local program=crates/uds_play/out/uds_play usage
@@ -122,6 +132,11 @@ sweep_program() {
     sweep_run "play" 0 "$room/played" '' "$program" play --stamps "$room/config" "$room/log"
     any_order=1 sweep_run "play of two testers" 0 runs/threaded_play/lines '' \
       "$program" play runs/setup.toml runs/threaded_play/a.log runs/threaded_play/b.log
+    sweep_example "$program" suppressed-reply
+    sweep_example "$program" long-reply
+    sweep_example "$program" trouble-codes
+    sweep_example "$program" routine-and-setting
+    sweep_example "$program" "many-identifiers, one of them unknown"
     sweep_run "replay" 0 "$room/replayed" '' "$program" replay "$room/config" "$room/journal"
     writes_as_it_goes=1 sweep_run "bus" 0 runs/bus_merge/stdout '' "$program" bus runs/setup.toml runs/bus_merge/capture.log
     writes_as_it_goes=1 sweep_run "the journal of a bus" 0 runs/bus_functional_journal/stdout '' \
