@@ -1,5 +1,5 @@
 -- A well `tick` line at the front of a text.
-use Rattle.std.proofs.Common.{◌≡◌, ◌==◌, ◌&&◌, ◌⊎◌, ℕ, ◌+◌, ◌-◌, ◌<◌, ◌≤◌, nat_lt, Bool, true, false, cond, List, [], ◌∷◌, ◌++◌, append_assoc, length, length-append, take, drop, get_or, Some, None, Ok, refl, subst, sym, ap, ◌∙◌, add-one, arith, inl, inr, drop-cons, get_or-take, take-append-drop, length-take-le}
+use Rattle.std.proofs.Common.{◌≡◌, ◌==◌, ◌&&◌, ◌⊎◌, ℕ, suc, ◌+◌, ◌-◌, ◌<◌, ◌≤◌, nat_lt, Bool, true, false, cond, List, [], ◌∷◌, ◌++◌, append_assoc, length, length-append, take, drop, get_or, Some, None, Ok, refl, subst, sym, ap, ◌∙◌, add-one, arith, inl, inr, drop-cons, get_or-take, take-append-drop, length-take-le}
 use Rattle.std.specs.List.{AllPass, list_all, prefix_len}
 use Rattle.std.specs.Prelude.{All, not}
 use Rattle.std.proofs.lemmas.Bool.{cases_Bool, eqb-true}
@@ -117,22 +117,26 @@ module _ (rest after : List ℕ) (len count : ℕ) (well : tick_count (take len 
       let not_long : nat_lt 4096 (length whole) ≡ false = grind (arith, nat_tests) in
       rw not_long (ap line_says same ∙ line_is)
 
-  is_front : (whole some : List ℕ) → text ≡ whole ++ 10 ∷ after → HasNoFeed whole → length whole ≤ 4096 → without_return whole ≡ line
-      → IsFront text (take (length text - length after - 1) text) some after (Ticks count)
-  is_front whole some is none short same =
-      subst (λ (w : List ℕ). IsFront text w some after (Ticks count)) (sym (front_is text whole after is)) (record {
+  cut : take (4 + len) text ≡ line
+  cut = let four : 4 + len ≡ suc (suc (suc (suc len))) = omega arith in rw four refl
+
+  is_front : (whole : List ℕ) → text ≡ whole ++ 10 ∷ after → HasNoFeed whole → length whole ≤ 4096 → without_return whole ≡ line
+      → IsFront text (take (length text - length after - 1) text) (take (4 + len) text) after (Ticks count)
+  is_front whole is none short same =
+      subst (λ (w : List ℕ). IsFront text w (take (4 + len) text) after (Ticks count)) (sym (front_is text whole after is)) (record {
         is = is;
         plain = none;
+        line_is = cut ∙ sym same;
         holds = bus_line_is whole short same;
       })
 
-  pub ticks_line : (some : List ℕ) → (drop len rest ≡ 10 ∷ after) ⊎ (drop len rest ≡ 13 ∷ 10 ∷ after)
-      → IsFront text (take (length text - length after - 1) text) some after (Ticks count)
-  ticks_line some (inl feed) =
-      is_front line some (ap (λ (t : List ℕ). 116 ∷ 105 ∷ 99 ∷ 107 ∷ t) (sym (take-append-drop len rest) ∙ ap (λ (t : List ℕ). take len rest ++ t) feed))
+  pub ticks_line : (drop len rest ≡ 10 ∷ after) ⊎ (drop len rest ≡ 13 ∷ 10 ∷ after)
+      → IsFront text (take (length text - length after - 1) text) (take (4 + len) text) after (Ticks count)
+  ticks_line (inl feed) =
+      is_front line (ap (λ (t : List ℕ). 116 ∷ 105 ∷ 99 ∷ 107 ∷ t) (sym (take-append-drop len rest) ∙ ap (λ (t : List ℕ). take len rest ++ t) feed))
       line_plain (omega (arith, size)) (without_cr line (omega (arith, size)) plain)
-  ticks_line some (inr ends) =
-      is_front (line ++ 13 ∷ []) some
+  ticks_line (inr ends) =
+      is_front (line ++ 13 ∷ [])
       (ap (λ (t : List ℕ). 116 ∷ 105 ∷ 99 ∷ 107 ∷ t)
       (sym (take-append-drop len rest) ∙ ap (λ (t : List ℕ). take len rest ++ t) ends ∙ sym (append_assoc (take len rest) (13 ∷ []) (10 ∷ after))))
       (All-append (λ c. is_feed c ≡ false) line (13 ∷ []) line_plain (All-cons (λ c. is_feed c ≡ false) 13 [] refl (All-nil (λ c. is_feed c ≡ false))))

@@ -1,6 +1,7 @@
 -- What is seen of a capture's line by one look at it and at its end.
 use Rattle.std.specs.Prelude.{◌≡◌, ℕ, List, ◌∷◌, ◌++◌, Option, Some, None, Ok}
 use Rattle.diag_can.specs.Bus.{HasNoFeed, bus_line}
+use Rattle.diag_can.specs.Log.{without_return}
 use Rattle.diag_can.specs.Usual.{IsUsual, usual_said}
 use Rattle.diag_can.specs.declared.bus.BusLine.TheVariants as says
 use Rattle.diag_can.specs.declared.bus.Seen.{Seen}
@@ -21,4 +22,5 @@ seen_usual (Some usual) = Usual usual.0 usual.1
 pub record IsFront (text whole line after : List ℕ) (seen : Seen) : Type 0 where
   pub is : text ≡ whole ++ 10 ∷ after
   pub plain : HasNoFeed whole
+  pub line_is : line ≡ without_return whole
   pub holds : IsSeen whole line seen

@@ -15,7 +15,6 @@ ghost use Rattle.std.specs.Prelude.{
   max,
   None,
   option_and_then,
-  option_copied,
   IfSome,
   IsNone,
   IsSome,
@@ -46,7 +45,6 @@ ghost use Rattle.diag_tp.specs.Taken.{
   IsTaken,
   FitsIn,
   asked_in,
-  left_of_kind,
   reception_after,
   granted_after,
   sender_after,
@@ -74,7 +72,7 @@ use crate::pci::Pci;
 use crate::reception::go_on;
 use crate::step::{Request, Step};
 use crate::taken::Taken;
-use diag_can::{Event, Frame, FrameBytes};
+use diag_can::{Event, FrameBytes};
 use std::alloc::AllocError;
 
 impl Link {

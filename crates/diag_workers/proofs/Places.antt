@@ -1,15 +1,12 @@
 -- The doors of a crew stand in the testers' order.
-use Rattle.std.proofs.Common.{◌≡◌, ◌≤◌, ℕ, zero, suc, ◌+◌, List, [], ◌∷◌, length, map, refl, ap, sym, ◌∙◌, arith}
+use Rattle.std.proofs.Common.{◌≡◌, ◌≤◌, ℕ, zero, suc, ◌+◌, List, [], ◌∷◌, length, map, ap, sym, ◌∙◌, arith}
 use Rattle.std.proofs.lemmas.List.{length-map}
 use Rattle.std.specs.List.{AllByRecursion}
 use Rattle.diag_tp.specs.Moments.{counted_from}
-
-length-counted_from : (first n : ℕ) → length (counted_from first n) ≡ n
-length-counted_from first zero = refl
-length-counted_from first (suc n) = ap suc (length-counted_from (suc first) n)
+use Rattle.diag_tp.proofs.CutFrames.{length-counted}
 
 pub places_count : {D : Type 0} (tester : D → ℕ) (doors : List D) (first n : ℕ) → map tester doors ≡ counted_from first n → length doors ≡ n
-places_count tester doors first n h = sym (length-map doors tester) ∙ (ap length h ∙ length-counted_from first n)
+places_count tester doors first n h = sym (length-map doors tester) ∙ (ap length h ∙ length-counted first n)
 
 pub places_below : {D : Type 0} (tester : D → ℕ) (doors : List D) (first n most : ℕ) → first + n ≤ most + 1 → map tester doors ≡ counted_from first n
     → AllByRecursion (λ (door : D). tester door ≤ most) doors

@@ -18,5 +18,5 @@ returns c =
     take_all (length rest - len) (drop len rest) (omega (arith, length-drop len rest)) in
     let whole : text ≡ 116 ∷ 105 ∷ 99 ∷ 107 ∷ rest = letters text c.in-116.len_at_least (search rules) (search rules) (search rules) (search rules) in
     let line =
-    ticks_line rest after len count (rw four at read.is) (rw four at read.fits) read.few (take (4 + len) text) (rw (four, ends) at c.in_ok-after.ensures.is) in
-    subst (λ (t : List ℕ). IsFront t (take (length t - length after - 1) t) (take (4 + len) text) after (Ticks count)) (sym whole) line
+    ticks_line rest after len count (rw four at read.is) (rw four at read.fits) read.few (rw (four, ends) at c.in_ok-after.ensures.is) in
+    subst (λ (t : List ℕ). IsFront t (take (length t - length after - 1) t) (take (4 + len) t) after (Ticks count)) (sym whole) line
