@@ -13,7 +13,7 @@ use Rattle.diag_desk.specs.Clocks.{Tells}
 use Rattle.diag_desk.proofs.EntryLemmas.{entries_more}
 use Rattle.std.specs.Prelude.{Result, Ok, Err, IfOk, IfErr, MatchResult}
 use Rattle.diag_desk.specs.Entry.{Kept, AreEntries, IsJournal, IsEntry}
-use Rattle.diag_desk.specs.Fault.{FaultAt, IsTextOf, one_journal_law}
+use Rattle.diag_desk.specs.Fault.{FaultAt, IsTextOf, OneJournalLaw}
 use Rattle.diag_desk.specs.PartRead.{HasNoNext, PartRead}
 use Rattle.diag_desk.specs.Text.{ended, entry_line, header, journal_text_at, line_after, lines_after, stamped_line, text_of, ticks_in, ticks_of}
 use Rattle.diag_desk.proofs.ClockLemmas.{SmallTicks, small_more, sum_bound, tells_more, ticks_bound}
@@ -267,7 +267,7 @@ lines_one version past (e ∷ es) (k ∷ ks) hp he hk le lk is =
     (both.1 ∙ ap (λ (x : Entry). lines_after version (past ++ x ∷ []) ks) (sym same)) in
     λ i. same i ∷ rest i
 
-pub one_journal : one_journal_law
+pub one_journal : OneJournalLaw
 one_journal = λ text es ks h k t u.
     let a = text_header es text t in
     let b = text_header ks text u in

@@ -11,7 +11,7 @@ use Rattle.diag_desk.specs.declared.replaying.ReplayFault.{ReplayFault}
 use Rattle.diag_desk.specs.declared.replaying.ReplayFault.TheVariants.{Differs, Memory}
 use Rattle.diag_ecu.specs.State.{State}
 use Rattle.diag_setup.specs.Setup.{IsSetup}
-use Rattle.diag_desk.specs.Legal.{IsOpening, Legal, after, after_step, reply_to, legal_prefix_law}
+use Rattle.diag_desk.specs.Legal.{IsOpening, Legal, after, after_step, reply_to, LegalPrefixLaw}
 use Rattle.diag_desk.specs.declared.entry.Entry.{Entry}
 
 pub opens : (setup : RawSetup) (s : State) → IsSetup setup → s ≡ opening setup → IsOpening s
@@ -44,7 +44,7 @@ legal_part : (s : State) (seen more : List Entry) → Legal s (seen ++ more) →
 legal_part s [] more h = tt
 legal_part s (e ∷ seen) more h = (h.0, legal_part (after_step s e.who e.step) seen more h.1)
 
-pub prefix_is_legal : legal_prefix_law
+pub prefix_is_legal : LegalPrefixLaw
 prefix_is_legal = λ s journal seen begins h. legal_part s seen begins.0 (subst (Legal s) begins.1 h)
 
 -- ---- replaying
