@@ -7,10 +7,7 @@ use Rattle.diag_setup.specs.declared.raw.RawSetup.{RawSetup}
 use Rattle.diag_ecu.specs.State.{State, opening}
 use Rattle.diag_desk.specs.declared.entry.Entry.{Entry}
 use Rattle.diag_desk.specs.declared.following.Play.{Play}
-use Rattle.diag_desk.specs.declared.following.TextFault.{TextFault}
-use Rattle.diag_desk.specs.declared.following.TextFault.TheVariants.{Line, Differs, Memory}
-use Rattle.diag_desk.specs.Fault.{FaultAt}
-use Rattle.diag_desk.specs.Following.{Plays, TextDiffers}
+use Rattle.diag_desk.specs.Following.{Plays}
 use Rattle.diag_desk.specs.Legal.{after, after_step, reply_to}
 use Rattle.diag_desk.specs.Replay.{DiffersAt, IsLegalFor}
 use Rattle.diag_desk.proofs.Runs.{differs_at, keeps_legal, testers_more}
@@ -77,15 +74,3 @@ plays_other setup play new past e number none is at other h =
           let same : number ≡ n = same_Some number n (sym is ∙ some) in
           subst (DiffersAt setup (past ++ e ∷ [])) (sym at ∙ same) (differs_here setup past e play.ecu so_far.0 so_far.1 other);
     }
-
-abbrev number_of : TextFault → ℕ
-number_of (Line n) = n
-number_of (Differs n) = n
-number_of Memory = 0
-
--- a fault has one number
-pub line_at : (text : List ℕ) (m n : ℕ) → FaultAt text m → Line m ≡ Line n → FaultAt text n
-line_at text m n h e = subst (FaultAt text) (ap number_of e) h
-
-pub differs_in : (setup : RawSetup) (text : List ℕ) (m n : ℕ) → TextDiffers setup text m → Differs m ≡ Differs n → TextDiffers setup text n
-differs_in setup text m n h e = subst (TextDiffers setup text) (ap number_of e) h

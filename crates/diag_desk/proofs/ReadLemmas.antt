@@ -235,14 +235,6 @@ stuck_at_line r rest line more h some cuts none = record {
       ∙ cut-there 10 (line_after r.version r.entries e) after (after_free r.version r.entries e h.0 h.1 k)) cuts).0;
 }
 
-abbrev number_of : JournalFault → ℕ
-number_of (Line n) = n
-number_of Memory = 0
-
--- the fault names its line
-pub fault_at : (text : List ℕ) (m n : ℕ) → FaultAt text m → Line m ≡ Line n → FaultAt text n
-fault_at text m n h e = subst (FaultAt text) (ap number_of e) h
-
 -- ---- one text, one journal
 
 lines_one : (version : JournalVersion) (past es ks : List Entry) → AreEntries past → AreEntries es → AreEntries ks → length past + length es ≤ 1000000

@@ -91,13 +91,6 @@ differs_at setup es i e now at run is other = record {
       (legal_last (opening setup) (take i es) e one.1 ∙ ap (λ s. reply_to s e.who e.step) (sym is));
 }
 
-abbrev number_of : ReplayFault → ℕ
-number_of (Differs n) = n
-number_of Memory = 0
-
-pub fault_at : (setup : RawSetup) (es : List Entry) (m n : ℕ) → DiffersAt setup es m → Differs m ≡ Differs n → DiffersAt setup es n
-fault_at setup es m n h e = subst (DiffersAt setup es) (ap number_of e) h
-
 testers_take : (k n : ℕ) (es : List Entry) → AreTesters k es → AreTesters k (take n es)
 testers_take k zero es h = tt
 testers_take k (suc n) [] h = tt
