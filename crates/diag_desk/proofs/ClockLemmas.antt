@@ -9,7 +9,7 @@ use Rattle.diag_desk.specs.Entry.{IsEntry, IsStep, AreEntries}
 use Rattle.diag_desk.specs.Text.{ticks_in, ticks_of}
 use Rattle.diag_desk.specs.Clocks.{Tells}
 
-step_bound : (s : Step) (r : Option (List ℕ)) → IsStep s r → ticks_in s ≤ 60000
+pub step_bound : (s : Step) (r : Option (List ℕ)) → IsStep s r → ticks_in s ≤ 60000
 step_bound (Request f m) r h = omega arith
 step_bound (Ticks n) r h = omega (arith, h)
 
