@@ -9,7 +9,7 @@ use Rattle.diag_desk.specs.Entry.{IsEntry, IsStep, AreEntries}
 use Rattle.diag_desk.specs.Text.{ticks_in, ticks_of}
 use Rattle.diag_desk.specs.Clocks.{Tells}
 
-step_bound : (s : Step) (r : Option (List ℕ)) → IsStep s r → ticks_in s ≤ 60000
+pub step_bound : (s : Step) (r : Option (List ℕ)) → IsStep s r → ticks_in s ≤ 60000
 step_bound (Request f m) r h = omega arith
 step_bound (Ticks n) r h = omega (arith, h)
 
@@ -72,4 +72,19 @@ pub tells_more : (ticks next : List ℕ) (es : List Entry) (e : Entry) → e.who
 tells_more ticks next es e below h is = record {
   places = ap length is ∙ length-set ticks e.who (ticks_of e.who es + ticks_in e.step) ∙ h.places;
   each = λ t lt. tell_one ticks next es e t lt below h is;
+}
+
+no_share : (b : Bool) (n : ℕ) → n ≡ 0 → cond b n 0 ≡ 0
+no_share true n h = h
+no_share false n h = refl
+
+-- an entry without ticks moves no clock
+pub tells_still : (ticks : List ℕ) (es : List Entry) (e : Entry) → ticks_in e.step ≡ 0 → Tells ticks es → Tells ticks (es ++ e ∷ [])
+tells_still ticks es e none h = record {
+  places = h.places;
+  each = λ t lt.
+      let told = h.each t lt in
+      let more = ticks-append t es e in
+      let still = no_share (e.who == t) (ticks_in e.step) none in
+      omega (arith, told, more, still);
 }

@@ -7,30 +7,27 @@ use Rattle.diag_setup.specs.declared.raw.RawSetup.{RawSetup}
 use Rattle.diag_ecu.specs.State.{State, opening}
 use Rattle.diag_desk.specs.declared.entry.Entry.{Entry}
 use Rattle.diag_desk.specs.declared.following.Play.{Play}
-use Rattle.diag_desk.specs.declared.following.TextFault.{TextFault}
-use Rattle.diag_desk.specs.declared.following.TextFault.TheVariants.{Line, Differs, Memory}
-use Rattle.diag_desk.specs.Fault.{FaultAt}
-use Rattle.diag_desk.specs.Following.{Plays, TextDiffers}
+use Rattle.diag_desk.specs.Following.{Plays}
 use Rattle.diag_desk.specs.Legal.{after, after_step, reply_to}
-use Rattle.diag_desk.specs.Replay.{DiffersAt, IsRun}
+use Rattle.diag_desk.specs.Replay.{DiffersAt, IsLegalFor}
 use Rattle.diag_desk.proofs.Runs.{differs_at, keeps_legal, testers_more}
 
 at_end : (past : List Entry) (e : Entry) → slice_get (past ++ e ∷ []) (length past) ≡ Some e
 at_end [] e = refl
 at_end (x ∷ xs) e = at_end xs e
 
-run_on : (setup : RawSetup) (past : List Entry) (e : Entry) (now next : State) → IsRun setup past → now ≡ after (opening setup) past
+run_on : (setup : RawSetup) (past : List Entry) (e : Entry) (now next : State) → IsLegalFor setup past → now ≡ after (opening setup) past
     → e.who ≤ length setup.testers → e.reply ≡ reply_to now e.who e.step → next ≡ after_step now e.who e.step
-    → IsRun setup (past ++ e ∷ []) × (next ≡ after (opening setup) (past ++ e ∷ []))
+    → IsLegalFor setup (past ++ e ∷ []) × (next ≡ after (opening setup) (past ++ e ∷ []))
 run_on setup past e now next run is who reply step =
     let kept = keeps_legal (opening setup) past (past ++ e ∷ []) e now next (run.1, is) refl reply step in
     ((testers_more (length setup.testers) past e run.0 who, kept.0), kept.1)
 
-differs_here : (setup : RawSetup) (past : List Entry) (e : Entry) (now : State) → IsRun setup past → now ≡ after (opening setup) past
+differs_here : (setup : RawSetup) (past : List Entry) (e : Entry) (now : State) → IsLegalFor setup past → now ≡ after (opening setup) past
     → (e.who ≤ length setup.testers → e.reply ≡ reply_to now e.who e.step → ⊥) → DiffersAt setup (past ++ e ∷ []) (length past + 1)
 differs_here setup past e now run is other =
     let front : past ≡ take (length past) (past ++ e ∷ []) = sym (take-append_seam past (e ∷ [])) in
-    differs_at setup (past ++ e ∷ []) (length past) e now (at_end past e) (subst (IsRun setup) front run) (is ∙ ap (after (opening setup)) front) other
+    differs_at setup (past ++ e ∷ []) (length past) e now (at_end past e) (subst (IsLegalFor setup) front run) (is ∙ ap (after (opening setup)) front) other
 
 -- what differs goes on to do so
 differs_on : (setup : RawSetup) (past more : List Entry) (n : ℕ) → DiffersAt setup past n → DiffersAt setup (past ++ more) n
@@ -42,8 +39,8 @@ differs_on setup past more n d =
     record {
       some = one;
       within = omega (arith, below, length-append past more);
-      before = subst (IsRun setup) short d.before;
-      differs = λ h. d.differs (subst (IsRun setup) long h);
+      before = subst (IsLegalFor setup) short d.before;
+      differs = λ h. d.differs (subst (IsLegalFor setup) long h);
     }
 
 -- an entry behind one that differs
@@ -77,15 +74,3 @@ plays_other setup play new past e number none is at other h =
           let same : number ≡ n = same_Some number n (sym is ∙ some) in
           subst (DiffersAt setup (past ++ e ∷ [])) (sym at ∙ same) (differs_here setup past e play.ecu so_far.0 so_far.1 other);
     }
-
-abbrev number_of : TextFault → ℕ
-number_of (Line n) = n
-number_of (Differs n) = n
-number_of Memory = 0
-
--- a fault has one number
-pub line_at : (text : List ℕ) (m n : ℕ) → FaultAt text m → Line m ≡ Line n → FaultAt text n
-line_at text m n h e = subst (FaultAt text) (ap number_of e) h
-
-pub differs_in : (setup : RawSetup) (text : List ℕ) (m n : ℕ) → TextDiffers setup text m → Differs m ≡ Differs n → TextDiffers setup text n
-differs_in setup text m n h e = subst (TextDiffers setup text) (ap number_of e) h

@@ -13,7 +13,7 @@ use Rattle.diag_desk.specs.Clocks.{Tells}
 use Rattle.diag_desk.proofs.EntryLemmas.{entries_more}
 use Rattle.std.specs.Prelude.{Result, Ok, Err, IfOk, IfErr, MatchResult}
 use Rattle.diag_desk.specs.Entry.{Kept, AreEntries, IsJournal, IsEntry}
-use Rattle.diag_desk.specs.Fault.{FaultAt, IsTextOf, one_journal_law}
+use Rattle.diag_desk.specs.Fault.{FaultAt, IsTextOf, OneJournalLaw}
 use Rattle.diag_desk.specs.PartRead.{HasNoNext, PartRead}
 use Rattle.diag_desk.specs.Text.{ended, entry_line, header, journal_text_at, line_after, lines_after, stamped_line, text_of, ticks_in, ticks_of}
 use Rattle.diag_desk.proofs.ClockLemmas.{SmallTicks, small_more, sum_bound, tells_more, ticks_bound}
@@ -235,14 +235,6 @@ stuck_at_line r rest line more h some cuts none = record {
       ∙ cut-there 10 (line_after r.version r.entries e) after (after_free r.version r.entries e h.0 h.1 k)) cuts).0;
 }
 
-abbrev number_of : JournalFault → ℕ
-number_of (Line n) = n
-number_of Memory = 0
-
--- the fault names its line
-pub fault_at : (text : List ℕ) (m n : ℕ) → FaultAt text m → Line m ≡ Line n → FaultAt text n
-fault_at text m n h e = subst (FaultAt text) (ap number_of e) h
-
 -- ---- one text, one journal
 
 lines_one : (version : JournalVersion) (past es ks : List Entry) → AreEntries past → AreEntries es → AreEntries ks → length past + length es ≤ 1000000
@@ -267,7 +259,7 @@ lines_one version past (e ∷ es) (k ∷ ks) hp he hk le lk is =
     (both.1 ∙ ap (λ (x : Entry). lines_after version (past ++ x ∷ []) ks) (sym same)) in
     λ i. same i ∷ rest i
 
-pub one_journal : one_journal_law
+pub one_journal : OneJournalLaw
 one_journal = λ text es ks h k t u.
     let a = text_header es text t in
     let b = text_header ks text u in

@@ -6,12 +6,12 @@ use Rattle.std.proofs.lemmas.List.{take_more}
 use Rattle.std.proofs.lemmas.Option.{slice_get_within, get_or_from_slice_get}
 use Rattle.diag_ecu.specs.State.{opening}
 use Rattle.diag_setup.specs.declared.raw.RawSetup.{RawSetup}
-use Rattle.diag_desk.specs.Replay.{AreTesters, DiffersAt, IsRun}
+use Rattle.diag_desk.specs.Replay.{AreTesters, DiffersAt, IsLegalFor}
 use Rattle.diag_desk.specs.declared.replaying.ReplayFault.{ReplayFault}
 use Rattle.diag_desk.specs.declared.replaying.ReplayFault.TheVariants.{Differs, Memory}
 use Rattle.diag_ecu.specs.State.{State}
 use Rattle.diag_setup.specs.Setup.{IsSetup}
-use Rattle.diag_desk.specs.Legal.{IsOpening, Legal, after, after_step, reply_to, legal_prefix_law}
+use Rattle.diag_desk.specs.Legal.{IsOpening, Legal, after, after_step, reply_to, LegalPrefixLaw}
 use Rattle.diag_desk.specs.declared.entry.Entry.{Entry}
 
 pub opens : (setup : RawSetup) (s : State) → IsSetup setup → s ≡ opening setup → IsOpening s
@@ -44,7 +44,7 @@ legal_part : (s : State) (seen more : List Entry) → Legal s (seen ++ more) →
 legal_part s [] more h = tt
 legal_part s (e ∷ seen) more h = (h.0, legal_part (after_step s e.who e.step) seen more h.1)
 
-pub prefix_is_legal : legal_prefix_law
+pub prefix_is_legal : LegalPrefixLaw
 prefix_is_legal = λ s journal seen begins h. legal_part s seen begins.0 (subst (Legal s) begins.1 h)
 
 -- ---- replaying
@@ -66,10 +66,10 @@ pub take_one : {X : Type 0} (xs : List X) (i : ℕ) (x : X) → slice_get xs i �
 take_one xs i x at = take_more xs i x (slice_get_within xs i x at) ∙ ap (λ y. take i xs ++ y ∷ []) (get_or_from_slice_get xs i x x at)
 
 -- one entry more of a run
-pub run_more : (setup : RawSetup) (es : List Entry) (i : ℕ) (e : Entry) (now next : State) → slice_get es i ≡ Some e → IsRun setup (take i es)
+pub run_more : (setup : RawSetup) (es : List Entry) (i : ℕ) (e : Entry) (now next : State) → slice_get es i ≡ Some e → IsLegalFor setup (take i es)
     → now ≡ after (opening setup) (take i es)
     → e.who ≤ length setup.testers → e.reply ≡ reply_to now e.who e.step → next ≡ after_step now e.who e.step
-    → IsRun setup (take (i + 1) es) × (next ≡ after (opening setup) (take (i + 1) es))
+    → IsLegalFor setup (take (i + 1) es) × (next ≡ after (opening setup) (take (i + 1) es))
 run_more setup es i e now next at run is who reply step =
     let kept = keeps_legal (opening setup) (take i es) (take (i + 1) es) e now next (run.1, is) (take_one es i e at) reply step in
     ((subst (AreTesters (length setup.testers)) (sym (take_one es i e at)) (testers_more (length setup.testers) (take i es) e run.0 who), kept.0), kept.1)
@@ -78,25 +78,18 @@ back : (i : ℕ) → i ≡ i + 1 - 1
 back i = omega arith
 
 -- an entry that differs
-pub differs_at : (setup : RawSetup) (es : List Entry) (i : ℕ) (e : Entry) (now : State) → slice_get es i ≡ Some e → IsRun setup (take i es)
+pub differs_at : (setup : RawSetup) (es : List Entry) (i : ℕ) (e : Entry) (now : State) → slice_get es i ≡ Some e → IsLegalFor setup (take i es)
     → now ≡ after (opening setup) (take i es)
     → (e.who ≤ length setup.testers → e.reply ≡ reply_to now e.who e.step → ⊥) → DiffersAt setup es (i + 1)
 differs_at setup es i e now at run is other = record {
   some = omega arith;
   within = let below = slice_get_within es i e at in omega arith;
-  before = subst (λ n. IsRun setup (take n es)) (back i) run;
+  before = subst (λ n. IsLegalFor setup (take n es)) (back i) run;
   differs = λ h.
-      let one = subst (IsRun setup) (take_one es i e at) h in
+      let one = subst (IsLegalFor setup) (take_one es i e at) h in
       other (testers_last (length setup.testers) (take i es) e one.0)
       (legal_last (opening setup) (take i es) e one.1 ∙ ap (λ s. reply_to s e.who e.step) (sym is));
 }
-
-abbrev number_of : ReplayFault → ℕ
-number_of (Differs n) = n
-number_of Memory = 0
-
-pub fault_at : (setup : RawSetup) (es : List Entry) (m n : ℕ) → DiffersAt setup es m → Differs m ≡ Differs n → DiffersAt setup es n
-fault_at setup es m n h e = subst (DiffersAt setup es) (ap number_of e) h
 
 testers_take : (k n : ℕ) (es : List Entry) → AreTesters k es → AreTesters k (take n es)
 testers_take k zero es h = tt
@@ -110,7 +103,7 @@ legal_take s (suc n) (e ∷ es) h = (h.0, legal_take (after_step s e.who e.step)
 
 -- a run has no entry that differs
 pub replays_again : (setup : RawSetup) (es : List Entry) (r : Result State ReplayFault) → IfErr r (λ fault. (n : ℕ) → fault ≡ Differs n → DiffersAt setup es n)
-    → IsRun setup es → IfErr r (λ fault. fault ≡ Memory)
+    → IsLegalFor setup es → IfErr r (λ fault. fault ≡ Memory)
 replays_again setup es (Ok ecu) differs run = tt
 replays_again setup es (Err Memory) differs run = refl
 replays_again setup es (Err (Differs n)) differs run =

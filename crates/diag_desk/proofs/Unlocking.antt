@@ -7,7 +7,7 @@ use Rattle.diag_ecu.specs.Respond.{write_level}
 use Rattle.diag_ecu.specs.Unlocking.{HasUnlocked, write_level_of}
 use Rattle.diag_ecu.proofs.Unlocking as ecu
 use Rattle.diag_desk.specs.Legal.{after_step, after, Legal, reply_to}
-use Rattle.diag_desk.specs.Unlocking.{SendsKey, UnlockedBefore, unlock_law}
+use Rattle.diag_desk.specs.Unlocking.{SendsKey, UnlockedBefore, UnlockLaw}
 use Rattle.diag_tp.specs.declared.step.Step.{Step}
 use Rattle.diag_tp.specs.declared.step.Step.TheVariants.{Request, Ticks}
 use Rattle.diag_desk.specs.declared.entry.Entry.{Entry}
@@ -109,7 +109,7 @@ within_run (x ∷ entries) zero e at = omega arith
 within_run (x ∷ entries) (suc i) e at = let below = within_run entries i e at in omega arith
 
 -- the law
-pub unlock : unlock_law
+pub unlock : UnlockLaw
 unlock s entries locked legal i e id at written above =
     let now = after s (take i entries) in
     let rules : write_level_of now id ≡ write_level_of s id = ap write_level (run_rules s (take i entries) id) in

@@ -26,8 +26,8 @@ pub record FaultAt (text : List ℕ) (n : ℕ) : Type 0 where
   pub none : (entries : List Entry) → IsJournal entries → IsTextOf text entries → ⊥
 
 -- a text is that of one journal
-abbrev pub one_journal_law : Type 0
-one_journal_law = (text : List ℕ) (entries others : List Entry)
+abbrev pub OneJournalLaw : Type 0
+OneJournalLaw = (text : List ℕ) (entries others : List Entry)
     → IsJournal entries
     → IsJournal others
     → IsTextOf text entries

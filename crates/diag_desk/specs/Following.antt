@@ -15,15 +15,15 @@ use Rattle.diag_desk.specs.Entry.{IsEntry, IsJournal, IsMessage, IsReply, most_e
 use Rattle.diag_desk.specs.Fault.{FaultAt, IsTextOf}
 use Rattle.diag_desk.specs.Legal.{after}
 use Rattle.diag_desk.specs.PartRead.{PartRead}
-use Rattle.diag_desk.specs.Replay.{DiffersAt, IsRun}
+use Rattle.diag_desk.specs.Replay.{DiffersAt, IsLegalFor}
 use Rattle.diag_desk.specs.Text.{line_after, reply_text, text_of}
 
--- the text is that of these entries, which are a run of the setup and leave this state
+-- the text is that of these entries, which are legal for the setup and leave this state
 pub record IsReplayed (setup : RawSetup) (text : List ℕ) (count : ℕ) (s : State) : Type 0 where
   pub entries : List Entry
   pub journal : IsJournal entries
   pub read : IsTextOf text entries
-  pub run : IsRun setup entries
+  pub run : IsLegalFor setup entries
   pub counted : count ≡ length entries
   pub state : s ≡ after (opening setup) entries
 
@@ -43,7 +43,7 @@ read_so_far version past = record { version = version; entries = past }
 
 -- what a play has made of the entries so far: the ECU is where they lead, or one differs
 pub record Plays (setup : RawSetup) (play : Play) (past : List Entry) : Type 0 where
-  pub run : play.differs ≡ None → IsRun setup past × (play.ecu ≡ after (opening setup) past)
+  pub run : play.differs ≡ None → IsLegalFor setup past × (play.ecu ≡ after (opening setup) past)
   pub differs : (n : ℕ) → play.differs ≡ Some n → DiffersAt setup past n
 
 -- what was read and played so far

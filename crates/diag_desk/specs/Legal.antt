@@ -49,8 +49,8 @@ abbrev pub entered : Run → Entry → Run
 entered r e = record { opening = r.opening; journal = r.journal ++ e ∷ [] }
 
 -- a prefix of a legal journal is legal
-abbrev pub legal_prefix_law : Type 0
-legal_prefix_law = (s : State) (journal seen : List Entry)
+abbrev pub LegalPrefixLaw : Type 0
+LegalPrefixLaw = (s : State) (journal seen : List Entry)
     → BeginsWith journal seen
     → Legal s journal
     → Legal s seen

@@ -26,8 +26,8 @@ pub record UnlockedBefore (s : State) (entries : List Entry) (i who level : ℕ)
 
 -- Where nothing is unlocked at first, as in each opening: a value that needs a level above 0 is written only after that
 -- tester has sent the level's key, and has stayed the holder with the level unlocked since.
-abbrev pub unlock_law : Type 0
-unlock_law = (s : State) (entries : List Entry) → s.security.unlocked ≡ None → Legal s entries
+abbrev pub UnlockLaw : Type 0
+UnlockLaw = (s : State) (entries : List Entry) → s.security.unlocked ≡ None → Legal s entries
     → (i : ℕ) (e : Entry) (id : ℕ) → slice_get entries i ≡ Some e
     → e.reply ≡ Some (0x6E ∷ bytes_16 id)
     → 0 < write_level_of s id

@@ -102,6 +102,7 @@ fn append(bytes: &mut Vec<u8>, more: &[u8])
         add_bytes(bytes, more);
         return;
     }
+    // There is room, so no memory is asked for.
     let _ = bytes.extend_from_slice(more);
 }
 

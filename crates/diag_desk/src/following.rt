@@ -389,7 +389,6 @@ impl Follower {
         let Some(rest) = self.play.answers_front(who, functional, text) else {
             return None;
         };
-        self.clocks.set(who, self.clocks.at(who));
         self.count += 1;
         Some(rest)
     }
@@ -405,6 +404,7 @@ impl Follower {
         ensures none { IfNone result (self.new ≡ self.old) }
         ensures version { self.new.version ≡ self.old.version }
     {
+        // (for its contract: a place is at most 8)
         let _place = who.place();
         let Some(front) = count_front(text) else {
             return None;

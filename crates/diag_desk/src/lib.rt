@@ -23,7 +23,7 @@ pub use desk::{Desk, StepFault, put_reply, settle_answered};
 pub use entry::{Entry, EntryRef, MOST_ENTRIES, StepRef};
 pub use following::{Replayed, TextFault, TextReplay};
 pub use journal::{Journal, JournalPush};
-pub use laws::{prefixes_are_legal, texts_have_one_journal, writes_follow_unlocking};
+pub use laws::{legal_prefix_law, one_journal_law, unlock_law};
 pub use read::{JournalFault, read_journal};
 pub use replaying::{ReplayFault, replay};
 pub use text::{journal_text, journal_text_at, write_entry, write_header, write_header_at};

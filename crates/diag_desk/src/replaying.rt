@@ -4,7 +4,7 @@ ghost use Rattle.std.specs.Bool.{OnTrue};
 ghost use Rattle.diag_ecu.specs.State.{opening};
 ghost use Rattle.diag_desk.specs.Entry.{IsEntry, entry_seen, step_seen};
 ghost use Rattle.diag_desk.specs.Legal.{after, after_step, reply_to};
-ghost use Rattle.diag_desk.specs.Replay.{DiffersAt, IsRun};
+ghost use Rattle.diag_desk.specs.Replay.{DiffersAt, IsLegalFor};
 
 use crate::entry::{EntryRef, StepRef};
 use crate::journal::Journal;
@@ -31,11 +31,11 @@ pub enum ReplayFault {
 /// has already decided. So the journal of a desk of this setup, whose testers are the setup's, is replayed to its end
 /// where memory is not refused.
 pub fn replay(alloc: Global, setup: &Setup, journal: &Journal) -> Result<Ecu, ReplayFault>
-    ensures run { IfOk result (λ _. IsRun setup.now journal.now.entries) }
+    ensures run { IfOk result (λ _. IsLegalFor setup.now journal.now.entries) }
     ensures ecu { IfOk result (λ ecu. ecu ≡ after (opening setup.now) journal.now.entries) }
     ensures differs { IfErr result (λ fault.
         (n : ℕ) → fault ≡ ReplayFault.Differs n → DiffersAt setup.now journal.now.entries n) }
-    ensures again { IsRun setup.now journal.now.entries
+    ensures again { IsLegalFor setup.now journal.now.entries
         → IfErr result (λ fault. fault ≡ ReplayFault.Memory) }
 {
     replay_all(alloc, setup, journal)
@@ -43,7 +43,7 @@ pub fn replay(alloc: Global, setup: &Setup, journal: &Journal) -> Result<Ecu, Re
 
 /// Replays entry by entry.
 fn replay_all(alloc: Global, setup: &Setup, journal: &Journal) -> Result<Ecu, ReplayFault>
-    ensures run { IfOk result (λ _. IsRun setup.now journal.now.entries) }
+    ensures run { IfOk result (λ _. IsLegalFor setup.now journal.now.entries) }
     ensures ecu { IfOk result (λ ecu. ecu ≡ after (opening setup.now) journal.now.entries) }
     ensures differs { IfErr result (λ fault.
         (n : ℕ) → fault ≡ ReplayFault.Differs n → DiffersAt setup.now journal.now.entries n) }

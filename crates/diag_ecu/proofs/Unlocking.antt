@@ -151,7 +151,7 @@ holder_is : (o : Option ℕ) (who : ℕ) → security.option_is o who ≡ true �
 holder_is None who e = cc
 holder_is (Some t) who e = ap Some (eqb-true t who e)
 
-bytes_same : (xs ys : List ℕ) → bytes_eq xs ys ≡ true → xs ≡ ys
+pub bytes_same : (xs ys : List ℕ) → bytes_eq xs ys ≡ true → xs ≡ ys
 bytes_same xs ys e = (bytes_eq-Decides xs ys).0 e
 
 -- what a right key of a level was

@@ -152,6 +152,7 @@ impl Ecu {
     pub fn settle(&mut self, who: TesterId, functional: bool, message: &Message)
         ensures { self.new ≡ after_request self.old who functional message.now }
     {
+        // (for its contract alone: it decides only what is sent)
         let _ = functional;
         let p = message.bytes();
         if let Some(service) = Service::of(p[0]) {
@@ -182,6 +183,7 @@ impl Ecu {
     pub fn settle_read(&mut self, who: TesterId, functional: bool, high: u8, low: u8)
         ensures { self.new ≡ after_request self.old who functional (0x22 ∷ high ∷ low ∷ []) }
     {
+        // (for its contract alone: reading changes nothing but S3)
         let _ = (functional, high, low);
         self.keep_alive(who);
     }
@@ -324,6 +326,7 @@ impl Ecu {
             ≡ sent functional p.now (served self.old who (Some service) p.now).answer }
         ensures { self.new ≡ (served self.old who (Some service) p.now).state }
     {
+        // (for its contract alone: it decides only what was sent)
         let _ = functional;
         if !is_negative(answer) {
             self.take_effect(who, service, p);

@@ -1,7 +1,7 @@
 //! Security access: seeds and keys (ISO 14229-1:2013, 9.4).
-ghost use Rattle.std.specs.Prelude.{◌≡◌, ◌≤◌, ◌-◌, length, is_some, false, IsTrue, IfOk, Some};
+ghost use Rattle.std.specs.Prelude.{◌≡◌, ◌≤◌, length, false, IsTrue, IfOk, Some};
 ghost use Rattle.diag_setup.specs.Setup.{first_holding};
-ghost use Rattle.diag_store.specs.Security.{level_of, is_delayed};
+ghost use Rattle.diag_store.specs.Security.{is_delayed};
 ghost use Rattle.diag_ecu.specs.Respond.{own_outcome, security_checks, positive_reply, is_sub_function, sub, seed_refusal, key_refusal};
 
 use crate::bytes::sub_of;

@@ -43,6 +43,7 @@ impl Ecu {
           dids = with_value self.old.dids (number_16 p.now 1) (drop 3 p.now);
         } }
     {
+        // It can't be refused: the identifier is in the setup, with a value of this length.
         let _ = self.dids.write(number_16_at(p, 1), &p[3..]);
     }
 }

@@ -15,7 +15,7 @@ use Rattle.diag_desk.specs.Following.{HasTaken}
 use Rattle.diag_desk.specs.declared.following.TextReplay.{TextReplay}
 use Rattle.diag_desk.specs.Fault.{IsTextOf, FaultAt}
 use Rattle.diag_desk.specs.Legal.{Run, after}
-use Rattle.diag_desk.specs.Replay.{IsRun, DiffersAt}
+use Rattle.diag_desk.specs.Replay.{IsLegalFor, DiffersAt}
 use Rattle.diag_world.specs.Headline.{IsPlay}
 use Rattle.diag_world.specs.Weaving.{steps_of, turns, weave}
 use Rattle.diag_config.specs.Key.{◌>>=◌}
@@ -144,12 +144,12 @@ GivesWoven only_journal timing setup said (Ok text) =
 GivesWoven only_journal timing setup said (Err JournalFull) = IsOk said
 GivesWoven only_journal timing setup said (Err fault) = Fails fault said
 
--- the bytes are the text of these entries, which are a run of the setup
+-- the bytes are the text of these entries, which are legal for the setup
 pub record IsReplayedText (setup : RawSetup) (bytes : List ℕ) (text : List ℕ) : Type 0 where
   pub entries : List Entry
   pub journal : IsJournal entries
   pub read : IsTextOf bytes entries
-  pub run : IsRun setup entries
+  pub run : IsLegalFor setup entries
   pub is : text ≡ replay_text setup (length entries) (after (opening setup) entries)
 
 -- the bytes are the text of entries of which the n-th is the first that differs

@@ -1,13 +1,14 @@
-use Rattle.std.proofs.Common.{◌≡◌, ◌∙◌, ◌++◌, ◌∷◌, [], ap, sym, rules, arith, length, length-append, refl}
+use Rattle.std.proofs.Common.{◌≡◌, ◌∙◌, ◌++◌, ◌∷◌, [], ap, sym, rules, arith, length, length-append, refl, subst}
+use Rattle.diag_desk.specs.Fault.{FaultAt}
 use Rattle.diag_desk.specs.Text.{text_of}
 use Rattle.diag_desk.proofs.CutText.{cut-joins, one_cut}
-use Rattle.diag_desk.proofs.ReadLemmas.{fault_at, header_fault, stuck_at_end, stuck_at_line, stuck_fault, text_begins, text_more}
+use Rattle.diag_desk.proofs.ReadLemmas.{header_fault, stuck_at_end, stuck_at_line, stuck_fault, text_begins, text_more}
 use Rattle.diag_desk.proofs.read.read_lines.Goals as goal
 
 pub returns-in_default-version_of-clause-line : goal.returns-in_default-version_of-clause-line
 returns-in_default-version_of-clause-line c = λ n e.
-    fault_at c.args.text.now 1 n (header_fault c.args.text.now
-    (λ version rest cuts. c.in_default-version_of.ensures.none version (one_cut 10 c.args.text.now _ _ _ _ c.in-Some.ensures cuts).0)) e
+    subst (FaultAt c.args.text.now) (cc e) (header_fault c.args.text.now
+    (λ version rest cuts. c.in_default-version_of.ensures.none version (one_cut 10 c.args.text.now _ _ _ _ c.in-Some.ensures cuts).0))
 
 pub loop-rest-init : goal.loop-rest-init
 loop-rest-init c =
@@ -19,18 +20,18 @@ loop-rest-init c =
 pub returns-in_default-cut-clause-line : goal.returns-in_default-cut-clause-line
 returns-in_default-cut-clause-line c = λ n e.
     let inv = c.loop-rest.invariant in
-    fault_at c.args.text.now c.loop-rest.number n
+    subst (FaultAt c.args.text.now) (cc e)
     (stuck_fault c.loop-rest.reader.version c.loop-rest.reader.entries c.args.text.now c.loop-rest.rest.now c.loop-rest.number inv.journal inv.text inv.number
     (stuck_at_end c.loop-rest.reader.version c.loop-rest.reader.entries c.loop-rest.rest.now inv.journal
-    (λ empty. let none = ap length empty in search rules) c.in_default-cut.ensures)) e
+    (λ empty. let none = ap length empty in search rules) c.in_default-cut.ensures))
 
 pub returns-in-Err-Wrong-clause-line : goal.returns-in-Err-Wrong-clause-line
 returns-in-Err-Wrong-clause-line c = λ n e.
     let inv = c.loop-rest.invariant in
-    fault_at c.args.text.now c.loop-rest.number n
+    subst (FaultAt c.args.text.now) (cc e)
     (stuck_fault c.loop-rest.reader.version c.loop-rest.reader.entries c.args.text.now c.loop-rest.rest.now c.loop-rest.number inv.journal inv.text inv.number
     (stuck_at_line c.loop-rest.reader c.loop-rest.rest.now c.in-Some-cut.line.now c.in-Some-cut.after.now inv.journal
-    (λ empty. let none = ap length empty in search rules) c.in-Some-cut.ensures (c.in-Err-Wrong.ensures.wrong c.in-Err-Wrong.field-0-is))) e
+    (λ empty. let none = ap length empty in search rules) c.in-Some-cut.ensures (c.in-Err-Wrong.ensures.wrong c.in-Err-Wrong.field-0-is)))
 
 pub loop-rest-smaller : goal.loop-rest-smaller
 loop-rest-smaller c =

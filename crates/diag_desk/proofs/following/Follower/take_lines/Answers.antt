@@ -1,6 +1,6 @@
-use Rattle.std.proofs.Common.{◌+◌, ◌∙◌, arith}
+use Rattle.std.proofs.Common.{◌∙◌, arith, subst}
+use Rattle.diag_desk.specs.Fault.{FaultAt}
 use Rattle.diag_desk.proofs.Pieces.{cut_followed, front_more, front_taken, is_shorter, line_fault}
-use Rattle.diag_desk.proofs.ReadLemmas.{fault_at}
 use Rattle.diag_desk.proofs.following.Follower.take_lines.Goals as goal
 
 pub loop-alloc-smaller-in-Some : goal.loop-alloc-smaller-in-Some
@@ -31,10 +31,10 @@ take-requires c =
 
 pub returns-in-Err-Wrong-clause-line : goal.returns-in-Err-Wrong-clause-line
 returns-in-Err-Wrong-clause-line c = λ n is seen h more.
-    fault_at _ (c.take_usual.new.self.count + 2) n
+    subst (FaultAt _) (cc is)
     (line_fault c.args.setup.now c.args.self.now c.loop-alloc.self c.take_usual.new.self c.args.text.now c.loop-alloc.rest.now c.in-Some-cut.line.now
     c.in-Some-cut.after.now c.in_default.ensures.version c.in_default.ensures.none c.in-Some-cut.ensures
-    (c.in-Err-Wrong.ensures.wrong c.in-Err-Wrong.field-0-is) c.loop-alloc.invariant seen h more) is
+    (c.in-Err-Wrong.ensures.wrong c.in-Err-Wrong.field-0-is) c.loop-alloc.invariant seen h more)
 
 pub loop-alloc-smaller : goal.loop-alloc-smaller
 loop-alloc-smaller c =

@@ -4,9 +4,9 @@ use Rattle.diag_tp.specs.declared.step.Step.TheVariants.{Request}
 use Rattle.diag_desk.specs.Entries.{entry}
 use Rattle.diag_desk.specs.Entry.{IsEntry}
 use Rattle.diag_desk.specs.Text.{line_after}
+use Rattle.diag_desk.proofs.ClockLemmas.{tells_still}
 use Rattle.diag_desk.proofs.EntryLemmas.{journal_more}
 use Rattle.diag_desk.proofs.FollowLemmas.{plays_same}
-use Rattle.diag_desk.proofs.ReadLemmas.{clocks_more}
 use Rattle.diag_desk.proofs.UsualLemmas.{usual_line}
 use Rattle.diag_desk.proofs.following.Follower.take_request.Goals as goal
 
@@ -23,15 +23,13 @@ returns-clause-some c = λ past f.
     let is : IsEntry e = (omega (arith, place), omega (arith, place), (answered.is_message, answered.is_reply)) in
     let counted = f.count in
     let free = c.requires.usual.count in
-    let told = f.clocks.each who (omega (arith, place)) in
     record {
       entry = e;
       line = usual_line functional who answered.message said _ c.args.text.now rest refl answered.is
           ∙ ap (λ b. line_after b past e ++ 10 ∷ rest) (sym c.requires.usual.version);
       follows = record {
         journal = journal_more past (past ++ e ∷ []) e f.journal is (λ full. absurd (omega arith)) refl;
-        clocks = clocks_more past (past ++ e ∷ []) e old.clocks.ticks c.set.new.self.ticks c.at.result is f.clocks refl
-            (omega (arith, c.at.ensures.same, told)) c.set.ensures;
+        clocks = tells_still old.clocks.ticks past e refl f.clocks;
         count = omega (arith, length-append past (e ∷ []));
         play = plays_same c.args.setup.now old.play c.answers_front.new.self past e c.requires.usual.differs c.in-Some.ensures.differs
             c.requires.usual.tester refl answered.state f.play;
