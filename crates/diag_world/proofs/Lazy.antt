@@ -264,15 +264,15 @@ told_on now (Physical bytes) told = omega arith
 told_on now (Functional bytes) told = omega arith
 
 -- its clock doesn't go back
-pub told_after : {X U V : Type 0} (keeps : X → ℕ → Entry → X → Type 0) (ecu ecu' : State) (old new : LinkView) (keeper keeper' : X) (who : ℕ) (e : Event)
+pub told_after : {X U V : Type 0} (keeps : X → ℕ → Entry → X → Type 0) (unkept : X → X → Type 0) (ecu ecu' : State) (old new : LinkView) (keeper keeper' : X) (who : ℕ) (e : Event)
     (out out' : List Sent) (r : Result U V) → old.state.now ≤ last_tick
-    → OnOk r (LinkTook keeps ecu ecu' old new keeper keeper' who e out out') → OnErr r (TookNothing old new ecu ecu' out out')
+    → OnOk r (LinkTook keeps ecu ecu' old new keeper keeper' who e out out') → OnErr r (TookNothing unkept ecu ecu' old new keeper keeper' out out')
     → (old.state.now ≤ new.state.now) × (new.state.now ≤ last_tick)
-told_after keeps ecu ecu' old new keeper keeper' who e out out' (Ok x) told took err =
+told_after keeps unkept ecu ecu' old new keeper keeper' who e out out' (Ok x) told took err =
     let went = took.sent.holds in
     let on = told_on old.state.now e told in
     (omega (arith, on, went.settled.time), omega (arith, went.early, went.settled.most))
-told_after keeps ecu ecu' old new keeper keeper' who e out out' (Err y) told took err =
+told_after keeps unkept ecu ecu' old new keeper keeper' who e out out' (Err y) told took err =
     let same : new.state.now ≡ old.state.now = ap (λ (l : LinkState). l.now) err.0 in
     (omega (arith, same), omega (arith, same, told))
 

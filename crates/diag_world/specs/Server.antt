@@ -125,9 +125,11 @@ pub record LinkTook {X : Type 0} (keeps : X → ℕ → Entry → X → Type 0) 
   pub kept : HasKept keeps keeper keeper' old.state.now asked
   pub sent : Grew out out' (λ more. PortWent ecu ecu' old new who e asked more)
 
--- a link, the ECU and the frames that were handed out are as before
-abbrev pub TookNothing : LinkView → LinkView → State → State → List Sent → List Sent → Type 0
-TookNothing old new ecu ecu' out out' = (new.state ≡ old.state) × (ecu' ≡ ecu) × (out' ≡ out)
+-- a link, the ECU and the frames that were handed out are as before, and a keeper is as a refused keep leaves it
+abbrev pub TookNothing : {X : Type 0} → (X → X → Type 0) → State → State → LinkView → LinkView → X → X
+    → List Sent → List Sent → Type 0
+TookNothing unkept ecu ecu' old new keeper keeper' out out' =
+    (new.state ≡ old.state) × (ecu' ≡ ecu) × (out' ≡ out) × unkept keeper keeper'
 
 -- The link at this place took the event, by which it moved on in time, and sent these frames; the others are as before.
 -- A clock goes on by at most 60000 with an entry, and without one not at all: ticks always ask an entry.

@@ -133,7 +133,7 @@ impl Server {
     ///
     /// # Errors
     /// `Clock` where the tester's link has come to its closing time, `JournalFull` where the keeper can't keep the entry,
-    /// `Memory` where memory is refused. The server and the frames are then as before.
+    /// `Memory` where memory is refused. The server and the frames are then as before, and so is what is kept.
     #[inline(always)]
     pub fn take<K: Keeper>(
         &mut self,
@@ -148,6 +148,7 @@ impl Server {
         ensures place { K.place keeper.new ≡ K.place keeper.old }
         ensures err { OnErr result
             ((server_of self.new ≡ server_of self.old) × (out.new.items ≡ out.old.items)) }
+        ensures unkept { OnErr result (K.unkept keeper.old keeper.new) }
         ensures full { result ≡ Err ServerFault.JournalFull
             → K.is_full keeper.old
             × EachRun (server_of self.old) (λ setup M journal.
@@ -235,7 +236,8 @@ fn take_at<K: Keeper>(
     ensures place { K.place keeper.new ≡ K.place keeper.old }
     ensures drained { pending link.new.state ≡ 0 }
     ensures err { OnErr result
-        (TookNothing link.old link.new ecu.old ecu.new out.old.items out.new.items) }
+        (TookNothing K.unkept ecu.old ecu.new link.old link.new keeper.old keeper.new
+        out.old.items out.new.items) }
     ensures full { result ≡ Err ServerFault.JournalFull
         → K.is_full keeper.old
         × EachHistory link.old.state (λ s E A Q. IsSome (gives s E event.now)) }
@@ -268,7 +270,8 @@ fn take_early<K: Keeper>(
     ensures place { K.place keeper.new ≡ K.place keeper.old }
     ensures drained { pending link.new.state ≡ 0 }
     ensures err { OnErr result
-        (TookNothing link.old link.new ecu.old ecu.new out.old.items out.new.items) }
+        (TookNothing K.unkept ecu.old ecu.new link.old link.new keeper.old keeper.new
+        out.old.items out.new.items) }
     ensures full { result ≡ Err StepFault.JournalFull
         → K.is_full keeper.old
         × EachHistory link.old.state (λ s E A Q. IsSome (gives s E event.now)) }
@@ -315,7 +318,8 @@ fn take_single<K: Keeper>(
     ensures place { K.place keeper.new ≡ K.place keeper.old }
     ensures drained { pending link.new.state ≡ 0 }
     ensures err { OnErr result
-        (TookNothing link.old link.new ecu.old ecu.new out.old.items out.new.items) }
+        (TookNothing K.unkept ecu.old ecu.new link.old link.new keeper.old keeper.new
+        out.old.items out.new.items) }
     ensures full { result ≡ Err StepFault.JournalFull
         → K.is_full keeper.old
         × EachHistory link.old.state (λ s E A Q. IsSome (gives s E event.now)) }
@@ -372,7 +376,8 @@ fn take_other<K: Keeper>(
     ensures place { K.place keeper.new ≡ K.place keeper.old }
     ensures drained { pending link.new.state ≡ 0 }
     ensures err { OnErr result
-        (TookNothing link.old link.new ecu.old ecu.new out.old.items out.new.items) }
+        (TookNothing K.unkept ecu.old ecu.new link.old link.new keeper.old keeper.new
+        out.old.items out.new.items) }
     ensures full { result ≡ Err StepFault.JournalFull
         → K.is_full keeper.old
         × EachHistory link.old.state (λ s E A Q. IsSome (gives s E event.now)) }
@@ -400,7 +405,8 @@ fn pass_at<K: Keeper>(
     ensures place { K.place keeper.new ≡ K.place keeper.old }
     ensures drained { pending link.new.state ≡ 0 }
     ensures err { OnErr result
-        (TookNothing link.old link.new ecu.old ecu.new out.old.items out.new.items) }
+        (TookNothing K.unkept ecu.old ecu.new link.old link.new keeper.old keeper.new
+        out.old.items out.new.items) }
     ensures full { result ≡ Err StepFault.JournalFull → K.is_full keeper.old }
 {
     out.reserve(link.backlog() as usize)?;
@@ -429,7 +435,7 @@ fn answer_at<K: Keeper>(
         (entry_of who (step_in link.now prepared.now) reply.new)) }
     ensures ecu { OnOk result (ecu.new ≡ went_to ecu.old who (step_in link.now prepared.now)) }
     ensures place { K.place keeper.new ≡ K.place keeper.old }
-    ensures err { OnErr result (ecu.new ≡ ecu.old) }
+    ensures err { OnErr result ((ecu.new ≡ ecu.old) × K.unkept keeper.old keeper.new) }
     ensures full { result ≡ Err StepFault.JournalFull
         → K.is_full keeper.old × IsSome (step_in link.now prepared.now) }
 {
@@ -458,7 +464,7 @@ fn answer_noted<K: Keeper>(
         (entry_of who (Some link.now.noted) reply.new)) }
     ensures ecu { OnOk result (ecu.new ≡ went_to ecu.old who (Some link.now.noted)) }
     ensures place { K.place keeper.new ≡ K.place keeper.old }
-    ensures err { OnErr result (ecu.new ≡ ecu.old) }
+    ensures err { OnErr result ((ecu.new ≡ ecu.old) × K.unkept keeper.old keeper.new) }
     ensures full { result ≡ Err StepFault.JournalFull → K.is_full keeper.old }
 {
     put_reply(ecu, who, link.noted(), reply)?;

@@ -21,7 +21,7 @@ take_at-requires g c = record { drained = c.catch_up.ensures.lazy.drained }
 pub invariant_of-self : goal.invariant_of-self
 invariant_of-self g c =
     let next : LazyLink = record { link = c.take_at.new.link; taken = c.catch_up.new.self.taken } in
-    let told = told_after g.K.Keeper.keeps c.self.inside.ecu c.take_at.new.ecu c.catch_up.new.self.link c.take_at.new.link c.args.keeper.now c.take_at.new.keeper c.args.who
+    let told = told_after g.K.Keeper.keeps g.K.Keeper.unkept c.self.inside.ecu c.take_at.new.ecu c.catch_up.new.self.link c.take_at.new.link c.args.keeper.now c.take_at.new.keeper c.args.who
     c.args.event.now c.args.out.now.items c.take_at.new.out.items c.take_at.result
     (caught_told c.self.inside.passed _ c.catch_up.new.self.link c.catch_up.ensures.link) c.take_at.ensures.took c.take_at.ensures.err in
     set_lazy c.self.inside.passed (c.from-index.result - 1) c.self.inside.links.items next c.self.invariant
@@ -32,7 +32,7 @@ returns-clause-took g c =
     let here = link_at c.self.inside.links.items c.self.inside.passed c.self.view_is c.requires.in_setup c.place.ensures.same c.place.ensures.fits c.from-index.ensures
     c.index_mut-lazy.ensures.value c.catch_up.new.self.link c.catch_up.ensures.link in
     let next : LazyLink = record { link = c.take_at.new.link; taken = c.catch_up.new.self.taken } in
-    let told = told_after g.K.Keeper.keeps c.self.inside.ecu c.take_at.new.ecu c.catch_up.new.self.link c.take_at.new.link c.args.keeper.now c.take_at.new.keeper c.args.who
+    let told = told_after g.K.Keeper.keeps g.K.Keeper.unkept c.self.inside.ecu c.take_at.new.ecu c.catch_up.new.self.link c.take_at.new.link c.args.keeper.now c.take_at.new.keeper c.args.who
     c.args.event.now c.args.out.now.items c.take_at.new.out.items c.take_at.result
     (caught_told c.self.inside.passed _ c.catch_up.new.self.link c.catch_up.ensures.link) c.take_at.ensures.took c.take_at.ensures.err in
     let seen = seen_after c.self.inside.passed (c.from-index.result - 1) c.self.inside.links.items next c.catch_up.ensures.taken told.1 c.take_at.new.ecu in
@@ -45,7 +45,7 @@ returns-clause-err g c =
     let here = link_at c.self.inside.links.items c.self.inside.passed c.self.view_is c.requires.in_setup c.place.ensures.same c.place.ensures.fits c.from-index.ensures
     c.index_mut-lazy.ensures.value c.catch_up.new.self.link c.catch_up.ensures.link in
     let next : LazyLink = record { link = c.take_at.new.link; taken = c.catch_up.new.self.taken } in
-    let told = told_after g.K.Keeper.keeps c.self.inside.ecu c.take_at.new.ecu c.catch_up.new.self.link c.take_at.new.link c.args.keeper.now c.take_at.new.keeper c.args.who
+    let told = told_after g.K.Keeper.keeps g.K.Keeper.unkept c.self.inside.ecu c.take_at.new.ecu c.catch_up.new.self.link c.take_at.new.link c.args.keeper.now c.take_at.new.keeper c.args.who
     c.args.event.now c.args.out.now.items c.take_at.new.out.items c.take_at.result
     (caught_told c.self.inside.passed _ c.catch_up.new.self.link c.catch_up.ensures.link) c.take_at.ensures.took c.take_at.ensures.err in
     let seen = seen_after c.self.inside.passed (c.from-index.result - 1) c.self.inside.links.items next c.catch_up.ensures.taken told.1 c.take_at.new.ecu in
