@@ -37,9 +37,8 @@ ghost use Rattle.diag_ecu.specs.State.{State};
 ghost use Rattle.diag_desk.specs.declared.entry.Entry.{Entry as AnEntry};
 ghost use Rattle.diag_desk.specs.Legal.{after, reply_to};
 ghost use Rattle.diag_world.specs.Weaving.{items_of};
-ghost use Rattle.diag_world.specs.Channel.{RepliesToFrame};
-ghost use Rattle.diag_world.specs.Port.{Grew, HasRoomFor, step_in};
-ghost use Rattle.diag_world.specs.Server.{answer_to, closing_time, entry_of, quiet_of, server_of, went_to, AreEarly, EachRun, HasKept, IsClosed, LinkTook, PortWent, Serves, ServerTook, TookNothing, Waited};
+ghost use Rattle.diag_world.specs.Port.{Grew, IsPrepared, step_in};
+ghost use Rattle.diag_world.specs.Server.{answer_to, closing_time, entry_of, quiet_of, server_of, went_to, AreEarly, EachRun, GivesStep, HasKept, IsClosed, LinkTook, PortWent, Serves, ServerTook, TookNothing, Waited};
 
 use crate::keeper::Keeper;
 use crate::lazy_link::LazyLink;
@@ -234,13 +233,11 @@ fn take_at<K: Keeper>(
     ensures took { OnOk result (LinkTook K.keeps ecu.old ecu.new link.old link.new keeper.old keeper.new
         who event.now out.old.items out.new.items) }
     ensures place { K.place keeper.new ≡ K.place keeper.old }
-    ensures drained { pending link.new.state ≡ 0 }
     ensures err { OnErr result
         (TookNothing K.unkept ecu.old ecu.new link.old link.new keeper.old keeper.new
         out.old.items out.new.items) }
     ensures full { result ≡ Err ServerFault.JournalFull
-        → K.is_full keeper.old
-        × EachHistory link.old.state (λ s E A Q. IsSome (gives s E event.now)) }
+        → K.is_full keeper.old × GivesStep link.old.state event.now }
     ensures clock { result ≡ Err ServerFault.Clock → closing_time < link.old.state.now }
 {
     if link.now() > CLOSING_TIME {
@@ -268,13 +265,11 @@ fn take_early<K: Keeper>(
     ensures took { OnOk result (LinkTook K.keeps ecu.old ecu.new link.old link.new keeper.old keeper.new
         who event.now out.old.items out.new.items) }
     ensures place { K.place keeper.new ≡ K.place keeper.old }
-    ensures drained { pending link.new.state ≡ 0 }
     ensures err { OnErr result
         (TookNothing K.unkept ecu.old ecu.new link.old link.new keeper.old keeper.new
         out.old.items out.new.items) }
     ensures full { result ≡ Err StepFault.JournalFull
-        → K.is_full keeper.old
-        × EachHistory link.old.state (λ s E A Q. IsSome (gives s E event.now)) }
+        → K.is_full keeper.old × GivesStep link.old.state event.now }
 {
     if let Event::Ticks(count) = event {
         return pass_at(link, ecu, who, *count, keeper, out);
@@ -304,25 +299,18 @@ fn take_single<K: Keeper>(
     keeper: &mut K,
     out: &mut Vec<Sent>,
 ) -> Result<(), StepFault>
-    requires drained { pending link.old.state ≡ 0 }
     requires early { link.old.state.now ≤ closing_time }
-    requires room { HasRoomFor
+    requires prepared { IsPrepared
         link.old event.now prepared.now (vec_len out.old) (vec_capacity out.old) }
     requires single { step_in link.old prepared.now ≡ Some link.old.noted }
-    requires step { EachHistory link.old.state (λ s E A Q.
-        step_in link.old prepared.now ≡ gives s E event.now) }
-    requires replies { IfSome (step_in link.old prepared.now) (λ step. RepliesToFrame event.now step) }
-    requires ticks { IsTrue (is_tick event.now) → IsSome (step_in link.old prepared.now) }
     ensures took { OnOk result (LinkTook K.keeps ecu.old ecu.new link.old link.new keeper.old keeper.new
         who event.now out.old.items out.new.items) }
     ensures place { K.place keeper.new ≡ K.place keeper.old }
-    ensures drained { pending link.new.state ≡ 0 }
     ensures err { OnErr result
         (TookNothing K.unkept ecu.old ecu.new link.old link.new keeper.old keeper.new
         out.old.items out.new.items) }
     ensures full { result ≡ Err StepFault.JournalFull
-        → K.is_full keeper.old
-        × EachHistory link.old.state (λ s E A Q. IsSome (gives s E event.now)) }
+        → K.is_full keeper.old × GivesStep link.old.state event.now }
 {
     let mut reply = None;
     answer_noted(link, ecu, who, keeper, &mut reply)?;
@@ -334,14 +322,10 @@ fn take_single<K: Keeper>(
 #[cold]
 #[inline(never)]
 fn take_silent(link: &mut Link, event: &Event, prepared: &Prepared, out: &mut Vec<Sent>)
-    requires drained { pending link.old.state ≡ 0 }
     requires early { link.old.state.now ≤ closing_time }
-    requires room { HasRoomFor
+    requires prepared { IsPrepared
         link.old event.now prepared.now (vec_len out.old) (vec_capacity out.old) }
     requires silent { step_in link.old prepared.now ≡ None }
-    requires step { EachHistory link.old.state (λ s E A Q.
-        step_in link.old prepared.now ≡ gives s E event.now) }
-    requires ticks { IsTrue (is_tick event.now) → IsSome (step_in link.old prepared.now) }
     ensures took { (ecu : State) (who : ℕ) → Grew out.old.items out.new.items (λ more.
         PortWent ecu ecu link.old link.new who event.now None more) }
     ensures drained { pending link.new.state ≡ 0 }
@@ -363,24 +347,17 @@ fn take_other<K: Keeper>(
     keeper: &mut K,
     out: &mut Vec<Sent>,
 ) -> Result<(), StepFault>
-    requires drained { pending link.old.state ≡ 0 }
     requires early { link.old.state.now ≤ closing_time }
-    requires room { HasRoomFor
+    requires prepared { IsPrepared
         link.old event.now prepared.now (vec_len out.old) (vec_capacity out.old) }
-    requires step { EachHistory link.old.state (λ s E A Q.
-        step_in link.old prepared.now ≡ gives s E event.now) }
-    requires replies { IfSome (step_in link.old prepared.now) (λ step. RepliesToFrame event.now step) }
-    requires ticks { IsTrue (is_tick event.now) → IsSome (step_in link.old prepared.now) }
     ensures took { OnOk result (LinkTook K.keeps ecu.old ecu.new link.old link.new keeper.old keeper.new
         who event.now out.old.items out.new.items) }
     ensures place { K.place keeper.new ≡ K.place keeper.old }
-    ensures drained { pending link.new.state ≡ 0 }
     ensures err { OnErr result
         (TookNothing K.unkept ecu.old ecu.new link.old link.new keeper.old keeper.new
         out.old.items out.new.items) }
     ensures full { result ≡ Err StepFault.JournalFull
-        → K.is_full keeper.old
-        × EachHistory link.old.state (λ s E A Q. IsSome (gives s E event.now)) }
+        → K.is_full keeper.old × GivesStep link.old.state event.now }
 {
     let mut reply = None;
     answer_at(link, ecu, who, prepared, keeper, &mut reply)?;
@@ -403,7 +380,6 @@ fn pass_at<K: Keeper>(
     ensures took { OnOk result (LinkTook K.keeps ecu.old ecu.new link.old link.new keeper.old keeper.new
         who (AnEvent.Ticks count) out.old.items out.new.items) }
     ensures place { K.place keeper.new ≡ K.place keeper.old }
-    ensures drained { pending link.new.state ≡ 0 }
     ensures err { OnErr result
         (TookNothing K.unkept ecu.old ecu.new link.old link.new keeper.old keeper.new
         out.old.items out.new.items) }

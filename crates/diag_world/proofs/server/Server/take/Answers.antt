@@ -23,9 +23,9 @@ invariant_of-self g c =
     let next : LazyLink = record { link = c.take_at.new.link; taken = c.catch_up.new.self.taken } in
     let told = told_after g.K.Keeper.keeps g.K.Keeper.unkept c.self.inside.ecu c.take_at.new.ecu c.catch_up.new.self.link c.take_at.new.link c.args.keeper.now c.take_at.new.keeper c.args.who
     c.args.event.now c.args.out.now.items c.take_at.new.out.items c.take_at.result
-    (caught_told c.self.inside.passed _ c.catch_up.new.self.link c.catch_up.ensures.link) c.take_at.ensures.took c.take_at.ensures.err in
+    (caught_told c.self.inside.passed _ c.catch_up.new.self.link c.catch_up.ensures.link) c.catch_up.ensures.lazy.drained c.take_at.ensures.took c.take_at.ensures.err in
     set_lazy c.self.inside.passed (c.from-index.result - 1) c.self.inside.links.items next c.self.invariant
-    (caught_still c.self.inside.passed next c.catch_up.ensures.taken c.take_at.ensures.drained (omega (arith, told.0, c.catch_up.ensures.lazy.told, c.catch_up.ensures.taken)) told.1)
+    (caught_still c.self.inside.passed next c.catch_up.ensures.taken told.2 (omega (arith, told.0, c.catch_up.ensures.lazy.told, c.catch_up.ensures.taken)) told.1)
 
 pub returns-clause-took : goal.returns-clause-took
 returns-clause-took g c =
@@ -34,7 +34,7 @@ returns-clause-took g c =
     let next : LazyLink = record { link = c.take_at.new.link; taken = c.catch_up.new.self.taken } in
     let told = told_after g.K.Keeper.keeps g.K.Keeper.unkept c.self.inside.ecu c.take_at.new.ecu c.catch_up.new.self.link c.take_at.new.link c.args.keeper.now c.take_at.new.keeper c.args.who
     c.args.event.now c.args.out.now.items c.take_at.new.out.items c.take_at.result
-    (caught_told c.self.inside.passed _ c.catch_up.new.self.link c.catch_up.ensures.link) c.take_at.ensures.took c.take_at.ensures.err in
+    (caught_told c.self.inside.passed _ c.catch_up.new.self.link c.catch_up.ensures.link) c.catch_up.ensures.lazy.drained c.take_at.ensures.took c.take_at.ensures.err in
     let seen = seen_after c.self.inside.passed (c.from-index.result - 1) c.self.inside.links.items next c.catch_up.ensures.taken told.1 c.take_at.new.ecu in
     on_ok _ _ c.take_at.result (λ took. subst (λ s. ServerTook g.K.Keeper.keeps (server_of c.args.self.now) s c.args.keeper.now c.take_at.new.keeper c.args.who
     c.args.event.now c.args.out.now.items c.take_at.new.out.items) (sym seen) (took_here here g.K.Keeper.keeps c.args.keeper.now c.take_at.new.keeper c.take_at.new.ecu c.take_at.new.link
@@ -47,7 +47,7 @@ returns-clause-err g c =
     let next : LazyLink = record { link = c.take_at.new.link; taken = c.catch_up.new.self.taken } in
     let told = told_after g.K.Keeper.keeps g.K.Keeper.unkept c.self.inside.ecu c.take_at.new.ecu c.catch_up.new.self.link c.take_at.new.link c.args.keeper.now c.take_at.new.keeper c.args.who
     c.args.event.now c.args.out.now.items c.take_at.new.out.items c.take_at.result
-    (caught_told c.self.inside.passed _ c.catch_up.new.self.link c.catch_up.ensures.link) c.take_at.ensures.took c.take_at.ensures.err in
+    (caught_told c.self.inside.passed _ c.catch_up.new.self.link c.catch_up.ensures.link) c.catch_up.ensures.lazy.drained c.take_at.ensures.took c.take_at.ensures.err in
     let seen = seen_after c.self.inside.passed (c.from-index.result - 1) c.self.inside.links.items next c.catch_up.ensures.taken told.1 c.take_at.new.ecu in
     on_err _ _ c.take_at.result (λ err. (seen ∙ same_here here c.take_at.new.ecu c.take_at.new.link err.0 err.1, err.2)) c.take_at.ensures.err
 
