@@ -82,6 +82,15 @@ pub record HandedOut (s : LinkSetup) (link : LinkState) (E : List Event) (A : Li
   pub stands : StandsFor s link E A Q
   pub all : Q ≡ wire s E A
 
+-- these frames were due on the link, and were handed out
+abbrev pub SentDue : LinkState → LinkState → List Sent → Type 0
+SentDue old new more =
+    AreWithin old.now new.now more
+    × ((s : LinkSetup) (E : List Event) (A : List Placed) (Q : List Sent)
+    → StandsFor s old E A Q
+    → last_time E ≤ last_tick
+    → HandedOut s new E A (Q ++ more))
+
 -- so many ticks passed on the link, in which these frames were handed out
 abbrev pub Passed : LinkState → LinkState → ℕ → List Sent → Type 0
 Passed old new count more =
