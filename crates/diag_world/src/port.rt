@@ -11,9 +11,7 @@ ghost use Rattle.std.specs.Prelude.{
   [],
   ◌∷◌,
   ◌++◌,
-  OnOk,
   IfOk,
-  IfSome,
   IsTrue,
   IsSome,
   None,
@@ -24,7 +22,7 @@ ghost use Rattle.std.specs.Prelude.{
 ghost use Rattle.diag_can.specs.declared.frame.Event.{Event as AnEvent};
 ghost use Rattle.diag_tp.specs.declared.setup.LinkSetup.{LinkSetup as ALinkSetup};
 ghost use Rattle.diag_tp.specs.Gives.{gives};
-ghost use Rattle.diag_tp.specs.Moments.{is_tick, last_time};
+ghost use Rattle.diag_tp.specs.Moments.{last_time};
 ghost use Rattle.diag_tp.specs.Link.{EachHistory, is_frame, last_tick, pending, waiting_count};
 ghost use Rattle.diag_desk.specs.declared.entry.Entry.{Entry as AnEntry};
 ghost use Rattle.diag_world.specs.Port.{AreWithin, Grew, HasRoomFor, IsPrepared, PortStands, PortTook, step_in, time_after};

@@ -8,8 +8,6 @@ ghost use Rattle.std.specs.Prelude.{
   ◌-◌,
   ◌+◌,
   [],
-  ◌∷◌,
-  ◌++◌,
   length,
   map,
   Option,
@@ -18,24 +16,19 @@ ghost use Rattle.std.specs.Prelude.{
   Err,
   IfOk,
   IfSome,
-  option_map,
   OnOk,
   OnErr,
   vec_len,
   vec_capacity,
   slice_get,
-  ◌↔◌,
-  IsTrue,
   IsSome,
 };
 ghost use Rattle.diag_can.specs.declared.frame.Event.{Event as AnEvent};
 ghost use Rattle.diag_tp.specs.Gives.{gives};
-ghost use Rattle.diag_tp.specs.Link.{EachHistory, pending, quiet};
-ghost use Rattle.diag_tp.specs.Moments.{is_tick, last_time};
+ghost use Rattle.diag_tp.specs.Link.{pending, quiet};
+ghost use Rattle.diag_tp.specs.Moments.{last_time};
 ghost use Rattle.diag_setup.specs.Setup.{link_of};
 ghost use Rattle.diag_ecu.specs.State.{State};
-ghost use Rattle.diag_desk.specs.declared.entry.Entry.{Entry as AnEntry};
-ghost use Rattle.diag_desk.specs.Legal.{after, reply_to};
 ghost use Rattle.diag_world.specs.Weaving.{items_of};
 ghost use Rattle.diag_world.specs.Port.{Grew, IsPrepared, step_in};
 ghost use Rattle.diag_world.specs.Server.{answer_to, closing_time, entry_of, quiet_of, server_of, went_to, AreEarly, EachRun, GivesStep, HasKept, IsClosed, LinkTook, PortWent, Serves, ServerTook, TookNothing, Waited};
