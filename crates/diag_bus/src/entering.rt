@@ -16,11 +16,14 @@ pub struct LineEntries<'a> {
 }
 
 impl<'a> Keeper for LineEntries<'a> {
+    ghost use Rattle.std.specs.Prelude.{◌≡◌, refl};
     ghost use Rattle.diag_bus.specs.Entering.{EntersLine};
 
     ghost keeps = { EntersLine };
 
     ghost is_full = { λ _. ⊥ };
+
+    ghost unkept = { λ old new. new.text.now.items ≡ old.text.now.items };
 
     ghost place = { λ entries. entries.text.ghost_name };
 
@@ -39,4 +42,6 @@ impl<'a> Keeper for LineEntries<'a> {
             Output::Replies | Output::End | Output::Verdict => Ok(()),
         }
     }
+
+    ghost unkept_same = { λ _. refl };
 }

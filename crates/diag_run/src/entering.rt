@@ -42,13 +42,17 @@ impl JournalLines {
 }
 
 impl Keeper for JournalLines {
-    ghost use Rattle.std.specs.Prelude.{◌≤◌};
+    ghost use Rattle.std.specs.Prelude.{◌≡◌, ◌≤◌, refl};
     ghost use Rattle.diag_desk.specs.Entry.{most_entries};
     ghost use Rattle.diag_run.specs.Playing.{EntersOne};
 
     ghost keeps = { EntersOne };
 
     ghost is_full = { λ lines. most_entries ≤ lines.count };
+
+    ghost unkept = { λ old new. (new.text.items ≡ old.text.items)
+        × (new.version ≡ old.version)
+        × (new.count ≡ old.count) };
 
     ghost place = { λ _. 0 };
 
@@ -66,4 +70,6 @@ impl Keeper for JournalLines {
         self.count += 1;
         Ok(())
     }
+
+    ghost unkept_same = { λ _. (refl, refl, refl) };
 }

@@ -128,9 +128,6 @@ pub none_of_some : {X : Type 0} (o : Option X) → (IsSome o → ⊥) → o ≡ 
 none_of_some None h = refl
 none_of_some (Some x) h = absurd (h refl)
 
-pub some_is_not_none : {X : Type 0} {x : X} → Some x ≡ None → ⊥
-some_is_not_none h = cc
-
 -- frames within a span are within a wider one
 pub within_wider : (from to from' to' : ℕ) (xs : List Sent) → AreWithin from to xs → from' ≤ from → to ≤ to' → AreWithin from' to' xs
 within_wider from to from' to' xs h low high = λ k d less. (let one = h k d less in (omega (arith, one.0, low), omega (arith, one.1, high)))

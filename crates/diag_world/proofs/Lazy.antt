@@ -263,18 +263,18 @@ told_on now (Ticks n) told = omega (arith, told)
 told_on now (Physical bytes) told = omega arith
 told_on now (Functional bytes) told = omega arith
 
--- its clock doesn't go back
-pub told_after : {X U V : Type 0} (keeps : X → ℕ → Entry → X → Type 0) (ecu ecu' : State) (old new : LinkView) (keeper keeper' : X) (who : ℕ) (e : Event)
-    (out out' : List Sent) (r : Result U V) → old.state.now ≤ last_tick
-    → OnOk r (LinkTook keeps ecu ecu' old new keeper keeper' who e out out') → OnErr r (TookNothing old new ecu ecu' out out')
-    → (old.state.now ≤ new.state.now) × (new.state.now ≤ last_tick)
-told_after keeps ecu ecu' old new keeper keeper' who e out out' (Ok x) told took err =
+-- its clock doesn't go back, and nothing is due at it
+pub told_after : {X U V : Type 0} (keeps : X → ℕ → Entry → X → Type 0) (unkept : X → X → Type 0) (ecu ecu' : State) (old new : LinkView) (keeper keeper' : X) (who : ℕ) (e : Event)
+    (out out' : List Sent) (r : Result U V) → old.state.now ≤ last_tick → pending old.state ≡ 0
+    → OnOk r (LinkTook keeps ecu ecu' old new keeper keeper' who e out out') → OnErr r (TookNothing unkept ecu ecu' old new keeper keeper' out out')
+    → (old.state.now ≤ new.state.now) × (new.state.now ≤ last_tick) × (pending new.state ≡ 0)
+told_after keeps unkept ecu ecu' old new keeper keeper' who e out out' (Ok x) told drained took err =
     let went = took.sent.holds in
     let on = told_on old.state.now e told in
-    (omega (arith, on, went.settled.time), omega (arith, went.early, went.settled.most))
-told_after keeps ecu ecu' old new keeper keeper' who e out out' (Err y) told took err =
+    (omega (arith, on, went.settled.time), omega (arith, went.early, went.settled.most), took.drained)
+told_after keeps unkept ecu ecu' old new keeper keeper' who e out out' (Err y) told drained took err =
     let same : new.state.now ≡ old.state.now = ap (λ (l : LinkState). l.now) err.0 in
-    (omega (arith, same), omega (arith, same, told))
+    (omega (arith, same), omega (arith, same, told), ap pending err.0 ∙ drained)
 
 -- what the server is seen to be then
 pub seen_after : (passed i : ℕ) (links : List LazyLink) (lazy : LazyLink) → lazy.taken ≡ passed → (told : lazy.link.state.now ≤ last_tick) (ecu : State)

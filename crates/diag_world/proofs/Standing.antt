@@ -1,5 +1,5 @@
 -- How a world goes on with one event more.
-use Rattle.std.proofs.Common.{◌≡◌, ◌≤◌, ◌<◌, ℕ, get_or, set, ◌+◌, ◌*◌, Bool, true, false, cond, Option, Some, List, [], ◌∷◌, ◌++◌, length, map, refl, ap, ap₂, subst, sym, ◌∙◌, arith, inl, inr}
+use Rattle.std.proofs.Common.{◌≡◌, ◌≤◌, ◌<◌, ℕ, get_or, set, ◌+◌, ◌*◌, Bool, true, false, cond, Some, List, [], ◌∷◌, ◌++◌, length, map, refl, ap, ap₂, subst, sym, ◌∙◌, arith, inl, inr}
 use Rattle.std.proofs.Math.Seq.{map-set_same}
 use Rattle.std.proofs.lemmas.List.{length-map, length-set, map-set}
 use Rattle.std.proofs.lemmas.List.Filters.{length-filter_both}
@@ -9,8 +9,6 @@ use Rattle.std.specs.Option.{option_map}
 use Rattle.diag_can.specs.declared.frame.Event.{Event}
 use Rattle.diag_tp.specs.declared.sent.Sent.{Sent}
 use Rattle.diag_tp.specs.declared.setup.LinkSetup.{LinkSetup}
-use Rattle.diag_tp.specs.declared.step.Step.{Step}
-use Rattle.diag_tp.specs.declared.step.Step.TheVariants as step
 use Rattle.diag_tp.specs.Link.{StandsFor}
 use Rattle.diag_tp.specs.Placing.{placed}
 use Rattle.diag_tp.specs.State.{LinkState}
@@ -19,9 +17,10 @@ use Rattle.diag_setup.specs.Setup.{link_of}
 use Rattle.diag_ecu.specs.State.{opening}
 use Rattle.diag_desk.specs.declared.entry.Entry.{Entry}
 use Rattle.diag_desk.specs.Entries.{own, replies}
-use Rattle.diag_desk.specs.Entry.{AreEntries, IsJournal, IsStep}
+use Rattle.diag_desk.specs.Entry.{AreEntries, IsJournal}
 use Rattle.diag_desk.specs.Legal.{Legal, Run, after}
 use Rattle.diag_desk.specs.Text.{ticks_in, ticks_of}
+use Rattle.diag_desk.proofs.ClockLemmas.{ticks_bound}
 use Rattle.diag_world.specs.declared.channel.Channel.{Channel}
 use Rattle.diag_world.specs.Channel.{ChannelStands, ChannelState, channel_of}
 use Rattle.diag_world.specs.Port.{PortStands}
@@ -32,17 +31,13 @@ use Rattle.diag_world.proofs.Serving.{own_more, sent_other, serves_more}
 use Rattle.diag_world.proofs.Times.{ticks_of_run}
 use Rattle.diag_world.proofs.Worlds.{items_mine, map_cases, other_place, set_cases}
 
-few_ticks : (x : Step) (reply : Option (List ℕ)) → IsStep x reply → ticks_in x ≤ 60000
-few_ticks (step.Request functional message) reply h = omega arith
-few_ticks (step.Ticks n) reply h = omega (arith, h.1)
-
 -- a tester's ticks are at most 60000 for each of its entries
 own_time : (K : List Entry) (t : ℕ) → AreEntries K → ticks_of t K ≤ 60000 * length (own K t)
 own_time [] t all = omega arith
 own_time (k ∷ K) t all = pick (k.who == t) (own_time K t all.1)
   where
     pick : (b : Bool) → ticks_of t K ≤ 60000 * length (own K t) → cond b (ticks_in k.step) 0 + ticks_of t K ≤ 60000 * length (cond b (k ∷ own K t) (own K t))
-    pick true h = omega (arith, h, few_ticks k.step k.reply all.0.2)
+    pick true h = omega (arith, h, ticks_bound k all.0)
     pick false h = omega (arith, h)
 
 abbrev link : ChannelState → LinkState

@@ -1,5 +1,5 @@
 -- One tester's channel: its link, and the frames that it was sent.
-use Rattle.std.specs.Prelude.{◌≡◌, ℕ, ◌*◌, ◌≤◌, List, [], ◌∷◌, ◌++◌, length, Option, Some, IsTrue, IsSome, slice_get, vec_len, vec_capacity}
+use Rattle.std.specs.Prelude.{◌≡◌, ℕ, ◌*◌, ◌≤◌, List, [], ◌∷◌, ◌++◌, length, Option, Some, slice_get, vec_len, vec_capacity}
 use Rattle.std.specs.Option.{option_to_list}
 use Rattle.diag_can.specs.declared.frame.Event.{Event}
 use Rattle.diag_tp.specs.declared.setup.LinkSetup.{LinkSetup}
@@ -10,9 +10,9 @@ use Rattle.diag_tp.specs.Gives.{gives, steps}
 use Rattle.diag_tp.specs.Moments.{last_time}
 use Rattle.diag_tp.specs.Placing.{placed, drawn}
 use Rattle.diag_tp.specs.State.{LinkState}
-use Rattle.diag_tp.specs.Link.{StandsFor, is_frame, pending, waiting_count}
+use Rattle.diag_tp.specs.Link.{StandsFor, pending, waiting_count}
 use Rattle.diag_desk.specs.declared.entry.Entry.{Entry}
-use Rattle.diag_desk.specs.Entry.{HasNoReply, most_entries}
+use Rattle.diag_desk.specs.Entry.{most_entries}
 use Rattle.diag_desk.specs.Entries.{asked, asked_by, replies}
 use Rattle.diag_world.specs.Port.{HasRoomFor, step_in}
 use Rattle.diag_world.specs.Weaving.{all_by}
@@ -42,11 +42,6 @@ HasRoom channel e prepared =
 -- the step that an event gives that was read
 abbrev pub step_of : Channel → Prepared → Option Step
 step_of channel prepared = step_in channel.link prepared
-
--- a step that can have a reply is that of a frame
-abbrev pub RepliesToFrame : Event → Step → Type 0
-RepliesToFrame event step =
-    (reply : Option (List ℕ)) → HasNoReply step reply → IsSome reply → IsTrue (is_frame event)
 
 -- The channel took the events E, to which the journal has the entries K: the link stands for both, all frames went out,
 -- and K asks what E gives.

@@ -1,5 +1,5 @@
 -- One tester's port: its link between two events, where all frames that are due were handed out.
-use Rattle.std.specs.Prelude.{◌≡◌, ℕ, ◌+◌, ◌≤◌, List, ◌∷◌, [], ◌++◌, Option, Some, None, IsTrue, min}
+use Rattle.std.specs.Prelude.{◌≡◌, ℕ, ◌+◌, ◌≤◌, List, ◌∷◌, [], ◌++◌, Option, Some, None, IfSome, IsSome, IsTrue, min}
 use Rattle.std.specs.List.{All}
 use Rattle.diag_can.specs.declared.frame.Event.{Event}
 use Rattle.diag_can.specs.declared.frame.Event.TheVariants.{Physical, Functional, Ticks}
@@ -12,8 +12,9 @@ use Rattle.diag_tp.specs.Wire.{Placed, wire}
 use Rattle.diag_tp.specs.State.{LinkState, LinkView}
 use Rattle.diag_tp.specs.declared.taken.Taken.{Taken}
 use Rattle.diag_tp.specs.Taken.{IsTaken, FitsIn, asked_in}
-use Rattle.diag_tp.specs.Link.{StandsFor, has_reply_room, last_tick, unsent}
+use Rattle.diag_tp.specs.Link.{EachHistory, StandsFor, has_reply_room, is_frame, last_tick, pending, unsent}
 use Rattle.diag_desk.specs.declared.entry.Entry.{Entry}
+use Rattle.diag_desk.specs.Entry.{HasNoReply}
 use Rattle.diag_desk.specs.Entries.{asked, entry, replies}
 use Rattle.diag_tp.specs.declared.step.Step.{Step}
 use Rattle.diag_world.specs.declared.port.Prepared.{Prepared}
@@ -50,6 +51,21 @@ HasRoomFor link e (prepared.Frame taken) len capacity = HasFrameRoom link e take
 HasRoomFor link e prepared.Ticks len capacity =
     IsTrue (is_tick e) × (len + unsent link.state ≤ capacity)
 
+-- a step that can have a reply is that of a frame
+abbrev pub RepliesToFrame : Event → Step → Type 0
+RepliesToFrame event step =
+    (reply : Option (List ℕ)) → HasNoReply step reply → IsSome reply → IsTrue (is_frame event)
+
+-- An event was read at a link where nothing is due, and room was made for it, as well as for the frames that may fall due
+-- in a list of this length and capacity. The step that it gives is lent, and ticks give one.
+pub record IsPrepared (link : LinkView) (e : Event) (p : Prepared) (len capacity : ℕ)
+    : Type 0 where
+  pub drained : pending link.state ≡ 0
+  pub room : HasRoomFor link e p len capacity
+  pub step : EachHistory link.state (λ s E A Q. step_in link p ≡ gives s E e)
+  pub replies : IfSome (step_in link p) (λ step. RepliesToFrame e step)
+  pub ticks : IsTrue (is_tick e) → IsSome (step_in link p)
+
 -- the time that a link tells after an event, where it told this time before
 abbrev pub time_after : ℕ → Event → ℕ
 time_after now (Ticks n) = min (now + n) last_tick
@@ -65,6 +81,15 @@ pub record HandedOut (s : LinkSetup) (link : LinkState) (E : List Event) (A : Li
     (Q : List Sent) : Type 0 where
   pub stands : StandsFor s link E A Q
   pub all : Q ≡ wire s E A
+
+-- these frames were due on the link, and were handed out
+abbrev pub SentDue : LinkState → LinkState → List Sent → Type 0
+SentDue old new more =
+    AreWithin old.now new.now more
+    × ((s : LinkSetup) (E : List Event) (A : List Placed) (Q : List Sent)
+    → StandsFor s old E A Q
+    → last_time E ≤ last_tick
+    → HandedOut s new E A (Q ++ more))
 
 -- so many ticks passed on the link, in which these frames were handed out
 abbrev pub Passed : LinkState → LinkState → ℕ → List Sent → Type 0

@@ -11,7 +11,7 @@ use Rattle.diag_tp.specs.Gives.{gives}
 use Rattle.diag_tp.specs.Moments.{counted_from, is_tick}
 use Rattle.diag_tp.specs.Placing.{drawn}
 use Rattle.diag_tp.specs.State.{LinkState, LinkView}
-use Rattle.diag_tp.specs.Link.{EachHistory, quiet}
+use Rattle.diag_tp.specs.Link.{EachHistory, pending, quiet}
 use Rattle.diag_tp.specs.Quiet.{always}
 use Rattle.diag_setup.specs.declared.raw.RawSetup.{RawSetup}
 use Rattle.diag_setup.specs.Setup.{link_of}
@@ -117,17 +117,25 @@ abbrev pub HasKept : {X : Type 0} → (X → ℕ → Entry → X → Type 0) →
 HasKept keeps old new before None = new ≡ old
 HasKept keeps old new before (Some k) = keeps old before k new
 
--- a link took a tester's event, whose entry a keeper has, and these frames were handed out behind those before
+-- a link took a tester's event, whose entry a keeper has, and these frames were handed out behind those before: all
+-- that are due
 pub record LinkTook {X : Type 0} (keeps : X → ℕ → Entry → X → Type 0) (ecu ecu' : State)
     (old new : LinkView) (keeper keeper' : X) (who : ℕ) (e : Event) (out out' : List Sent)
     : Type 0 where
   pub asked : Option Entry
   pub kept : HasKept keeps keeper keeper' old.state.now asked
   pub sent : Grew out out' (λ more. PortWent ecu ecu' old new who e asked more)
+  pub drained : pending new.state ≡ 0
 
--- a link, the ECU and the frames that were handed out are as before
-abbrev pub TookNothing : LinkView → LinkView → State → State → List Sent → List Sent → Type 0
-TookNothing old new ecu ecu' out out' = (new.state ≡ old.state) × (ecu' ≡ ecu) × (out' ≡ out)
+-- whatever a link stands for, the event gives a step
+abbrev pub GivesStep : LinkState → Event → Type 0
+GivesStep link e = EachHistory link (λ s E A Q. IsSome (gives s E e))
+
+-- a link, the ECU and the frames that were handed out are as before, and a keeper is as a refused keep leaves it
+abbrev pub TookNothing : {X : Type 0} → (X → X → Type 0) → State → State → LinkView → LinkView → X → X
+    → List Sent → List Sent → Type 0
+TookNothing unkept ecu ecu' old new keeper keeper' out out' =
+    (new.state ≡ old.state) × (ecu' ≡ ecu) × (out' ≡ out) × unkept keeper keeper'
 
 -- The link at this place took the event, by which it moved on in time, and sent these frames; the others are as before.
 -- A clock goes on by at most 60000 with an entry, and without one not at all: ticks always ask an entry.

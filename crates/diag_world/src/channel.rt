@@ -10,7 +10,6 @@ ghost use Rattle.std.specs.Prelude.{
   [],
   ◌∷◌,
   ◌++◌,
-  OnOk,
   IfOk,
   IfSome,
   IsTrue,
@@ -25,8 +24,8 @@ ghost use Rattle.diag_tp.specs.declared.setup.LinkSetup.{LinkSetup as ALinkSetup
 ghost use Rattle.diag_tp.specs.Gives.{gives};
 ghost use Rattle.diag_tp.specs.Link.{is_frame};
 ghost use Rattle.diag_desk.specs.declared.entry.Entry.{Entry as AnEntry};
-ghost use Rattle.diag_world.specs.Port.{entries_of};
-ghost use Rattle.diag_world.specs.Channel.{due, channel_of, step_of, waiting, EachChannelRun, HasRoom, ChannelStands, RepliesToFrame};
+ghost use Rattle.diag_world.specs.Port.{entries_of, RepliesToFrame};
+ghost use Rattle.diag_world.specs.Channel.{due, channel_of, step_of, waiting, EachChannelRun, HasRoom, ChannelStands};
 
 use crate::port::{Prepared, gives_step, prepare, settle, step};
 use diag_can::Event;

@@ -1,6 +1,6 @@
 //! Who keeps the journal of what a server takes.
 
-ghost use Rattle.std.specs.Prelude.{◌≡◌, ◌≤◌, ◌+◌, ◌++◌, Err, OnOk, option_copied};
+ghost use Rattle.std.specs.Prelude.{◌≡◌, ◌≤◌, ◌+◌, ◌++◌, Err, OnOk, OnErr, option_copied};
 ghost use Rattle.diag_desk.specs.Entries.{entry};
 ghost use Rattle.diag_desk.specs.Entry.{step_seen};
 ghost use Rattle.diag_desk.specs.Text.{ended, entry_line, stamped_line, ticks_in};
@@ -22,13 +22,16 @@ pub trait Keeper {
     /// No further entry can be kept.
     ghost is_full: { Self → Type 0 };
 
+    /// What a keep that is refused leaves: the same but for room.
+    ghost unkept: { Self → Self → Type 0 };
+
     /// The name of what is written to, where that is borrowed.
     ghost place: { Self → ℕ };
 
     /// Keeps the entry of a step and its reply; `before` is the ticks of its tester before it.
     ///
     /// # Errors
-    /// `JournalFull` where no further entry can be kept, `Memory` where memory is refused.
+    /// `JournalFull` where no further entry can be kept, `Memory` where memory is refused. What is kept is then as before.
     fn keep(
         &mut self,
         before: u64,
@@ -40,11 +43,15 @@ pub trait Keeper {
         ensures kept { OnOk result
             (keeps self.old before (entry who step.now (option_copied reply.entry)) self.new) }
         ensures full { result ≡ Err StepFault.JournalFull → is_full self.old }
+        ensures err { OnErr result (unkept self.old self.new) }
         ensures place { place self.new ≡ place self.old };
+
+    /// A keeper that was asked nothing is as a refused keep leaves it.
+    ghost unkept_same: { (keeper : Self) → unkept keeper keeper };
 }
 
 /// Appends the line of the entry of a step and its reply in this version; `before` is the ticks of its tester before
-/// it. (Not inlined: what a line is made of is passed in registers.)
+/// it. After an error the text is as before. (Not inlined: what a line is made of is passed in registers.)
 #[inline(never)]
 pub fn enter_step(
     text: &mut Vec<u8>,
@@ -55,9 +62,10 @@ pub fn enter_step(
     reply: Option<&Message>,
 ) -> Result<(), AllocError>
     requires early { before ≤ closing_time }
-    ensures { OnOk result (text.new.items ≡ text.old.items
+    ensures ok { OnOk result (text.new.items ≡ text.old.items
         ++ ended (stamped_line version (before + ticks_in step.now)
         (entry_line (entry who step.now (option_copied reply.entry))))) }
+    ensures err { OnErr result (text.new.items ≡ text.old.items) }
 {
     let entry = EntryRef {
         who,

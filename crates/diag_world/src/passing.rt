@@ -24,7 +24,7 @@ ghost use Rattle.diag_tp.specs.Placing.{placed_at};
 ghost use Rattle.diag_tp.specs.Taken.{IsTaken, FitsIn};
 ghost use Rattle.diag_tp.specs.Wire.{Placed};
 ghost use Rattle.diag_tp.specs.Link.{StandsFor, has_reply_room, last_tick, pending, quiet, unsent, waiting_count};
-ghost use Rattle.diag_world.specs.Port.{AreWithin, Grew, HandedOut, Passed};
+ghost use Rattle.diag_world.specs.Port.{AreWithin, Grew, HandedOut, Passed, SentDue};
 
 use diag_can::{Event, TickCount};
 use diag_tp::{Link, Message, Sent, Taken, moments_law, time_law};
@@ -68,6 +68,7 @@ fn pass_quiet(link: &mut Link, count: TickCount)
     ensures waiting { waiting_count link.new.state ≤ waiting_count link.old.state }
     ensures most { count ≤ 60000 }
 {
+    // (for its contract: a count is at most 60000)
     let _most = count.get();
     link.advance(count);
 }
@@ -164,11 +165,7 @@ fn place(link: &mut Link, reply: &mut Option<Message>, out: &mut Vec<Sent>)
 #[inline(always)]
 fn send_due(link: &mut Link, out: &mut Vec<Sent>)
     requires room { vec_len out.old + pending link.old.state ≤ vec_capacity out.old }
-    ensures stands { Grew out.old.items out.new.items (λ more. AreWithin link.old.state.now link.new.state.now more
-        × ((s : ALinkSetup) (E : List AnEvent) (A : List Placed) (Q : List ASent)
-        → StandsFor s link.old.state E A Q
-        → last_time E ≤ last_tick
-        → HandedOut s link.new.state E A (Q ++ more))) }
+    ensures stands { Grew out.old.items out.new.items (SentDue link.old.state link.new.state) }
     ensures time { link.new.state.now ≡ link.old.state.now }
     ensures drained { pending link.new.state ≡ 0 }
     ensures unsent { vec_len out.new + unsent link.new.state
@@ -186,11 +183,7 @@ fn send_due(link: &mut Link, out: &mut Vec<Sent>)
 #[inline(never)]
 fn send_frames(link: &mut Link, out: &mut Vec<Sent>)
     requires room { vec_len out.old + pending link.old.state ≤ vec_capacity out.old }
-    ensures stands { Grew out.old.items out.new.items (λ more. AreWithin link.old.state.now link.new.state.now more
-        × ((s : ALinkSetup) (E : List AnEvent) (A : List Placed) (Q : List ASent)
-        → StandsFor s link.old.state E A Q
-        → last_time E ≤ last_tick
-        → HandedOut s link.new.state E A (Q ++ more))) }
+    ensures stands { Grew out.old.items out.new.items (SentDue link.old.state link.new.state) }
     ensures time { link.new.state.now ≡ link.old.state.now }
     ensures drained { pending link.new.state ≡ 0 }
     ensures unsent { vec_len out.new + unsent link.new.state

@@ -11,9 +11,7 @@ ghost use Rattle.std.specs.Prelude.{
   [],
   ◌∷◌,
   ◌++◌,
-  OnOk,
   IfOk,
-  IfSome,
   IsTrue,
   IsSome,
   None,
@@ -24,11 +22,10 @@ ghost use Rattle.std.specs.Prelude.{
 ghost use Rattle.diag_can.specs.declared.frame.Event.{Event as AnEvent};
 ghost use Rattle.diag_tp.specs.declared.setup.LinkSetup.{LinkSetup as ALinkSetup};
 ghost use Rattle.diag_tp.specs.Gives.{gives};
-ghost use Rattle.diag_tp.specs.Moments.{is_tick, last_time};
+ghost use Rattle.diag_tp.specs.Moments.{last_time};
 ghost use Rattle.diag_tp.specs.Link.{EachHistory, is_frame, last_tick, pending, waiting_count};
 ghost use Rattle.diag_desk.specs.declared.entry.Entry.{Entry as AnEntry};
-ghost use Rattle.diag_world.specs.Channel.{RepliesToFrame};
-ghost use Rattle.diag_world.specs.Port.{AreWithin, Grew, HasRoomFor, PortStands, PortTook, step_in, time_after};
+ghost use Rattle.diag_world.specs.Port.{AreWithin, Grew, HasRoomFor, IsPrepared, PortStands, PortTook, step_in, time_after};
 
 use crate::passing::{pass, receive};
 use diag_can::Event;
@@ -66,13 +63,8 @@ pub(crate) fn prepare(
     requires drained { pending link.old.state ≡ 0 }
     ensures same { link.new.state ≡ link.old.state }
     ensures out { out.new.items ≡ out.old.items }
-    ensures room { IfOk result (λ p. HasRoomFor
-        link.new event.now p (vec_len out.new) (vec_capacity out.new)) }
-    ensures step { IfOk result (λ p. EachHistory link.old.state (λ s E A Q.
-        step_in link.new p ≡ gives s E event.now)) }
-    ensures replies { IfOk result (λ p.
-        IfSome (step_in link.new p) (λ step. RepliesToFrame event.now step)) }
-    ensures ticks { IfOk result (λ p. IsTrue (is_tick event.now) → IsSome (step_in link.new p)) }
+    ensures prepared { IfOk result (λ p.
+        IsPrepared link.new event.now p (vec_len out.new) (vec_capacity out.new)) }
 {
     gives_law();
     match event {

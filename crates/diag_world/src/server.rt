@@ -8,8 +8,6 @@ ghost use Rattle.std.specs.Prelude.{
   ◌-◌,
   ◌+◌,
   [],
-  ◌∷◌,
-  ◌++◌,
   length,
   map,
   Option,
@@ -18,28 +16,22 @@ ghost use Rattle.std.specs.Prelude.{
   Err,
   IfOk,
   IfSome,
-  option_map,
   OnOk,
   OnErr,
   vec_len,
   vec_capacity,
   slice_get,
-  ◌↔◌,
-  IsTrue,
   IsSome,
 };
 ghost use Rattle.diag_can.specs.declared.frame.Event.{Event as AnEvent};
 ghost use Rattle.diag_tp.specs.Gives.{gives};
-ghost use Rattle.diag_tp.specs.Link.{EachHistory, pending, quiet};
-ghost use Rattle.diag_tp.specs.Moments.{is_tick, last_time};
+ghost use Rattle.diag_tp.specs.Link.{pending, quiet};
+ghost use Rattle.diag_tp.specs.Moments.{last_time};
 ghost use Rattle.diag_setup.specs.Setup.{link_of};
 ghost use Rattle.diag_ecu.specs.State.{State};
-ghost use Rattle.diag_desk.specs.declared.entry.Entry.{Entry as AnEntry};
-ghost use Rattle.diag_desk.specs.Legal.{after, reply_to};
 ghost use Rattle.diag_world.specs.Weaving.{items_of};
-ghost use Rattle.diag_world.specs.Channel.{RepliesToFrame};
-ghost use Rattle.diag_world.specs.Port.{Grew, HasRoomFor, step_in};
-ghost use Rattle.diag_world.specs.Server.{answer_to, closing_time, entry_of, quiet_of, server_of, went_to, AreEarly, EachRun, HasKept, IsClosed, LinkTook, PortWent, Serves, ServerTook, TookNothing, Waited};
+ghost use Rattle.diag_world.specs.Port.{Grew, IsPrepared, step_in};
+ghost use Rattle.diag_world.specs.Server.{answer_to, closing_time, entry_of, quiet_of, server_of, went_to, AreEarly, EachRun, GivesStep, HasKept, IsClosed, LinkTook, PortWent, Serves, ServerTook, TookNothing, Waited};
 
 use crate::keeper::Keeper;
 use crate::lazy_link::LazyLink;
@@ -133,7 +125,7 @@ impl Server {
     ///
     /// # Errors
     /// `Clock` where the tester's link has come to its closing time, `JournalFull` where the keeper can't keep the entry,
-    /// `Memory` where memory is refused. The server and the frames are then as before.
+    /// `Memory` where memory is refused. The server and the frames are then as before, and so is what is kept.
     #[inline(always)]
     pub fn take<K: Keeper>(
         &mut self,
@@ -148,6 +140,7 @@ impl Server {
         ensures place { K.place keeper.new ≡ K.place keeper.old }
         ensures err { OnErr result
             ((server_of self.new ≡ server_of self.old) × (out.new.items ≡ out.old.items)) }
+        ensures unkept { OnErr result (K.unkept keeper.old keeper.new) }
         ensures full { result ≡ Err ServerFault.JournalFull
             → K.is_full keeper.old
             × EachRun (server_of self.old) (λ setup M journal.
@@ -233,12 +226,11 @@ fn take_at<K: Keeper>(
     ensures took { OnOk result (LinkTook K.keeps ecu.old ecu.new link.old link.new keeper.old keeper.new
         who event.now out.old.items out.new.items) }
     ensures place { K.place keeper.new ≡ K.place keeper.old }
-    ensures drained { pending link.new.state ≡ 0 }
     ensures err { OnErr result
-        (TookNothing link.old link.new ecu.old ecu.new out.old.items out.new.items) }
+        (TookNothing K.unkept ecu.old ecu.new link.old link.new keeper.old keeper.new
+        out.old.items out.new.items) }
     ensures full { result ≡ Err ServerFault.JournalFull
-        → K.is_full keeper.old
-        × EachHistory link.old.state (λ s E A Q. IsSome (gives s E event.now)) }
+        → K.is_full keeper.old × GivesStep link.old.state event.now }
     ensures clock { result ≡ Err ServerFault.Clock → closing_time < link.old.state.now }
 {
     if link.now() > CLOSING_TIME {
@@ -266,12 +258,11 @@ fn take_early<K: Keeper>(
     ensures took { OnOk result (LinkTook K.keeps ecu.old ecu.new link.old link.new keeper.old keeper.new
         who event.now out.old.items out.new.items) }
     ensures place { K.place keeper.new ≡ K.place keeper.old }
-    ensures drained { pending link.new.state ≡ 0 }
     ensures err { OnErr result
-        (TookNothing link.old link.new ecu.old ecu.new out.old.items out.new.items) }
+        (TookNothing K.unkept ecu.old ecu.new link.old link.new keeper.old keeper.new
+        out.old.items out.new.items) }
     ensures full { result ≡ Err StepFault.JournalFull
-        → K.is_full keeper.old
-        × EachHistory link.old.state (λ s E A Q. IsSome (gives s E event.now)) }
+        → K.is_full keeper.old × GivesStep link.old.state event.now }
 {
     if let Event::Ticks(count) = event {
         return pass_at(link, ecu, who, *count, keeper, out);
@@ -301,24 +292,18 @@ fn take_single<K: Keeper>(
     keeper: &mut K,
     out: &mut Vec<Sent>,
 ) -> Result<(), StepFault>
-    requires drained { pending link.old.state ≡ 0 }
     requires early { link.old.state.now ≤ closing_time }
-    requires room { HasRoomFor
+    requires prepared { IsPrepared
         link.old event.now prepared.now (vec_len out.old) (vec_capacity out.old) }
     requires single { step_in link.old prepared.now ≡ Some link.old.noted }
-    requires step { EachHistory link.old.state (λ s E A Q.
-        step_in link.old prepared.now ≡ gives s E event.now) }
-    requires replies { IfSome (step_in link.old prepared.now) (λ step. RepliesToFrame event.now step) }
-    requires ticks { IsTrue (is_tick event.now) → IsSome (step_in link.old prepared.now) }
     ensures took { OnOk result (LinkTook K.keeps ecu.old ecu.new link.old link.new keeper.old keeper.new
         who event.now out.old.items out.new.items) }
     ensures place { K.place keeper.new ≡ K.place keeper.old }
-    ensures drained { pending link.new.state ≡ 0 }
     ensures err { OnErr result
-        (TookNothing link.old link.new ecu.old ecu.new out.old.items out.new.items) }
+        (TookNothing K.unkept ecu.old ecu.new link.old link.new keeper.old keeper.new
+        out.old.items out.new.items) }
     ensures full { result ≡ Err StepFault.JournalFull
-        → K.is_full keeper.old
-        × EachHistory link.old.state (λ s E A Q. IsSome (gives s E event.now)) }
+        → K.is_full keeper.old × GivesStep link.old.state event.now }
 {
     let mut reply = None;
     answer_noted(link, ecu, who, keeper, &mut reply)?;
@@ -330,14 +315,10 @@ fn take_single<K: Keeper>(
 #[cold]
 #[inline(never)]
 fn take_silent(link: &mut Link, event: &Event, prepared: &Prepared, out: &mut Vec<Sent>)
-    requires drained { pending link.old.state ≡ 0 }
     requires early { link.old.state.now ≤ closing_time }
-    requires room { HasRoomFor
+    requires prepared { IsPrepared
         link.old event.now prepared.now (vec_len out.old) (vec_capacity out.old) }
     requires silent { step_in link.old prepared.now ≡ None }
-    requires step { EachHistory link.old.state (λ s E A Q.
-        step_in link.old prepared.now ≡ gives s E event.now) }
-    requires ticks { IsTrue (is_tick event.now) → IsSome (step_in link.old prepared.now) }
     ensures took { (ecu : State) (who : ℕ) → Grew out.old.items out.new.items (λ more.
         PortWent ecu ecu link.old link.new who event.now None more) }
     ensures drained { pending link.new.state ≡ 0 }
@@ -359,23 +340,17 @@ fn take_other<K: Keeper>(
     keeper: &mut K,
     out: &mut Vec<Sent>,
 ) -> Result<(), StepFault>
-    requires drained { pending link.old.state ≡ 0 }
     requires early { link.old.state.now ≤ closing_time }
-    requires room { HasRoomFor
+    requires prepared { IsPrepared
         link.old event.now prepared.now (vec_len out.old) (vec_capacity out.old) }
-    requires step { EachHistory link.old.state (λ s E A Q.
-        step_in link.old prepared.now ≡ gives s E event.now) }
-    requires replies { IfSome (step_in link.old prepared.now) (λ step. RepliesToFrame event.now step) }
-    requires ticks { IsTrue (is_tick event.now) → IsSome (step_in link.old prepared.now) }
     ensures took { OnOk result (LinkTook K.keeps ecu.old ecu.new link.old link.new keeper.old keeper.new
         who event.now out.old.items out.new.items) }
     ensures place { K.place keeper.new ≡ K.place keeper.old }
-    ensures drained { pending link.new.state ≡ 0 }
     ensures err { OnErr result
-        (TookNothing link.old link.new ecu.old ecu.new out.old.items out.new.items) }
+        (TookNothing K.unkept ecu.old ecu.new link.old link.new keeper.old keeper.new
+        out.old.items out.new.items) }
     ensures full { result ≡ Err StepFault.JournalFull
-        → K.is_full keeper.old
-        × EachHistory link.old.state (λ s E A Q. IsSome (gives s E event.now)) }
+        → K.is_full keeper.old × GivesStep link.old.state event.now }
 {
     let mut reply = None;
     answer_at(link, ecu, who, prepared, keeper, &mut reply)?;
@@ -398,9 +373,9 @@ fn pass_at<K: Keeper>(
     ensures took { OnOk result (LinkTook K.keeps ecu.old ecu.new link.old link.new keeper.old keeper.new
         who (AnEvent.Ticks count) out.old.items out.new.items) }
     ensures place { K.place keeper.new ≡ K.place keeper.old }
-    ensures drained { pending link.new.state ≡ 0 }
     ensures err { OnErr result
-        (TookNothing link.old link.new ecu.old ecu.new out.old.items out.new.items) }
+        (TookNothing K.unkept ecu.old ecu.new link.old link.new keeper.old keeper.new
+        out.old.items out.new.items) }
     ensures full { result ≡ Err StepFault.JournalFull → K.is_full keeper.old }
 {
     out.reserve(link.backlog() as usize)?;
@@ -429,7 +404,7 @@ fn answer_at<K: Keeper>(
         (entry_of who (step_in link.now prepared.now) reply.new)) }
     ensures ecu { OnOk result (ecu.new ≡ went_to ecu.old who (step_in link.now prepared.now)) }
     ensures place { K.place keeper.new ≡ K.place keeper.old }
-    ensures err { OnErr result (ecu.new ≡ ecu.old) }
+    ensures err { OnErr result ((ecu.new ≡ ecu.old) × K.unkept keeper.old keeper.new) }
     ensures full { result ≡ Err StepFault.JournalFull
         → K.is_full keeper.old × IsSome (step_in link.now prepared.now) }
 {
@@ -458,7 +433,7 @@ fn answer_noted<K: Keeper>(
         (entry_of who (Some link.now.noted) reply.new)) }
     ensures ecu { OnOk result (ecu.new ≡ went_to ecu.old who (Some link.now.noted)) }
     ensures place { K.place keeper.new ≡ K.place keeper.old }
-    ensures err { OnErr result (ecu.new ≡ ecu.old) }
+    ensures err { OnErr result ((ecu.new ≡ ecu.old) × K.unkept keeper.old keeper.new) }
     ensures full { result ≡ Err StepFault.JournalFull → K.is_full keeper.old }
 {
     put_reply(ecu, who, link.noted(), reply)?;

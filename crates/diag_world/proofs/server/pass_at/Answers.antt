@@ -26,4 +26,5 @@ returns-clause-took g c =
           settled = ticks_settled c.args.link.now c.pass.new.link who n passed.more c.pass.ensures.most c.requires.early c.pass.ensures.time passed.holds;
         };
       };
+      drained = c.pass.ensures.drained;
     }

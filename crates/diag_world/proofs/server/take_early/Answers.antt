@@ -22,4 +22,5 @@ returns-in-Frame-Ignored-clause-took g c =
         holds = went_from ecu ecu c.args.link.now c.prepare.new.link c.take_silent.new.link c.args.who c.args.event.now None sent.more
             c.in_ok-prepared.ensures.same sent.holds;
       };
+      drained = c.take_silent.ensures.drained;
     }

@@ -16,8 +16,9 @@ returns-clause-took g c =
       sent = record {
         more = took.more;
         grown = took.grown;
-        holds = port_went c.args.ecu.now c.answer_at.new.ecu link c.settle.new.link c.args.who c.args.event.now o reply took.more c.requires.step
-            c.requires.ticks c.requires.early c.in_ok-answer_at.ensures.reply c.in_ok-answer_at.ensures.ecu c.settle.ensures.time c.settle.ensures.most
+        holds = port_went c.args.ecu.now c.answer_at.new.ecu link c.settle.new.link c.args.who c.args.event.now o reply took.more c.requires.prepared.step
+            c.requires.prepared.ticks c.requires.early c.in_ok-answer_at.ensures.reply c.in_ok-answer_at.ensures.ecu c.settle.ensures.time c.settle.ensures.most
             took.holds.0 c.settle.ensures.short took.holds.1;
       };
+      drained = c.settle.ensures.drained;
     }

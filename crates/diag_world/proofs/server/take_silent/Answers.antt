@@ -16,7 +16,7 @@ returns-clause-took c = λ ecu who.
       more = took.more;
       grown = took.grown;
       holds = port_went ecu ecu link c.settle.new.link who e None None took.more
-          (subst (λ (o : Option Step). EachHistory link.state (λ s E A Q. o ≡ gives s E e)) c.requires.silent c.requires.step)
-          (subst (λ (o : Option Step). IsTrue (is_tick e) → IsSome o) c.requires.silent c.requires.ticks) c.requires.early
+          (subst (λ (o : Option Step). EachHistory link.state (λ s E A Q. o ≡ gives s E e)) c.requires.silent c.requires.prepared.step)
+          (subst (λ (o : Option Step). IsTrue (is_tick e) → IsSome o) c.requires.silent c.requires.prepared.ticks) c.requires.early
           refl refl c.settle.ensures.time c.settle.ensures.most took.holds.0 c.settle.ensures.short took.holds.1;
     }

@@ -22,9 +22,10 @@ returns-clause-took g c =
       sent = record {
         more = took.more;
         grown = took.grown;
-        holds = port_went ecu c.answer_noted.new.ecu link c.settle.new.link who c.args.event.now o reply took.more c.requires.step
-            c.requires.ticks c.requires.early (c.in_ok-answer_noted.ensures.reply ∙ ap (answer_to ecu who) noted)
+        holds = port_went ecu c.answer_noted.new.ecu link c.settle.new.link who c.args.event.now o reply took.more c.requires.prepared.step
+            c.requires.prepared.ticks c.requires.early (c.in_ok-answer_noted.ensures.reply ∙ ap (answer_to ecu who) noted)
             (c.in_ok-answer_noted.ensures.ecu ∙ ap (went_to ecu who) noted) c.settle.ensures.time c.settle.ensures.most
             took.holds.0 c.settle.ensures.short took.holds.1;
       };
+      drained = c.settle.ensures.drained;
     }

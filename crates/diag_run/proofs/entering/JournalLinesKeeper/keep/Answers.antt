@@ -7,4 +7,4 @@ pub returns-clause-kept : goal.returns-clause-kept
 returns-clause-kept c =
     let old = c.args.self.now in
     let new : JournalLines = record { text = c.enter_step.new.text; version = old.version; count = old.count + 1 } in
-    (enters_more old new c.args.before _ refl refl c.in_ok-enter_step.ensures, refl, omega arith)
+    (enters_more old new c.args.before _ refl refl c.in_ok-enter_step.ensures.ok, refl, omega arith)

@@ -1,12 +1,16 @@
-use Rattle.std.proofs.Common.{◌-◌, subst, sym, ◌∙◌, arith}
+use Rattle.std.proofs.Common.{◌≡◌, ◌≤◌, ◌-◌, subst, sym, ◌∙◌, arith}
+use Rattle.std.specs.Prelude.{slice_set}
+use Rattle.diag_tp.specs.Link.{last_tick, pending}
 use Rattle.diag_setup.specs.Setup.{link_of}
-use Rattle.diag_world.specs.Server.{ServerTook, server_of}
+use Rattle.diag_world.specs.Server.{ServerTook, server_of, state_at}
 use Rattle.diag_world.specs.Weaving.{items_of}
 use Rattle.diag_world.specs.declared.lazy_link.LazyLink.{LazyLink}
-use Rattle.diag_world.proofs.Lazy.{caught_still, caught_told, seen_after, set_lazy, told_after}
-use Rattle.diag_world.proofs.Tester.{closed_here, late_here, lazy_at, link_at, port_here, same_here, took_here}
+use Rattle.diag_world.proofs.Lazy.{caught_still, caught_told, seen_after, seen_links, set_lazy, told_after}
+use Rattle.diag_world.proofs.Tester.{IsAt, closed_here, late_here, lazy_at, link_at, port_here, same_here, took_here}
 use Rattle.diag_world.proofs.Worlds.{on_ok, on_err}
+use Rattle.diag_world.proofs.server.Server.take.Given.{Over}
 use Rattle.diag_world.proofs.server.Server.take.Goals as goal
+use Rattle.diag_world.proofs.server.Server.take.Goals.{After-take_at}
 
 pub catch_up-requires : goal.catch_up-requires
 catch_up-requires g c =
@@ -18,56 +22,60 @@ catch_up-requires g c =
 pub take_at-requires : goal.take_at-requires
 take_at-requires g c = record { drained = c.catch_up.ensures.lazy.drained }
 
+module _ (g : Over) (c : After-take_at g) where
+  -- the tester's link, where the contract sees it
+  here : IsAt c.self.inside.ecu (seen_links c.self.inside.passed c.self.inside.links.items) c.args.self.now c.args.who (c.from-index.result - 1) c.catch_up.new.self.link
+  here = link_at c.self.inside.links.items c.self.inside.passed c.self.view_is c.requires.in_setup c.place.ensures.same c.place.ensures.fits
+      c.from-index.ensures c.index_mut-lazy.ensures.value c.catch_up.new.self.link c.catch_up.ensures.link
+
+  -- the link as it is after the call
+  abbrev next : LazyLink
+  next = record { link = c.take_at.new.link; taken = c.catch_up.new.self.taken }
+
+  -- its clock didn't go back, and nothing is due at it
+  told : (c.catch_up.new.self.link.state.now ≤ next.link.state.now) × (next.link.state.now ≤ last_tick) × (pending next.link.state ≡ 0)
+  told = told_after g.K.Keeper.keeps g.K.Keeper.unkept c.self.inside.ecu c.take_at.new.ecu c.catch_up.new.self.link c.take_at.new.link
+      c.args.keeper.now c.take_at.new.keeper c.args.who c.args.event.now c.args.out.now.items c.take_at.new.out.items c.take_at.result
+      (caught_told c.self.inside.passed _ c.catch_up.new.self.link c.catch_up.ensures.link) c.catch_up.ensures.lazy.drained
+      c.take_at.ensures.took c.take_at.ensures.err
+
+  -- and what the server is seen to be
+  seen : state_at c.take_at.new.ecu (seen_links c.self.inside.passed (slice_set c.self.inside.links.items (c.from-index.result - 1) next))
+      ≡ state_at c.take_at.new.ecu (slice_set (seen_links c.self.inside.passed c.self.inside.links.items) (c.from-index.result - 1) next.link)
+  seen = seen_after c.self.inside.passed (c.from-index.result - 1) c.self.inside.links.items next c.catch_up.ensures.taken told.1 c.take_at.new.ecu
+
 pub invariant_of-self : goal.invariant_of-self
 invariant_of-self g c =
-    let next : LazyLink = record { link = c.take_at.new.link; taken = c.catch_up.new.self.taken } in
-    let told = told_after g.K.Keeper.keeps c.self.inside.ecu c.take_at.new.ecu c.catch_up.new.self.link c.take_at.new.link c.args.keeper.now c.take_at.new.keeper c.args.who
-    c.args.event.now c.args.out.now.items c.take_at.new.out.items c.take_at.result
-    (caught_told c.self.inside.passed _ c.catch_up.new.self.link c.catch_up.ensures.link) c.take_at.ensures.took c.take_at.ensures.err in
-    set_lazy c.self.inside.passed (c.from-index.result - 1) c.self.inside.links.items next c.self.invariant
-    (caught_still c.self.inside.passed next c.catch_up.ensures.taken c.take_at.ensures.drained (omega (arith, told.0, c.catch_up.ensures.lazy.told, c.catch_up.ensures.taken)) told.1)
+    let after = (goal.at.invariant_of-self g c).After-take_at in
+    let told = told g after in
+    set_lazy c.self.inside.passed (c.from-index.result - 1) c.self.inside.links.items (next g after) c.self.invariant
+    (caught_still c.self.inside.passed (next g after) c.catch_up.ensures.taken told.2
+    (omega (arith, told.0, c.catch_up.ensures.lazy.told, c.catch_up.ensures.taken)) told.1)
 
 pub returns-clause-took : goal.returns-clause-took
 returns-clause-took g c =
-    let here = link_at c.self.inside.links.items c.self.inside.passed c.self.view_is c.requires.in_setup c.place.ensures.same c.place.ensures.fits c.from-index.ensures
-    c.index_mut-lazy.ensures.value c.catch_up.new.self.link c.catch_up.ensures.link in
-    let next : LazyLink = record { link = c.take_at.new.link; taken = c.catch_up.new.self.taken } in
-    let told = told_after g.K.Keeper.keeps c.self.inside.ecu c.take_at.new.ecu c.catch_up.new.self.link c.take_at.new.link c.args.keeper.now c.take_at.new.keeper c.args.who
-    c.args.event.now c.args.out.now.items c.take_at.new.out.items c.take_at.result
-    (caught_told c.self.inside.passed _ c.catch_up.new.self.link c.catch_up.ensures.link) c.take_at.ensures.took c.take_at.ensures.err in
-    let seen = seen_after c.self.inside.passed (c.from-index.result - 1) c.self.inside.links.items next c.catch_up.ensures.taken told.1 c.take_at.new.ecu in
-    on_ok _ _ c.take_at.result (λ took. subst (λ s. ServerTook g.K.Keeper.keeps (server_of c.args.self.now) s c.args.keeper.now c.take_at.new.keeper c.args.who
-    c.args.event.now c.args.out.now.items c.take_at.new.out.items) (sym seen) (took_here here g.K.Keeper.keeps c.args.keeper.now c.take_at.new.keeper c.take_at.new.ecu c.take_at.new.link
-    c.args.event.now c.args.out.now.items c.take_at.new.out.items took)) c.take_at.ensures.took
+    let after = (goal.at.returns-clause-took g c).After-take_at in
+    on_ok _ _ c.take_at.result (λ took. subst (λ s. ServerTook g.K.Keeper.keeps (server_of c.args.self.now) s c.args.keeper.now c.take_at.new.keeper
+    c.args.who c.args.event.now c.args.out.now.items c.take_at.new.out.items) (sym (seen g after))
+    (took_here (here g after) g.K.Keeper.keeps c.args.keeper.now c.take_at.new.keeper c.take_at.new.ecu c.take_at.new.link c.args.event.now
+    c.args.out.now.items c.take_at.new.out.items took)) c.take_at.ensures.took
 
 pub returns-clause-err : goal.returns-clause-err
 returns-clause-err g c =
-    let here = link_at c.self.inside.links.items c.self.inside.passed c.self.view_is c.requires.in_setup c.place.ensures.same c.place.ensures.fits c.from-index.ensures
-    c.index_mut-lazy.ensures.value c.catch_up.new.self.link c.catch_up.ensures.link in
-    let next : LazyLink = record { link = c.take_at.new.link; taken = c.catch_up.new.self.taken } in
-    let told = told_after g.K.Keeper.keeps c.self.inside.ecu c.take_at.new.ecu c.catch_up.new.self.link c.take_at.new.link c.args.keeper.now c.take_at.new.keeper c.args.who
-    c.args.event.now c.args.out.now.items c.take_at.new.out.items c.take_at.result
-    (caught_told c.self.inside.passed _ c.catch_up.new.self.link c.catch_up.ensures.link) c.take_at.ensures.took c.take_at.ensures.err in
-    let seen = seen_after c.self.inside.passed (c.from-index.result - 1) c.self.inside.links.items next c.catch_up.ensures.taken told.1 c.take_at.new.ecu in
-    on_err _ _ c.take_at.result (λ err. (seen ∙ same_here here c.take_at.new.ecu c.take_at.new.link err.0 err.1, err.2)) c.take_at.ensures.err
+    let after = (goal.at.returns-clause-err g c).After-take_at in
+    on_err _ _ c.take_at.result (λ err. (seen g after ∙ same_here (here g after) c.take_at.new.ecu c.take_at.new.link err.0 err.1, err.2))
+    c.take_at.ensures.err
 
 pub returns-clause-full : goal.returns-clause-full
 returns-clause-full g c = λ e.
-    let here = link_at c.self.inside.links.items c.self.inside.passed c.self.view_is c.requires.in_setup c.place.ensures.same c.place.ensures.fits c.from-index.ensures
-    c.index_mut-lazy.ensures.value c.catch_up.new.self.link c.catch_up.ensures.link in
     let full = c.take_at.ensures.full e in (
       full.0,
-      λ setup M K run. full.1 (link_of setup c.args.who) (items_of M c.args.who) _ _ (port_here here setup M K run).stands,
+      λ setup M K run. full.1 (link_of setup c.args.who) (items_of M c.args.who) _ _
+          (port_here (here g (goal.at.returns-clause-full g c).After-take_at) setup M K run).stands,
     )
 
 pub returns-clause-clock : goal.returns-clause-clock
-returns-clause-clock g c = λ e.
-    let here = link_at c.self.inside.links.items c.self.inside.passed c.self.view_is c.requires.in_setup c.place.ensures.same c.place.ensures.fits c.from-index.ensures
-    c.index_mut-lazy.ensures.value c.catch_up.new.self.link c.catch_up.ensures.link in
-    late_here here (c.take_at.ensures.clock e)
+returns-clause-clock g c = λ e. late_here (here g (goal.at.returns-clause-clock g c).After-take_at) (c.take_at.ensures.clock e)
 
 pub returns-clause-closed : goal.returns-clause-closed
-returns-clause-closed g c = λ e.
-    let here = link_at c.self.inside.links.items c.self.inside.passed c.self.view_is c.requires.in_setup c.place.ensures.same c.place.ensures.fits c.from-index.ensures
-    c.index_mut-lazy.ensures.value c.catch_up.new.self.link c.catch_up.ensures.link in
-    closed_here here (c.take_at.ensures.clock e)
+returns-clause-closed g c = λ e. closed_here (here g (goal.at.returns-clause-closed g c).After-take_at) (c.take_at.ensures.clock e)
