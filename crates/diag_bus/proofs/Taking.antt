@@ -7,11 +7,11 @@ use Rattle.diag_can.specs.declared.bus.BusLine.TheVariants.{Ticks}
 use Rattle.diag_can.specs.declared.frame.Event.TheVariants as event
 use Rattle.diag_tp.specs.declared.sent.Sent.{Sent}
 use Rattle.diag_setup.specs.declared.raw.RawSetup.{RawSetup}
-use Rattle.diag_world.specs.Server.{ServerView, closing_time, server_of}
+use Rattle.diag_world.specs.Server.{ServerView, closing_time, each_of, server_of}
 use Rattle.diag_bus.specs.Batch.{AreSentBy, BusStands, Gave, GoesOn, HasTime, IsBy, SaidBelow, SameShape, SentIn, StartsBelow, TookTime, added, lists_of, moment_end}
 use Rattle.diag_bus.specs.Bus.{AreSound, BusState, Judges, TookLine}
 use Rattle.diag_bus.specs.Comparing.{DrawnBy, TakesLine}
-use Rattle.diag_bus.specs.Events.{fault_said, said_gives, span_said, to_each}
+use Rattle.diag_bus.specs.Events.{fault_said, said_gives, span_said}
 use Rattle.diag_bus.specs.Text.{written}
 use Rattle.diag_bus.specs.declared.bus.Output.{Output}
 use Rattle.diag_bus.specs.declared.bus.Output.TheVariants.{Replies, Journal, End, Verdict}
@@ -73,7 +73,7 @@ took_line bus setup line said old begun taken done clock clock' compared compare
 
 -- ticks to each tester are what a line gives that says so many
 pub ticks_gave : (setup : RawSetup) (clock : Clock) (begun taken : MidLine) (count : ℕ)
-    → Gave begun taken (to_each (length setup.testers) (event.Ticks count))
+    → Gave begun taken (each_of (length setup.testers) (event.Ticks count))
     → Gave begun taken (said_gives setup clock.reference (Ticks count))
 ticks_gave setup clock begun taken count gave = subst (λ L. Gave begun taken L) (said_ticks setup clock.reference (Ticks count) count refl) gave
 
