@@ -12,12 +12,14 @@ use Rattle.diag_bus.specs.Batch.{AreSentBy, BusStands, Gave, GoesOn, HasTime, Is
 use Rattle.diag_bus.specs.Bus.{AreSound, BusState, Judges, TookLine}
 use Rattle.diag_bus.specs.Comparing.{DrawnBy, TakesLine}
 use Rattle.diag_bus.specs.Events.{fault_said, said_gives, span_said}
+use Rattle.diag_bus.specs.Requests.{AreNamesOf, AreRequestsOf}
 use Rattle.diag_bus.specs.Text.{written}
 use Rattle.diag_bus.specs.declared.bus.Output.{Output}
 use Rattle.diag_bus.specs.declared.bus.Output.TheVariants.{Replies, Journal, End, Verdict}
 use Rattle.diag_bus.specs.declared.clock.Clock.{Clock}
 use Rattle.diag_bus.specs.declared.comparing.Comparisons.{Comparisons}
 use Rattle.diag_bus.specs.declared.mid_line.MidLine.{MidLine}
+use Rattle.diag_bus.specs.declared.request_ids.RequestIds.{RequestIds}
 use Rattle.diag_bus.proofs.Faults.{well_more}
 use Rattle.diag_bus.proofs.Lines.{line_taken, said_ticks}
 use Rattle.diag_bus.proofs.Paces.{line_paced, sent_nothing}
@@ -39,7 +41,7 @@ judges_on End setup old new said drawn lines line takes is drew h = h
 judges_on Verdict setup old new said drawn lines line takes is drew h = takes refl lines line is drew h
 
 -- the line begins, what it says is given to the server, and what that drew is written
-pub took_line : (bus : BusState) (setup : RawSetup) (line : List ℕ) (said : BusLine) (old begun taken done : MidLine) (clock clock' : Clock)
+pub took_line : {said : BusLine} {old begun taken done : MidLine} {clock clock' : Clock} (bus : BusState) (setup : RawSetup) (line : List ℕ)
     (compared compared' : Comparisons)
     → seen setup old clock compared ≡ bus
     → AreSound setup old compared clock
@@ -50,7 +52,8 @@ pub took_line : (bus : BusState) (setup : RawSetup) (line : List ℕ) (said : Bu
     → (old.output ≡ Verdict → TakesLine setup compared compared' said (lists_of taken))
     → done.server ≡ taken.server → SameShape taken done
     → TookLine bus (seen setup done clock' compared') line (added taken.output taken.text.items setup clock'.start (lists_of taken))
-took_line bus setup line said old begun taken done clock clock' compared compared' view sound is well on empty none server first gave second takes after third =
+took_line {said} {old} {begun} {taken} {done} {clock} {clock'} bus setup line compared compared' view sound is well on empty none server first gave second
+    takes after third =
     let more = added taken.output taken.text.items setup clock'.start (lists_of taken) in
     subst (λ (b : BusState). TookLine b (seen setup done clock' compared') line more) view (λ lines h.
     let stands : BusStands setup (server_of begun.server) clock lines =
@@ -84,13 +87,13 @@ judged_not is none some = cc
 -- ---- what holds whatever the bus took
 
 -- what a line says was given, or as much of it as memory was there for
-pub sound_taken : (setup : RawSetup) (line : List ℕ) (said : BusLine) (old begun taken : MidLine) (clock clock' : Clock) (compared compared' : Comparisons)
+pub sound_taken : {said : BusLine} {old begun taken : MidLine} {clock clock' : Clock} (setup : RawSetup) (line : List ℕ) (compared compared' : Comparisons)
     → AreSound setup old compared clock → bus_line line ≡ Ok said → GoesOn clock said clock'
     → ((most : ℕ) → StartsBelow clock.start most → SaidBelow said most → StartsBelow clock'.start most)
     → begun.server ≡ old.server → SameShape old begun → SameShape begun taken → TookTime begun.server taken.server (span_said clock.reference (Ok said))
     → length compared'.testers.items ≡ length compared.testers.items
     → AreSound setup taken compared' clock'
-sound_taken setup line said old begun taken clock clock' compared compared' h is on start server first second took count = (
+sound_taken {said} {old} {begun} {taken} {clock} {clock'} setup line compared compared' h is on start server first second took count = (
   second.links ∙ (first.links ∙ h.0),
   second.lists ∙ (first.lists ∙ h.1),
   omega (arith, count, h.2),
@@ -100,18 +103,23 @@ sound_taken setup line said old begun taken clock clock' compared compared' h is
   second.rest (first.rest h.6),
 )
 
--- what it drew was written
-pub sound_written : (setup : RawSetup) (taken done : MidLine) (clock : Clock) (compared : Comparisons) → AreSound setup taken compared clock
-    → done.server ≡ taken.server → SameShape taken done
-    → AreSound setup done compared clock
-sound_written setup taken done clock compared h server shape = (
-  shape.links ∙ h.0,
-  shape.lists ∙ h.1,
-  h.2,
-  subst (λ (s : ServerView). IsBy s clock.time) (sym server) h.3,
-  h.4,
-  shape.filled h.5,
-  shape.rest h.6,
+-- what it drew was written, or wasn't
+pub kept_written : {setup : RawSetup} {ids : RequestIds} {taken done : MidLine} {names names' : List (List ℕ)} (clock : Clock) (compared : Comparisons)
+    → AreSound setup taken compared clock → AreRequestsOf setup ids → AreNamesOf setup names
+    → done.server ≡ taken.server → SameShape taken done → names' ≡ names
+    → AreSound setup done compared clock × AreRequestsOf setup ids × AreNamesOf setup names'
+kept_written {setup} clock compared h requests named server shape same = (
+  (
+    shape.links ∙ h.0,
+    shape.lists ∙ h.1,
+    h.2,
+    subst (λ (s : ServerView). IsBy s clock.time) (sym server) h.3,
+    h.4,
+    shape.filled h.5,
+    shape.rest h.6,
+  ),
+  requests,
+  subst (AreNamesOf setup) (sym same) named,
 )
 
 -- ---- the clocks of a line that begins

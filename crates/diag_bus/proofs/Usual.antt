@@ -40,7 +40,7 @@ usual_gave setup clock begun taken usual id at moment span same is gave =
     ++ flat_map (frame_to setup (Some frame)) (counted_from 1 (length setup.testers))))
     (span_usual clock usual moment span same is) gave
 
-pub sound_usual : (setup : RawSetup) (line usual : List ℕ) (id at moment span : ℕ) (old begun taken : MidLine) (clock clock' : Clock)
+pub sound_usual : {old begun taken : MidLine} {clock clock' : Clock} {moment : ℕ} (setup : RawSetup) (line usual : List ℕ) (id at span : ℕ)
     (compared : Comparisons)
     → AreSound setup old compared clock → bus_line line ≡ Ok (usual_said usual id at) → moment ≡ usual_moment usual
     → span ≡ silence Stamps clock.reference (Some moment)
@@ -48,7 +48,7 @@ pub sound_usual : (setup : RawSetup) (line usual : List ℕ) (id at moment span 
     → ((most : ℕ) → StartsBelow clock.start most → moment < most → StartsBelow clock'.start most)
     → begun.server ≡ old.server → SameShape old begun → SameShape begun taken → TookTime begun.server taken.server span
     → AreSound setup taken compared clock'
-sound_usual setup line usual id at moment span old begun taken clock clock' compared sound says same is on start server first second took =
-    sound_taken setup line (usual_said usual id at) old begun taken clock clock' compared compared sound says
+sound_usual {old} {begun} {taken} {clock} {clock'} {moment} setup line usual id at span compared sound says same is on start server first second took =
+    sound_taken setup line compared compared sound says
     (usual_on clock clock' usual id at moment same on) (λ most low below. start most low (subst (λ m. m < most) (sym same) below))
     server first second (subst (TookTime begun.server taken.server) (span_usual clock usual moment span same is) took) refl
