@@ -1,5 +1,5 @@
 use Rattle.std.proofs.Common.{◌≡◌, ◌∙◌, length, refl, arith}
-use Rattle.diag_bus.specs.Batch.{added, lists_of, moment_end}
+use Rattle.diag_bus.specs.Batch.{moment_end}
 use Rattle.diag_bus.specs.Bus.{AreSound}
 use Rattle.diag_bus.specs.declared.comparing.Comparisons.{Comparisons}
 use Rattle.diag_bus.proofs.Taking.{has_time, kept_written, sent_in_time, sound_taken, took_line}
@@ -7,20 +7,16 @@ use Rattle.diag_bus.proofs.Stamps.{bus_line_low}
 use Rattle.diag_bus.proofs.bus.Bus.take_said.Goals as goal
 use Rattle.diag_bus.proofs.bus.Bus.take_said.Goals.{After-take_said}
 
-pub returns-clause-took : goal.returns-clause-took
-returns-clause-took c =
+pub returns : goal.returns
+returns c =
     let inside = c.self.inside in
     let taken = c.take_said.new.self in
-    record {
-      more = added taken.output taken.text.items inside.setup c.go_on.new.self.start (lists_of taken);
-      grown = c.in_ok-write.ensures.ok;
-      holds = took_line c.args.self.now inside.setup c.args.line.now inside.compared c.compare.new.compared c.self.view_is c.self.invariant.0
-          c.requires.says c.in_ok-time.ensures.well c.go_on.ensures.on
-          c.begin.ensures.empty c.begin.ensures.text c.begin.ensures.server c.begin.ensures.shape
-          c.in_ok-take_said.ensures.ok c.take_said.ensures.shape
-          (λ judged. c.in_ok-compare.ensures.ok (c.take_said.ensures.shape.output ∙ c.begin.ensures.shape.output ∙ judged))
-          c.write.ensures.server c.write.ensures.shape;
-    }
+    took_line c.args.self.now inside.setup c.args.line.now inside.compared c.compare.new.compared c.self.view_is c.self.invariant.0
+    c.requires.says c.in_ok-time.ensures.well c.go_on.ensures.on
+    c.begin.ensures.empty c.begin.ensures.text c.begin.ensures.server c.begin.ensures.shape
+    c.in_ok-take_said.ensures.ok c.take_said.ensures.shape
+    (λ judged. c.in_ok-compare.ensures.ok (c.take_said.ensures.shape.output ∙ c.begin.ensures.shape.output ∙ judged))
+    c.write.ensures.server c.write.ensures.shape c.in_ok-write.ensures.ok
 
 -- ---- the clocks
 

@@ -1,24 +1,20 @@
 use Rattle.std.proofs.Common.{refl, arith}
-use Rattle.diag_bus.specs.Batch.{added, lists_of, moment_end}
+use Rattle.diag_bus.specs.Batch.{moment_end}
 use Rattle.diag_bus.specs.Bus.{AreSound}
 use Rattle.diag_bus.proofs.Taking.{has_time, judged_not, kept_written, sent_in_time, sound_taken, ticks_gave, took_line}
 use Rattle.diag_bus.proofs.bus.Bus.take_ticks.Goals as goal
 use Rattle.diag_bus.proofs.bus.Bus.take_ticks.Goals.{After-give_each}
 
-pub returns-clause-took : goal.returns-clause-took
-returns-clause-took c =
+pub returns : goal.returns
+returns c =
     let inside = c.self.inside in
     let taken = c.give_each.new.self in
-    record {
-      more = added taken.output taken.text.items inside.setup c.go_on_by.new.self.start (lists_of taken);
-      grown = c.in_ok-write.ensures.ok;
-      holds = took_line c.args.self.now inside.setup c.args.line.now inside.compared inside.compared c.self.view_is c.self.invariant.0
-          c.requires.says c.in_ok-time.ensures.well c.go_on_by.ensures.on
-          c.begin.ensures.empty c.begin.ensures.text c.begin.ensures.server c.begin.ensures.shape
-          (ticks_gave inside.setup inside.clock c.begin.new.self taken c.args.count c.in_ok-give_each.ensures.ok) c.give_each.ensures.shape
-          (λ judged. absurd (judged_not c.is_verdict.result c.if-is_verdict.false (c.is_verdict.ensures.1 judged)))
-          c.write.ensures.server c.write.ensures.shape;
-    }
+    took_line c.args.self.now inside.setup c.args.line.now inside.compared inside.compared c.self.view_is c.self.invariant.0
+    c.requires.says c.in_ok-time.ensures.well c.go_on_by.ensures.on
+    c.begin.ensures.empty c.begin.ensures.text c.begin.ensures.server c.begin.ensures.shape
+    (ticks_gave inside.setup inside.clock c.begin.new.self taken c.args.count c.in_ok-give_each.ensures.ok) c.give_each.ensures.shape
+    (λ judged. absurd (judged_not c.is_verdict.result c.if-is_verdict.false (c.is_verdict.ensures.1 judged)))
+    c.write.ensures.server c.write.ensures.shape c.in_ok-write.ensures.ok
 
 -- ---- the clocks
 

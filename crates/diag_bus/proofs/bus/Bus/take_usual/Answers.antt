@@ -1,6 +1,6 @@
 use Rattle.std.proofs.Common.{◌<◌, subst, sym, arith}
 use Rattle.diag_can.specs.Usual.{usual_said}
-use Rattle.diag_bus.specs.Batch.{added, lists_of, moment_end}
+use Rattle.diag_bus.specs.Batch.{moment_end}
 use Rattle.diag_bus.specs.Bus.{AreSound}
 use Rattle.diag_bus.proofs.Stamps.{bus_line_low}
 use Rattle.diag_bus.proofs.Taking.{has_time, judged_not, kept_written, sent_in_time, took_line}
@@ -8,25 +8,21 @@ use Rattle.diag_bus.proofs.Usual.{sound_usual, usual_gave, usual_on}
 use Rattle.diag_bus.proofs.bus.Bus.take_usual.Goals as goal
 use Rattle.diag_bus.proofs.bus.Bus.take_usual.Goals.{After-take_usual}
 
-pub returns-clause-took : goal.returns-clause-took
-returns-clause-took c =
+pub returns : goal.returns
+returns c =
     let inside = c.self.inside in
     let taken = c.take_usual.new.self in
     let usual = c.args.usual.now in
     let clock' = c.go_on_at.new.self in
     let read = c.in_ok-moment.ensures in
-    record {
-      more = added taken.output taken.text.items inside.setup clock'.start (lists_of taken);
-      grown = c.in_ok-write.ensures.ok;
-      holds = took_line c.args.self.now inside.setup c.args.line.now inside.compared inside.compared c.self.view_is c.self.invariant.0
-          c.requires.says read.well (usual_on inside.clock clock' usual c.args.id c.args.at c.in_ok-moment.moment read.moment c.go_on_at.ensures.on)
-          c.begin.ensures.empty c.begin.ensures.text c.begin.ensures.server c.begin.ensures.shape
-          (usual_gave inside.setup inside.clock c.begin.new.self taken usual c.args.id c.args.at c.in_ok-moment.moment c.silence-span.result read.moment
-          c.silence-span.ensures c.in_ok-take_usual.ensures.ok)
-          c.take_usual.ensures.shape
-          (λ judged. absurd (judged_not c.is_verdict.result c.if-is_verdict.false (c.is_verdict.ensures.1 judged)))
-          c.write.ensures.server c.write.ensures.shape;
-    }
+    took_line c.args.self.now inside.setup c.args.line.now inside.compared inside.compared c.self.view_is c.self.invariant.0
+    c.requires.says read.well (usual_on inside.clock clock' usual c.args.id c.args.at c.in_ok-moment.moment read.moment c.go_on_at.ensures.on)
+    c.begin.ensures.empty c.begin.ensures.text c.begin.ensures.server c.begin.ensures.shape
+    (usual_gave inside.setup inside.clock c.begin.new.self taken usual c.args.id c.args.at c.in_ok-moment.moment c.silence-span.result read.moment
+    c.silence-span.ensures c.in_ok-take_usual.ensures.ok)
+    c.take_usual.ensures.shape
+    (λ judged. absurd (judged_not c.is_verdict.result c.if-is_verdict.false (c.is_verdict.ensures.1 judged)))
+    c.write.ensures.server c.write.ensures.shape c.in_ok-write.ensures.ok
 
 -- ---- the clocks
 
