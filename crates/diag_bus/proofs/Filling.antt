@@ -21,7 +21,7 @@ use Rattle.diag_world.proofs.Worlds.{set_cases}
 use Rattle.diag_bus.specs.Batch.{IsRest, SameShape, lists_of}
 use Rattle.diag_bus.specs.declared.mid_line.MidLine.{MidLine}
 use Rattle.diag_bus.specs.Requests.{AreFilled, filled_at}
-use Rattle.diag_bus.specs.Text.{drawn_for, drawn_text, gathered, line_of, time_of}
+use Rattle.diag_bus.specs.Text.{drawn_for, drawn_text, gathered, line_of, own_text, time_of}
 use Rattle.diag_bus.specs.declared.clock.Start.{Start}
 use Rattle.diag_bus.specs.declared.filled.Filled.{Filled}
 use Rattle.diag_bus.specs.declared.filled.Filled.TheVariants.{Nowhere, At, Anywhere}
@@ -195,7 +195,7 @@ lines_drawn f t (sent ∷ frames) = ap (λ w. f (drawn_for t sent) ++ w) (lines_
 -- and one that draws frames of one tester, none earlier than the one before it, writes their lines as they stand
 pub own_written : (setup : RawSetup) (start : Option Start) (i : ℕ) (drawn : List (Vec Sent Global)) (list : Vec Sent Global)
     → slice_get drawn i ≡ Some list → IsNonDecreasingBy (λ f. f.at) list.items → AreFilled (At i) (map (λ f. f.items) drawn)
-    → flat_map (λ f. line_of setup start (drawn_for (i + 1) f)) list.items ≡ drawn_text setup start (map (λ f. f.items) drawn)
+    → own_text setup start i list.items ≡ drawn_text setup start (map (λ f. f.items) drawn)
 own_written setup start i drawn list at up filled =
     let items = λ (f : Vec Sent Global). f.items in
     let place : 1 + i ≡ i + 1 = omega arith in
