@@ -1,4 +1,5 @@
-use Rattle.std.proofs.Common.{◌≡◌, ◌≤◌, ◌<◌, ◌+◌, ◌*◌, ℕ, true, false, ◌++◌, length, refl, ap, subst, sym, ◌∙◌, arith}
+use Rattle.std.proofs.Common.{◌≡◌, ◌≤◌, ◌<◌, ◌+◌, ◌*◌, ℕ, ◌++◌, length, refl, ap, subst, sym, ◌∙◌, arith}
+use Rattle.std.proofs.lemmas.Bool.{false≢true}
 use Rattle.std.specs.List.{flat_map}
 use Rattle.std.specs.Prelude.{replicate, ◌/◌, ◌%◌}
 use Rattle.diag_can.specs.declared.frame.Event.TheVariants.{Ticks}
@@ -83,14 +84,11 @@ loop-part-preserved c =
           (60000 * (c.loop-part.part + 1)) (omega (arith, c.longest.ensures)) inv.pace inv.sent c.in_ok-give_each.ensures.sent;
     }
 
-clash : false ≡ true → ⊥
-clash h = cc
-
 pub returns-in-None-clause-ok : goal.returns-in-None-clause-ok
 returns-in-None-clause-ok c =
     let n = length c.args.setup.now.testers in
     let ended : c.loop-part.part ≡ c.args.ms / 60000 = omega (arith, c.loop-part.auto.part-end, c.loop-part-test.false) in
-    let no : 1 ≤ c.args.ms % 60000 → ⊥ = λ some. clash (c.in-None.ensures.found.1 (some, omega arith)) in
+    let no : 1 ≤ c.args.ms % 60000 → ⊥ = λ some. false≢true (c.in-None.ensures.found.1 (some, omega arith)) in
     let none : c.args.ms % 60000 ≡ 0 = omega (arith, no) in
     subst (λ L. Gave c.args.self.now c.loop-part.self L)
     (ap (λ k. flat_map (each_of n) (replicate k (Ticks 60000))) ended ∙ ap (flat_map (each_of n)) (sym (waited_whole c.args.ms none)))
