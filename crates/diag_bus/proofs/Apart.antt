@@ -68,21 +68,15 @@ module _ (kept : Comparison) (recorded : List Recorded) (expected : List (List �
   -- where some are kept of one, none are of the other
   other_behind : (frame : Recorded) (rest : List Recorded) → kept.ahead.items ≡ frame ∷ rest → kept.behind.items ≡ []
   other_behind frame rest some = elim gap.1 [
-    | inl e ↦ absurd (clash (sym some ∙ e))
+    | inl e ↦ cc
     | inr e ↦ e
   ]
-    where
-      clash : frame ∷ rest ≡ [] → ⊥
-      clash e = cc
 
   other_ahead : (bytes : List ℕ) (rest : List (List ℕ)) → kept.behind.items ≡ bytes ∷ rest → kept.ahead.items ≡ []
   other_ahead bytes rest some = elim gap.1 [
     | inl e ↦ e
-    | inr e ↦ absurd (clash (sym some ∙ e))
+    | inr e ↦ cc
   ]
-    where
-      clash : bytes ∷ rest ≡ [] → ⊥
-      clash e = cc
 
   -- the server sends a frame that the recording has had
   pub expected_next : (frame : Recorded) (rest : List Recorded) (bytes : List ℕ) → kept.ahead.items ≡ frame ∷ rest

@@ -13,7 +13,7 @@ use Rattle.diag_tp.specs.declared.sent.Sent.{Sent}
 use Rattle.diag_tp.specs.Moments.{counted_from, last_time}
 use Rattle.diag_setup.specs.declared.raw.RawSetup.{RawSetup}
 use Rattle.diag_desk.specs.declared.entry.Entry.{Entry}
-use Rattle.diag_world.specs.Server.{ServerState, Serves, Settled, closing_time, sent_to, server_of}
+use Rattle.diag_world.specs.Server.{ServerState, Serves, Settled, closing_time, each_of, sent_to, server_of}
 use Rattle.diag_world.proofs.Worlds.{set_cases, other_place}
 use Rattle.diag_world.proofs.Waiting.{counted_more}
 use Rattle.std.proofs.lemmas.Grind.{flat_map-append}
@@ -27,7 +27,7 @@ use Rattle.diag_tp.specs.State.{LinkState}
 use Rattle.diag_tp.specs.Link.{last_tick}
 use Rattle.diag_world.specs.Weaving.{items_of}
 use Rattle.diag_world.proofs.Times.{ticks_served}
-use Rattle.diag_bus.specs.Events.{frame_to, to_each}
+use Rattle.diag_bus.specs.Events.{frame_to}
 
 -- one event more: the tester's list has grown by the frames, and the others are as they were; the entry was written
 pub drew_more : (setup : RawSetup) (old new : MidLine) (base : ℕ → List Sent) (before : List ℕ) (M : List (ℕ × Event)) (who i now : ℕ) (e : Event)
@@ -84,11 +84,11 @@ frames_more setup frame n who is =
     ∙ ap (λ t. flat_map (frame_to setup frame) (counted_from 1 n) ++ frame_to setup frame t) (omega (arith, is))))
 
 -- a part of 60000 more
-pub parts_more : (n k : ℕ) (e : Event) → flat_map (to_each n) (replicate (k + 1) e) ≡ flat_map (to_each n) (replicate k e) ++ to_each n e
+pub parts_more : (n k : ℕ) (e : Event) → flat_map (each_of n) (replicate (k + 1) e) ≡ flat_map (each_of n) (replicate k e) ++ each_of n e
 parts_more n k e =
     let one : k + 1 ≡ suc k = omega arith in
-    ap (flat_map (to_each n)) (ap (λ m. replicate m e) one ∙ replicate_last k e)
-    ∙ (flat_map-append (to_each n) (replicate k e) (e ∷ []) ∙ ap (λ w. flat_map (to_each n) (replicate k e) ++ w) (append-nil (to_each n e)))
+    ap (flat_map (each_of n)) (ap (λ m. replicate m e) one ∙ replicate_last k e)
+    ∙ (flat_map-append (each_of n) (replicate k e) (e ∷ []) ∙ ap (λ w. flat_map (each_of n) (replicate k e) ++ w) (append-nil (each_of n e)))
   where
     replicate_last : (k : ℕ) (e : Event) → replicate (suc k) e ≡ replicate k e ++ e ∷ []
     replicate_last zero e = refl
@@ -107,16 +107,16 @@ waited_rest ms some =
     some-eqb n h = grind (arith, nat_tests)
 
 -- fewer than 60000 are given as they are
-pub waited_few : (n ms count : ℕ) → count ≡ ms → 1 ≤ ms → ms < 60000 → to_each n (Ticks count) ≡ flat_map (to_each n) (waited ms)
+pub waited_few : (n ms count : ℕ) → count ≡ ms → 1 ≤ ms → ms < 60000 → each_of n (Ticks count) ≡ flat_map (each_of n) (waited ms)
 waited_few n ms count is some few =
     let rest : ms % 60000 ≡ count = omega (arith, is, few) in
     let none : ms / 60000 ≡ 0 = omega (arith, few) in
-    sym (ap (flat_map (to_each n)) (waited_rest ms (omega (arith, rest, is, some)))
-    ∙ (ap (λ k. flat_map (to_each n) (replicate k (Ticks 60000) ++ Ticks (ms % 60000) ∷ [])) none
-    ∙ (append-nil (to_each n (Ticks (ms % 60000))) ∙ ap (λ k. to_each n (Ticks k)) rest)))
+    sym (ap (flat_map (each_of n)) (waited_rest ms (omega (arith, rest, is, some)))
+    ∙ (ap (λ k. flat_map (each_of n) (replicate k (Ticks 60000) ++ Ticks (ms % 60000) ∷ [])) none
+    ∙ (append-nil (each_of n (Ticks (ms % 60000))) ∙ ap (λ k. each_of n (Ticks k)) rest)))
 
-pub rest_more : (n : ℕ) (es : List Event) (e : Event) → flat_map (to_each n) (es ++ e ∷ []) ≡ flat_map (to_each n) es ++ to_each n e
-rest_more n es e = flat_map-append (to_each n) es (e ∷ []) ∙ ap (λ w. flat_map (to_each n) es ++ w) (append-nil (to_each n e))
+pub rest_more : (n : ℕ) (es : List Event) (e : Event) → flat_map (each_of n) (es ++ e ∷ []) ≡ flat_map (each_of n) es ++ each_of n e
+rest_more n es e = flat_map-append (each_of n) es (e ∷ []) ∙ ap (λ w. flat_map (each_of n) es ++ w) (append-nil (each_of n e))
 
 -- what stands at a place that there is
 pub found_at : {X : Type 0} (xs : List X) (i : ℕ) → i < length xs → (x : X) × (slice_get xs i ≡ Some x)

@@ -21,7 +21,8 @@ use Rattle.diag_setup.specs.Setup.{ids_of}
 use Rattle.diag_setup.specs.declared.raw.RawSetup.{RawSetup}
 use Rattle.diag_world.specs.Weaving.{all_by, items_of}
 use Rattle.diag_world.proofs.Interleavings.{items_of-append}
-use Rattle.diag_bus.specs.Events.{ClocksLaw, clock_after, events_after, frame_said, frame_to, gives_if_well, line_events, reference, span_said, time_said, to_each}
+use Rattle.diag_world.specs.Server.{each_of}
+use Rattle.diag_bus.specs.Events.{ClocksLaw, clock_after, events_after, frame_said, frame_to, gives_if_well, line_events, reference, span_said, time_said}
 
 -- ---- the time of events
 
@@ -74,10 +75,10 @@ one_each a (suc n) t e from to = pick (a == t) refl (λ later. one_each (suc a) 
     pick false is next = ap (λ b. cond b (e ∷ rest) rest) is ∙ next (grind (arith, nat_tests))
 
 -- of events that each go to all testers, a tester has each
-all_each : (n t : ℕ) (events : List Event) → 1 ≤ t → t ≤ n → items_of (flat_map (to_each n) events) t ≡ events
+all_each : (n t : ℕ) (events : List Event) → 1 ≤ t → t ≤ n → items_of (flat_map (each_of n) events) t ≡ events
 all_each n t [] from to = refl
 all_each n t (e ∷ events) from to =
-    items_of-append (to_each n e) (flat_map (to_each n) events) t ∙ ap₂ ◌++◌ (one_each 1 n t e from (omega arith)) (all_each n t events from to)
+    items_of-append (each_of n e) (flat_map (each_of n) events) t ∙ ap₂ ◌++◌ (one_each 1 n t e from (omega arith)) (all_each n t events from to)
 
 -- ---- frames
 
@@ -114,7 +115,7 @@ line_time : (setup : RawSetup) (r : Option ℕ) (said : Result BusLine LineFault
     → last_time (items_of (gives_if_well setup r said) t) ≡ span_said r said
 line_time setup r (Err fault) t from to = refl
 line_time setup r (Ok said) t from to =
-    let time = flat_map (to_each (length setup.testers)) (time_said r said) in
+    let time = flat_map (each_of (length setup.testers)) (time_said r said) in
     let frames = flat_map (frame_to setup (frame_said said)) (counted_from 1 (length setup.testers)) in
     let all = ap last_time (all_each (length setup.testers) t (time_said r said) from to) in
     ap last_time (items_of-append time frames t)

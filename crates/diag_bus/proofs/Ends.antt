@@ -1,6 +1,7 @@
 -- What is kept of a tester's frames where the recording ends.
-use Rattle.std.proofs.Common.{◌≡◌, ℕ, Option, Some, None, List, [], ◌∷◌, ◌++◌, length, map, inl, inr, refl, ap, ap₂, subst, sym, ◌∙◌}
+use Rattle.std.proofs.Common.{◌≡◌, ℕ, Option, Some, None, List, [], ◌∷◌, ◌++◌, length, map, inl, inr, refl, ap, ap₂, subst, sym, ◌∙◌, arith}
 use Rattle.std.proofs.lemmas.List.{append-nil, length-map}
+use Rattle.std.proofs.lemmas.Option.{none-some}
 use Rattle.std.specs.Prelude.{slice_get}
 use Rattle.diag_bus.specs.Comparing.{Apart, Compares, OneIsEmpty, Part}
 use Rattle.diag_bus.specs.Verdict.{bytes_of, difference}
@@ -9,15 +10,9 @@ use Rattle.diag_bus.specs.declared.verdict.Recorded.{Recorded}
 use Rattle.diag_bus.specs.declared.verdict.Difference.{Difference}
 use Rattle.diag_bus.proofs.Apart.{difference-both, differs_by}
 
-clash_some : {X : Type 0} {x : X} → Some x ≡ None → ⊥
-clash_some e = cc
-
 -- the first that stands in a list, where there is one
 pub first_of : {X : Type 0} (xs : List X) (x : X) → slice_get xs 0 ≡ Some x → (rest : List X) × (xs ≡ x ∷ rest)
-first_of [] x at = absurd (clash at)
-  where
-    clash : None ≡ Some x → ⊥
-    clash e = cc
+first_of [] x at = absurd (none-some x at)
 first_of (y ∷ xs) x at = let same : y ≡ x = cc in (xs, ap (λ z. z ∷ xs) same)
 
 at_seam : {X : Type 0} (xs ys : List X) → slice_get (xs ++ ys) (length xs) ≡ slice_get ys 0
@@ -43,13 +38,10 @@ module _ (kept : Comparison) (recorded : List Recorded) (expected : List (List �
     ahead_is frame at =
         let first = first_of kept.ahead.items frame at in
         let empty : kept.behind.items ≡ [] = elim here.1 [
-          | inl e ↦ absurd (clash (sym first.1 ∙ e))
+          | inl e ↦ absurd (omega (arith, ap length (sym first.1 ∙ e)))
           | inr e ↦ e
         ] in
         behind_both ∙ ap₂ difference first.1 empty
-      where
-        clash : {rest : List Recorded} → frame ∷ rest ≡ [] → ⊥
-        clash e = cc
 
     pub none_ahead : kept.ahead.items ≡ [] → difference recorded expected ≡ None
     none_ahead empty = behind_both ∙ ap (λ (a : List Recorded). difference a kept.behind.items) empty
@@ -66,8 +58,8 @@ module _ (kept : Comparison) (recorded : List Recorded) (expected : List (List �
     where
       none_of : (ahead : List Recorded) → kept.difference ≡ None → kept.ahead.items ≡ ahead → kept.ahead.items ≡ []
       none_of [] none is = is
-      none_of (frame ∷ rest) none is = absurd (clash_some (sym (ahead_is none frame (ap (λ (a : List Recorded). slice_get a 0) is)) ∙ same))
+      none_of (frame ∷ rest) none is = absurd (none-some _ (sym same ∙ ahead_is none frame (ap (λ (a : List Recorded). slice_get a 0) is)))
 
       pick : (o : Option Difference) → kept.difference ≡ o → slice_get expected (length recorded) ≡ slice_get kept.behind.items 0
       pick None none = next_is none (none_of kept.ahead.items none refl)
-      pick (Some d) is = absurd (clash_some (sym (settled_is d is) ∙ same))
+      pick (Some d) is = absurd (none-some d (sym same ∙ settled_is d is))

@@ -1,6 +1,7 @@
 -- The first fault of lines, and the clocks behind them, with one line more.
 use Rattle.std.proofs.Common.{◌≡◌, ℕ, ◌+◌, Option, Some, None, List, [], ◌∷◌, ◌++◌, length, ap, ap₂, sym, ◌∙◌, append_assoc, arith}
 use Rattle.std.proofs.lemmas.List.{append-nil}
+use Rattle.std.proofs.lemmas.Option.{none-some}
 use Rattle.diag_can.specs.Bus.{bus_line}
 use Rattle.diag_bus.specs.Events.{clock_after, clock_of, fault_or, first_fault, first_fault_after, line_fault, reference, span_said}
 use Rattle.diag_bus.specs.declared.fault.BusFault.{BusFault}
@@ -21,9 +22,6 @@ clock_push past (first ∷ lines) line =
 pub clock_more : (lines : List (List ℕ)) (line : List ℕ) → clock_of (lines ++ line ∷ []) ≡ clock_of lines + span_said (reference lines) (bus_line line)
 clock_more lines line = clock_push [] lines line
 
-some_is_none : {A : Type 0} {x : A} → Some x ≡ None → ⊥
-some_is_none h = cc
-
 -- the first fault behind lines that are well is that of the lines that follow
 faults_behind : (past lines rest : List (List ℕ)) (n : ℕ) → first_fault_after past n lines ≡ None
     → first_fault_after past n (lines ++ rest) ≡ first_fault_after (past ++ lines) (n + length lines) rest
@@ -39,7 +37,7 @@ faults_behind past (line ∷ lines) rest n h =
     pick None well next =
         let count : n + 1 + length lines ≡ n + length (line ∷ lines) = omega arith in
         next well ∙ ap₂ (λ p m. first_fault_after p m rest) (append_assoc past (line ∷ []) lines) count
-    pick (Some f) well next = absurd (some_is_none well)
+    pick (Some f) well next = absurd (none-some _ (sym well))
 
 pub first_fault_behind : (lines rest : List (List ℕ)) → first_fault lines ≡ None → first_fault (lines ++ rest) ≡ first_fault_after lines (length lines + 1) rest
 first_fault_behind lines rest h =

@@ -7,7 +7,7 @@ use Rattle.std.specs.Prelude.{◌==◌, IfSome, if◌then◌else◌, slice_get, 
 use Rattle.std.specs.List.{flat_map}
 use Rattle.std.specs.List.Sorted.{IsNonDecreasingBy}
 use Rattle.std.specs.Option.{option_map}
-use Rattle.std.proofs.lemmas.Option.{slice_get-map}
+use Rattle.std.proofs.lemmas.Option.{none-some, slice_get-map}
 use Rattle.diag_can.specs.declared.frame.Event.{Event}
 use Rattle.diag_tp.proofs.Lists.{length-zero}
 use Rattle.diag_tp.specs.Link.{quiet}
@@ -21,7 +21,7 @@ use Rattle.diag_world.proofs.Worlds.{set_cases}
 use Rattle.diag_bus.specs.Batch.{IsRest, SameShape, lists_of}
 use Rattle.diag_bus.specs.declared.mid_line.MidLine.{MidLine}
 use Rattle.diag_bus.specs.Requests.{AreFilled, filled_at}
-use Rattle.diag_bus.specs.Text.{drawn_for, drawn_text, gathered, line_of, time_of}
+use Rattle.diag_bus.specs.Text.{drawn_for, drawn_text, gathered, line_of, own_text, time_of}
 use Rattle.diag_bus.specs.declared.clock.Start.{Start}
 use Rattle.diag_bus.specs.declared.filled.Filled.{Filled}
 use Rattle.diag_bus.specs.declared.filled.Filled.TheVariants.{Nowhere, At, Anywhere}
@@ -91,10 +91,7 @@ quiet_set (first ∷ links) zero link = omega arith
 quiet_set (first ∷ links) (suc i) link = omega (arith, quiet_set links i link)
 
 get_set : (links : List LinkState) (i : ℕ) (link before : LinkState) → slice_get links i ≡ Some before → slice_get (slice_set links i link) i ≡ Some link
-get_set [] i link before at = absurd (clash at)
-  where
-    clash : slice_get [] i ≡ Some before → ⊥
-    clash e = cc
+get_set [] i link before at = absurd (none-some before at)
 get_set (first ∷ links) zero link before at = refl
 get_set (first ∷ links) (suc i) link before at = get_set links i link before at
 
@@ -162,10 +159,7 @@ none_gathered n (frames ∷ lists) none = ap₂ ◌++◌ (ap (map (drawn_for n))
 one_gathered : (n i : ℕ) (lists : List (List Sent)) (frames : List Sent) → slice_get lists i ≡ Some frames
     → ((j : ℕ) (fs : List Sent) → j ≢ i → slice_get lists j ≡ Some fs → fs ≡ [])
     → gathered n lists ≡ map (drawn_for (n + i)) frames
-one_gathered n i [] frames at others = absurd (clash at)
-  where
-    clash : slice_get [] i ≡ Some frames → ⊥
-    clash e = cc
+one_gathered n i [] frames at others = absurd (none-some frames at)
 one_gathered n zero (first ∷ lists) frames at others =
     let same : first ≡ frames = cc in
     let here : n ≡ n + zero = omega arith in
@@ -195,7 +189,7 @@ lines_drawn f t (sent ∷ frames) = ap (λ w. f (drawn_for t sent) ++ w) (lines_
 -- and one that draws frames of one tester, none earlier than the one before it, writes their lines as they stand
 pub own_written : (setup : RawSetup) (start : Option Start) (i : ℕ) (drawn : List (Vec Sent Global)) (list : Vec Sent Global)
     → slice_get drawn i ≡ Some list → IsNonDecreasingBy (λ f. f.at) list.items → AreFilled (At i) (map (λ f. f.items) drawn)
-    → flat_map (λ f. line_of setup start (drawn_for (i + 1) f)) list.items ≡ drawn_text setup start (map (λ f. f.items) drawn)
+    → own_text setup start i list.items ≡ drawn_text setup start (map (λ f. f.items) drawn)
 own_written setup start i drawn list at up filled =
     let items = λ (f : Vec Sent Global). f.items in
     let place : 1 + i ≡ i + 1 = omega arith in

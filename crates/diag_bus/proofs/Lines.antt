@@ -21,9 +21,9 @@ use Rattle.diag_ecu.specs.State.{State, opening}
 use Rattle.diag_desk.specs.declared.entry.Entry.{Entry}
 use Rattle.diag_desk.specs.Entries.{asked_by}
 use Rattle.diag_desk.specs.Legal.{Legal, after_step}
-use Rattle.diag_world.specs.Server.{ServerState, Serves, sent_to, server_of}
+use Rattle.diag_world.specs.Server.{ServerState, Serves, each_of, sent_to, server_of}
 use Rattle.diag_bus.specs.Batch.{BusStands, Drew, Gave, GoesOn, LineTaken, entered, lists_of, resumed, resumed_by}
-use Rattle.diag_bus.specs.Events.{events_after, events_of, frame_to, gives_if_well, line_events, moment_said, reference, said_gives, span_said, to_each}
+use Rattle.diag_bus.specs.Events.{events_after, events_of, frame_to, gives_if_well, line_events, moment_said, reference, said_gives, span_said}
 use Rattle.diag_bus.proofs.Faults.{clock_more}
 use Rattle.diag_bus.specs.declared.mid_line.MidLine.{MidLine}
 use Rattle.diag_bus.specs.Text.{answered, run_of, start_after, start_said}
@@ -40,21 +40,21 @@ pub said_empty : (setup : RawSetup) (r : Option ℕ) (said : BusLine) → said �
 said_empty setup r said is = sym (ap (said_gives setup r) is ∙ frames_none setup (counted_from 1 (length setup.testers)))
 
 pub said_ticks : (setup : RawSetup) (r : Option ℕ) (said : BusLine) (n : ℕ) → said ≡ Ticks n
-    → to_each (length setup.testers) (event.Ticks n) ≡ said_gives setup r said
+    → each_of (length setup.testers) (event.Ticks n) ≡ said_gives setup r said
 said_ticks setup r said n is =
-    let each = to_each (length setup.testers) (event.Ticks n) in
+    let each = each_of (length setup.testers) (event.Ticks n) in
     sym (ap (said_gives setup r) is ∙ (ap (λ w. (each ++ []) ++ w) (frames_none setup (counted_from 1 (length setup.testers)))
     ∙ (append-nil (each ++ []) ∙ append-nil each)))
 
 pub said_quiet : (setup : RawSetup) (r : Option ℕ) (said : BusLine) (m : ℕ) (frame : Option Frame) → said ≡ Stamped m frame → frame ≡ None
-    → flat_map (to_each (length setup.testers)) (waited (silence Stamps r (Some m))) ≡ said_gives setup r said
+    → flat_map (each_of (length setup.testers)) (waited (silence Stamps r (Some m))) ≡ said_gives setup r said
 said_quiet setup r said m frame is none =
-    let time = flat_map (to_each (length setup.testers)) (waited (silence Stamps r (Some m))) in
+    let time = flat_map (each_of (length setup.testers)) (waited (silence Stamps r (Some m))) in
     sym (ap (said_gives setup r) (is ∙ ap (λ f. Stamped m f) none)
     ∙ (ap (λ w. time ++ w) (frames_none setup (counted_from 1 (length setup.testers))) ∙ append-nil time))
 
 pub said_frame : (setup : RawSetup) (r : Option ℕ) (said : BusLine) (m : ℕ) (o : Option Frame) (frame : Frame) → said ≡ Stamped m o → o ≡ Some frame
-    → flat_map (to_each (length setup.testers)) (waited (silence Stamps r (Some m)))
+    → flat_map (each_of (length setup.testers)) (waited (silence Stamps r (Some m)))
     ++ flat_map (frame_to setup (Some frame)) (counted_from 1 (length setup.testers)) ≡ said_gives setup r said
 said_frame setup r said m o frame is some = sym (ap (said_gives setup r) (is ∙ ap (λ f. Stamped m f) some))
 

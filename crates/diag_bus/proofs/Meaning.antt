@@ -2,6 +2,7 @@
 use Rattle.std.proofs.Common.{◌≡◌, ◌≢◌, ◌≤◌, ◌<◌, ◌⊎◌, ℕ, zero, suc, ◌+◌, Bool, true, false, Option, Some, None, List, [], ◌∷◌, ◌++◌, length, map, inl, inr, refl, ap, ap₂, subst, sym, ◌∙◌, arith}
 use Rattle.std.proofs.lemmas.Bool.Decides.{nat_tests}
 use Rattle.std.proofs.lemmas.Option.{none-some, same_Some}
+use Rattle.std.proofs.lemmas.Bool.{true≢false}
 use Rattle.std.specs.List.{cons_option, filter_map, fold, reduce}
 use Rattle.std.specs.Option.{option_to_list}
 use Rattle.std.specs.Prelude.{bytes_eq, if◌then◌else◌, nat_lt, option_map, slice_get}
@@ -15,7 +16,7 @@ use Rattle.diag_bus.specs.declared.verdict.Difference.{Difference}
 use Rattle.diag_bus.specs.declared.verdict.Verdict.{Verdict}
 use Rattle.diag_bus.specs.declared.verdict.Verdict.TheVariants.{Agrees, Lacks}
 use Rattle.diag_bus.proofs.Apart.{bytes_same, bytes_self, differs_by}
-use Rattle.diag_bus.proofs.Verdicts.{none_left, unmapped}
+use Rattle.diag_bus.proofs.Verdicts.{both_none, none_left, unmapped}
 
 -- ---- one tester's lists
 
@@ -66,11 +67,8 @@ differing (g ∷ frames) [] d is =
     { place = 0; has = refl; wants = refl; other = λ e. none-some _ e; before = λ p f less. absurd (omega (arith, less)) })
 differing (g ∷ frames) (bytes ∷ wanted) d is = pick (bytes_eq g.bytes bytes) refl is (λ rest. differing frames wanted d rest)
   where
-    wrong : true ≡ false → ⊥
-    wrong e = cc
-
     unlike : bytes_eq g.bytes bytes ≡ false → Some bytes ≢ Some g.bytes
-    unlike other e = wrong (sym (bytes_self g.bytes) ∙ (ap (bytes_eq g.bytes) (sym (same_Some _ _ e)) ∙ other))
+    unlike other e = true≢false (sym (bytes_self g.bytes) ∙ (ap (bytes_eq g.bytes) (sym (same_Some _ _ e)) ∙ other))
 
     front : {n : ℕ} → bytes_eq g.bytes bytes ≡ true → SameBefore n frames wanted → SameBefore (suc n) (g ∷ frames) (bytes ∷ wanted)
     front same h zero f less here = ap Some (sym (bytes_same g.bytes bytes same) ∙ ap bytes_of (same_Some _ _ here))
@@ -247,16 +245,9 @@ reduced g a (suc n) r is = pick (g a) refl is (λ e. reduced g (suc a) n r e)
 none_found : {X : Type 0} (g : ℕ → Option X) (a n : ℕ) → filter_map g (counted_from a n) ≡ [] → (t : ℕ) → a ≤ t → t < a + n → g t ≡ None
 none_found g a zero none t low high = absurd (omega (arith, low, high))
 none_found {X} g a (suc n) none t low high = elim (here_or_later a t low) [
-  | inl e ↦ ap g e ∙ (both (g a) none).0
-  | inr above ↦ none_found g (suc a) n (both (g a) none).1 t above (omega (arith, high))
+  | inl e ↦ ap g e ∙ (both_none (g a) (filter_map g (counted_from (suc a) n)) none).0
+  | inr above ↦ none_found g (suc a) n (both_none (g a) (filter_map g (counted_from (suc a) n)) none).1 t above (omega (arith, high))
 ]
-  where
-    both : (o : Option X) → cons_option o (filter_map g (counted_from (suc a) n)) ≡ [] → (o ≡ None) × (filter_map g (counted_from (suc a) n) ≡ [])
-    both None e = (refl, e)
-    both (Some x) e = absurd (wrong e)
-      where
-        wrong : x ∷ filter_map g (counted_from (suc a) n) ≡ [] → ⊥
-        wrong e = cc
 
 -- the first of all that are found
 record FirstFound {X : Type 0} (g : ℕ → Option X) (a n : ℕ) (x : X) : Type 0 where
@@ -264,10 +255,7 @@ record FirstFound {X : Type 0} (g : ℕ → Option X) (a n : ℕ) (x : X) : Type
   before : (t : ℕ) → a ≤ t → t < there.at → g t ≡ None
 
 first_found : {X : Type 0} (g : ℕ → Option X) (a n : ℕ) (x : X) (xs : List X) → filter_map g (counted_from a n) ≡ x ∷ xs → FirstFound g a n x
-first_found g a zero x xs is = absurd (wrong is)
-  where
-    wrong : [] ≡ x ∷ xs → ⊥
-    wrong e = cc
+first_found g a zero x xs is = absurd (omega (arith, ap length is))
 first_found {X} g a (suc n) x xs is = pick (g a) refl is (λ e. first_found g (suc a) n x xs e)
   where
     pick : (o : Option X) → g a ≡ o → cons_option o (filter_map g (counted_from (suc a) n)) ≡ x ∷ xs

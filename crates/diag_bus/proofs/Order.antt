@@ -1,6 +1,6 @@
 -- A stable sort gives the rows in order, those of one key as they stood.
-use Rattle.std.proofs.Common.{◌≡◌, ◌≢◌, ◌≤◌, ◌<◌, ℕ, zero, suc, Bool, true, false, cond, inl, inr, List, [], ◌∷◌, length, refl, ap, ap₂, sym, ◌∙◌, arith, get_or}
-use Rattle.std.proofs.lemmas.Bool.{eq-eqb}
+use Rattle.std.proofs.Common.{◌≡◌, ◌≤◌, ◌<◌, ℕ, zero, suc, Bool, true, false, cond, inl, inr, List, [], ◌∷◌, length, refl, ap, ap₂, sym, ◌∙◌, arith, get_or}
+use Rattle.std.proofs.lemmas.Bool.{eq-eqb, ne_eqb}
 use Rattle.std.proofs.lemmas.Bool.Decides.{nat_tests}
 use Rattle.std.specs.Prelude.{◌==◌, ◌&&◌, not, filter, nat_le}
 use Rattle.std.specs.List.Sorted.{IsNonDecreasingBy, IsStableByKey}
@@ -70,10 +70,7 @@ in_order_of key k (x ∷ xs) = put_of key k x (in_order key xs) ∙ ap (λ w. co
 
 -- a row of a key stands among rows that are at least n
 some_least : {X : Type 0} (key : X → ℕ) (n k : ℕ) (zs : List X) (y : X) (rest : List X) → of key k zs ≡ y ∷ rest → AtLeast key n zs → n ≤ k
-some_least key n k [] y rest e h = absurd (clash e)
-  where
-    clash : [] ≡ y ∷ rest → ⊥
-    clash e = cc
+some_least key n k [] y rest e h = omega (arith, ap length e)
 some_least key n k (z ∷ zs) y rest e h = pick (key z == k) refl e (λ e. some_least key n k zs y rest e h.1)
   where
     pick : (b : Bool) → (key z == k) ≡ b → cond b (z ∷ of key k zs) (of key k zs) ≡ y ∷ rest → (of key k zs ≡ y ∷ rest → n ≤ k) → n ≤ k
@@ -97,14 +94,8 @@ tails {X = X} key k y z ys zs same e = pick (key y == k) (e ∙ ap (λ (w : X). 
 -- rows in order are known by the rows of each key
 one_order : {X : Type 0} (key : X → ℕ) (ys zs : List X) → Up key ys → Up key zs → ((x : X) → of key (key x) ys ≡ of key (key x) zs) → ys ≡ zs
 one_order {X = X} key [] [] u v e = refl
-one_order {X = X} key [] (z ∷ zs) u v e = absurd (clash (e z ∙ of_here key z zs))
-  where
-    clash : [] ≡ z ∷ of key (key z) zs → ⊥
-    clash e = cc
-one_order {X = X} key (y ∷ ys) [] u v e = absurd (clash (sym (of_here key y ys) ∙ e y))
-  where
-    clash : y ∷ of key (key y) ys ≡ [] → ⊥
-    clash e = cc
+one_order {X = X} key [] (z ∷ zs) u v e = absurd (omega (arith, ap length (e z ∙ of_here key z zs)))
+one_order {X = X} key (y ∷ ys) [] u v e = absurd (omega (arith, ap length (sym (of_here key y ys) ∙ e y)))
 one_order {X = X} key (y ∷ ys) (z ∷ zs) u v e =
     let left = first_least key z zs y (of key (key y) ys) v (sym (e y) ∙ of_here key y ys) in
     let right = first_least key y ys z (of key (key z) zs) u (e z ∙ of_here key z zs) in
@@ -140,15 +131,12 @@ same_test p q (x ∷ xs) e = ap₂ (λ b w. cond b (x ∷ w) w) (e x) (same_test
 abbrev tie : Ordering → Ordering → Bool
 tie l r = not (is_lt l) && not (is_lt r)
 
-apart : (a b : ℕ) → a ≢ b → (a == b) ≡ false
-apart a b h = grind (arith, nat_tests)
-
 tied : (a b : ℕ) → tie (nat_cmp a b) (nat_cmp b a) ≡ (b == a)
 tied a b = elim (cases_order a b) [
   | inl e ↦ ap₂ tie (sym (nat_cmp_is a b Equal e)) (sym (nat_cmp_is b a Equal (sym e))) ∙ sym (eq-eqb b a (sym e))
   | inr o ↦ elim o [
-    | inl less ↦ ap₂ tie (sym (nat_cmp_is a b Less less)) (sym (nat_cmp_is b a Greater less)) ∙ sym (apart b a (λ e. absurd (omega (arith, less, e))))
-    | inr more ↦ ap₂ tie (sym (nat_cmp_is a b Greater more)) (sym (nat_cmp_is b a Less more)) ∙ sym (apart b a (λ e. absurd (omega (arith, more, e))))
+    | inl less ↦ ap₂ tie (sym (nat_cmp_is a b Less less)) (sym (nat_cmp_is b a Greater less)) ∙ sym (ne_eqb b a (λ e. absurd (omega (arith, less, e))))
+    | inr more ↦ ap₂ tie (sym (nat_cmp_is a b Greater more)) (sym (nat_cmp_is b a Less more)) ∙ sym (ne_eqb b a (λ e. absurd (omega (arith, more, e))))
   ]
 ]
 

@@ -1,6 +1,7 @@
 -- Whose the frames of an identifier are.
 use Rattle.std.proofs.Common.{◌≡◌, ◌≢◌, ◌≤◌, ◌<◌, ◌+◌, ◌-◌, ℕ, zero, suc, Bool, true, false, Option, Some, None, List, [], ◌∷◌, ◌++◌, length, refl, ap, sym, ◌∙◌, arith}
 use Rattle.std.proofs.lemmas.Bool.{eq-eqb, ne_eqb, or_parts}
+use Rattle.std.proofs.lemmas.Option.{none-some}
 use Rattle.std.specs.List.{flat_map}
 use Rattle.std.specs.Prelude.{◌==◌, ◌||◌, slice_get, unwrap_or}
 use Rattle.diag_can.specs.declared.frame.Event.{Event}
@@ -28,10 +29,7 @@ later false false = refl
 
 -- a tester's request is among the identifiers of the bus
 request_in : (ts : List RawTester) (f i : ℕ) (t : RawTester) → slice_get ts i ≡ Some t → has_key itself (can_ids ts f) t.request ≡ true
-request_in [] f i t at = absurd (clash at)
-  where
-    clash : None ≡ Some t → ⊥
-    clash e = cc
+request_in [] f i t at = absurd (none-some t at)
 request_in (u ∷ ts) f zero t at =
     let same : u ≡ t = cc in
     rw (eq-eqb u.request t.request (ap (λ (r : RawTester). r.request) same)) refl
@@ -57,10 +55,7 @@ others_once t ts f once =
 
 requests_apart : (ts : List RawTester) (f i j : ℕ) (t u : RawTester) → has_repeat itself (can_ids ts f) ≡ false → slice_get ts i ≡ Some t
     → slice_get ts j ≡ Some u → i < j → t.request ≢ u.request
-requests_apart [] f i j t u once at there less same = absurd (clash at)
-  where
-    clash : None ≡ Some t → ⊥
-    clash e = cc
+requests_apart [] f i j t u once at there less same = absurd (none-some t at)
 requests_apart (v ∷ ts) f i zero t u once at there less same = omega (arith, less)
 requests_apart (v ∷ ts) f zero (suc j) t u once at there less same =
     let first : v ≡ t = cc in
@@ -69,10 +64,7 @@ requests_apart (v ∷ ts) f (suc i) (suc j) t u once at there less same =
     requests_apart ts f i j t u (others_once v ts f once) at there (omega (arith, less)) same
 
 functional_apart : (ts : List RawTester) (f i : ℕ) (t : RawTester) → has_repeat itself (can_ids ts f) ≡ false → slice_get ts i ≡ Some t → f ≢ t.request
-functional_apart [] f i t once at same = absurd (clash at)
-  where
-    clash : None ≡ Some t → ⊥
-    clash e = cc
+functional_apart [] f i t once at same = absurd (none-some t at)
 functional_apart (v ∷ ts) f zero t once at same =
     let first : v ≡ t = cc in
     first_apart v ts f f once (functional_in ts f) (same ∙ ap (λ (r : RawTester). r.request) (sym first))

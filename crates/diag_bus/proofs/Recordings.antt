@@ -1,7 +1,7 @@
 -- A recording with a line more, of all testers.
-use Rattle.std.proofs.Common.{◌≡◌, ◌<◌, ◌≤◌, ℕ, zero, suc, ◌+◌, Some, None, Ok, List, [], ◌∷◌, ◌++◌, length, map, inl, inr, refl, ap, subst, sym, ◌∙◌, append_assoc, arith}
+use Rattle.std.proofs.Common.{◌≡◌, ◌<◌, ◌≤◌, ℕ, zero, suc, ◌+◌, Some, Ok, List, [], ◌∷◌, ◌++◌, length, map, inl, inr, refl, ap, subst, sym, ◌∙◌, append_assoc, arith}
 use Rattle.std.proofs.lemmas.List.{append-nil, map-append, length-append, length-set}
-use Rattle.std.proofs.lemmas.Option.{same_Some, slice_get_within}
+use Rattle.std.proofs.lemmas.Option.{none-some, same_Some, slice_get_within}
 use Rattle.std.specs.Prelude.{option_map, slice_get, slice_set}
 use Rattle.std.specs.Option.{option_to_list}
 use Rattle.diag_can.specs.declared.bus.BusLine.{BusLine}
@@ -96,10 +96,7 @@ took_all setup old new said drawn count each many lines line is drew h = record 
 pub holds_more : {X : Type 0} (P : X → Type 0) (xs : List X) (x : X) → ((i : ℕ) (y : X) → slice_get xs i ≡ Some y → P y) → P x
     → (i : ℕ) (y : X) → slice_get (xs ++ x ∷ []) i ≡ Some y → P y
 holds_more P [] x h p zero y at = subst P (same_Some _ _ at) p
-holds_more P [] x h p (suc i) y at = absurd (clash at)
-  where
-    clash : None ≡ Some y → ⊥
-    clash e = cc
+holds_more P [] x h p (suc i) y at = absurd (none-some y at)
 holds_more P (z ∷ xs) x h p zero y at = h zero y at
 holds_more P (z ∷ xs) x h p (suc i) y at = holds_more P xs x (λ j w is. h (suc j) w is) p i y at
 

@@ -3,6 +3,7 @@ use Rattle.std.proofs.Common.{◌≡◌, ◌<◌, ◌≤◌, ℕ, Bool, true, fa
 use Rattle.std.proofs.lemmas.List.{length-take}
 use Rattle.std.proofs.lemmas.List.Elements.{All-take}
 use Rattle.std.proofs.lemmas.Bool.Decides.{nat_tests}
+use Rattle.std.proofs.lemmas.Option.{none-some}
 use Rattle.std.specs.Prelude.{◌&&◌, nat_le, nat_lt}
 use Rattle.std.specs.List.{AllPass, prefix_len}
 use Rattle.diag_can.specs.Bus.{bus_line, line_says, stamped, stamped_line, text_frame, tick_line}
@@ -22,18 +23,12 @@ use Rattle.diag_bus.specs.Batch.{SaidBelow, moment_end}
 
 -- a chain that gives something went through
 went : {A B : Type 0} (o : Option A) (f : A → Option B) (y : B) → (o >>= f) ≡ Some y → (x : A) × (o ≡ Some x) × (f x ≡ Some y)
-went None f y h = absurd (clash h)
-  where
-    clash : None ≡ Some y → ⊥
-    clash h = cc
+went None f y h = absurd (none-some y h)
 went (Some x) f y h = (x, refl, h)
 
 digits_low : (least most : ℕ) (text : List ℕ) (r : List ℕ × List ℕ) → digits_of least most text ≡ Some r → AllPass is_digit r.0 × (length r.0 ≤ most)
 digits_low least most text r h = pick (nat_le least (prefix_len is_digit text)) (nat_le (prefix_len is_digit text) most) refl h
   where
-    clash : None ≡ Some r → ⊥
-    clash h = cc
-
     pick : (a b : Bool) → nat_le (prefix_len is_digit text) most ≡ b
         → cond (a && b) (Some (take (prefix_len is_digit text) text, drop (prefix_len is_digit text) text)) None ≡ Some r
         → AllPass is_digit r.0 × (length r.0 ≤ most)
@@ -43,9 +38,9 @@ digits_low least most text r h = pick (nat_le least (prefix_len is_digit text)) 
         let fits : prefix_len is_digit text ≤ most = grind (arith, nat_tests) in
         let few : length (take (prefix_len is_digit text) text) ≤ most = omega (arith, length-take (prefix_len is_digit text) text, fits) in
         subst (λ (d : List ℕ). AllPass is_digit d × (length d ≤ most)) front (run-passes is_digit text, few)
-    pick true false is h = absurd (clash h)
-    pick false true is h = absurd (clash h)
-    pick false false is h = absurd (clash h)
+    pick true false is h = absurd (none-some r h)
+    pick false true is h = absurd (none-some r h)
+    pick false false is h = absurd (none-some r h)
 
 moment_low : (s f : List ℕ) → AllPass is_digit s → length s ≤ 12 → AllPass is_digit f → moment_of s f < moment_end
 moment_low s f digits few fraction =

@@ -9,9 +9,10 @@ use Rattle.diag_can.specs.declared.bus.BusLine.TheVariants.{Stamped}
 use Rattle.diag_can.specs.declared.frame.Frame.{Frame}
 use Rattle.diag_setup.specs.declared.raw.RawSetup.{RawSetup}
 use Rattle.diag_tp.specs.Moments.{counted_from}
+use Rattle.diag_world.specs.Server.{each_of}
 use Rattle.diag_bus.specs.Batch.{Gave, GoesOn, SameShape, StartsBelow, TookTime}
 use Rattle.diag_bus.specs.Bus.{AreSound}
-use Rattle.diag_bus.specs.Events.{frame_to, said_gives, to_each}
+use Rattle.diag_bus.specs.Events.{frame_to, said_gives}
 use Rattle.diag_bus.specs.declared.clock.Clock.{Clock}
 use Rattle.diag_bus.specs.declared.comparing.Comparisons.{Comparisons}
 use Rattle.diag_bus.specs.declared.mid_line.MidLine.{MidLine}
@@ -30,16 +31,16 @@ usual_on clock clock' usual id at moment same on =
 
 pub usual_gave : (setup : RawSetup) (clock : Clock) (begun taken : MidLine) (usual : List ℕ) (id at moment span : ℕ) → moment ≡ usual_moment usual
     → span ≡ silence Stamps clock.reference (Some moment)
-    → Gave begun taken (flat_map (to_each (length setup.testers)) (waited span)
+    → Gave begun taken (flat_map (each_of (length setup.testers)) (waited span)
     ++ flat_map (frame_to setup (Some (record { id = id; bytes = usual_bytes usual at }))) (counted_from 1 (length setup.testers)))
     → Gave begun taken (said_gives setup clock.reference (usual_said usual id at))
 usual_gave setup clock begun taken usual id at moment span same is gave =
     let frame : Frame = record { id = id; bytes = usual_bytes usual at } in
-    subst (λ ms. Gave begun taken (flat_map (to_each (length setup.testers)) (waited ms)
+    subst (λ ms. Gave begun taken (flat_map (each_of (length setup.testers)) (waited ms)
     ++ flat_map (frame_to setup (Some frame)) (counted_from 1 (length setup.testers))))
     (span_usual clock usual moment span same is) gave
 
-pub sound_usual : (setup : RawSetup) (line usual : List ℕ) (id at moment span : ℕ) (old begun taken : MidLine) (clock clock' : Clock)
+pub sound_usual : {old begun taken : MidLine} {clock clock' : Clock} {moment : ℕ} (setup : RawSetup) (line usual : List ℕ) (id at span : ℕ)
     (compared : Comparisons)
     → AreSound setup old compared clock → bus_line line ≡ Ok (usual_said usual id at) → moment ≡ usual_moment usual
     → span ≡ silence Stamps clock.reference (Some moment)
@@ -47,7 +48,7 @@ pub sound_usual : (setup : RawSetup) (line usual : List ℕ) (id at moment span 
     → ((most : ℕ) → StartsBelow clock.start most → moment < most → StartsBelow clock'.start most)
     → begun.server ≡ old.server → SameShape old begun → SameShape begun taken → TookTime begun.server taken.server span
     → AreSound setup taken compared clock'
-sound_usual setup line usual id at moment span old begun taken clock clock' compared sound says same is on start server first second took =
-    sound_taken setup line (usual_said usual id at) old begun taken clock clock' compared compared sound says
+sound_usual {old} {begun} {taken} {clock} {clock'} {moment} setup line usual id at span compared sound says same is on start server first second took =
+    sound_taken setup line compared compared sound says
     (usual_on clock clock' usual id at moment same on) (λ most low below. start most low (subst (λ m. m < most) (sym same) below))
     server first second (subst (TookTime begun.server taken.server) (span_usual clock usual moment span same is) took) refl

@@ -3,6 +3,7 @@ use Rattle.std.proofs.Common.{◌≡◌, ◌<◌, ℕ, zero, suc, ◌+◌, Optio
 use Rattle.std.proofs.lemmas.List.{append-nil}
 use Rattle.std.proofs.lemmas.List.Elements.{filter_map-append}
 use Rattle.std.proofs.lemmas.List.Sums.{fold-append}
+use Rattle.std.proofs.lemmas.Option.{none-some}
 use Rattle.std.specs.List.{cons_option, filter_map, reduce}
 use Rattle.std.specs.Prelude.{option_map}
 use Rattle.std.specs.Option.{option_to_list}
@@ -13,12 +14,6 @@ use Rattle.diag_bus.specs.Verdict.{difference, difference_of, earlier, expected,
 use Rattle.diag_bus.specs.declared.verdict.Difference.{Difference}
 use Rattle.diag_bus.specs.declared.verdict.Verdict.{Verdict}
 use Rattle.diag_world.proofs.Waiting.{counted_more}
-
-clash : {X : Type 0} {x : X} → Some x ≡ None → ⊥
-clash e = cc
-
-clash_list : {X : Type 0} {x : X} {xs : List X} → x ∷ xs ≡ [] → ⊥
-clash_list e = cc
 
 -- ---- one place more
 
@@ -43,11 +38,11 @@ earlier_more (a ∷ ds) (Some d) = ap Some (sym (fold-append earlier a ds (d ∷
 
 pub none_left : (ds : List (ℕ × Difference)) → reduce earlier ds ≡ None → ds ≡ []
 none_left [] e = refl
-none_left (d ∷ ds) e = absurd (clash e)
+none_left (d ∷ ds) e = absurd (none-some _ (sym e))
 
-both_none : {X : Type 0} (o : Option X) (xs : List X) → cons_option o xs ≡ [] → (o ≡ None) × (xs ≡ [])
+pub both_none : {X : Type 0} (o : Option X) (xs : List X) → cons_option o xs ≡ [] → (o ≡ None) × (xs ≡ [])
 both_none None xs e = (refl, e)
-both_none (Some x) xs e = absurd (clash_list e)
+both_none (Some x) xs e = absurd (omega (arith, ap length e))
 
 none_at : {X : Type 0} (g : ℕ → Option X) (a n i : ℕ) → filter_map g (counted_from a n) ≡ [] → i < n → g (a + i) ≡ None
 none_at g a zero i none less = absurd (omega arith)
@@ -58,7 +53,7 @@ none_at g a (suc n) (suc i) none less =
 
 pub unmapped : {X Y : Type 0} (f : X → Y) (o : Option X) → option_map f o ≡ None → o ≡ None
 unmapped f None e = refl
-unmapped f (Some x) e = absurd (clash e)
+unmapped f (Some x) e = absurd (none-some _ (sym e))
 
 -- where no line differs, none of any tester's does
 pub no_difference : (setup : RawSetup) (lines : List (List ℕ)) (i : ℕ) → first_difference setup lines ≡ None → i < length setup.testers

@@ -14,7 +14,7 @@ use Rattle.diag_desk.specs.Text.{ended, entry_line, journal_text_at, stamped_lin
 use Rattle.diag_world.specs.Port.{time_after}
 use Rattle.diag_world.specs.Server.{ServerState, ServerView, Serves, closing_time, quiet_of, sent_to, server_of}
 use Rattle.diag_bus.specs.Events.{clock_of, events_of, moment_said, reference, span_said}
-use Rattle.diag_bus.specs.Requests.{AreFilled}
+use Rattle.diag_bus.specs.Requests.{AreFilled, AreNamesOf}
 use Rattle.diag_bus.specs.Text.{drawn_text, sent_of, start_after, start_said}
 use Rattle.diag_bus.specs.declared.bus.Output.{Output}
 use Rattle.diag_bus.specs.declared.bus.Output.TheVariants.{Replies, Journal, End, Verdict}
@@ -150,6 +150,14 @@ SaidBelow (Stamped moment frame) most = moment < most
 -- the moment of the first stamped line, if there was one, is below this
 abbrev pub StartsBelow : Option Start → ℕ → Type 0
 StartsBelow start most = IfSome start (λ s. s.moment < most)
+
+-- frames of the tester at this place, from 0, are written by the writers of these names
+pub record AreWritable (setup : RawSetup) (begins : Option Start) (writers : List (List ℕ)) (place : ℕ)
+    (frames : List Sent) : Type 0 where
+  pub names : AreNamesOf setup writers
+  pub tester : place < length setup.testers
+  pub start : StartsBelow begins moment_end
+  pub sent : All (λ f. f.at ≤ closing_time) frames
 
 -- ---- the clock
 

@@ -1,6 +1,7 @@
 -- What a bus stands for: the lines of a capture that it took.
-use Rattle.std.specs.Prelude.{◌≡◌, ◌≢◌, ◌≤◌, ℕ, List, [], ◌∷◌, ◌++◌, length, Some, None, IfSome, Result, Err}
+use Rattle.std.specs.Prelude.{◌≡◌, ◌≢◌, ◌≤◌, ℕ, List, [], ◌∷◌, ◌++◌, length, Some, None, IfSome, OnOk, OnErr, Result, Err}
 use Rattle.diag_setup.specs.declared.raw.RawSetup.{RawSetup}
+use Rattle.diag_world.specs.Port.{Grew}
 use Rattle.diag_world.specs.Server.{ServerState}
 use Rattle.diag_bus.specs.Batch.{BusStands, IsBy, IsRest, StartsBelow, lists_of, moment_end}
 use Rattle.diag_bus.specs.Events.{first_fault, line_fault}
@@ -61,3 +62,13 @@ IsItsFault bus line result = (f : BusFault) → result ≡ Err f → f ≢ fault
 abbrev pub IsRefused : {A : Type 0} → BusState → List ℕ → Result A BusFault → Type 0
 IsRefused bus line result = (lines : List (List ℕ)) → TookLines bus lines
     → IfSome (line_fault lines line) (λ f. result ≡ Err f)
+
+-- the clauses of `Bus::take_line` in one: a line was given to the bus, and what it writes is behind this text
+pub record AnswersLine {A : Type 0} (old new : BusState) (line before after : List ℕ)
+    (result : Result A BusFault) : Type 0 where
+  pub took : OnOk result (Grew before after (TookLine old new line))
+  pub fault : IsItsFault old line result
+  pub first : IsRefused old line result
+  pub err : OnErr result (after ≡ before)
+  pub setup : new.setup ≡ old.setup
+  pub output : new.output ≡ old.output

@@ -1,5 +1,5 @@
 -- The events of a capture: an interleaving of the testers' events, in the bus's own order.
-use Rattle.std.specs.Prelude.{◌≡◌, ◌≤◌, ℕ, ◌+◌, max, nat_lt, if◌then◌else◌, List, [], ◌∷◌, ◌++◌, length, map, Option, Some, None, Result, Ok, Err}
+use Rattle.std.specs.Prelude.{◌≡◌, ◌≤◌, ℕ, ◌+◌, max, nat_lt, if◌then◌else◌, List, [], ◌∷◌, ◌++◌, length, Option, Some, None, Result, Ok, Err}
 use Rattle.std.specs.List.{filter_map, flat_map, reduce}
 use Rattle.std.specs.Option.{option_to_list}
 use Rattle.diag_can.specs.Bus.{bus_line, bus_lines, frame_for}
@@ -14,7 +14,7 @@ use Rattle.diag_can.specs.declared.log.Timing.TheVariants.{Stamps}
 use Rattle.diag_setup.specs.declared.raw.RawSetup.{RawSetup}
 use Rattle.diag_setup.specs.Setup.{ids_of}
 use Rattle.diag_tp.specs.Moments.{counted_from, last_time}
-use Rattle.diag_world.specs.Server.{closing_time}
+use Rattle.diag_world.specs.Server.{closing_time, each_of}
 use Rattle.diag_world.specs.Weaving.{all_by, items_of}
 use Rattle.diag_bus.specs.declared.fault.BusFault.{BusFault}
 use Rattle.diag_bus.specs.declared.fault.BusFault.TheVariants.{Line, Late}
@@ -37,10 +37,6 @@ time_said reference (Stamped moment frame) = waited (silence Stamps reference (S
 
 -- ---- events
 
--- an event to each of so many testers, in order
-abbrev pub to_each : ℕ → Event → List (ℕ × Event)
-to_each n e = map (λ t. (t, e)) (counted_from 1 n)
-
 -- what a frame is to a tester
 abbrev pub frame_to : RawSetup → Option Frame → ℕ → List (ℕ × Event)
 frame_to setup frame t = all_by t (option_to_list (frame_for (ids_of setup t) frame))
@@ -53,7 +49,7 @@ frame_said (Stamped moment frame) = frame
 -- what a line gives: its time to each tester, and then its frame to each tester that it is for
 abbrev pub said_gives : RawSetup → Option ℕ → BusLine → List (ℕ × Event)
 said_gives setup reference said =
-    flat_map (to_each (length setup.testers)) (time_said reference said)
+    flat_map (each_of (length setup.testers)) (time_said reference said)
     ++ flat_map (frame_to setup (frame_said said)) (counted_from 1 (length setup.testers))
 
 abbrev pub gives_if_well : RawSetup → Option ℕ → Result BusLine LineFault → List (ℕ × Event)

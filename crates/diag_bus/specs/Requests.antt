@@ -7,7 +7,8 @@ use Rattle.diag_setup.specs.declared.raw.RawSetup.{RawSetup}
 use Rattle.diag_setup.specs.Setup.{ids_of, name_of}
 use Rattle.diag_tp.specs.declared.sent.Sent.{Sent}
 use Rattle.diag_tp.specs.Moments.{counted_from}
-use Rattle.diag_bus.specs.Events.{frame_to, to_each}
+use Rattle.diag_world.specs.Server.{each_of}
+use Rattle.diag_bus.specs.Events.{frame_to}
 use Rattle.diag_bus.specs.declared.filled.Filled.{Filled}
 use Rattle.diag_bus.specs.declared.filled.Filled.TheVariants.{Nowhere, At, Anywhere}
 use Rattle.diag_bus.specs.declared.request_ids.Owner.{Owner}
@@ -18,7 +19,7 @@ use Rattle.diag_bus.specs.declared.request_ids.RequestIds.{RequestIds}
 abbrev pub given : ℕ → Owner → List ℕ → List (ℕ × Event)
 given n Nobody bytes = []
 given n (Tester who) bytes = (who, event.Physical bytes) ∷ []
-given n Each bytes = to_each n (event.Functional bytes)
+given n Each bytes = each_of n (event.Functional bytes)
 
 -- the owner is that of the identifier, among so many testers
 abbrev pub IsAmong : RawSetup → ℕ → ℕ → Owner → Type 0

@@ -86,6 +86,10 @@ abbrev pub line_of : RawSetup → Option Start → Drawn → List ℕ
 line_of setup start drawn =
     reply_line (name_of setup drawn.who) (bus_moment start drawn.sent.at) drawn.sent.frame
 
+-- the reply lines of frames of the tester at this place, from 0, as they stand
+abbrev pub own_text : RawSetup → Option Start → ℕ → List Sent → List ℕ
+own_text setup start place frames = flat_map (λ sent. line_of setup start (drawn_for (place + 1) sent)) frames
+
 -- the reply lines of the testers' lists
 abbrev pub drawn_text : RawSetup → Option Start → List (List Sent) → List ℕ
 drawn_text setup start lists = flat_map (line_of setup start) (in_order time_of (gathered 1 lists))

@@ -8,7 +8,7 @@ ghost use Rattle.diag_can.specs.declared.bus.BusLine.TheVariants.{Ticks};
 ghost use Rattle.diag_world.specs.Port.{Grew};
 ghost use Rattle.diag_world.specs.Server.{quiet_of};
 ghost use Rattle.diag_bus.specs.Batch.{lists_of};
-ghost use Rattle.diag_bus.specs.Bus.{IsItsFault, IsRefused, Judges, TookLine, TookLines};
+ghost use Rattle.diag_bus.specs.Bus.{AnswersLine, IsItsFault, IsRefused, Judges, TookLine, TookLines};
 ghost use Rattle.diag_bus.specs.Comparing.{TakesLine};
 ghost use Rattle.diag_bus.specs.Text.{ecu_after, written};
 ghost use Rattle.diag_bus.specs.Verdict.{recorded, verdict};
@@ -179,13 +179,7 @@ impl Bus {
         text: &mut Vec<u8>,
     ) -> Result<(), BusFault>
         requires { IsSeen line.now usual.now seen }
-        ensures took { OnOk result
-            (Grew text.old.items text.new.items (TookLine self.old self.new line.now)) }
-        ensures fault { IsItsFault self.old line.now result }
-        ensures first { IsRefused self.old line.now result }
-        ensures err { OnErr result (text.new.items ≡ text.old.items) }
-        ensures setup { self.new.setup ≡ self.old.setup }
-        ensures output { self.new.output ≡ self.old.output }
+        ensures { AnswersLine self.old self.new line.now text.old.items text.new.items result }
     {
         match seen {
             Seen::Usual(id, at) => self.take_usual(line, usual, id, at, text),
@@ -206,13 +200,7 @@ impl Bus {
     ) -> Result<(), BusFault>
         requires usual { IsUsual usual.now id at }
         requires says { bus_line line.now ≡ Ok (usual_said usual.now id at) }
-        ensures took { OnOk result
-            (Grew text.old.items text.new.items (TookLine self.old self.new line.now)) }
-        ensures fault { IsItsFault self.old line.now result }
-        ensures first { IsRefused self.old line.now result }
-        ensures err { OnErr result (text.new.items ≡ text.old.items) }
-        ensures setup { self.new.setup ≡ self.old.setup }
-        ensures output { self.new.output ≡ self.old.output }
+        ensures { AnswersLine self.old self.new line.now text.old.items text.new.items result }
     {
         if self.line.output.is_verdict() {
             return self.take_read(line, text);
@@ -237,13 +225,7 @@ impl Bus {
         text: &mut Vec<u8>,
     ) -> Result<(), BusFault>
         requires says { bus_line line.now ≡ Ok (Ticks count) }
-        ensures took { OnOk result
-            (Grew text.old.items text.new.items (TookLine self.old self.new line.now)) }
-        ensures fault { IsItsFault self.old line.now result }
-        ensures first { IsRefused self.old line.now result }
-        ensures err { OnErr result (text.new.items ≡ text.old.items) }
-        ensures setup { self.new.setup ≡ self.old.setup }
-        ensures output { self.new.output ≡ self.old.output }
+        ensures { AnswersLine self.old self.new line.now text.old.items text.new.items result }
     {
         if self.line.output.is_verdict() {
             return self.take_judged_ticks(line, count, text);
@@ -266,13 +248,7 @@ impl Bus {
         text: &mut Vec<u8>,
     ) -> Result<(), BusFault>
         requires says { bus_line line.now ≡ Ok (Ticks count) }
-        ensures took { OnOk result
-            (Grew text.old.items text.new.items (TookLine self.old self.new line.now)) }
-        ensures fault { IsItsFault self.old line.now result }
-        ensures first { IsRefused self.old line.now result }
-        ensures err { OnErr result (text.new.items ≡ text.old.items) }
-        ensures setup { self.new.setup ≡ self.old.setup }
-        ensures output { self.new.output ≡ self.old.output }
+        ensures { AnswersLine self.old self.new line.now text.old.items text.new.items result }
     {
         self.take_said(line, &BusLine::Ticks(count), text)
     }
@@ -280,13 +256,7 @@ impl Bus {
     /// Takes a line by the value that says all of it.
     #[inline(never)]
     fn take_read(&mut self, line: &[u8], text: &mut Vec<u8>) -> Result<(), BusFault>
-        ensures took { OnOk result
-            (Grew text.old.items text.new.items (TookLine self.old self.new line.now)) }
-        ensures fault { IsItsFault self.old line.now result }
-        ensures first { IsRefused self.old line.now result }
-        ensures err { OnErr result (text.new.items ≡ text.old.items) }
-        ensures setup { self.new.setup ≡ self.old.setup }
-        ensures output { self.new.output ≡ self.old.output }
+        ensures { AnswersLine self.old self.new line.now text.old.items text.new.items result }
     {
         match read_bus_line(line) {
             Ok(said) => self.take_said(line, &said, text),
@@ -298,13 +268,7 @@ impl Bus {
     #[inline(always)]
     fn take_said(&mut self, line: &[u8], said: &BusLine, text: &mut Vec<u8>) -> Result<(), BusFault>
         requires says { bus_line line.now ≡ Ok said.now }
-        ensures took { OnOk result
-            (Grew text.old.items text.new.items (TookLine self.old self.new line.now)) }
-        ensures fault { IsItsFault self.old line.now result }
-        ensures first { IsRefused self.old line.now result }
-        ensures err { OnErr result (text.new.items ≡ text.old.items) }
-        ensures setup { self.new.setup ≡ self.old.setup }
-        ensures output { self.new.output ≡ self.old.output }
+        ensures { AnswersLine self.old self.new line.now text.old.items text.new.items result }
     {
         let time = next_time(&self.clock, line, said)?;
         let reference = self.clock.reference;

@@ -8,7 +8,7 @@ ghost use Rattle.diag_bus.specs.declared.comparing.Comparison.{Comparison as ACo
 ghost use Rattle.diag_bus.specs.declared.verdict.Recorded.{Recorded as ARecorded};
 ghost use Rattle.diag_setup.specs.declared.raw.RawSetup.{RawSetup};
 
-use crate::verdict::{Difference, Recorded, Verdict, earlier, same_bytes, same_difference};
+use crate::verdict::{Difference, Recorded, Verdict, earlier, same_difference};
 use diag_can::{BusLine, CanId, FrameBytes};
 use diag_setup::{Setup, TesterId};
 use diag_tp::Sent;
@@ -118,7 +118,7 @@ impl Comparison {
         match self.ahead.front() {
             Some(frame) => Some(Difference {
                 line: frame.line,
-                sent: same_bytes(&frame.bytes),
+                sent: frame.bytes.copy(),
                 expected: None,
             }),
             None => None,
@@ -133,7 +133,7 @@ impl Comparison {
             → result ≡ slice_get expected (length recorded) }
     {
         match self.behind.front() {
-            Some(bytes) => Some(same_bytes(bytes)),
+            Some(bytes) => Some(bytes.copy()),
             None => None,
         }
     }

@@ -8,8 +8,8 @@ ghost use Rattle.diag_can.specs.Usual.{IsUsual, usual_bytes};
 ghost use Rattle.diag_tp.specs.Moments.{counted_from};
 ghost use Rattle.diag_tp.specs.declared.sent.Sent.{Sent as ASent};
 ghost use Rattle.diag_setup.specs.declared.raw.RawSetup.{RawSetup};
-ghost use Rattle.diag_world.specs.Server.{closing_time};
-ghost use Rattle.diag_bus.specs.Events.{frame_to, said_gives, span_said, to_each};
+ghost use Rattle.diag_world.specs.Server.{closing_time, each_of};
+ghost use Rattle.diag_bus.specs.Events.{frame_to, said_gives, span_said};
 ghost use Rattle.diag_bus.specs.declared.clock.Start.{Start as AStart};
 ghost use Rattle.diag_bus.specs.Requests.{AreFilled, AreNamesOf, AreRequestsOf, IsOwner, given};
 
@@ -185,7 +185,7 @@ impl MidLine {
         requires early { HasTime self.old.server count }
         requires rest { IsRest self.old.server self.old.rest }
         ensures ok { OnOk result
-            (Gave self.old self.new (to_each (length setup.now.testers) (AnEvent.Ticks count))) }
+            (Gave self.old self.new (each_of (length setup.now.testers) (AnEvent.Ticks count))) }
         ensures shape { SameShape self.old self.new }
         ensures pace { TookTime self.old.server self.new.server count }
         ensures sent { OnOk result (SentIn self.old self.new count) }
@@ -206,7 +206,7 @@ impl MidLine {
         requires early { HasTime self.old.server ms }
         requires rest { IsRest self.old.server self.old.rest }
         ensures ok { OnOk result (Gave self.old self.new
-            (flat_map (to_each (length setup.now.testers)) (waited ms))) }
+            (flat_map (each_of (length setup.now.testers)) (waited ms))) }
         ensures shape { SameShape self.old self.new }
         ensures pace { TookTime self.old.server self.new.server ms }
         ensures sent { OnOk result (SentIn self.old self.new ms) }
@@ -228,7 +228,7 @@ impl MidLine {
         requires early { HasTime self.old.server ms }
         requires rest { IsRest self.old.server self.old.rest }
         ensures ok { OnOk result (Gave self.old self.new
-            (flat_map (to_each (length setup.now.testers)) (waited ms))) }
+            (flat_map (each_of (length setup.now.testers)) (waited ms))) }
         ensures shape { SameShape self.old self.new }
         ensures pace { TookTime self.old.server self.new.server ms }
         ensures sent { OnOk result (SentIn self.old self.new ms) }
@@ -273,7 +273,7 @@ impl MidLine {
         requires lists { length self.old.drawn.items ≡ length setup.now.testers }
         requires early { HasTime self.old.server 0 }
         ensures ok { OnOk result
-            (Gave self.old self.new (to_each (length setup.now.testers) event.now)) }
+            (Gave self.old self.new (each_of (length setup.now.testers) event.now)) }
         ensures shape { SameShape self.old self.new }
         ensures pace { (span : ℕ) → Lasts event.now span
             → TookTime self.old.server self.new.server span }
@@ -308,7 +308,7 @@ impl MidLine {
         requires rest { IsRest self.old.server self.old.rest }
         requires usual { IsUsual line.now id at }
         ensures ok { OnOk result (Gave self.old self.new
-            (flat_map (to_each (length setup.now.testers)) (waited ms)
+            (flat_map (each_of (length setup.now.testers)) (waited ms)
             ++ flat_map (frame_to setup.now (Some (record { id = id; bytes = usual_bytes line.now at })))
             (counted_from 1 (length setup.now.testers)))) }
         ensures shape { SameShape self.old self.new }

@@ -41,22 +41,15 @@ pub enum Verdict {
     },
 }
 
-/// The same bytes again.
-pub(crate) fn same_bytes(bytes: &FrameBytes) -> FrameBytes
-    ensures { result ≡ bytes.now }
-{
-    FrameBytes::from_slice(bytes.as_slice())
-}
-
 /// The same difference again.
 pub(crate) fn same_difference(difference: &Difference) -> Difference
     ensures { result ≡ difference.now }
 {
     Difference {
         line: difference.line,
-        sent: same_bytes(&difference.sent),
+        sent: difference.sent.copy(),
         expected: match &difference.expected {
-            Some(bytes) => Some(same_bytes(bytes)),
+            Some(bytes) => Some(bytes.copy()),
             None => None,
         },
     }

@@ -5,9 +5,9 @@ ghost use Rattle.std.specs.List.{All, flat_map};
 ghost use Rattle.std.specs.List.Sorted.{IsNonDecreasingBy, IsPermutation};
 ghost use Rattle.diag_setup.specs.Rows.{in_order};
 ghost use Rattle.diag_world.specs.Server.{closing_time};
-ghost use Rattle.diag_bus.specs.Batch.{AreSentBy, StartsBelow, moment_end};
+ghost use Rattle.diag_bus.specs.Batch.{AreSentBy, AreWritable, StartsBelow, moment_end};
 ghost use Rattle.diag_bus.specs.Requests.{AreNamesOf};
-ghost use Rattle.diag_bus.specs.Text.{bus_moment, drawn_for, drawn_text, gathered, line_of, time_of};
+ghost use Rattle.diag_bus.specs.Text.{bus_moment, drawn_for, drawn_text, gathered, line_of, own_text, time_of};
 
 use crate::clock::{Clock, Start};
 use diag_can::LineWriter;
@@ -152,12 +152,9 @@ pub(crate) fn write_own(
     frames: &[Sent],
     text: &mut Vec<u8>,
 ) -> Result<(), AllocError>
-    requires names { AreNamesOf setup.now writers.old.items }
-    requires tester { place < length setup.now.testers }
-    requires start { StartsBelow clock.now.start moment_end }
-    requires sent { All (λ f. f.at ≤ closing_time) frames.now }
-    ensures ok { OnOk result (text.new.items ≡ text.old.items
-        ++ flat_map (λ sent. line_of setup.now clock.now.start (drawn_for (place + 1) sent)) frames.now) }
+    requires { AreWritable setup.now clock.now.start writers.old.items place frames.now }
+    ensures ok { OnOk result
+        (text.new.items ≡ text.old.items ++ own_text setup.now clock.now.start place frames.now) }
     ensures err { OnErr result (text.new.items ≡ text.old.items) }
     ensures names { writers.new.items ≡ writers.old.items }
 {
@@ -177,12 +174,9 @@ fn write_each(
     frames: &[Sent],
     text: &mut Vec<u8>,
 ) -> Result<(), AllocError>
-    requires names { AreNamesOf setup.now writers.old.items }
-    requires tester { place < length setup.now.testers }
-    requires start { StartsBelow clock.now.start moment_end }
-    requires sent { All (λ f. f.at ≤ closing_time) frames.now }
-    ensures ok { OnOk result (text.new.items ≡ text.old.items
-        ++ flat_map (λ sent. line_of setup.now clock.now.start (drawn_for (place + 1) sent)) frames.now) }
+    requires { AreWritable setup.now clock.now.start writers.old.items place frames.now }
+    ensures ok { OnOk result
+        (text.new.items ≡ text.old.items ++ own_text setup.now clock.now.start place frames.now) }
     ensures err { OnErr result (text.new.items ≡ text.old.items) }
     ensures names { writers.new.items ≡ writers.old.items }
 {

@@ -1,25 +1,20 @@
-use Rattle.std.proofs.Common.{refl, subst, sym, arith}
-use Rattle.diag_can.specs.declared.bus.BusLine.TheVariants.{Ticks}
-use Rattle.diag_bus.specs.Batch.{added, lists_of, moment_end}
-use Rattle.diag_bus.specs.Requests.{AreNamesOf}
-use Rattle.diag_bus.proofs.Taking.{has_time, judged_not, sent_in_time, sound_taken, sound_written, ticks_gave, took_line}
+use Rattle.std.proofs.Common.{refl, arith}
+use Rattle.diag_bus.specs.Batch.{moment_end}
+use Rattle.diag_bus.specs.Bus.{AreSound}
+use Rattle.diag_bus.proofs.Taking.{has_time, judged_not, kept_written, sent_in_time, sound_taken, ticks_gave, took_line}
 use Rattle.diag_bus.proofs.bus.Bus.take_ticks.Goals as goal
+use Rattle.diag_bus.proofs.bus.Bus.take_ticks.Goals.{After-give_each}
 
-pub returns-clause-took : goal.returns-clause-took
-returns-clause-took c =
+pub returns : goal.returns
+returns c =
     let inside = c.self.inside in
     let taken = c.give_each.new.self in
-    record {
-      more = added taken.output taken.text.items inside.setup c.go_on_by.new.self.start (lists_of taken);
-      grown = c.in_ok-write.ensures.ok;
-      holds = took_line c.args.self.now inside.setup c.args.line.now (Ticks c.args.count) inside.line c.begin.new.self taken c.write.new.self inside.clock
-          c.go_on_by.new.self inside.compared inside.compared c.self.view_is c.self.invariant.0
-          c.requires.says c.in_ok-time.ensures.well c.go_on_by.ensures.on
-          c.begin.ensures.empty c.begin.ensures.text c.begin.ensures.server c.begin.ensures.shape
-          (ticks_gave inside.setup inside.clock c.begin.new.self taken c.args.count c.in_ok-give_each.ensures.ok) c.give_each.ensures.shape
-          (λ judged. absurd (judged_not c.is_verdict.result c.if-is_verdict.false (c.is_verdict.ensures.1 judged)))
-          c.write.ensures.server c.write.ensures.shape;
-    }
+    took_line c.args.self.now inside.setup c.args.line.now inside.compared inside.compared c.self.view_is c.self.invariant.0
+    c.requires.says c.in_ok-time.ensures.well c.go_on_by.ensures.on
+    c.begin.ensures.empty c.begin.ensures.text c.begin.ensures.server c.begin.ensures.shape
+    (ticks_gave inside.setup inside.clock c.begin.new.self taken c.args.count c.in_ok-give_each.ensures.ok) c.give_each.ensures.shape
+    (λ judged. absurd (judged_not c.is_verdict.result c.if-is_verdict.false (c.is_verdict.ensures.1 judged)))
+    c.write.ensures.server c.write.ensures.shape c.in_ok-write.ensures.ok
 
 -- ---- the clocks
 
@@ -30,39 +25,22 @@ give_each-requires-clause-early c = has_time c.self.inside.setup c.self.inside.l
 pub give_each-requires-clause-rest : goal.give_each-requires-clause-rest
 give_each-requires-clause-rest c = c.begin.ensures.shape.rest c.self.invariant.0.6
 
+-- what holds of the bus's parts behind it
+sound : (c : After-give_each) → AreSound c.self.inside.setup c.give_each.new.self c.self.inside.compared c.go_on_by.new.self
+sound c = sound_taken c.self.inside.setup c.args.line.now c.self.inside.compared c.self.inside.compared
+    c.self.invariant.0 c.requires.says c.go_on_by.ensures.on (λ most low said. c.go_on_by.ensures.start most low) c.begin.ensures.server
+    c.begin.ensures.shape c.give_each.ensures.shape c.give_each.ensures.pace refl
+
 pub invariant_of-self : goal.invariant_of-self
-invariant_of-self c = (
-  sound_taken c.self.inside.setup c.args.line.now (Ticks c.args.count) c.self.inside.line c.begin.new.self c.give_each.new.self c.self.inside.clock
-      c.go_on_by.new.self c.self.inside.compared c.self.inside.compared
-      c.self.invariant.0 c.requires.says c.go_on_by.ensures.on (λ most low said. c.go_on_by.ensures.start most low) c.begin.ensures.server
-      c.begin.ensures.shape c.give_each.ensures.shape c.give_each.ensures.pace refl,
-  c.self.invariant.1,
-  c.self.invariant.2,
-)
+invariant_of-self c = (sound (goal.at.invariant_of-self c).After-give_each, c.self.invariant.1, c.self.invariant.2)
 
 pub invariant_of-self-in_err-write : goal.invariant_of-self-in_err-write
-invariant_of-self-in_err-write c = (
-  sound_written c.self.inside.setup c.give_each.new.self c.write.new.self c.go_on_by.new.self c.self.inside.compared
-      (sound_taken c.self.inside.setup c.args.line.now (Ticks c.args.count) c.self.inside.line c.begin.new.self c.give_each.new.self c.self.inside.clock
-      c.go_on_by.new.self c.self.inside.compared c.self.inside.compared
-      c.self.invariant.0 c.requires.says c.go_on_by.ensures.on (λ most low said. c.go_on_by.ensures.start most low) c.begin.ensures.server
-      c.begin.ensures.shape c.give_each.ensures.shape c.give_each.ensures.pace refl)
-      c.write.ensures.server c.write.ensures.shape,
-  c.self.invariant.1,
-  subst (AreNamesOf c.self.inside.setup) (sym c.write.ensures.names) c.self.invariant.2,
-)
+invariant_of-self-in_err-write c = kept_written c.go_on_by.new.self c.self.inside.compared (sound (goal.at.invariant_of-self-in_err-write c).After-give_each)
+    c.self.invariant.1 c.self.invariant.2 c.write.ensures.server c.write.ensures.shape c.write.ensures.names
 
 pub invariant_of-self-2 : goal.invariant_of-self-2
-invariant_of-self-2 c = (
-  sound_written c.self.inside.setup c.give_each.new.self c.write.new.self c.go_on_by.new.self c.self.inside.compared
-      (sound_taken c.self.inside.setup c.args.line.now (Ticks c.args.count) c.self.inside.line c.begin.new.self c.give_each.new.self c.self.inside.clock
-      c.go_on_by.new.self c.self.inside.compared c.self.inside.compared
-      c.self.invariant.0 c.requires.says c.go_on_by.ensures.on (λ most low said. c.go_on_by.ensures.start most low) c.begin.ensures.server
-      c.begin.ensures.shape c.give_each.ensures.shape c.give_each.ensures.pace refl)
-      c.write.ensures.server c.write.ensures.shape,
-  c.self.invariant.1,
-  subst (AreNamesOf c.self.inside.setup) (sym c.write.ensures.names) c.self.invariant.2,
-)
+invariant_of-self-2 c = kept_written c.go_on_by.new.self c.self.inside.compared (sound (goal.at.invariant_of-self-2 c).After-give_each)
+    c.self.invariant.1 c.self.invariant.2 c.write.ensures.server c.write.ensures.shape c.write.ensures.names
 
 -- ---- where the lists have frames
 

@@ -1,32 +1,28 @@
 use Rattle.std.proofs.Common.{◌<◌, subst, sym, arith}
 use Rattle.diag_can.specs.Usual.{usual_said}
-use Rattle.diag_bus.specs.Batch.{added, lists_of, moment_end}
-use Rattle.diag_bus.specs.Requests.{AreNamesOf}
+use Rattle.diag_bus.specs.Batch.{moment_end}
+use Rattle.diag_bus.specs.Bus.{AreSound}
 use Rattle.diag_bus.proofs.Stamps.{bus_line_low}
-use Rattle.diag_bus.proofs.Taking.{has_time, judged_not, sent_in_time, sound_written, took_line}
+use Rattle.diag_bus.proofs.Taking.{has_time, judged_not, kept_written, sent_in_time, took_line}
 use Rattle.diag_bus.proofs.Usual.{sound_usual, usual_gave, usual_on}
 use Rattle.diag_bus.proofs.bus.Bus.take_usual.Goals as goal
+use Rattle.diag_bus.proofs.bus.Bus.take_usual.Goals.{After-take_usual}
 
-pub returns-clause-took : goal.returns-clause-took
-returns-clause-took c =
+pub returns : goal.returns
+returns c =
     let inside = c.self.inside in
     let taken = c.take_usual.new.self in
     let usual = c.args.usual.now in
     let clock' = c.go_on_at.new.self in
     let read = c.in_ok-moment.ensures in
-    record {
-      more = added taken.output taken.text.items inside.setup clock'.start (lists_of taken);
-      grown = c.in_ok-write.ensures.ok;
-      holds = took_line c.args.self.now inside.setup c.args.line.now (usual_said usual c.args.id c.args.at) inside.line c.begin.new.self taken
-          c.write.new.self inside.clock clock' inside.compared inside.compared c.self.view_is c.self.invariant.0
-          c.requires.says read.well (usual_on inside.clock clock' usual c.args.id c.args.at c.in_ok-moment.moment read.moment c.go_on_at.ensures.on)
-          c.begin.ensures.empty c.begin.ensures.text c.begin.ensures.server c.begin.ensures.shape
-          (usual_gave inside.setup inside.clock c.begin.new.self taken usual c.args.id c.args.at c.in_ok-moment.moment c.silence-span.result read.moment
-          c.silence-span.ensures c.in_ok-take_usual.ensures.ok)
-          c.take_usual.ensures.shape
-          (λ judged. absurd (judged_not c.is_verdict.result c.if-is_verdict.false (c.is_verdict.ensures.1 judged)))
-          c.write.ensures.server c.write.ensures.shape;
-    }
+    took_line c.args.self.now inside.setup c.args.line.now inside.compared inside.compared c.self.view_is c.self.invariant.0
+    c.requires.says read.well (usual_on inside.clock clock' usual c.args.id c.args.at c.in_ok-moment.moment read.moment c.go_on_at.ensures.on)
+    c.begin.ensures.empty c.begin.ensures.text c.begin.ensures.server c.begin.ensures.shape
+    (usual_gave inside.setup inside.clock c.begin.new.self taken usual c.args.id c.args.at c.in_ok-moment.moment c.silence-span.result read.moment
+    c.silence-span.ensures c.in_ok-take_usual.ensures.ok)
+    c.take_usual.ensures.shape
+    (λ judged. absurd (judged_not c.is_verdict.result c.if-is_verdict.false (c.is_verdict.ensures.1 judged)))
+    c.write.ensures.server c.write.ensures.shape c.in_ok-write.ensures.ok
 
 -- ---- the clocks
 
@@ -37,39 +33,22 @@ take_usual-requires-clause-early c = has_time c.self.inside.setup c.self.inside.
 pub take_usual-requires-clause-rest : goal.take_usual-requires-clause-rest
 take_usual-requires-clause-rest c = c.begin.ensures.shape.rest c.self.invariant.0.6
 
+-- what holds of the bus's parts behind it
+sound : (c : After-take_usual) → AreSound c.self.inside.setup c.take_usual.new.self c.self.inside.compared c.go_on_at.new.self
+sound c = sound_usual c.self.inside.setup c.args.line.now c.args.usual.now c.args.id c.args.at c.silence-span.result c.self.inside.compared
+    c.self.invariant.0 c.requires.says c.in_ok-moment.ensures.moment c.silence-span.ensures c.go_on_at.ensures.on c.go_on_at.ensures.start
+    c.begin.ensures.server c.begin.ensures.shape c.take_usual.ensures.shape c.take_usual.ensures.pace
+
 pub invariant_of-self : goal.invariant_of-self
-invariant_of-self c = (
-  sound_usual c.self.inside.setup c.args.line.now c.args.usual.now c.args.id c.args.at c.in_ok-moment.moment c.silence-span.result c.self.inside.line
-      c.begin.new.self c.take_usual.new.self c.self.inside.clock c.go_on_at.new.self c.self.inside.compared
-      c.self.invariant.0 c.requires.says c.in_ok-moment.ensures.moment c.silence-span.ensures c.go_on_at.ensures.on c.go_on_at.ensures.start
-      c.begin.ensures.server c.begin.ensures.shape c.take_usual.ensures.shape c.take_usual.ensures.pace,
-  c.self.invariant.1,
-  c.self.invariant.2,
-)
+invariant_of-self c = (sound (goal.at.invariant_of-self c).After-take_usual, c.self.invariant.1, c.self.invariant.2)
 
 pub invariant_of-self-in_err-write : goal.invariant_of-self-in_err-write
-invariant_of-self-in_err-write c = (
-  sound_written c.self.inside.setup c.take_usual.new.self c.write.new.self c.go_on_at.new.self c.self.inside.compared
-      (sound_usual c.self.inside.setup c.args.line.now c.args.usual.now c.args.id c.args.at c.in_ok-moment.moment c.silence-span.result c.self.inside.line
-      c.begin.new.self c.take_usual.new.self c.self.inside.clock c.go_on_at.new.self c.self.inside.compared
-      c.self.invariant.0 c.requires.says c.in_ok-moment.ensures.moment c.silence-span.ensures c.go_on_at.ensures.on c.go_on_at.ensures.start
-      c.begin.ensures.server c.begin.ensures.shape c.take_usual.ensures.shape c.take_usual.ensures.pace)
-      c.write.ensures.server c.write.ensures.shape,
-  c.self.invariant.1,
-  subst (AreNamesOf c.self.inside.setup) (sym c.write.ensures.names) c.self.invariant.2,
-)
+invariant_of-self-in_err-write c = kept_written c.go_on_at.new.self c.self.inside.compared (sound (goal.at.invariant_of-self-in_err-write c).After-take_usual)
+    c.self.invariant.1 c.self.invariant.2 c.write.ensures.server c.write.ensures.shape c.write.ensures.names
 
 pub invariant_of-self-2 : goal.invariant_of-self-2
-invariant_of-self-2 c = (
-  sound_written c.self.inside.setup c.take_usual.new.self c.write.new.self c.go_on_at.new.self c.self.inside.compared
-      (sound_usual c.self.inside.setup c.args.line.now c.args.usual.now c.args.id c.args.at c.in_ok-moment.moment c.silence-span.result c.self.inside.line
-      c.begin.new.self c.take_usual.new.self c.self.inside.clock c.go_on_at.new.self c.self.inside.compared
-      c.self.invariant.0 c.requires.says c.in_ok-moment.ensures.moment c.silence-span.ensures c.go_on_at.ensures.on c.go_on_at.ensures.start
-      c.begin.ensures.server c.begin.ensures.shape c.take_usual.ensures.shape c.take_usual.ensures.pace)
-      c.write.ensures.server c.write.ensures.shape,
-  c.self.invariant.1,
-  subst (AreNamesOf c.self.inside.setup) (sym c.write.ensures.names) c.self.invariant.2,
-)
+invariant_of-self-2 c = kept_written c.go_on_at.new.self c.self.inside.compared (sound (goal.at.invariant_of-self-2 c).After-take_usual)
+    c.self.invariant.1 c.self.invariant.2 c.write.ensures.server c.write.ensures.shape c.write.ensures.names
 
 -- ---- where the lists have frames
 

@@ -19,7 +19,7 @@ returns-in-Some-front c = λ recorded expected h.
     let there : slice_get ahead 0 ≡ Some c.in-Some-front.frame.now =
     slice_get_read ahead (length ahead) 0 c.in-Some-front.frame.now refl c.in-Some-front.ensures.item.3.0 c.in-Some-front.ensures.lookup in
     let frame = c.in-Some-front.frame.now in
-    ap (λ (b : List ℕ). Some (differs_by (record { line = frame.line; bytes = b }) None)) c.same_bytes.ensures
+    ap (λ (b : List ℕ). Some (differs_by (record { line = frame.line; bytes = b }) None)) c.copy.ensures
     ∙ sym (ahead_is kept recorded expected h none frame there)
 
 pub returns-in-None : goal.returns-in-None

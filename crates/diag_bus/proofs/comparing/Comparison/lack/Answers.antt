@@ -10,7 +10,7 @@ returns-in-Some c = λ recorded expected h same.
     let behind = c.args.self.now.behind.items in
     let there : slice_get behind 0 ≡ Some c.in-Some.bytes.now =
     slice_get_read behind (length behind) 0 c.in-Some.bytes.now refl c.in-Some.ensures.item.3.0 c.in-Some.ensures.lookup in
-    ap Some c.same_bytes.ensures ∙ (sym there ∙ sym (lack_is c.args.self.now recorded expected h same))
+    ap Some c.copy.ensures ∙ (sym there ∙ sym (lack_is c.args.self.now recorded expected h same))
 
 pub returns-in-None : goal.returns-in-None
 returns-in-None c = λ recorded expected h same.

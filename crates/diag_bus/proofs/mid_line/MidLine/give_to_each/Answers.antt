@@ -1,8 +1,8 @@
 use Rattle.std.proofs.Common.{◌≡◌, ◌+◌, ◌-◌, length, subst, sym, arith}
 use Rattle.diag_world.proofs.Waiting.{each_more}
 use Rattle.diag_world.proofs.Worlds.{who_found}
+use Rattle.diag_world.specs.Server.{each_of}
 use Rattle.diag_bus.specs.Batch.{Gave}
-use Rattle.diag_bus.specs.Events.{to_each}
 use Rattle.diag_bus.proofs.Batches.{gave_more, gave_none, same_more, same_none}
 use Rattle.diag_bus.proofs.Paces.{lasts, sent_none, sent_some, some_all, some_more, some_none}
 use Rattle.diag_bus.proofs.mid_line.MidLine.give_to_each.Goals as goal
@@ -54,7 +54,7 @@ loop-index-preserved c =
 pub returns-clause-ok : goal.returns-clause-ok
 returns-clause-ok c =
     let ended : c.loop-index.index ≡ length c.args.setup.now.testers = omega (arith, c.testers-index-end.ensures.same) in
-    subst (λ n. Gave c.args.self.now c.loop-index.self (to_each n c.args.event.now)) ended c.loop-index.invariant.gave
+    subst (λ n. Gave c.args.self.now c.loop-index.self (each_of n c.args.event.now)) ended c.loop-index.invariant.gave
 
 pub returns-in_err-give-clause-shape : goal.returns-in_err-give-clause-shape
 returns-in_err-give-clause-shape c =

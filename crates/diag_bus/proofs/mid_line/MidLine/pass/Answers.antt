@@ -1,21 +1,19 @@
-use Rattle.std.proofs.Common.{◌≡◌, ◌≤◌, false, true, length, refl, subst, sym, arith}
+use Rattle.std.proofs.Common.{◌≡◌, ◌≤◌, length, refl, subst, sym, arith}
+use Rattle.std.proofs.lemmas.Bool.{false≢true}
 use Rattle.std.specs.List.{flat_map}
 use Rattle.diag_can.specs.Log.{waited}
 use Rattle.diag_world.proofs.Worlds.{on_ok}
+use Rattle.diag_world.specs.Server.{each_of}
 use Rattle.diag_bus.specs.Batch.{Gave, SentIn, TookTime}
-use Rattle.diag_bus.specs.Events.{to_each}
 use Rattle.diag_bus.proofs.Batches.{gave_none, waited_few}
 use Rattle.diag_bus.proofs.mid_line.MidLine.pass.Goals as goal
-
-clash : false ≡ true → ⊥
-clash h = cc
 
 pub returns-in-None-clause-ok : goal.returns-in-None-clause-ok
 returns-in-None-clause-ok c =
     let self = c.args.self.now in
-    let no : 1 ≤ c.args.ms → ⊥ = λ some. clash (c.in-None.ensures.found.1 (omega (arith, some), omega arith)) in
+    let no : 1 ≤ c.args.ms → ⊥ = λ some. false≢true (c.in-None.ensures.found.1 (omega (arith, some), omega arith)) in
     let none : c.args.ms ≡ 0 = omega (arith, no) in
-    subst (λ ms. Gave self self (flat_map (to_each (length c.args.setup.now.testers)) (waited ms))) (sym none) (gave_none self)
+    subst (λ ms. Gave self self (flat_map (each_of (length c.args.setup.now.testers)) (waited ms))) (sym none) (gave_none self)
 
 pub returns-in-Some-clause-ok : goal.returns-in-Some-clause-ok
 returns-in-Some-clause-ok c =

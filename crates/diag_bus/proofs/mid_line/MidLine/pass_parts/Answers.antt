@@ -1,10 +1,11 @@
-use Rattle.std.proofs.Common.{◌≡◌, ◌≤◌, ◌<◌, ◌+◌, ◌*◌, ℕ, true, false, ◌++◌, length, refl, ap, subst, sym, ◌∙◌, arith}
+use Rattle.std.proofs.Common.{◌≡◌, ◌≤◌, ◌<◌, ◌+◌, ◌*◌, ℕ, ◌++◌, length, refl, ap, subst, sym, ◌∙◌, arith}
+use Rattle.std.proofs.lemmas.Bool.{false≢true}
 use Rattle.std.specs.List.{flat_map}
 use Rattle.std.specs.Prelude.{replicate, ◌/◌, ◌%◌}
 use Rattle.diag_can.specs.declared.frame.Event.TheVariants.{Ticks}
 use Rattle.diag_world.proofs.Worlds.{on_ok}
+use Rattle.diag_world.specs.Server.{each_of}
 use Rattle.diag_bus.specs.Batch.{Gave}
-use Rattle.diag_bus.specs.Events.{to_each}
 use Rattle.diag_bus.proofs.Batches.{parts_more, rest_more, waited_whole, waited_rest, gave_none, gave_more, same_more, same_none}
 use Rattle.diag_bus.proofs.Paces.{has_left, sent_more, sent_none, took_more, took_none}
 use Rattle.diag_bus.proofs.mid_line.MidLine.pass_parts.Goals as goal
@@ -71,11 +72,11 @@ pub loop-part-preserved : goal.loop-part-preserved
 loop-part-preserved c =
     let inv = c.loop-part.invariant in
     let n = length c.args.setup.now.testers in
-    let long : to_each n (Ticks c.longest.result) ≡ to_each n (Ticks 60000) = ap (λ k. to_each n (Ticks k)) c.longest.ensures in
+    let long : each_of n (Ticks c.longest.result) ≡ each_of n (Ticks 60000) = ap (λ k. each_of n (Ticks k)) c.longest.ensures in
     record {
       shape = same_more c.args.self.now c.loop-part.self c.give_each.new.self inv.shape c.give_each.ensures.shape;
       gave = subst (λ L. Gave c.args.self.now c.give_each.new.self L)
-          (ap (λ w. flat_map (to_each n) (replicate c.loop-part.part (Ticks 60000)) ++ w) long ∙ sym (parts_more n c.loop-part.part (Ticks 60000)))
+          (ap (λ w. flat_map (each_of n) (replicate c.loop-part.part (Ticks 60000)) ++ w) long ∙ sym (parts_more n c.loop-part.part (Ticks 60000)))
           (gave_more c.args.self.now c.loop-part.self c.give_each.new.self _ _ inv.gave c.in_ok-give_each.ensures.ok);
       pace = took_more c.args.self.now.server c.loop-part.self.server c.give_each.new.self.server (60000 * c.loop-part.part) c.longest.result
           (60000 * (c.loop-part.part + 1)) (omega (arith, c.longest.ensures)) inv.pace c.give_each.ensures.pace;
@@ -83,17 +84,14 @@ loop-part-preserved c =
           (60000 * (c.loop-part.part + 1)) (omega (arith, c.longest.ensures)) inv.pace inv.sent c.in_ok-give_each.ensures.sent;
     }
 
-clash : false ≡ true → ⊥
-clash h = cc
-
 pub returns-in-None-clause-ok : goal.returns-in-None-clause-ok
 returns-in-None-clause-ok c =
     let n = length c.args.setup.now.testers in
     let ended : c.loop-part.part ≡ c.args.ms / 60000 = omega (arith, c.loop-part.auto.part-end, c.loop-part-test.false) in
-    let no : 1 ≤ c.args.ms % 60000 → ⊥ = λ some. clash (c.in-None.ensures.found.1 (some, omega arith)) in
+    let no : 1 ≤ c.args.ms % 60000 → ⊥ = λ some. false≢true (c.in-None.ensures.found.1 (some, omega arith)) in
     let none : c.args.ms % 60000 ≡ 0 = omega (arith, no) in
     subst (λ L. Gave c.args.self.now c.loop-part.self L)
-    (ap (λ k. flat_map (to_each n) (replicate k (Ticks 60000))) ended ∙ ap (flat_map (to_each n)) (sym (waited_whole c.args.ms none)))
+    (ap (λ k. flat_map (each_of n) (replicate k (Ticks 60000))) ended ∙ ap (flat_map (each_of n)) (sym (waited_whole c.args.ms none)))
     c.loop-part.invariant.gave
 
 pub returns-in-Some-clause-ok : goal.returns-in-Some-clause-ok
@@ -105,9 +103,9 @@ returns-in-Some-clause-ok c =
     let whole = replicate (c.args.ms / 60000) (Ticks 60000) in
     on_ok _ _ c.give_each-in-Some.result (λ gave.
     subst (λ L. Gave c.args.self.now c.give_each-in-Some.new.self L)
-    (ap (λ k. flat_map (to_each n) (replicate k (Ticks 60000)) ++ to_each n (Ticks c.in-Some.rest)) ended
-    ∙ (ap (λ k. flat_map (to_each n) whole ++ to_each n (Ticks k)) rest
-    ∙ (sym (rest_more n whole (Ticks (c.args.ms % 60000))) ∙ ap (flat_map (to_each n)) (sym (waited_rest c.args.ms some)))))
+    (ap (λ k. flat_map (each_of n) (replicate k (Ticks 60000)) ++ each_of n (Ticks c.in-Some.rest)) ended
+    ∙ (ap (λ k. flat_map (each_of n) whole ++ each_of n (Ticks k)) rest
+    ∙ (sym (rest_more n whole (Ticks (c.args.ms % 60000))) ∙ ap (flat_map (each_of n)) (sym (waited_rest c.args.ms some)))))
     (gave_more c.args.self.now c.loop-part.self c.give_each-in-Some.new.self _ _ c.loop-part.invariant.gave gave))
     c.give_each-in-Some.ensures.ok
 

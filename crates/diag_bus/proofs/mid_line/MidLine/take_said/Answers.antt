@@ -2,7 +2,8 @@ use Rattle.std.proofs.Common.{◌∙◌, ◌++◌, Ok, Some, ap, length, subst, 
 use Rattle.std.specs.List.{flat_map}
 use Rattle.diag_can.specs.Log.{waited}
 use Rattle.diag_tp.specs.Moments.{counted_from}
-use Rattle.diag_bus.specs.Events.{frame_to, span_said, to_each}
+use Rattle.diag_world.specs.Server.{each_of}
+use Rattle.diag_bus.specs.Events.{frame_to, span_said}
 use Rattle.diag_world.proofs.Worlds.{on_ok}
 use Rattle.diag_bus.specs.Batch.{Gave, HasTime, SentIn, TookTime}
 use Rattle.diag_bus.specs.Requests.{given}
@@ -25,7 +26,7 @@ returns-in-Ticks-clause-ok c =
 pub returns-in-None-clause-ok : goal.returns-in-None-clause-ok
 returns-in-None-clause-ok c =
     let n = length c.args.setup.now.testers in
-    let timed = ap (λ ms. flat_map (to_each n) (waited ms)) c.silence.ensures in
+    let timed = ap (λ ms. flat_map (each_of n) (waited ms)) c.silence.ensures in
     subst (λ L. Gave c.args.self.now c.pass.new.self L)
     (timed ∙ said_quiet c.args.setup.now c.args.reference c.args.said.now c.in-Stamped.moment c.in-Stamped.frame c.in-Stamped.is c.in-None.is)
     c.in_ok-pass-in-Stamped.ensures.ok
@@ -38,7 +39,7 @@ returns-in-Some-clause-ok c =
     let setup = c.args.setup.now in
     let n = length setup.testers in
     let frame = c.in-Some.frame in
-    let timed = ap (λ ms. flat_map (to_each n) (waited ms)) c.silence.ensures in
+    let timed = ap (λ ms. flat_map (each_of n) (waited ms)) c.silence.ensures in
     let given' = ap (given n c.owner.result) c.copy.ensures ∙ sym ((c.owner.ensures setup c.requires.ids).gives frame.bytes) in
     on_ok _ _ c.give_frame.result (λ gave.
     subst (λ L. Gave c.args.self.now c.give_frame.new.self L)

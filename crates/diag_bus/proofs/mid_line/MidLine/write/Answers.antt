@@ -1,7 +1,7 @@
-use Rattle.std.proofs.Common.{◌≡◌, ◌≤◌, ◌+◌, ◌++◌, List, Some, Vec, Global, get_or, length, refl, ap, subst, sym, ◌∙◌, arith}
+use Rattle.std.proofs.Common.{◌≡◌, ◌≤◌, ◌++◌, List, Some, Vec, Global, get_or, length, refl, ap, subst, sym, ◌∙◌, arith}
 use Rattle.std.proofs.lemmas.List.{append-nil, length-map}
 use Rattle.std.proofs.lemmas.Option.{slice_get-map, slice_get_read}
-use Rattle.std.specs.List.{All, flat_map}
+use Rattle.std.specs.List.{All}
 use Rattle.std.specs.List.Sorted.{IsNonDecreasingBy}
 use Rattle.std.specs.Option.{option_map}
 use Rattle.std.specs.Prelude.{slice_get}
@@ -10,7 +10,7 @@ use Rattle.diag_world.specs.Server.{closing_time}
 use Rattle.diag_world.proofs.Worlds.{on_ok}
 use Rattle.diag_bus.specs.Batch.{added, lists_of}
 use Rattle.diag_bus.specs.Requests.{AreFilled}
-use Rattle.diag_bus.specs.Text.{drawn_for, line_of}
+use Rattle.diag_bus.specs.Text.{own_text}
 use Rattle.diag_bus.specs.declared.bus.Output.{Output}
 use Rattle.diag_bus.specs.declared.filled.Filled.{Filled}
 use Rattle.diag_bus.specs.declared.filled.Filled.TheVariants.{At}
@@ -46,14 +46,19 @@ up c =
     subst (IsNonDecreasingBy (λ (f : Sent). f.at)) (c.as_slice.ensures.value ∙ ap (λ (l : Vec Sent Global). l.items) same)
     (c.is_in_order.ensures c.if-is_in_order.true)
 
-pub write_own-requires-clause-sent : goal.write_own-requires-clause-sent
-write_own-requires-clause-sent c =
+pub write_own-requires : goal.write_own-requires
+write_own-requires c =
     let items = λ (f : Vec Sent Global). f.items in
     let list = c.index-in-At.result.now in
     let found : slice_get (lists_of c.args.self.now) c.in-At.place ≡ Some list.items =
     slice_get-map items c.args.self.now.drawn.items c.in-At.place ∙ ap (option_map items) (there c list c.index-in-At.ensures) in
-    subst (λ (fs : List Sent). All (λ (f : Sent). f.at ≤ closing_time) fs) (sym c.as_slice-frames.ensures.value)
-    (c.requires.sent c.in-At.place list.items found)
+    record {
+      names = c.requires.names;
+      tester = omega (arith, (filled c).0, length-map c.args.self.now.drawn.items items, c.requires.lists);
+      start = c.requires.start;
+      sent = subst (λ (fs : List Sent). All (λ (f : Sent). f.at ≤ closing_time) fs) (sym c.as_slice-frames.ensures.value)
+          (c.requires.sent c.in-At.place list.items found);
+    }
 
 pub returns-in-At-clause-ok : goal.returns-in-At-clause-ok
 returns-in-At-clause-ok c =
@@ -65,7 +70,7 @@ returns-in-At-clause-ok c =
     let place = c.in-At.place in
     on_ok _ _ c.write_own.result (λ wrote.
     subst (λ (o : Output). c.write_own.new.text.items ≡ text ++ added o self.text.items setup start (lists_of self)) (sym c.in-Replies.is)
-    (wrote ∙ ap (λ (fs : List Sent). text ++ flat_map (λ s. line_of setup start (drawn_for (place + 1) s)) fs) c.as_slice-frames.ensures.value
+    (wrote ∙ ap (λ (fs : List Sent). text ++ own_text setup start place fs) c.as_slice-frames.ensures.value
     ∙ ap (λ w. text ++ w) (own_written setup start place self.drawn.items list (there c.before.before list c.index-in-At.ensures)
     (up c.before.before) (filled c.before.before))))
     c.write_own.ensures.ok
