@@ -301,10 +301,9 @@ pub fn run_and_tell<T: Threads + Wait + Sync, R: Read + Drop, W: Write>(
     ensures reads { result ≡ Outcome.Done → (config' : R) × (files' : List R)
         × HasRead R.remaining job config config' files.items files'
         (λ said. Wrote job said (W.contents out.old) (W.contents out.new)) }
-    ensures fault { TellsOf
-        (IsFaultOf R.remaining job config files.items (W.contents out.old) (W.contents out.new))
-        result }
-    ensures stops { TellsOf (λ fault. (config' : R) × (files' : List R)
+    ensures fault { TellsOf (λ fault.
+        IsFaultOf R.remaining job config files.items (W.contents out.old) (W.contents out.new) fault
+        × (config' : R) × (files' : List R)
         × RunStops R.remaining job config config' files.items files'
         (W.contents out.old) (W.contents out.new) fault) result }
 {
