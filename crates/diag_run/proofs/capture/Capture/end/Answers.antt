@@ -4,7 +4,7 @@ use Rattle.std.proofs.lemmas.Bool.Decides.{nat_tests}
 use Rattle.std.proofs.lemmas.List.{nil_from_length}
 use Rattle.std.proofs.lemmas.Result.{IfErr-weaker, on_ok_weaker}
 use Rattle.diag_run.proofs.Pieces.{closes_begun, closes_ended, cut_begun, halts_begun, halts_ended}
-use Rattle.diag_run.proofs.capture.Capture.finish.Goals as goal
+use Rattle.diag_run.proofs.capture.Capture.end.Goals as goal
 
 pub returns-then-is_empty-clause-ok : goal.returns-then-is_empty-clause-ok
 returns-then-is_empty-clause-ok g c =
