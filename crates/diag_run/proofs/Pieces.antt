@@ -9,7 +9,7 @@ use Rattle.diag_can.specs.Bus.{HasNoFeed, begun_line, bus_line, bus_lines, ended
 use Rattle.diag_can.specs.declared.fault.LineFault.TheVariants.{BadLine}
 use Rattle.diag_can.proofs.BusLines.{begun_line-begun, begun_line-line, bus_lines-begin, bus_lines-begun, bus_lines-ended, bus_lines-first, bus_lines-more, ended_lines-begun, ended_lines-line, no_feed_in_begun}
 use Rattle.diag_setup.specs.declared.raw.RawSetup.{RawSetup}
-use Rattle.diag_bus.specs.Bus.{BusState, TookLines}
+use Rattle.diag_bus.specs.Bus.{BusState, TookLine, TookLines}
 use Rattle.diag_bus.specs.Events.{first_fault, line_fault}
 use Rattle.diag_bus.specs.Text.{written}
 use Rattle.diag_bus.specs.declared.bus.Output.{Output}
@@ -48,14 +48,9 @@ GoesOn-trans a b c x y s t first second = record {
       (second.stands (seen ++ x) (wrote ++ s) (first.stands seen wrote h)));
 }
 
--- what the bus makes of a line
-abbrev pub Gave : BusState → BusState → List ℕ → List ℕ → Type 0
-Gave old new line more = (lines : List (List ℕ)) → TookLines old lines
-    → TookLines new (lines ++ line ∷ []) × (written old.output old.setup (lines ++ line ∷ []) ≡ written old.output old.setup lines ++ more)
-
 module _ (old new : Capture) (setup : new.bus.setup ≡ old.bus.setup) (output : new.bus.output ≡ old.bus.output) where
   -- the line that was begun was ended, and the bus took it
-  pub line_goes_on : (bytes line more : List ℕ) → HasNoFeed bytes → line ≡ old.kept.items ++ bytes → Gave old.bus new.bus line more
+  pub line_goes_on : (bytes line more : List ℕ) → HasNoFeed bytes → line ≡ old.kept.items ++ bytes → TookLine old.bus new.bus line more
       → new.kept.items ≡ [] → new.lines ≡ old.lines + 1 → new.text.items ≡ old.text.items ++ more
       → GoesOn old new (bytes ++ 10 ∷ []) []
   line_goes_on bytes line more none is gave emptied count grown = record {
