@@ -102,8 +102,8 @@ impl Capture {
     /// Takes a piece of the capture. On Ok what the whole lines so far write was written and flushed.
     ///
     /// # Errors
-    /// `Line` with the first line at fault, behind what the lines before it write; `Memory`, and `Write`, behind a front of
-    /// what the lines so far write. Whatever follows the piece, that is the fault. Nothing is told of the capture then.
+    /// `Line` with the first line at fault, behind what the lines before it write; `Memory`, and `Write`, behind a front
+    /// of what the lines so far write. Whatever follows the piece, that is the fault. Nothing is told of the capture then.
     pub fn take_piece<W: Write>(&mut self, piece: &[u8], out: &mut W) -> Result<(), CaptureFault>
         requires { self.old.lines + length piece.now + 1 < 2 ^ 64 }
         ensures ok { OnOk result (Sends (W.contents out.old) (W.contents out.new)
