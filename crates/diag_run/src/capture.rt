@@ -8,7 +8,7 @@ ghost use Rattle.diag_bus.specs.Bus.{TookLines};
 ghost use Rattle.diag_text.specs.Bytes.{AppendsFront, Sends};
 ghost use Rattle.diag_world.specs.Server.{quiet_of};
 ghost use Rattle.diag_run.specs.Faults.{fault_at};
-ghost use Rattle.diag_run.specs.Capture.{IsBorneOut, IsFront, StopsOn, capture_text};
+ghost use Rattle.diag_run.specs.Capture.{IsBorneOut, IsFrontOf, StopsOn, capture_text};
 
 use crate::ending::add_end;
 use diag_bus::{Bus, BusFault};
@@ -325,7 +325,7 @@ fn write_out<W: Write>(text: &mut Vec<u8>, out: &mut W) -> Result<(), CaptureFau
 fn stop<W: Write>(fault: CaptureFault, text: &mut Vec<u8>, out: &mut W) -> CaptureFault
     ensures { Sends (W.contents out.old) (W.contents out.new) (λ sent.
         ((result ≡ fault) × (sent ≡ text.old.items))
-        ⊎ ((result ≡ CaptureFault.Write) × IsFront sent text.old.items)) }
+        ⊎ ((result ≡ CaptureFault.Write) × IsFrontOf sent text.old.items)) }
 {
     match write_out(text, out) {
         Ok(()) => fault,
