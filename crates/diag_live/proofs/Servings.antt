@@ -13,7 +13,7 @@ use Rattle.diag_bus.specs.declared.bus.Output.{Output}
 use Rattle.diag_bus.specs.declared.bus.Output.TheVariants.{Replies, Verdict}
 use Rattle.diag_bus.specs.declared.fault.BusFault.{BusFault}
 use Rattle.diag_bus.specs.declared.fault.BusFault.TheVariants as bus
-use Rattle.diag_run.specs.Capture.{IsFront}
+use Rattle.diag_run.specs.Capture.{IsFrontOf}
 use Rattle.diag_run.specs.Capture as captured
 use Rattle.diag_run.specs.Capturing.{HaltsIn, fault_of}
 use Rattle.diag_run.specs.Capturing as run
@@ -22,7 +22,7 @@ use Rattle.diag_run.specs.declared.capture.CaptureFault.{CaptureFault}
 use Rattle.diag_run.specs.declared.capture.CaptureFault.TheVariants as capture
 use Rattle.diag_text.specs.declared.fault.RunFault.{RunFault}
 use Rattle.diag_text.specs.declared.fault.RunFault.TheVariants as fault
-use Rattle.diag_run.proofs.Pieces.{IsFront-refl}
+use Rattle.diag_run.proofs.Pieces.{IsFrontOf-refl}
 use Rattle.diag_live.specs.Live.{AreGood, Heard, Taken, Ticked, capture_of, capture_line, lines_of, record_text, passed, with_feed}
 use Rattle.diag_live.specs.Hearing.{EndsBefore, Follows, Hears}
 use Rattle.diag_live.specs.Stops.{AreFront, IsBadLine, IsCutShort, IsFaulty, StopsOn}
@@ -131,7 +131,7 @@ module _ (old : Serving) (seen wrote noted : List ℕ) (s : Stands old seen wrot
       ∙ ap (written Replies old.capture.bus.setup) s.lines)))
 
   -- a front of the text was recorded, and nothing of it was taken
-  pub cut_before : (part : List ℕ) (given : List (List ℕ)) → IsFront part text → AreFront (ended_lines seen ++ lines) given
+  pub cut_before : (part : List ℕ) (given : List (List ℕ)) → IsFrontOf part text → AreFront (ended_lines seen ++ lines) given
       → IsCutShort old.capture.bus.setup given (wrote ++ []) (noted ++ part)
   cut_before part given front heard = record {
     taken = s.taken;
@@ -160,13 +160,13 @@ module _ (old : Serving) (seen wrote noted : List ℕ) (s : Stands old seen wrot
         heard = (heard.0, heard.1 ∙ ap (λ (l : List (List ℕ)). l ++ heard.0) (sym all_lines ∙ ap lines_of (sym parts)));
         good = subst AreGood (sym parts) all_good;
         well = ap first_fault front ∙ cut.well;
-        text = subst (λ (l : List (List ℕ)). IsFront (wrote ++ sent) (written Replies old.capture.bus.setup l)) (sym front) (elim cut.front [
+        text = subst (λ (l : List (List ℕ)). IsFrontOf (wrote ++ sent) (written Replies old.capture.bus.setup l)) (sym front) (elim cut.front [
           | inl x ↦ x
-          | inr x ↦ subst (IsFront (wrote ++ sent)) (append-nil (written Replies old.capture.bus.setup cut.taken)) x.1
+          | inr x ↦ subst (IsFrontOf (wrote ++ sent)) (append-nil (written Replies old.capture.bus.setup cut.taken)) x.1
         ]);
         more = record_text (capture_of (drop k all));
         recorded = all_noted ∙ (ap (λ (t : List Taken). record_text (capture_of t)) (sym parts) ∙ text_join (take k all) (drop k all));
-        front = IsFront-refl (record_text (capture_of (drop k all)));
+        front = IsFrontOf-refl (record_text (capture_of (drop k all)));
       }
 
   -- a line of the capture is at fault
@@ -250,7 +250,7 @@ lines_fewer (Ticked count ∷ taken) = omega (arith, lines_fewer taken)
 
 module _ (old : Serving) (piece text : List ℕ) (ticks : ℕ) (brings : (seen : List ℕ) → Follows old.hearing seen → Brings text ticks seen piece) where
   -- it was recorded in part, or not at all
-  pub unrecorded_halts : (came : RunFault) (part : List ℕ) → (came ≡ fault.Write) ⊎ (came ≡ fault.Memory) → IsFront part text → Halts old came piece [] part
+  pub unrecorded_halts : (came : RunFault) (part : List ℕ) → (came ≡ fault.Write) ⊎ (came ≡ fault.Memory) → IsFrontOf part text → Halts old came piece [] part
   unrecorded_halts came part kind front = λ seen wrote noted s rest.
       let b = brings seen s.follows in
       let cut = cut_before old seen wrote noted s text ticks b.lines b.fresh part (bus_lines ((seen ++ piece) ++ rest)) front (b.front rest) in

@@ -4,7 +4,7 @@ use Rattle.std.specs.Io.KnownBytes.{Appends, Consumes, IsAtEnd, Keeps}
 use Rattle.diag_can.specs.Bus.{begun_line, bus_lines, ended_lines}
 use Rattle.diag_setup.specs.declared.raw.RawSetup.{RawSetup}
 use Rattle.diag_bus.specs.declared.bus.Output.TheVariants.{Replies}
-use Rattle.diag_run.specs.Capture.{IsFront}
+use Rattle.diag_run.specs.Capture.{IsFrontOf}
 use Rattle.diag_text.specs.Bytes.{Sends, Takes}
 use Rattle.diag_run.specs.Capturing.{HaltsIn, fault_of}
 use Rattle.diag_run.specs.Capturing as run
@@ -60,7 +60,7 @@ pub record HaltsTaking (old : Capture) (text sent noted : List ℕ) (fault : Cap
 pub record HaltsRecording (text sent noted : List ℕ) (fault : CaptureFault) : Type 0 where
   pub of : (fault ≡ capture.Write) ⊎ (fault ≡ capture.Memory)
   pub none : sent ≡ []
-  pub front : IsFront noted text
+  pub front : IsFrontOf noted text
 
 -- a line of the capture by its number in the input, of which so many lines had been heard when so many stood in the
 -- capture before those that are heard now; with ticks it is the next line

@@ -10,7 +10,7 @@ use Rattle.diag_bus.specs.Text.{IsRun, run_of, sent_of, written}
 use Rattle.diag_bus.specs.declared.bus.Output.TheVariants.{Replies}
 use Rattle.diag_bus.specs.declared.fault.BusFault.{BusFault}
 use Rattle.diag_bus.specs.declared.fault.BusFault.TheVariants as bus
-use Rattle.diag_run.specs.Capture.{IsFront}
+use Rattle.diag_run.specs.Capture.{IsFrontOf}
 use Rattle.diag_run.specs.Files.{ConfigEnds, SaysSetup}
 use Rattle.diag_text.specs.declared.fault.RunFault.{RunFault}
 use Rattle.diag_text.specs.declared.fault.RunFault.TheVariants.{Files, Config, ConfigLong, Log, JournalLine, FileLong, Memory, JournalFull, RecordsDisagree, Read, Write, Differs, Capture, Otherwise}
@@ -75,10 +75,10 @@ pub record IsCutShort (setup : RawSetup) (lines : List (List ℕ)) (wrote noted 
   pub heard : AreFront (lines_of (taken ++ next)) lines
   pub good : AreGood (taken ++ next)
   pub well : first_fault (capture_of taken) ≡ None
-  pub text : IsFront wrote (written Replies setup (capture_of taken))
+  pub text : IsFrontOf wrote (written Replies setup (capture_of taken))
   pub more : List ℕ
   pub recorded : noted ≡ record_text (capture_of taken) ++ more
-  pub front : IsFront more (record_text (capture_of next))
+  pub front : IsFrontOf more (record_text (capture_of next))
 
 -- a fault of a line of the input
 abbrev pub IsFaulty : RawSetup → ℕ → BusFault → List (List ℕ) → List ℕ → List ℕ → Type 0

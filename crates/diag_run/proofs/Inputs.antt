@@ -10,7 +10,7 @@ use Rattle.diag_text.specs.declared.fault.RunFault.TheVariants.{Files, Config, C
 use Rattle.diag_run.specs.declared.file_run.Job.{Job}
 use Rattle.diag_run.specs.declared.file_run.Job.TheVariants.{Serial, Play, Replay}
 use Rattle.diag_run.specs.Files.{Refusal, wrong_count, Fails, ConfigFails, config_of, files_from}
-use Rattle.diag_run.specs.Run.{Inputs, inputs, HasRead, ReadingStops, RunStops, AnswersFault, wanted, limit, read_of, GivesRun}
+use Rattle.diag_run.specs.Run.{Inputs, inputs, ReadToEnd, ReadingStops, RunStops, AnswersFault, wanted, limit, read_of, GivesRun}
 
 -- a fault stays where what is read is only put into another shape
 module _ {A B : Type 0} (f : A → B) where
@@ -62,10 +62,10 @@ module _ (job : Job) (bytes : List ℕ) (known : List (List ℕ)) (setup : RawSe
 
 -- all was read, and says this
 module _ {R : Type 0} (remaining : R → Option (List ℕ)) (job : Job) (config config' : R) (files files' : List R) where
-  pub HasRead-map : (P Q : Result Inputs Refusal → Type 0) → ((said : Result Inputs Refusal) → P said → Q said)
-      → HasRead remaining job config config' files files' P
-      → HasRead remaining job config config' files files' Q
-  HasRead-map P Q more h = record { bytes = h.bytes; read = h.read; texts = h.texts; each = h.each; says = more (read_of job h.bytes h.texts) h.says }
+  pub ReadToEnd-map : (P Q : Result Inputs Refusal → Type 0) → ((said : Result Inputs Refusal) → P said → Q said)
+      → ReadToEnd remaining job config config' files files' P
+      → ReadToEnd remaining job config config' files files' Q
+  ReadToEnd-map P Q more h = record { bytes = h.bytes; read = h.read; texts = h.texts; each = h.each; says = more (read_of job h.bytes h.texts) h.says }
 
 -- nothing is written before the text is whole
 pub no_write : (job : Job) (said : Result Inputs Refusal) → GivesRun job said (Err Write) → ⊥
@@ -97,8 +97,8 @@ answers_fault job said old new Write h = absurd (no_write job said h)
 pub run_stops : {R : Type 0} (remaining : R → Option (List ℕ)) (job : Job) (config config' : R) (files files' : List R) (old new : Option (List ℕ))
     (fault : RunFault)
     → ReadingStops remaining job config config' files files' fault
-    ⊎ (((n : ℕ) → fault ≢ Read n) × HasRead remaining job config config' files files' (λ said. GivesRun job said (Err fault)))
+    ⊎ (((n : ℕ) → fault ≢ Read n) × ReadToEnd remaining job config config' files files' (λ said. GivesRun job said (Err fault)))
     → RunStops remaining job config config' files files' old new fault
 run_stops remaining job config config' files files' old new fault (inl reading) = inl reading
 run_stops remaining job config config' files files' old new fault (inr read) =
-    inr (read.0, HasRead-map remaining job config config' files files' _ _ (λ said. answers_fault job said old new fault) read.1)
+    inr (read.0, ReadToEnd-map remaining job config config' files files' _ _ (λ said. answers_fault job said old new fault) read.1)

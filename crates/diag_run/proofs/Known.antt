@@ -15,7 +15,7 @@ use Rattle.diag_text.specs.Taking.{LinesTaken}
 use Rattle.diag_text.specs.declared.taking.LineTaker.{LineTaker}
 use Rattle.diag_run.specs.declared.answer.Replaying.{Replaying}
 use Rattle.diag_run.specs.Files.{Refusal, AreKnown, AreTaken, EndsAt, Fails, FilesEnd, FilesRead, ReadEach, SaysSetup, config_of, file_long, files_from}
-use Rattle.diag_run.specs.Run.{Inputs, FilesGive, GivesRun, GivesText, IsReplayedTo, HasRead, NamesAFile, ReadsConfigFirst, TextStops, WhereKnown, answered, inputs, joined, limit, read_of, wanted}
+use Rattle.diag_run.specs.Run.{Inputs, FilesGive, GivesRun, GivesText, IsReplayedTo, ReadToEnd, NamesAFile, ReadsConfigFirst, TextStops, WhereKnown, answered, inputs, joined, limit, read_of, wanted}
 use Rattle.diag_run.proofs.Inputs.{read_fails, read_whole}
 use Rattle.diag_run.proofs.Order.{AllLater-files, AllLater-front}
 use Rattle.diag_run.proofs.Reading.{AreKnown-length, ends_within, head_known, too_long, whole_known, with_front}
@@ -244,7 +244,7 @@ pub record IsMade {R : Type 0} (remaining : R → Option (List ℕ)) (job : Job)
   pub answer : WhereKnown remaining job config files (λ said. GivesRun job said (answered made))
   pub device : NamesAFile (length files) made
   pub config_first : ReadsConfigFirst (remaining config') made
-  pub reads : IfOk made (λ parts. HasRead remaining job config config' files files' (λ said. GivesRun job said (Ok (joined parts))))
+  pub reads : IfOk made (λ parts. ReadToEnd remaining job config config' files files' (λ said. GivesRun job said (Ok (joined parts))))
   pub stops : IfErr made (TextStops remaining job config config' files files')
 
 module _ {R : Type 0} (remaining : R → Option (List ℕ)) (job : Job) (config config' : R) (files files' : List R) (setup : RawSetup)
@@ -260,8 +260,8 @@ module _ {R : Type 0} (remaining : R → Option (List ℕ)) (job : Job) (config 
         read_whole job bytes known setup (known_setup bytes is) (count ∙ AreKnown-length remaining files known are) read.texts
         (subst (λ texts. files_from (limit job) 1 texts ≡ Ok read.texts) (known_texts remaining files files' read.texts known read.each are) read.within)
 
-    has_read : (Q : Result Inputs Refusal → Type 0) → Q (Ok (inputs setup read.texts)) → HasRead remaining job config config' files files' Q
-    has_read Q holds = record {
+    read_to_end : (Q : Result Inputs Refusal → Type 0) → Q (Ok (inputs setup read.texts)) → ReadToEnd remaining job config config' files files' Q
+    read_to_end Q holds = record {
       bytes = says.bytes;
       read = says.read;
       texts = read.texts;
@@ -280,7 +280,7 @@ module _ {R : Type 0} (remaining : R → Option (List ℕ)) (job : Job) (config 
     answer = λ bytes known is are. subst (λ said. GivesRun job said (Ok (joined parts))) (sym (said_is _ read bytes known is are)) read.holds;
     device = λ n is. cc is;
     config_first = λ n is some. cc is;
-    reads = has_read _ read (λ said. GivesRun job said (Ok (joined parts))) read.holds;
+    reads = read_to_end _ read (λ said. GivesRun job said (Ok (joined parts))) read.holds;
     stops = tt;
   }
   files_made (Err fault) (inl ends) = record {
@@ -297,5 +297,5 @@ module _ {R : Type 0} (remaining : R → Option (List ℕ)) (job : Job) (config 
     device = λ n is. absurd (read.0 n (same_fault fault (Read n) is));
     config_first = λ n is some. says.read.1;
     reads = tt;
-    stops = inr (read.0, has_read _ read.1 (λ said. GivesRun job said (Err fault)) (inr read.1.holds));
+    stops = inr (read.0, read_to_end _ read.1 (λ said. GivesRun job said (Err fault)) (inr read.1.holds));
   }

@@ -9,7 +9,7 @@ use Rattle.diag_can.specs.Bus.{HasNoFeed, begun_line, bus_line, bus_lines, ended
 use Rattle.diag_can.specs.declared.fault.LineFault.TheVariants.{BadLine}
 use Rattle.diag_can.proofs.BusLines.{begun_line-begun, begun_line-line, bus_lines-begin, bus_lines-begun, bus_lines-ended, bus_lines-first, bus_lines-more, ended_lines-begun, ended_lines-line, no_feed_in_begun}
 use Rattle.diag_setup.specs.declared.raw.RawSetup.{RawSetup}
-use Rattle.diag_bus.specs.Bus.{BusState, TookLines}
+use Rattle.diag_bus.specs.Bus.{BusState, TookLine, TookLines}
 use Rattle.diag_bus.specs.Events.{first_fault, line_fault}
 use Rattle.diag_bus.specs.Text.{written}
 use Rattle.diag_bus.specs.declared.bus.Output.{Output}
@@ -18,7 +18,7 @@ use Rattle.diag_bus.specs.declared.fault.BusFault.TheVariants as bus
 use Rattle.diag_bus.proofs.Faults.{first_fault_at}
 use Rattle.diag_bus.proofs.Meaning.{meaning}
 use Rattle.std.specs.Io.KnownBytes.{Appends, IsAtEnd}
-use Rattle.diag_run.specs.Capture.{IsBorneOut, IsCutShort, IsFaultyLine, IsFront, StopsAt, StopsIn, StopsOn, capture_text, closing}
+use Rattle.diag_run.specs.Capture.{IsBorneOut, IsCutShort, IsFaultyLine, IsFrontOf, StopsAt, StopsIn, StopsOn, capture_text, closing}
 use Rattle.diag_run.specs.Ending.{IsEndFault}
 use Rattle.diag_run.specs.Faults.{fault_at}
 use Rattle.diag_run.specs.Capturing.{Closes, GoesOn, Halts, HaltsAtEnd, HaltsIn, Stands, StopsAfter, StopsWithin, fault_of}
@@ -48,14 +48,9 @@ GoesOn-trans a b c x y s t first second = record {
       (second.stands (seen ++ x) (wrote ++ s) (first.stands seen wrote h)));
 }
 
--- what the bus makes of a line
-abbrev pub Gave : BusState → BusState → List ℕ → List ℕ → Type 0
-Gave old new line more = (lines : List (List ℕ)) → TookLines old lines
-    → TookLines new (lines ++ line ∷ []) × (written old.output old.setup (lines ++ line ∷ []) ≡ written old.output old.setup lines ++ more)
-
 module _ (old new : Capture) (setup : new.bus.setup ≡ old.bus.setup) (output : new.bus.output ≡ old.bus.output) where
   -- the line that was begun was ended, and the bus took it
-  pub line_goes_on : (bytes line more : List ℕ) → HasNoFeed bytes → line ≡ old.kept.items ++ bytes → Gave old.bus new.bus line more
+  pub line_goes_on : (bytes line more : List ℕ) → HasNoFeed bytes → line ≡ old.kept.items ++ bytes → TookLine old.bus new.bus line more
       → new.kept.items ≡ [] → new.lines ≡ old.lines + 1 → new.text.items ≡ old.text.items ++ more
       → GoesOn old new (bytes ++ 10 ∷ []) []
   line_goes_on bytes line more none is gave emptied count grown = record {
@@ -126,30 +121,30 @@ begun_goes_on old new bytes sent none same kept count text = record {
 
 -- ---- where it ends by a fault
 
-IsFront-trans : (front mid text : List ℕ) → IsFront front mid → IsFront mid text → IsFront front text
-IsFront-trans front mid text a b = (a.0 ++ b.0, b.1 ∙ (ap (λ (m : List ℕ). m ++ b.0) a.1 ∙ append_assoc front a.0 b.0))
+IsFrontOf-trans : (front mid text : List ℕ) → IsFrontOf front mid → IsFrontOf mid text → IsFrontOf front text
+IsFrontOf-trans front mid text a b = (a.0 ++ b.0, b.1 ∙ (ap (λ (m : List ℕ). m ++ b.0) a.1 ∙ append_assoc front a.0 b.0))
 
-pub IsFront-more : (wrote front text : List ℕ) → IsFront front text → IsFront (wrote ++ front) (wrote ++ text)
-IsFront-more wrote front text a = (a.0, ap (λ (t : List ℕ). wrote ++ t) a.1 ∙ sym (append_assoc wrote front a.0))
+pub IsFrontOf-more : (wrote front text : List ℕ) → IsFrontOf front text → IsFrontOf (wrote ++ front) (wrote ++ text)
+IsFrontOf-more wrote front text a = (a.0, ap (λ (t : List ℕ). wrote ++ t) a.1 ∙ sym (append_assoc wrote front a.0))
 
-pub IsFront-refl : (text : List ℕ) → IsFront text text
-IsFront-refl text = ([], sym (append-nil text))
+pub IsFrontOf-refl : (text : List ℕ) → IsFrontOf text text
+IsFrontOf-refl text = ([], sym (append-nil text))
 
 module _ (output : Output) (setup : RawSetup) where
-  cut_front : (lines : List (List ℕ)) (front wrote : List ℕ) → IsFront front wrote → IsCutShort output setup lines wrote → IsCutShort output setup lines front
+  cut_front : (lines : List (List ℕ)) (front wrote : List ℕ) → IsFrontOf front wrote → IsCutShort output setup lines wrote → IsCutShort output setup lines front
   cut_front lines front wrote a cut = record {
     taken = cut.taken;
     others = cut.others;
     are = cut.are;
     well = cut.well;
     front = elim cut.front [
-      | inl f ↦ inl (IsFront-trans front wrote (written output setup cut.taken) a f)
-      | inr f ↦ inr (f.0, IsFront-trans front wrote (capture_text output setup cut.taken) a f.1)
+      | inl f ↦ inl (IsFrontOf-trans front wrote (written output setup cut.taken) a f)
+      | inr f ↦ inr (f.0, IsFrontOf-trans front wrote (capture_text output setup cut.taken) a f.1)
     ];
   }
 
   cut_at : (taken others lines : List (List ℕ)) (wrote : List ℕ) → lines ≡ taken ++ others → first_fault taken ≡ None
-      → IsFront wrote (written output setup taken)
+      → IsFrontOf wrote (written output setup taken)
       → IsCutShort output setup lines wrote
   cut_at taken others lines wrote are well front = record { taken = taken; others = others; are = are; well = well; front = inl front }
 
@@ -175,7 +170,7 @@ goes_on_with seen bytes rest = ap bus_lines (append_assoc seen bytes rest) ∙ b
 
 -- what is to be written is the text of the lines that were taken
 due_front : (capture : Capture) (seen wrote : List ℕ) → Stands capture seen wrote
-    → IsFront (wrote ++ capture.text.items) (written capture.bus.output capture.bus.setup (ended_lines seen))
+    → IsFrontOf (wrote ++ capture.text.items) (written capture.bus.output capture.bus.setup (ended_lines seen))
 due_front capture seen wrote s = ([], sym s.due ∙ sym (append-nil (wrote ++ capture.text.items)))
 
 module _ (capture : Capture) where
@@ -247,7 +242,7 @@ module _ (capture : Capture) where
 
 -- how a fault is answered: behind what was to be written, or as the fault of the writing
 abbrev pub Answered : CaptureFault → List ℕ → CaptureFault → List ℕ → Type 0
-Answered fault text result sent = ((result ≡ fault) × (sent ≡ text)) ⊎ ((result ≡ Write) × IsFront sent text)
+Answered fault text result sent = ((result ≡ fault) × (sent ≡ text)) ⊎ ((result ≡ Write) × IsFrontOf sent text)
 
 pub answered_halts : (capture : Capture) (fault result : CaptureFault) (bytes text sent : List ℕ) → HaltsIn capture fault bytes text
     → Answered fault text result sent
@@ -258,18 +253,18 @@ answered_halts capture fault result bytes text sent h (inr failed) = λ seen wro
     let halts = h seen wrote s in
     let cut : (rest : List ℕ) → IsCutShort capture.bus.output capture.bus.setup (bus_lines ((seen ++ bytes) ++ rest)) (wrote ++ sent) =
     λ rest. cut_front capture.bus.output capture.bus.setup (bus_lines ((seen ++ bytes) ++ rest)) (wrote ++ sent) (wrote ++ text)
-    (IsFront-more wrote sent text failed.1) (halts.cut rest) in
+    (IsFrontOf-more wrote sent text failed.1) (halts.cut rest) in
     subst (λ (f : CaptureFault). Halts capture.bus.output capture.bus.setup f (seen ++ bytes) (wrote ++ sent)) (sym failed.0)
     (record { stops = cut; cut = cut })
 
 -- the writing failed
-pub write_halts : (old mid : Capture) (bytes sent : List ℕ) → GoesOn old mid bytes [] → IsFront sent mid.text.items → HaltsIn old Write bytes sent
+pub write_halts : (old mid : Capture) (bytes sent : List ℕ) → GoesOn old mid bytes [] → IsFrontOf sent mid.text.items → HaltsIn old Write bytes sent
 write_halts old mid bytes sent on front = λ seen wrote s.
     let m = on.stands seen wrote s in
     let lines = ended_lines (seen ++ bytes) in
     let due : written old.bus.output old.bus.setup lines ≡ wrote ++ mid.text.items =
     same_run lines on.output on.setup ∙ (sym m.due ∙ ap (λ (w : List ℕ). w ++ mid.text.items) (append-nil wrote)) in
-    let more = IsFront-more wrote sent mid.text.items front in
+    let more = IsFrontOf-more wrote sent mid.text.items front in
     let cut : (rest : List ℕ) → IsCutShort old.bus.output old.bus.setup (bus_lines ((seen ++ bytes) ++ rest)) (wrote ++ sent) =
     λ rest. cut_at old.bus.output old.bus.setup lines (bus_lines (begun_line (seen ++ bytes) ++ rest)) (bus_lines ((seen ++ bytes) ++ rest)) (wrote ++ sent)
     (bus_lines-more (seen ++ bytes) rest) m.took.well (more.0, due ∙ more.1) in
@@ -287,7 +282,7 @@ later_halts old mid x y s t fault on h = λ seen wrote st.
     (subst (λ (b : List ℕ). Halts old.bus.output old.bus.setup fault b ((wrote ++ s) ++ t)) (append_assoc seen x y) here)
 
 -- the writing failed before these bytes were taken
-pub write_fails : (capture : Capture) (bytes sent : List ℕ) → IsFront sent capture.text.items → HaltsIn capture Write bytes sent
+pub write_fails : (capture : Capture) (bytes sent : List ℕ) → IsFrontOf sent capture.text.items → HaltsIn capture Write bytes sent
 write_fails capture bytes sent front = answered_halts capture Memory Write bytes capture.text.items sent (memory_halts capture bytes) (inr (refl, front))
 
 -- what holds of a result where it is well
@@ -378,9 +373,9 @@ module _ (capture : Capture) (more : List ℕ)
       ∙ (ap (λ (w : List ℕ). w ++ more) s.due ∙ ap (λ (c : List ℕ). written capture.bus.output capture.bus.setup (ended_lines seen) ++ c)
       (adds (ended_lines seen) s.took).1)
 
-  pub close_front : (text sent : List ℕ) → text ≡ capture.text.items ++ more → IsFront sent text → HaltsEnded capture Write sent
+  pub close_front : (text sent : List ℕ) → text ≡ capture.text.items ++ more → IsFrontOf sent text → HaltsEnded capture Write sent
   close_front text sent is front = λ seen wrote s.
-      let f = IsFront-more wrote sent text front in record {
+      let f = IsFrontOf-more wrote sent text front in record {
         taken = ended_lines seen;
         others = [];
         are = sym (append-nil (ended_lines seen));
@@ -390,16 +385,16 @@ module _ (capture : Capture) (more : List ℕ)
 
 -- the end could not be added
 module _ (capture : Capture) where
-  ended_cut : (seen wrote sent : List ℕ) → Stands capture seen wrote → IsFront sent capture.text.items
+  ended_cut : (seen wrote sent : List ℕ) → Stands capture seen wrote → IsFrontOf sent capture.text.items
       → IsCutShort capture.bus.output capture.bus.setup (ended_lines seen) (wrote ++ sent)
   ended_cut seen wrote sent s front =
-      let f = IsFront-more wrote sent capture.text.items front in
+      let f = IsFrontOf-more wrote sent capture.text.items front in
       cut_at capture.bus.output capture.bus.setup (ended_lines seen) [] (ended_lines seen) (wrote ++ sent)
       (sym (append-nil (ended_lines seen))) s.took.well (f.0, sym s.due ∙ f.1)
 
   -- what is answered where nothing fails in writing
   end_stops : (fault : CaptureFault) → IsEndFault capture.bus fault → HaltsEnded capture fault capture.text.items
-  end_stops Memory h = λ seen wrote s. ended_cut seen wrote capture.text.items s (IsFront-refl capture.text.items)
+  end_stops Memory h = λ seen wrote s. ended_cut seen wrote capture.text.items s (IsFrontOf-refl capture.text.items)
   end_stops (Otherwise told) h = λ seen wrote s.
       let lines = ended_lines seen in
       let law = meaning capture.bus.setup lines in
@@ -423,7 +418,7 @@ module _ (capture : Capture) where
       (subst (λ (t : List ℕ). HaltsEnded capture fault t) (sym (same.1 ∙ is)) (end_stops fault h))
   end_halts fault result text sent is h (inr failed) =
       subst (λ (f : CaptureFault). HaltsEnded capture f sent) (sym failed.0)
-      (λ seen wrote s. ended_cut seen wrote sent s (subst (IsFront sent) is failed.1))
+      (λ seen wrote s. ended_cut seen wrote sent s (subst (IsFrontOf sent) is failed.1))
 
 -- ---- a capture that is read further
 

@@ -5,8 +5,8 @@ use Rattle.std.specs.Io.KnownBytes.{Keeps}
 use Rattle.diag_text.specs.declared.fault.RunFault.{RunFault}
 use Rattle.diag_text.specs.declared.fault.RunFault.TheVariants.{Read, Write}
 use Rattle.diag_run.specs.declared.file_run.Job.{Job}
-use Rattle.diag_run.specs.Run.{HasRead, GivesRun, NamesAFile, RunStops, TextStops, WhereKnown, Writes, Wrote, WroteFront, answered, joined, read_of}
-use Rattle.diag_run.proofs.Inputs.{HasRead-map, no_write, run_stops}
+use Rattle.diag_run.specs.Run.{ReadToEnd, GivesRun, NamesAFile, RunStops, TextStops, WhereKnown, Writes, Wrote, WroteFront, answered, joined, read_of}
+use Rattle.diag_run.proofs.Inputs.{ReadToEnd-map, no_write, run_stops}
 
 -- the clauses of a run
 pub record Runs {R : Type 0} (remaining : R → Option (List ℕ)) (job : Job) (config : R) (files : List R) (old new : Option (List ℕ))
@@ -16,7 +16,7 @@ pub record Runs {R : Type 0} (remaining : R → Option (List ℕ)) (job : Job) (
   pub device : NamesAFile (length files) result
   pub nothing : IfErr result (λ e. e ≢ Write → Keeps old new)
   pub front : result ≡ Err Write → WhereKnown remaining job config files (λ said. WroteFront job said old new)
-  pub reads : OnOk result ((config' : R) × (files' : List R) × HasRead remaining job config config' files files' (λ said. Wrote job said old new))
+  pub reads : OnOk result ((config' : R) × (files' : List R) × ReadToEnd remaining job config config' files files' (λ said. Wrote job said old new))
   pub stops : IfErr result (λ e. (config' : R) × (files' : List R) × RunStops remaining job config config' files files' old new e)
 
 abbrev failed : RunFault → Result (Unit {0}) RunFault
@@ -42,7 +42,7 @@ module _ {R : Type 0} (remaining : R → Option (List ℕ)) (job : Job) (config 
   pub writes_run : (made : Result (Vec (Vec ℕ)) RunFault) (result : Result (Unit {0}) RunFault)
       → WhereKnown remaining job config files (λ said. GivesRun job said (answered made))
       → NamesAFile (length files) made
-      → IfOk made (λ parts. HasRead remaining job config config' files files' (λ said. GivesRun job said (Ok (joined parts))))
+      → IfOk made (λ parts. ReadToEnd remaining job config config' files files' (λ said. GivesRun job said (Ok (joined parts))))
       → IfErr made (TextStops remaining job config config' files files')
       → Writes (answered made) old new result
       → Runs remaining job config files old new result
@@ -55,7 +55,7 @@ module _ {R : Type 0} (remaining : R → Option (List ℕ)) (job : Job) (config 
     reads = (
       config',
       files',
-      HasRead-map remaining job config config' files files' _ _ (λ said gives. record { text = joined parts; gives = gives; appends = w }) reads,
+      ReadToEnd-map remaining job config config' files files' _ _ (λ said gives. record { text = joined parts; gives = gives; appends = w }) reads,
     );
     stops = tt;
   }
@@ -71,7 +71,7 @@ module _ {R : Type 0} (remaining : R → Option (List ℕ)) (job : Job) (config 
       files',
       rw w.0 (inr (
         λ n is. cc,
-        HasRead-map remaining job config config' files files' _ _ (λ said gives. record { text = joined parts; gives = gives; appends = w.1 }) reads,
+        ReadToEnd-map remaining job config config' files files' _ _ (λ said gives. record { text = joined parts; gives = gives; appends = w.1 }) reads,
       )),
     );
   }

@@ -52,8 +52,8 @@ pub record Followed (output : Output) (config config' capture capture' out out' 
 
 -- ---- where it ends by a fault
 
-abbrev pub IsFront : List ℕ → List ℕ → Type 0
-IsFront front text = (rest : List ℕ) × (text ≡ front ++ rest)
+abbrev pub IsFrontOf : List ℕ → List ℕ → Type 0
+IsFrontOf front text = (rest : List ℕ) × (text ≡ front ++ rest)
 
 -- the n-th of these lines is the first at fault, and what those before it write was written
 pub record IsFaultyLine (output : Output) (setup : RawSetup) (n : ℕ) (fault : BusFault)
@@ -69,8 +69,8 @@ pub record IsCutShort (output : Output) (setup : RawSetup) (lines : List (List �
   pub others : List (List ℕ)
   pub are : lines ≡ taken ++ others
   pub well : first_fault taken ≡ None
-  pub front : IsFront wrote (written output setup taken)
-      ⊎ ((others ≡ []) × IsFront wrote (capture_text output setup taken))
+  pub front : IsFrontOf wrote (written output setup taken)
+      ⊎ ((others ≡ []) × IsFrontOf wrote (capture_text output setup taken))
 
 -- A verdict is wanted, and no line is at fault. Of some tester the recording has not just the frames that the server
 -- sends: this is told of the first difference. Nothing was written.

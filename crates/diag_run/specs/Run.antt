@@ -69,7 +69,7 @@ read_of job config files = do
   Ok (inputs setup texts)
 
 -- the config and each file were read whole, and P holds of what the bytes say that were read
-pub record HasRead {R : Type 0} (remaining : R → Option (List ℕ)) (job : Job) (config config' : R)
+pub record ReadToEnd {R : Type 0} (remaining : R → Option (List ℕ)) (job : Job) (config config' : R)
     (files files' : List R) (P : Result Inputs Refusal → Type 0) : Type 0 where
   pub bytes : List ℕ
   pub read : ReadWhole (remaining config) (remaining config') bytes
@@ -240,7 +240,7 @@ abbrev pub TextStops : {R : Type 0} → (R → Option (List ℕ)) → Job → R 
 TextStops remaining job config config' files files' fault =
     ReadingStops remaining job config config' files files' fault
     ⊎ (((n : ℕ) → fault ≢ Read n)
-    × HasRead remaining job config config' files files' (λ said. GivesRun job said (Err fault)))
+    × ReadToEnd remaining job config config' files files' (λ said. GivesRun job said (Err fault)))
 
 -- the text that was made went out, or after a fault a front of it; where none was made, nothing
 abbrev pub Writes : Result (List ℕ) RunFault → Option (List ℕ) → Option (List ℕ)
@@ -265,7 +265,7 @@ abbrev pub RunStops : {R : Type 0} → (R → Option (List ℕ)) → Job → R �
 RunStops remaining job config config' files files' old new fault =
     ReadingStops remaining job config config' files files' fault
     ⊎ (((n : ℕ) → fault ≢ Read n)
-    × HasRead remaining job config config' files files' (λ said. AnswersFault job said old new fault))
+    × ReadToEnd remaining job config config' files files' (λ said. AnswersFault job said old new fault))
 
 -- the fault is answered by a run of these readers, and before another than that of the writing nothing is written
 pub record IsFaultOf {R : Type 0} (remaining : R → Option (List ℕ)) (job : Job) (config : R)

@@ -8,7 +8,7 @@ ghost use Rattle.diag_bus.specs.Bus.{TookLines};
 ghost use Rattle.diag_text.specs.Bytes.{AppendsFront, Sends};
 ghost use Rattle.diag_world.specs.Server.{quiet_of};
 ghost use Rattle.diag_run.specs.Faults.{fault_at};
-ghost use Rattle.diag_run.specs.Capture.{IsBorneOut, IsFront, StopsOn, capture_text};
+ghost use Rattle.diag_run.specs.Capture.{IsBorneOut, IsFrontOf, StopsOn, capture_text};
 
 use crate::ending::add_end;
 use diag_bus::{Bus, BusFault};
@@ -65,6 +65,9 @@ impl Capture {
     ghost use Rattle.diag_run.specs.Capturing.{Closes, GoesOn, HaltsAtEnd, HaltsIn, Stands, fault_of};
 
     /// A capture of which nothing was read. What stands before its first line is still to be written.
+    ///
+    /// # Errors
+    /// Memory was refused; the bus is let go.
     pub fn begin(alloc: Global, bus: Bus) -> Result<Capture, AllocError>
         requires { TookLines bus [] }
         ensures stands { IfOk result (λ capture. Stands capture [] []) }
@@ -96,7 +99,11 @@ impl Capture {
         self.bus.quiet()
     }
 
-    /// Takes a piece of the capture. Before it returns, what the whole lines so far write was written and flushed.
+    /// Takes a piece of the capture. On Ok what the whole lines so far write was written and flushed.
+    ///
+    /// # Errors
+    /// `Line` with the first line at fault, behind what the lines before it write; `Memory`, and `Write`, behind a front
+    /// of what the lines so far write. Whatever follows the piece, that is the fault. Nothing is told of the capture then.
     pub fn take_piece<W: Write>(&mut self, piece: &[u8], out: &mut W) -> Result<(), CaptureFault>
         requires { self.old.lines + length piece.now + 1 < 2 ^ 64 }
         ensures ok { OnOk result (Sends (W.contents out.old) (W.contents out.new)
@@ -226,7 +233,21 @@ impl Capture {
     }
 
     /// Takes a line that is begun as the last, and writes what is to be written and what the capture's end adds.
-    pub fn finish<W: Write>(&mut self, alloc: Global, out: &mut W) -> Result<(), CaptureFault>
+    ///
+    /// # Errors
+    /// Those of `take_piece`, `Line` with the line that is begun; and `Otherwise` with what is told of the first
+    /// difference, where a verdict is wanted, with nothing written.
+    pub fn finish<W: Write>(mut self, alloc: Global, out: &mut W) -> Result<(), CaptureFault>
+        requires { self.lines + 1 < 2 ^ 64 }
+        ensures ok { OnOk result (Sends (W.contents out.old) (W.contents out.new) (Closes self)) }
+        ensures err { IfErr result (λ fault. Sends (W.contents out.old) (W.contents out.new)
+            (HaltsAtEnd self fault)) }
+    {
+        self.end(alloc, out)
+    }
+
+    /// As `finish`.
+    fn end<W: Write>(&mut self, alloc: Global, out: &mut W) -> Result<(), CaptureFault>
         requires { self.old.lines + 1 < 2 ^ 64 }
         ensures ok { OnOk result (Sends (W.contents out.old) (W.contents out.new) (Closes self.old)) }
         ensures err { IfErr result (λ fault. Sends (W.contents out.old) (W.contents out.new)
@@ -304,7 +325,7 @@ fn write_out<W: Write>(text: &mut Vec<u8>, out: &mut W) -> Result<(), CaptureFau
 fn stop<W: Write>(fault: CaptureFault, text: &mut Vec<u8>, out: &mut W) -> CaptureFault
     ensures { Sends (W.contents out.old) (W.contents out.new) (λ sent.
         ((result ≡ fault) × (sent ≡ text.old.items))
-        ⊎ ((result ≡ CaptureFault.Write) × IsFront sent text.old.items)) }
+        ⊎ ((result ≡ CaptureFault.Write) × IsFrontOf sent text.old.items)) }
 {
     match write_out(text, out) {
         Ok(()) => fault,

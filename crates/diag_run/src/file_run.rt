@@ -3,7 +3,7 @@
 ghost use Rattle.std.specs.Prelude.{◌≡◌, ◌≢◌, ℕ, List, length, IfOk, IfErr, OnOk, Some, Ok, Err};
 ghost use Rattle.std.specs.Io.KnownBytes.{Keeps};
 ghost use Rattle.diag_run.specs.Files.{AreKnown, Fails, SaysSetup};
-ghost use Rattle.diag_run.specs.Run.{NamesAFile, ReadsConfigFirst, TextStops, WhereKnown, Writes, joined, job_of, wanted, read_of, FilesGive, HasRead, ReadingStops, RunStops, GivesRun, Wrote, WroteFront, IsFaultOf, TellsOf, answered};
+ghost use Rattle.diag_run.specs.Run.{NamesAFile, ReadsConfigFirst, TextStops, WhereKnown, Writes, joined, job_of, wanted, read_of, FilesGive, ReadToEnd, ReadingStops, RunStops, GivesRun, Wrote, WroteFront, IsFaultOf, TellsOf, answered};
 
 use crate::answer::{played_text, read_texts, replayed_text, woven_text};
 use crate::files::read_config;
@@ -160,7 +160,7 @@ fn whole_alone<R: Read>(
     ensures device { NamesAFile (length files.old) result }
     ensures config { ReadsConfigFirst (R.remaining config.new) result }
     ensures reads { IfOk result (λ parts.
-        HasRead R.remaining (job_of job) config.old config.new files.old files.new
+        ReadToEnd R.remaining (job_of job) config.old config.new files.old files.new
         (λ said. GivesRun (job_of job) said (Ok (joined parts)))) }
     ensures stops { IfErr result
         (TextStops R.remaining (job_of job) config.old config.new files.old files.new) }
@@ -188,7 +188,7 @@ pub fn run_text<T: Threads + Wait + Sync, R: Read>(
     ensures device { NamesAFile (length files.old) result }
     ensures config { ReadsConfigFirst (R.remaining config.new) result }
     ensures reads { IfOk result (λ parts.
-        HasRead R.remaining job config.old config.new files.old files.new
+        ReadToEnd R.remaining job config.old config.new files.old files.new
         (λ said. GivesRun job said (Ok (joined parts)))) }
     ensures stops { IfErr result
         (TextStops R.remaining job config.old config.new files.old files.new) }
@@ -233,7 +233,7 @@ pub fn run_alone<R: Read + Drop, W: Write>(
         → WhereKnown R.remaining (job_of job) config files.items
         (λ said. WroteFront (job_of job) said (W.contents out.old) (W.contents out.new)) }
     ensures reads { OnOk result ((config' : R) × (files' : List R)
-        × HasRead R.remaining (job_of job) config config' files.items files'
+        × ReadToEnd R.remaining (job_of job) config config' files.items files'
         (λ said. Wrote (job_of job) said (W.contents out.old) (W.contents out.new))) }
     ensures stops { IfErr result (λ e. (config' : R) × (files' : List R)
         × RunStops R.remaining (job_of job) config config' files.items files'
@@ -268,7 +268,7 @@ pub fn run<T: Threads + Wait + Sync, R: Read + Drop, W: Write>(
         → WhereKnown R.remaining job config files.items
         (λ said. WroteFront job said (W.contents out.old) (W.contents out.new)) }
     ensures reads { OnOk result ((config' : R) × (files' : List R)
-        × HasRead R.remaining job config config' files.items files'
+        × ReadToEnd R.remaining job config config' files.items files'
         (λ said. Wrote job said (W.contents out.old) (W.contents out.new))) }
     ensures stops { IfErr result (λ e. (config' : R) × (files' : List R)
         × RunStops R.remaining job config config' files.items files'
@@ -299,12 +299,11 @@ pub fn run_and_tell<T: Threads + Wait + Sync, R: Read + Drop, W: Write>(
     ensures done { result ≡ Outcome.Done → WhereKnown R.remaining job config files.items
         (λ said. Wrote job said (W.contents out.old) (W.contents out.new)) }
     ensures reads { result ≡ Outcome.Done → (config' : R) × (files' : List R)
-        × HasRead R.remaining job config config' files.items files'
+        × ReadToEnd R.remaining job config config' files.items files'
         (λ said. Wrote job said (W.contents out.old) (W.contents out.new)) }
-    ensures fault { TellsOf
-        (IsFaultOf R.remaining job config files.items (W.contents out.old) (W.contents out.new))
-        result }
-    ensures stops { TellsOf (λ fault. (config' : R) × (files' : List R)
+    ensures fault { TellsOf (λ fault.
+        IsFaultOf R.remaining job config files.items (W.contents out.old) (W.contents out.new) fault
+        × (config' : R) × (files' : List R)
         × RunStops R.remaining job config config' files.items files'
         (W.contents out.old) (W.contents out.new) fault) result }
 {

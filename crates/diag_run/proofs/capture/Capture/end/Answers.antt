@@ -1,37 +1,36 @@
-use Rattle.std.proofs.Common.{◌≡◌, ◌<◌, ◌++◌, [], length, arith}
+use Rattle.std.proofs.Common.{◌≡◌, ◌<◌, ◌++◌, ℕ, Bool, true, false, Vec, Global, vec_len, [], length, arith}
+use Rattle.std.specs.Prelude.{◌==◌}
 use Rattle.std.proofs.KnownBytes.{Appends-trans}
 use Rattle.std.proofs.lemmas.Bool.Decides.{nat_tests}
 use Rattle.std.proofs.lemmas.List.{nil_from_length}
 use Rattle.std.proofs.lemmas.Result.{IfErr-weaker, on_ok_weaker}
 use Rattle.diag_run.proofs.Pieces.{closes_begun, closes_ended, cut_begun, halts_begun, halts_ended}
-use Rattle.diag_run.proofs.capture.Capture.finish.Goals as goal
+use Rattle.diag_run.proofs.capture.Capture.end.Goals as goal
+
+none_kept : {empty : Bool} (kept : Vec ℕ Global) → empty ≡ (vec_len kept == 0) → empty ≡ true → kept.items ≡ []
+none_kept kept is tested = nil_from_length kept.items (grind (arith, nat_tests))
+
+some_kept : {empty : Bool} (kept : Vec ℕ Global) → empty ≡ (vec_len kept == 0) → empty ≡ false → 0 < length kept.items
+some_kept kept is tested = grind (arith, nat_tests)
 
 pub returns-then-is_empty-clause-ok : goal.returns-then-is_empty-clause-ok
 returns-then-is_empty-clause-ok g c =
-    let empty = c.is_empty.ensures in
-    let tested = c.if-is_empty.true in
-    let none : c.args.self.now.kept.items ≡ [] = nil_from_length c.args.self.now.kept.items (grind (arith, nat_tests)) in
+    let none = none_kept c.args.self.now.kept c.is_empty.ensures c.if-is_empty.true in
     on_ok_weaker c.close.result (λ s. (s.0, s.1, closes_ended c.args.self.now none s.0 s.2)) c.close.ensures.ok
 
 pub returns-then-is_empty-clause-err : goal.returns-then-is_empty-clause-err
 returns-then-is_empty-clause-err g c =
-    let empty = c.is_empty.ensures in
-    let tested = c.if-is_empty.true in
-    let none : c.args.self.now.kept.items ≡ [] = nil_from_length c.args.self.now.kept.items (grind (arith, nat_tests)) in
+    let none = none_kept c.args.self.now.kept c.is_empty.ensures c.if-is_empty.true in
     IfErr-weaker c.close.result _ _ (λ fault h. (h.0, h.1, halts_ended c.args.self.now none fault h.0 h.2)) c.close.ensures.err
 
 pub returns-in-Err-clause-err : goal.returns-in-Err-clause-err
 returns-in-Err-clause-err g c =
-    let empty = c.is_empty.ensures in
-    let tested = c.if-is_empty.false in
-    let begun : 0 < length c.args.self.now.kept.items = grind (arith, nat_tests) in
+    let begun = some_kept c.args.self.now.kept c.is_empty.ensures c.if-is_empty.false in
     let halts = c.in-Err.ensures.err in (halts.0, halts.1, halts_begun c.args.self.now begun c.in-Err.fault halts.0 halts.2)
 
 pub returns-clause-ok : goal.returns-clause-ok
 returns-clause-ok g c =
-    let empty = c.is_empty.ensures in
-    let tested = c.if-is_empty.false in
-    let begun : 0 < length c.args.self.now.kept.items = grind (arith, nat_tests) in
+    let begun = some_kept c.args.self.now.kept c.is_empty.ensures c.if-is_empty.false in
     let on = c.in_default.ensures.ok in
     let mid = c.take_line.new.self in
     on_ok_weaker c.close-2.result
@@ -44,9 +43,7 @@ returns-clause-ok g c =
 
 pub returns-clause-err : goal.returns-clause-err
 returns-clause-err g c =
-    let empty = c.is_empty.ensures in
-    let tested = c.if-is_empty.false in
-    let begun : 0 < length c.args.self.now.kept.items = grind (arith, nat_tests) in
+    let begun = some_kept c.args.self.now.kept c.is_empty.ensures c.if-is_empty.false in
     let on = c.in_default.ensures.ok in
     let mid = c.take_line.new.self in
     IfErr-weaker c.close-2.result _ _
