@@ -1,8 +1,8 @@
 #!/usr/bin/env python3
 """Runs the built program with devices that fail (tools/fail.c, preloaded). Files come byte by byte and each write takes one:
 each read of each file fails in turn, and each write, or it takes no byte. What was written, the line on standard error,
-the status and the number of calls are compared. Then comes a config past its limit, and logs of which the testers of
-`play` have to mix. The last line is 'N passed, M failed'."""
+the status and the number of calls are compared. Then come a config past its limit, a clock that can't be read when `live`
+starts, and logs of which the testers of `play` have to mix. The last line is 'N passed, M failed'."""
 import concurrent.futures
 import os
 import subprocess
@@ -135,6 +135,14 @@ def long_config(room, preload):
         told(found == (2, b"", "uds_play: config: too long\n", MOST_OF_A_CONFIG + 1), f"a config of {more} bytes past its limit", found)
 
 
+def no_clock(room, preload):
+    """Where no clock can be read when `live` starts, nothing is served, and that is told as an input that can't be read."""
+    folder = put(f"{room}/clock", SETUP)
+    found = ran(folder, ["live", "--record", "record", "setup"], preload, FAIL_CLOCK="1")
+    good = found[:3] == (7, b"", "uds_play: cannot read file 1\n") and os.path.getsize(f"{folder}/record") == 0
+    told(good, "a clock that can't be read", found)
+
+
 def play_mixes(room):
     """In one of a hundred plays of 20,000 ticks each the testers mix: neither turn by turn, nor one wholly before the other."""
     folder = put(f"{room}/mixed", {**SETUP, "log": b"tick\n" * 20_000})
@@ -174,6 +182,7 @@ def main():
             reads_fail(pool, folder, case, preload, [it for it in case.files if it != "setup"], written)
             writes_fail(pool, folder, case, preload)
         long_config(room, preload)
+        no_clock(room, preload)
         play_mixes(room)
     print(f"{counts[True]} passed, {counts[False]} failed")
     return 1 if counts[False] else 0

@@ -1,8 +1,9 @@
-/* Preloaded into a built program: reads and writes of few bytes each, of which one fails.
+/* Preloaded into a built program: reads and writes of few bytes each, of which one fails, and a clock that can't be read.
    FAIL_ROOM is the folder whose files are meant, beside standard input, which is named `-`; FAIL_MOST the most bytes of a
    read of these and of a write to standard output. The read FAIL_AT, from 1, of the file FAIL_FILE fails, or with no
    FAIL_FILE the write FAIL_AT to standard output, which takes no byte where FAIL_NONE is set. How often it was called,
-   that file or standard output, stands in the file FAIL_COUNT, 8 bytes as the machine has them. */
+   that file or standard output, stands in the file FAIL_COUNT, 8 bytes as the machine has them. Where FAIL_CLOCK is set no
+   clock can be read. */
 #define _GNU_SOURCE
 #include <dlfcn.h>
 #include <errno.h>
@@ -12,6 +13,7 @@
 #include <stdlib.h>
 #include <string.h>
 #include <sys/mman.h>
+#include <time.h>
 #include <unistd.h>
 
 static _Atomic long none;
@@ -19,18 +21,21 @@ static _Atomic long *called = &none;
 static const char *room, *file;
 static long fail_at;
 static size_t most;
-static int takes_none;
+static int takes_none, no_clock;
 static ssize_t (*real_read)(int, void *, size_t);
 static ssize_t (*real_write)(int, const void *, size_t);
+static int (*real_clock_gettime)(clockid_t, struct timespec *);
 
 __attribute__((constructor)) static void begin(void) {
     real_read = (ssize_t (*)(int, void *, size_t))dlsym(RTLD_NEXT, "read");
     real_write = (ssize_t (*)(int, const void *, size_t))dlsym(RTLD_NEXT, "write");
+    real_clock_gettime = (int (*)(clockid_t, struct timespec *))dlsym(RTLD_NEXT, "clock_gettime");
     room = getenv("FAIL_ROOM");
     file = getenv("FAIL_FILE");
     most = getenv("FAIL_MOST") ? strtoul(getenv("FAIL_MOST"), NULL, 10) : 0;
     fail_at = getenv("FAIL_AT") ? atol(getenv("FAIL_AT")) : 0;
     takes_none = getenv("FAIL_NONE") != NULL;
+    no_clock = getenv("FAIL_CLOCK") != NULL;
     int count = open(getenv("FAIL_COUNT"), O_RDWR | O_CREAT | O_TRUNC, 0644);
     if (count < 0 || ftruncate(count, sizeof(long)) != 0) return;
     void *shared = mmap(NULL, sizeof(long), PROT_READ | PROT_WRITE, MAP_SHARED, count, 0);
@@ -74,4 +79,10 @@ ssize_t write(int fd, const void *bytes, size_t size) {
         return -1;
     }
     return real_write(fd, bytes, few(size));
+}
+
+int clock_gettime(clockid_t clock, struct timespec *time) {
+    if (!no_clock) return real_clock_gettime(clock, time);
+    errno = EINVAL;
+    return -1;
 }

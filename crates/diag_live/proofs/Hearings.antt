@@ -9,7 +9,7 @@ use Rattle.diag_can.specs.declared.fault.LineFault.TheVariants.{BadLine}
 use Rattle.diag_can.proofs.BusLines.{begun_line-begun, begun_line-line, bus_lines-begin, bus_lines-first, bus_lines-more, ended_lines-begun, ended_lines-line, no_feed_in_begun}
 use Rattle.diag_world.specs.Port.{Grew}
 use Rattle.diag_live.specs.Live.{AreGood, Heard, Taken, capture_of, record_text, restamped, with_feed}
-use Rattle.diag_live.specs.Hearing.{EndsBefore, Follows, Hears, IsNextBad, IsTooLong, Refuses}
+use Rattle.diag_live.specs.Hearing.{EndsBefore, HasHeard, HeardLines, IsNextBad, IsLineTooLong, Refuses}
 use Rattle.diag_live.specs.declared.hearing.HearFault.{HearFault}
 use Rattle.diag_live.specs.declared.hearing.HearFault.TheVariants.{Line, Memory}
 use Rattle.diag_live.specs.declared.hearing.Hearing.{Hearing}
@@ -26,8 +26,8 @@ heard_good a b x y = subst AreGood (sym (map-append Heard a b)) (good_join (map 
 
 -- ---- lines go on
 
-pub Hears-trans : (a b c : Hearing) (x y m n : List ℕ) → Hears a b x m → Hears b c y n → Hears a c (x ++ y) (m ++ n)
-Hears-trans a b c x y m n first second seen f =
+pub HeardLines-trans : (a b c : Hearing) (x y m n : List ℕ) → HeardLines a b x m → HeardLines b c y n → HeardLines a c (x ++ y) (m ++ n)
+HeardLines-trans a b c x y m n first second seen f =
     let one = first seen f in
     let two = second (seen ++ x) one.follows in
     let same : (seen ++ x) ++ y ≡ seen ++ (x ++ y) = append_assoc seen x y in
@@ -40,12 +40,12 @@ Hears-trans a b c x y m n first second seen f =
       text =
           ap (λ (t : List ℕ). t ++ n) one.text
           ∙ (ap (λ (t : List ℕ). record_text (capture_of (map Heard one.lines)) ++ t) two.text ∙ sym (heard_text one.lines two.lines));
-      follows = subst (Follows c) same two.follows;
+      follows = subst (HasHeard c) same two.follows;
     }
 
 -- bytes of a line that is begun were kept
 pub begun_hears : (old new : Hearing) (bytes : List ℕ) → HasNoFeed bytes → new.kept.items ≡ old.kept.items ++ bytes → new.lines ≡ old.lines
-    → Hears old new bytes []
+    → HeardLines old new bytes []
 begun_hears old new bytes none kept count seen f =
     let ended = ended_lines-begun seen bytes none in
     record {
@@ -63,12 +63,12 @@ grown_plain : (seen bytes : List ℕ) → HasNoFeed bytes → HasNoFeed (begun_l
 grown_plain seen bytes none = subst HasNoFeed (begun_line-begun seen bytes none) (no_feed_in_begun (seen ++ bytes))
 
 module _ (old : Hearing) (bytes line : List ℕ) (none : HasNoFeed bytes) (is : line ≡ old.kept.items ++ bytes) where
-  whole_line : (seen : List ℕ) → Follows old seen → line ≡ begun_line seen ++ bytes
+  whole_line : (seen : List ℕ) → HasHeard old seen → line ≡ begun_line seen ++ bytes
   whole_line seen f = is ∙ ap (λ (k : List ℕ). k ++ bytes) f.kept
 
   -- a line that says something was ended
   pub line_hears : (new : Hearing) (said : BusLine) → bus_line line ≡ Ok said → new.kept.items ≡ [] → new.lines ≡ old.lines + 1
-      → Hears old new (bytes ++ 10 ∷ []) (with_feed (restamped line))
+      → HeardLines old new (bytes ++ 10 ∷ []) (with_feed (restamped line))
   line_hears new said says emptied count seen f =
       let same = whole_line seen f in
       let ended : ended_lines (seen ++ (bytes ++ 10 ∷ [])) ≡ ended_lines seen ++ line ∷ [] =
@@ -85,7 +85,7 @@ module _ (old : Hearing) (bytes line : List ℕ) (none : HasNoFeed bytes) (is : 
       }
 
   -- a line at fault was ended
-  pub line_refused : (n : ℕ) (fault : LineFault) (seen : List ℕ) → n ≡ old.lines + 1 → bus_line line ≡ Err fault → Follows old seen
+  pub line_refused : (n : ℕ) (fault : LineFault) (seen : List ℕ) → n ≡ old.lines + 1 → bus_line line ≡ Err fault → HasHeard old seen
       → EndsBefore n fault seen (bytes ++ 10 ∷ []) []
   line_refused n fault seen number says f =
       let same = whole_line seen f in
@@ -116,7 +116,7 @@ long_is_bad line long = let test : nat_lt 4096 (length line) ≡ true = grind (a
 
 -- the line that was begun is too long, whatever follows
 long_refused : (old : Hearing) (bytes tail : List ℕ) (n : ℕ) (seen : List ℕ) → HasNoFeed bytes → 4096 < length old.kept.items + length bytes
-    → n ≡ old.lines + 1 → Follows old seen
+    → n ≡ old.lines + 1 → HasHeard old seen
     → EndsBefore n BadLine seen (bytes ++ tail) []
 long_refused old bytes tail n seen none long number f =
     let line = begun_line seen ++ bytes in
@@ -146,7 +146,7 @@ long_refused old bytes tail n seen none long number f =
 grew_none : (text : List ℕ) (P : List ℕ → Type 0) → P [] → Grew text text P
 grew_none text P p = record { more = []; grown = sym (append-nil text); holds = p }
 
-pub keep_refuses : (old : Hearing) (bytes tail text : List ℕ) (fault : HearFault) → HasNoFeed bytes → IsTooLong old bytes fault
+pub keep_refuses : (old : Hearing) (bytes tail text : List ℕ) (fault : HearFault) → HasNoFeed bytes → IsLineTooLong old bytes fault
     → Refuses old (bytes ++ tail) text text fault
 keep_refuses old bytes tail text Memory none long = tt
 keep_refuses old bytes tail text (Line n fault) none long =
@@ -178,7 +178,7 @@ refuses_more old bytes tail text text' (Line n fault) r =
     record { more = r.more; grown = r.grown; holds = λ seen f. before_more n fault seen bytes tail r.more (r.holds seen f) }
 
 -- behind a text there is more, and then the fault
-pub later_refuses : (old mid : Hearing) (x y text text' text'' : List ℕ) (fault : HearFault) → Grew text text' (Hears old mid x)
+pub later_refuses : (old mid : Hearing) (x y text text' text'' : List ℕ) (fault : HearFault) → Grew text text' (HeardLines old mid x)
     → Refuses mid y text' text'' fault
     → Refuses old (x ++ y) text text'' fault
 later_refuses old mid x y text text' text'' Memory on r = tt
@@ -202,22 +202,22 @@ later_refuses old mid x y text text' text'' (Line n fault) on r = record {
       };
 }
 
-pub Grew-hears : (a b c : Hearing) (x y text text' text'' : List ℕ) → Grew text text' (Hears a b x) → Grew text' text'' (Hears b c y)
-    → Grew text text'' (Hears a c (x ++ y))
+pub Grew-hears : (a b c : Hearing) (x y text text' text'' : List ℕ) → Grew text text' (HeardLines a b x) → Grew text' text'' (HeardLines b c y)
+    → Grew text text'' (HeardLines a c (x ++ y))
 Grew-hears a b c x y text text' text'' one two = record {
   more = one.more ++ two.more;
   grown = two.grown ∙ (ap (λ (t : List ℕ). t ++ two.more) one.grown ∙ append_assoc text one.more two.more);
-  holds = Hears-trans a b c x y one.more two.more one.holds two.holds;
+  holds = HeardLines-trans a b c x y one.more two.more one.holds two.holds;
 }
 
 -- the lines in front of the rest of a piece were heard
 pub record HeardSoFar (old new : Hearing) (text text' piece rest : List ℕ) : Type 0 where
   pub gone : List ℕ
   pub is : piece ≡ gone ++ rest
-  pub on : Grew text text' (Hears old new gone)
+  pub on : Grew text text' (HeardLines old new gone)
 
 module _ (old mid : Hearing) (text text' piece rest : List ℕ) (so_far : HeardSoFar old mid text text' piece rest) where
-  pub line_more : (new : Hearing) (text'' line after : List ℕ) → rest ≡ line ++ 10 ∷ after → Grew text' text'' (Hears mid new (line ++ 10 ∷ []))
+  pub line_more : (new : Hearing) (text'' line after : List ℕ) → rest ≡ line ++ 10 ∷ after → Grew text' text'' (HeardLines mid new (line ++ 10 ∷ []))
       → HeardSoFar old new text text'' piece after
   line_more new text'' line after is grew = record {
     gone = so_far.gone ++ (line ++ 10 ∷ []);
@@ -236,7 +236,8 @@ module _ (old mid : Hearing) (text text' piece rest : List ℕ) (so_far : HeardS
       subst (λ (p : List ℕ). Refuses old p text text'' fault) whole
       (refuses_more old (so_far.gone ++ bytes) tail text text'' fault (later_refuses old mid so_far.gone bytes text text' text'' fault so_far.on r))
 
-  pub so_far_hears : (new : Hearing) → HasNoFeed rest → new.kept.items ≡ mid.kept.items ++ rest → new.lines ≡ mid.lines → Grew text text' (Hears old new piece)
+  pub so_far_hears : (new : Hearing) → HasNoFeed rest → new.kept.items ≡ mid.kept.items ++ rest → new.lines ≡ mid.lines
+      → Grew text text' (HeardLines old new piece)
   so_far_hears new none kept count =
-      subst (λ (p : List ℕ). Grew text text' (Hears old new p)) (sym so_far.is)
+      subst (λ (p : List ℕ). Grew text text' (HeardLines old new p)) (sym so_far.is)
       (Grew-hears old mid new so_far.gone rest text text' text' so_far.on (grew_none text' _ (begun_hears mid new rest none kept count)))

@@ -8,7 +8,7 @@ use Rattle.std.proofs.lemmas.Bool.Decides.{nat_tests}
 use Rattle.std.proofs.lemmas.Option.{same_Some}
 use Rattle.std.proofs.lemmas.List.Folds.{length-prefix_len}
 use lib.Pointwise.{pointwise}
-use Rattle.diag_can.specs.Stamp.{behind, behind_name, digits_of, is_digit, stamp_of, ◌>>=◌}
+use Rattle.diag_can.specs.Stamp.{behind_name, digits_of, is_digit, stamp_of, ◌>>=◌}
 use Rattle.diag_can.specs.Line.{is_time, stamped_frame, tick_count}
 use Rattle.diag_can.specs.Log.{without_return}
 use Rattle.diag_can.specs.Bus.{bus_line, line_says, stamped, stamped_line, text_frame, tick_line as tick_said}
@@ -23,6 +23,7 @@ use Rattle.std.proofs.lemmas.Str.Parse.{FoldsDigits, IsDigitsTest, numerals_by_f
 use Rattle.std.proofs.lemmas.Fmt.{digits_decimal, digits_value-decimal, first_decimal, length-decimal-le}
 use Rattle.diag_can.specs.Stamp.{decimal_value}
 use Rattle.diag_can.specs.Line.{is_decimal}
+use Rattle.diag_can.proofs.TickFronts.{begins}
 use Rattle.diag_live.specs.Live.{but_for_moment, is_close, null_stamp, restamped, tick_line}
 
 -- ---- parts of a text
@@ -34,14 +35,6 @@ ok_same h = cc
 bind_some : {A B : Type 0} (o : Option A) (f : A → Option B) (y : B) → (o >>= f) ≡ Some y → (x : A) × (o ≡ Some x) × (f x ≡ Some y)
 bind_some None f y h = cc h
 bind_some (Some x) f y h = (x, refl, h)
-
-behind_some : (byte : ℕ) (text rest : List ℕ) → behind byte text ≡ Some rest → text ≡ byte ∷ rest
-behind_some byte [] rest h = cc h
-behind_some byte (c ∷ text) rest h = pick (c == byte) refl h
-  where
-    pick : (b : Bool) → (c == byte) ≡ b → cond b (Some text) None ≡ Some rest → c ∷ text ≡ byte ∷ rest
-    pick true same is = grind (arith, nat_tests, same_Some _ _ is)
-    pick false same is = cc is
 
 -- no byte closes a stamp
 abbrev IsOpen : List ℕ → Type 0
@@ -110,15 +103,15 @@ stamp_parts text m h =
     let e = bind_some _ _ m d.2 in
     let seconds = run_of 1 12 a.0 b.0 b.1 in
     let fraction = run_of 6 9 c.0 d.0 d.1 in
-    let dot = behind_some 46 b.0.1 c.0 c.1 in
-    let close = behind_some 41 d.0.1 e.0 e.1 in
+    let dot = begins 46 b.0.1 c.0 c.1 in
+    let close = begins 41 d.0.1 e.0 e.1 in
     let rest : e.0 ≡ m.1 = ap (λ (q : ℕ × List ℕ). q.1) (same_Some _ _ e.2) in
     let inner = b.0.0 ++ 46 ∷ d.0.0 in
     let tail : c.0 ≡ d.0.0 ++ 41 ∷ m.1 = fraction.is ∙ ap (λ (t : List ℕ). d.0.0 ++ t) (close ∙ ap (λ (t : List ℕ). 41 ∷ t) rest) in
     record {
       inner = inner;
       is =
-          behind_some 40 text a.0 a.1
+          begins 40 text a.0 a.1
           ∙ (ap (λ (t : List ℕ). 40 ∷ t)
           (seconds.is ∙ (ap (λ (t : List ℕ). b.0.0 ++ t) (dot ∙ ap (λ (t : List ℕ). 46 ∷ t) tail)
           ∙ sym (append_assoc b.0.0 (46 ∷ d.0.0) (41 ∷ m.1)))));

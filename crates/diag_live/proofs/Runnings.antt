@@ -14,8 +14,8 @@ use Rattle.diag_bus.proofs.Runs.{run}
 use Rattle.diag_text.specs.declared.fault.RunFault.{RunFault}
 use Rattle.diag_text.specs.declared.fault.RunFault.TheVariants as fault
 use Rattle.diag_live.specs.Live.{capture_of, record_text}
-use Rattle.diag_live.specs.Serving.{CannotHear, HaltsWith, SoFar, Stands, Turned, last_feed}
-use Rattle.diag_live.specs.Stops.{IsCutShort, Lived, Stopped, StopsAt, StopsOn, TookSoFar}
+use Rattle.diag_live.specs.Serving.{CannotHear, HaltsWith, SoFar, ServingStands, Turned, last_feed}
+use Rattle.diag_live.specs.Stops.{IsLiveCutShort, Lived, Stopped, LiveStopsAt, LiveStopsOn, TookSoFar}
 use Rattle.diag_live.specs.declared.serving.Serving.{Serving}
 use Rattle.diag_live.proofs.Records.{plain_capture, record_lines}
 use Rattle.diag_live.proofs.Servings.{refused_halts}
@@ -39,7 +39,7 @@ end_begun seen (c ∷ kept) is = let none : HasNoFeed [] = λ k d less. absurd (
 
 -- ---- what was written and taken
 
-written_now : (setup : RawSetup) (new : Serving) (seen wrote noted : List ℕ) (s : Stands new seen wrote noted) → new.capture.bus.setup ≡ setup
+written_now : (setup : RawSetup) (new : Serving) (seen wrote noted : List ℕ) (s : ServingStands new seen wrote noted) → new.capture.bus.setup ≡ setup
     → wrote ≡ written Replies setup (capture_of s.taken)
 written_now setup new seen wrote noted s same =
     sym (append-nil wrote)
@@ -48,7 +48,7 @@ written_now setup new seen wrote noted s same =
     ∙ (ap (λ (o : Output). written o new.capture.bus.setup (ended_lines noted)) s.output
     ∙ (ap (λ (u : RawSetup). written Replies u (ended_lines noted)) same ∙ ap (written Replies setup) s.lines))))
 
-so_far_took : (setup : RawSetup) (serving : Serving) (seen wrote noted : List ℕ) → Stands serving seen wrote noted → serving.capture.bus.setup ≡ setup
+so_far_took : (setup : RawSetup) (serving : Serving) (seen wrote noted : List ℕ) → ServingStands serving seen wrote noted → serving.capture.bus.setup ≡ setup
     → TookSoFar setup seen wrote noted
 so_far_took setup serving seen wrote noted s same = record {
   taken = s.taken;
@@ -60,8 +60,8 @@ so_far_took setup serving seen wrote noted s same = record {
 }
 
 module _ (setup : RawSetup) where
-  stops_at : (came : RunFault) (left : Option (List ℕ)) (seen wrote noted : List ℕ) → StopsOn setup came (bus_lines seen) wrote noted
-      → IfSome left (λ rest. StopsOn setup came (bus_lines (seen ++ rest)) wrote noted) → StopsAt setup left came seen wrote noted
+  stops_at : (came : RunFault) (left : Option (List ℕ)) (seen wrote noted : List ℕ) → LiveStopsOn setup came (bus_lines seen) wrote noted
+      → IfSome left (λ rest. LiveStopsOn setup came (bus_lines (seen ++ rest)) wrote noted) → LiveStopsAt setup left came seen wrote noted
   stops_at (fault.Capture n x) left seen wrote noted h l = (h, l)
   stops_at fault.Memory left seen wrote noted h l = (h, l)
   stops_at fault.Write left seen wrote noted h l = (h, l)
@@ -78,18 +78,18 @@ module _ (setup : RawSetup) where
   stops_at (fault.Differs n) left seen wrote noted h l = absurd h
 
   if_left : (came : RunFault) (left : Option (List ℕ)) (seen wrote noted : List ℕ)
-      → ((rest : List ℕ) → StopsOn setup came (bus_lines (seen ++ rest)) wrote noted)
-      → IfSome left (λ rest. StopsOn setup came (bus_lines (seen ++ rest)) wrote noted)
+      → ((rest : List ℕ) → LiveStopsOn setup came (bus_lines (seen ++ rest)) wrote noted)
+      → IfSome left (λ rest. LiveStopsOn setup came (bus_lines (seen ++ rest)) wrote noted)
   if_left came None seen wrote noted h = tt
   if_left came (Some rest) seen wrote noted h = h rest
 
-  at_end : (came : RunFault) (left : Option (List ℕ)) (seen wrote noted : List ℕ) → IsAtEnd left → StopsOn setup came (bus_lines seen) wrote noted
-      → IfSome left (λ rest. StopsOn setup came (bus_lines (seen ++ rest)) wrote noted)
+  at_end : (came : RunFault) (left : Option (List ℕ)) (seen wrote noted : List ℕ) → IsAtEnd left → LiveStopsOn setup came (bus_lines seen) wrote noted
+      → IfSome left (λ rest. LiveStopsOn setup came (bus_lines (seen ++ rest)) wrote noted)
   at_end came None seen wrote noted end h = tt
   at_end came (Some rest) seen wrote noted end h =
-      subst (λ (b : List ℕ). StopsOn setup came (bus_lines b) wrote noted) (sym (append-nil seen) ∙ ap (λ (r : List ℕ). seen ++ r) (sym end)) h
+      subst (λ (b : List ℕ). LiveStopsOn setup came (bus_lines b) wrote noted) (sym (append-nil seen) ∙ ap (λ (r : List ℕ). seen ++ r) (sym end)) h
 
-  nothing_cut : (lines : List (List ℕ)) → IsCutShort setup lines [] []
+  nothing_cut : (lines : List (List ℕ)) → IsLiveCutShort setup lines [] []
   nothing_cut lines = record {
     taken = [];
     next = [];
@@ -114,7 +114,7 @@ module _ (setup : RawSetup) where
     stops = stops_at fault.Memory i' [] [] [] (nothing_cut (bus_lines [])) (if_left fault.Memory i' [] [] [] (λ rest. nothing_cut (bus_lines rest)));
   })
 
-  pub begun : (serving : Serving) (i i' o r : Option (List ℕ)) → Keeps i i' → Stands serving [] [] [] → serving.capture.bus.setup ≡ setup
+  pub begun : (serving : Serving) (i i' o r : Option (List ℕ)) → Keeps i i' → ServingStands serving [] [] [] → serving.capture.bus.setup ≡ setup
       → SoFar setup serving i i' o o r r
   begun serving i i' o r kept s same =
       record {
@@ -197,8 +197,8 @@ module _ (setup : RawSetup) (old new : Serving) (i i' i'' o o' o'' r r' r'' : Op
       let sent = t.2.0 in
       let noted = t.2.2.0 in
       let halts = t.2.2.2 so_far.seen so_far.wrote so_far.recorded so_far.stands in
-      let all : (rest : List ℕ) → StopsOn setup came (bus_lines ((so_far.seen ++ t.0) ++ rest)) (so_far.wrote ++ sent) (so_far.recorded ++ noted) =
-      λ rest. subst (λ (u : RawSetup). StopsOn u came (bus_lines ((so_far.seen ++ t.0) ++ rest)) (so_far.wrote ++ sent) (so_far.recorded ++ noted))
+      let all : (rest : List ℕ) → LiveStopsOn setup came (bus_lines ((so_far.seen ++ t.0) ++ rest)) (so_far.wrote ++ sent) (so_far.recorded ++ noted) =
+      λ rest. subst (λ (u : RawSetup). LiveStopsOn u came (bus_lines ((so_far.seen ++ t.0) ++ rest)) (so_far.wrote ++ sent) (so_far.recorded ++ noted))
       so_far.set (halts rest) in
       record {
         seen = so_far.seen ++ t.0;
@@ -208,7 +208,7 @@ module _ (setup : RawSetup) (old new : Serving) (i i' i'' o o' o'' r r' r'' : Op
         recorded = so_far.recorded ++ noted;
         kept = Appends-trans r r' r'' so_far.recorded noted so_far.kept t.2.2.1;
         stops = stops_at setup came i'' (so_far.seen ++ t.0) (so_far.wrote ++ sent) (so_far.recorded ++ noted)
-            (subst (λ (b : List ℕ). StopsOn setup came (bus_lines b) (so_far.wrote ++ sent) (so_far.recorded ++ noted))
+            (subst (λ (b : List ℕ). LiveStopsOn setup came (bus_lines b) (so_far.wrote ++ sent) (so_far.recorded ++ noted))
             (append-nil (so_far.seen ++ t.0)) (all []))
             (if_left setup came i'' (so_far.seen ++ t.0) (so_far.wrote ++ sent) (so_far.recorded ++ noted) all);
       }
@@ -217,10 +217,10 @@ module _ (setup : RawSetup) (old new : Serving) (i i' i'' o o' o'' r r' r'' : Op
       let noted = t.2.2.0 in
       let feed = last_feed old.hearing.kept.items in
       let halts = t.2.2.2 so_far.seen so_far.wrote so_far.recorded so_far.stands in
-      let here : StopsOn setup came (bus_lines so_far.seen) (so_far.wrote ++ sent) (so_far.recorded ++ noted) =
-      subst (λ (l : List (List ℕ)). StopsOn setup came l (so_far.wrote ++ sent) (so_far.recorded ++ noted))
+      let here : LiveStopsOn setup came (bus_lines so_far.seen) (so_far.wrote ++ sent) (so_far.recorded ++ noted) =
+      subst (λ (l : List (List ℕ)). LiveStopsOn setup came l (so_far.wrote ++ sent) (so_far.recorded ++ noted))
       (ap bus_lines (append-nil (so_far.seen ++ feed)) ∙ end_lines so_far.seen old.hearing.kept.items so_far.stands.follows.kept)
-      (subst (λ (u : RawSetup). StopsOn u came (bus_lines ((so_far.seen ++ feed) ++ [])) (so_far.wrote ++ sent) (so_far.recorded ++ noted)) so_far.set
+      (subst (λ (u : RawSetup). LiveStopsOn u came (bus_lines ((so_far.seen ++ feed) ++ [])) (so_far.wrote ++ sent) (so_far.recorded ++ noted)) so_far.set
       (halts [])) in
       record {
         seen = so_far.seen;

@@ -13,10 +13,8 @@ use Rattle.diag_bus.specs.declared.bus.Output.{Output}
 use Rattle.diag_bus.specs.declared.bus.Output.TheVariants.{Replies, Verdict}
 use Rattle.diag_bus.specs.declared.fault.BusFault.{BusFault}
 use Rattle.diag_bus.specs.declared.fault.BusFault.TheVariants as bus
-use Rattle.diag_run.specs.Capture.{IsFrontOf}
-use Rattle.diag_run.specs.Capture as captured
-use Rattle.diag_run.specs.Capturing.{HaltsIn, fault_of}
-use Rattle.diag_run.specs.Capturing as run
+use Rattle.diag_run.specs.Capture.{IsCutShort, IsFaultyLine, IsFrontOf, StopsIn, StopsOn}
+use Rattle.diag_run.specs.Capturing.{HaltsIn, Stands, fault_of}
 use Rattle.diag_run.specs.declared.capture.Capture.{Capture}
 use Rattle.diag_run.specs.declared.capture.CaptureFault.{CaptureFault}
 use Rattle.diag_run.specs.declared.capture.CaptureFault.TheVariants as capture
@@ -24,9 +22,9 @@ use Rattle.diag_text.specs.declared.fault.RunFault.{RunFault}
 use Rattle.diag_text.specs.declared.fault.RunFault.TheVariants as fault
 use Rattle.diag_run.proofs.Pieces.{IsFrontOf-refl}
 use Rattle.diag_live.specs.Live.{AreGood, Heard, Taken, Ticked, capture_of, capture_line, lines_of, record_text, passed, with_feed}
-use Rattle.diag_live.specs.Hearing.{EndsBefore, Follows, Hears}
-use Rattle.diag_live.specs.Stops.{AreFront, IsBadLine, IsCutShort, IsFaulty, StopsOn}
-use Rattle.diag_live.specs.Serving.{Delivered, GoesOn, Halts, Stands, Undelivered, input_number, last_feed, numbered}
+use Rattle.diag_live.specs.Hearing.{EndsBefore, HasHeard, HeardLines}
+use Rattle.diag_live.specs.Stops.{AreFront, IsBadLine, IsFaulty, IsLiveCutShort, LiveStopsOn}
+use Rattle.diag_live.specs.Serving.{Delivered, ServingGoesOn, ServingHalts, ServingStands, Undelivered, input_number, last_feed, numbered}
 use Rattle.diag_live.specs.declared.serving.Serving.{Serving}
 use Rattle.diag_live.specs.declared.hearing.Hearing.{Hearing}
 use Rattle.diag_world.specs.Port.{Grew}
@@ -81,7 +79,7 @@ brings_nothing seen piece = record {
 
 -- ---- behind what was taken
 
-module _ (old : Serving) (seen wrote noted : List ℕ) (s : Stands old seen wrote noted) (text : List ℕ) (ticks : ℕ) (lines : List (List ℕ))
+module _ (old : Serving) (seen wrote noted : List ℕ) (s : ServingStands old seen wrote noted) (text : List ℕ) (ticks : ℕ) (lines : List (List ℕ))
     (f : Fresh ticks text lines) where
   abbrev pub fresh : List Taken
   fresh = f.time ++ map Heard lines
@@ -132,7 +130,7 @@ module _ (old : Serving) (seen wrote noted : List ℕ) (s : Stands old seen wrot
 
   -- a front of the text was recorded, and nothing of it was taken
   pub cut_before : (part : List ℕ) (given : List (List ℕ)) → IsFrontOf part text → AreFront (ended_lines seen ++ lines) given
-      → IsCutShort old.capture.bus.setup given (wrote ++ []) (noted ++ part)
+      → IsLiveCutShort old.capture.bus.setup given (wrote ++ []) (noted ++ part)
   cut_before part given front heard = record {
     taken = s.taken;
     next = fresh;
@@ -147,8 +145,8 @@ module _ (old : Serving) (seen wrote noted : List ℕ) (s : Stands old seen wrot
 
   -- the text was recorded, and taken in part
   pub cut_within : (sent : List ℕ) (given : List (List ℕ)) → AreFront (ended_lines seen ++ lines) given
-      → captured.IsCutShort Replies old.capture.bus.setup (capture_of all) (wrote ++ sent)
-      → IsCutShort old.capture.bus.setup given (wrote ++ sent) (noted ++ text)
+      → IsCutShort Replies old.capture.bus.setup (capture_of all) (wrote ++ sent)
+      → IsLiveCutShort old.capture.bus.setup given (wrote ++ sent) (noted ++ text)
   cut_within sent given heard cut =
       let k = length cut.taken in
       let parts : take k all ++ drop k all ≡ all = take-append-drop k all in
@@ -171,7 +169,7 @@ module _ (old : Serving) (seen wrote noted : List ℕ) (s : Stands old seen wrot
 
   -- a line of the capture is at fault
   pub late_within : (sent : List ℕ) (given : List (List ℕ)) (m : ℕ) (b : BusFault) → AreFront (ended_lines seen ++ lines) given
-      → captured.IsFaultyLine Replies old.capture.bus.setup m b (capture_of all) (wrote ++ sent)
+      → IsFaultyLine Replies old.capture.bus.setup m b (capture_of all) (wrote ++ sent)
       → (n : ℕ) → n ≡ length (lines_of s.taken) + max (m - (length s.taken + length f.time)) 1
       → IsFaulty old.capture.bus.setup n b given (wrote ++ sent) (noted ++ text)
   late_within sent given m b heard line n number =
@@ -212,9 +210,9 @@ module _ (old : Serving) (seen wrote noted : List ℕ) (s : Stands old seen wrot
       at_drop (suc k) (t ∷ taken) less = at_drop k taken (omega (arith, less))
 
 -- where the fault of the capture lies
-pub range_of : (old : Serving) (seen wrote noted : List ℕ) (s : Stands old seen wrote noted) (text : List ℕ) (ticks : ℕ) (lines : List (List ℕ))
+pub range_of : (old : Serving) (seen wrote noted : List ℕ) (s : ServingStands old seen wrote noted) (text : List ℕ) (ticks : ℕ) (lines : List (List ℕ))
     (f : Fresh ticks text lines)
-    (sent : List ℕ) (m : ℕ) (x : BusFault) → captured.IsFaultyLine Replies old.capture.bus.setup m x
+    (sent : List ℕ) (m : ℕ) (x : BusFault) → IsFaultyLine Replies old.capture.bus.setup m x
     (capture_of (all old seen wrote noted s text ticks lines f)) (wrote ++ sent)
     → m < length s.taken + 1 + length (f.time ++ map Heard lines)
 range_of old seen wrote noted s text ticks lines f sent m x line =
@@ -248,35 +246,37 @@ lines_fewer (Ticked count ∷ taken) = omega (arith, lines_fewer taken)
 
 -- ---- how a delivery ends
 
-module _ (old : Serving) (piece text : List ℕ) (ticks : ℕ) (brings : (seen : List ℕ) → Follows old.hearing seen → Brings text ticks seen piece) where
+module _ (old : Serving) (piece text : List ℕ) (ticks : ℕ) (brings : (seen : List ℕ) → HasHeard old.hearing seen → Brings text ticks seen piece) where
   -- it was recorded in part, or not at all
-  pub unrecorded_halts : (came : RunFault) (part : List ℕ) → (came ≡ fault.Write) ⊎ (came ≡ fault.Memory) → IsFrontOf part text → Halts old came piece [] part
+  pub unrecorded_halts : (came : RunFault) (part : List ℕ) → (came ≡ fault.Write) ⊎ (came ≡ fault.Memory) → IsFrontOf part text
+      → ServingHalts old came piece [] part
   unrecorded_halts came part kind front = λ seen wrote noted s rest.
       let b = brings seen s.follows in
       let cut = cut_before old seen wrote noted s text ticks b.lines b.fresh part (bus_lines ((seen ++ piece) ++ rest)) front (b.front rest) in
+      let stops : RunFault → Type 0 = λ f. LiveStopsOn old.capture.bus.setup f (bus_lines ((seen ++ piece) ++ rest)) (wrote ++ []) (noted ++ part) in
       elim kind [
-        | inl is ↦ subst (λ (f : RunFault). StopsOn old.capture.bus.setup f (bus_lines ((seen ++ piece) ++ rest)) (wrote ++ []) (noted ++ part)) (sym is) cut
-        | inr is ↦ subst (λ (f : RunFault). StopsOn old.capture.bus.setup f (bus_lines ((seen ++ piece) ++ rest)) (wrote ++ []) (noted ++ part)) (sym is) cut
+        | inl is ↦ subst stops (sym is) cut
+        | inr is ↦ subst stops (sym is) cut
       ]
 
   module _ (heard first : ℕ) (same : heard ≡ old.hearing.lines) (place : first ≡ min (old.capture.lines + ticks) (2 ^ 64 - 1)) where
     taking : (came : CaptureFault) (sent : List ℕ) → old.capture.lines + length text + 1 < 2 ^ 64 → HaltsIn old.capture came text sent
-        → Halts old (numbered heard first came) piece sent text
+        → ServingHalts old (numbered heard first came) piece sent text
     taking came sent small halts = λ seen wrote noted s rest.
         let b = brings seen s.follows in
         let f = b.fresh in
         let given = bus_lines ((seen ++ piece) ++ rest) in
         let setup = old.capture.bus.setup in
-        let stops : captured.StopsOn Replies setup (fault_of came) (capture_of (all old seen wrote noted s text ticks b.lines f)) (wrote ++ sent) =
-        subst (λ (l : List (List ℕ)). captured.StopsOn Replies setup (fault_of came) l (wrote ++ sent)) (all_read old seen wrote noted s text ticks b.lines f)
-        (subst (λ (o : Output). captured.StopsIn o setup (fault_of came) ((noted ++ text) ++ []) (wrote ++ sent)) s.output
+        let stops : StopsOn Replies setup (fault_of came) (capture_of (all old seen wrote noted s text ticks b.lines f)) (wrote ++ sent) =
+        subst (λ (l : List (List ℕ)). StopsOn Replies setup (fault_of came) l (wrote ++ sent)) (all_read old seen wrote noted s text ticks b.lines f)
+        (subst (λ (o : Output). StopsIn o setup (fault_of came) ((noted ++ text) ++ []) (wrote ++ sent)) s.output
         ((halts noted wrote s.capture).stops [])) in
         on seen wrote noted s rest b came stops
       where
-        on : (seen wrote noted : List ℕ) (s : Stands old seen wrote noted) (rest : List ℕ) (b : Brings text ticks seen piece) (came : CaptureFault)
-            → captured.StopsOn Replies old.capture.bus.setup (fault_of came) (capture_of (all old seen wrote noted s text ticks b.lines b.fresh))
+        on : (seen wrote noted : List ℕ) (s : ServingStands old seen wrote noted) (rest : List ℕ) (b : Brings text ticks seen piece) (came : CaptureFault)
+            → StopsOn Replies old.capture.bus.setup (fault_of came) (capture_of (all old seen wrote noted s text ticks b.lines b.fresh))
             (wrote ++ sent)
-            → StopsOn old.capture.bus.setup (numbered heard first came) (bus_lines ((seen ++ piece) ++ rest)) (wrote ++ sent) (noted ++ text)
+            → LiveStopsOn old.capture.bus.setup (numbered heard first came) (bus_lines ((seen ++ piece) ++ rest)) (wrote ++ sent) (noted ++ text)
         on seen wrote noted s rest b capture.Memory stops =
             cut_within old seen wrote noted s text ticks b.lines b.fresh sent (bus_lines ((seen ++ piece) ++ rest)) (b.front rest) stops
         on seen wrote noted s rest b capture.Write stops =
@@ -304,10 +304,11 @@ module _ (old : Serving) (piece text : List ℕ) (ticks : ℕ) (brings : (seen :
             late_within old seen wrote noted s text ticks lines f sent (bus_lines ((seen ++ piece) ++ rest)) m x (b.front rest) stops
             (input_number heard first m) number
 
-    pub undelivered_halts : (sent noted : List ℕ) (came : RunFault) → Undelivered old.capture heard first text sent noted came → Halts old came piece sent noted
-    undelivered_halts sent noted came u = subst (λ (f : RunFault). Halts old f piece sent noted) (sym u.told) (elim u.how [
-      | inl h ↦ subst (Halts old (numbered heard first u.came) piece sent) (sym h.whole) (taking u.came sent h.countable h.halts)
-      | inr h ↦ subst (λ (t : List ℕ). Halts old (numbered heard first u.came) piece t noted) (sym h.none)
+    pub undelivered_halts : (sent noted : List ℕ) (came : RunFault) → Undelivered old.capture heard first text sent noted came
+        → ServingHalts old came piece sent noted
+    undelivered_halts sent noted came u = subst (λ (f : RunFault). ServingHalts old f piece sent noted) (sym u.told) (elim u.how [
+      | inl h ↦ subst (ServingHalts old (numbered heard first u.came) piece sent) (sym h.whole) (taking u.came sent h.countable h.halts)
+      | inr h ↦ subst (λ (t : List ℕ). ServingHalts old (numbered heard first u.came) piece t noted) (sym h.none)
           (unrecorded_halts (numbered heard first u.came) noted (kind u.came h.of) h.front)
     ])
       where
@@ -318,10 +319,10 @@ module _ (old : Serving) (piece text : List ℕ) (ticks : ℕ) (brings : (seen :
 
 -- ---- a delivery that succeeds
 
-module _ (old new : Serving) (text sent noted : List ℕ) (ticks : ℕ) (seen wrote before : List ℕ) (s : Stands old seen wrote before)
+module _ (old new : Serving) (text sent noted : List ℕ) (ticks : ℕ) (seen wrote before : List ℕ) (s : ServingStands old seen wrote before)
     (lines : List (List ℕ)) (f : Fresh ticks text lines)
     (d : Delivered old.capture new.capture text sent noted) where
-  on_from : run.Stands new.capture (before ++ text) (wrote ++ sent)
+  on_from : Stands new.capture (before ++ text) (wrote ++ sent)
   on_from = d.on.stands before wrote s.capture
 
   new_output : new.capture.bus.output ≡ Replies
@@ -346,8 +347,8 @@ module _ (old new : Serving) (text sent noted : List ℕ) (ticks : ℕ) (seen wr
   delivered_noted = noted_here ∙ all_noted old seen wrote before s text ticks lines f
 
   -- and the lines that are heard go on
-  pub delivered_stands : (piece : List ℕ) → ended_lines (seen ++ piece) ≡ ended_lines seen ++ lines → Follows new.hearing (seen ++ piece)
-      → Stands new (seen ++ piece) (wrote ++ sent) (before ++ noted)
+  pub delivered_stands : (piece : List ℕ) → ended_lines (seen ++ piece) ≡ ended_lines seen ++ lines → HasHeard new.hearing (seen ++ piece)
+      → ServingStands new (seen ++ piece) (wrote ++ sent) (before ++ noted)
   delivered_stands piece ended follows = record {
     taken = all old seen wrote before s text ticks lines f;
     heard = all_lines old seen wrote before s text ticks lines f ∙ sym ended;
@@ -356,7 +357,7 @@ module _ (old new : Serving) (text sent noted : List ℕ) (ticks : ℕ) (seen wr
     recorded = delivered_noted;
     lines = ap ended_lines noted_here ∙ all_ended old seen wrote before s text ticks lines f;
     closed = ap begun_line noted_here ∙ all_closed old seen wrote before s text ticks lines f;
-    capture = subst (λ (t : List ℕ). run.Stands new.capture t (wrote ++ sent)) (sym noted_here) on_from;
+    capture = subst (λ (t : List ℕ). Stands new.capture t (wrote ++ sent)) (sym noted_here) on_from;
     sent = d.none;
     output = new_output;
   }
@@ -384,7 +385,7 @@ module _ (old new : Serving) (text sent noted : List ℕ) (ticks : ℕ) (seen wr
 
 module _ (h : Hearing) (span ticks : ℕ) (text text' piece : List ℕ) (was : text ≡ record_text (capture_of (passed span)))
     (count : ticks ≡ length (passed span)) where
-  pub brings_ended : (new : Hearing) → Grew text text' (Hears h new piece) → (seen : List ℕ) → Follows h seen → Brings text' ticks seen piece
+  pub brings_ended : (new : Hearing) → Grew text text' (HeardLines h new piece) → (seen : List ℕ) → HasHeard h seen → Brings text' ticks seen piece
   brings_ended new grew seen f =
       let e = grew.holds seen f in
       record {
@@ -396,8 +397,8 @@ module _ (h : Hearing) (span ticks : ℕ) (text text' piece : List ℕ) (was : t
         );
       }
 
-  pub brings_before : (n : ℕ) (bad : LineFault) → Grew text text' (λ more. (seen : List ℕ) → Follows h seen → EndsBefore n bad seen piece more)
-      → (seen : List ℕ) → Follows h seen
+  pub brings_before : (n : ℕ) (bad : LineFault) → Grew text text' (λ more. (seen : List ℕ) → HasHeard h seen → EndsBefore n bad seen piece more)
+      → (seen : List ℕ) → HasHeard h seen
       → Brings text' ticks seen piece
   brings_before n bad grew seen f =
       let e = grew.holds seen f in
@@ -408,12 +409,12 @@ module _ (h : Hearing) (span ticks : ℕ) (text text' piece : List ℕ) (was : t
       }
 
   module _ (old : Serving) (k : Capture) (hearing : h ≡ old.hearing) (capture_same : k ≡ old.capture) where
-    follows_h : (seen : List ℕ) → Follows old.hearing seen → Follows h seen
-    follows_h seen f = subst (λ (x : Hearing). Follows x seen) (sym hearing) f
+    follows_h : (seen : List ℕ) → HasHeard old.hearing seen → HasHeard h seen
+    follows_h seen f = subst (λ (x : Hearing). HasHeard x seen) (sym hearing) f
 
-    pub serve_goes_on : (new : Serving) (next : Hearing) → Grew text text' (Hears h next piece) → new.hearing ≡ next → (sent noted : List ℕ)
+    pub serve_goes_on : (new : Serving) (next : Hearing) → Grew text text' (HeardLines h next piece) → new.hearing ≡ next → (sent noted : List ℕ)
         → Delivered k new.capture text' sent noted
-        → GoesOn old new piece sent noted
+        → ServingGoesOn old new piece sent noted
     serve_goes_on new next grew same sent noted d =
         let here : Delivered old.capture new.capture text' sent noted = subst (λ (x : Capture). Delivered x new.capture text' sent noted) capture_same d in
         record {
@@ -422,28 +423,28 @@ module _ (h : Hearing) (span ticks : ℕ) (text text' piece : List ℕ) (was : t
               let e = grew.holds seen (follows_h seen s.follows) in
               delivered_stands old new text' sent noted ticks seen wrote before s e.lines
               (fresh_lines span ticks text text' grew.more e.lines was count grew.grown e.good e.text) here piece e.ended
-              (subst (λ (x : Hearing). Follows x (seen ++ piece)) (sym same) e.follows);
+              (subst (λ (x : Hearing). HasHeard x (seen ++ piece)) (sym same) e.follows);
         }
 
-    pub serve_halts : (new : Hearing) → Grew text text' (Hears h new piece) → (heard first : ℕ) → heard ≡ old.hearing.lines
+    pub serve_halts : (new : Hearing) → Grew text text' (HeardLines h new piece) → (heard first : ℕ) → heard ≡ old.hearing.lines
         → first ≡ min (k.lines + ticks) (2 ^ 64 - 1)
-        → (sent noted : List ℕ) (came : RunFault) → Undelivered k heard first text' sent noted came → Halts old came piece sent noted
+        → (sent noted : List ℕ) (came : RunFault) → Undelivered k heard first text' sent noted came → ServingHalts old came piece sent noted
     serve_halts new grew heard first same place sent noted came u =
         undelivered_halts old piece text' ticks (λ seen f. brings_ended new grew seen (follows_h seen f)) heard first same
         (place ∙ ap (λ (x : Capture). min (x.lines + ticks) (2 ^ 64 - 1)) capture_same) sent noted came
         (subst (λ (x : Capture). Undelivered x heard first text' sent noted came) capture_same u)
 
-    pub bad_serve_halts : (n : ℕ) (bad : LineFault) → Grew text text' (λ more. (seen : List ℕ) → Follows h seen → EndsBefore n bad seen piece more)
+    pub bad_serve_halts : (n : ℕ) (bad : LineFault) → Grew text text' (λ more. (seen : List ℕ) → HasHeard h seen → EndsBefore n bad seen piece more)
         → (heard first : ℕ) → heard ≡ old.hearing.lines → first ≡ min (k.lines + ticks) (2 ^ 64 - 1)
-        → (sent noted : List ℕ) (came : RunFault) → Undelivered k heard first text' sent noted came → Halts old came piece sent noted
+        → (sent noted : List ℕ) (came : RunFault) → Undelivered k heard first text' sent noted came → ServingHalts old came piece sent noted
     bad_serve_halts n bad grew heard first same place sent noted came u =
         undelivered_halts old piece text' ticks (λ seen f. brings_before n bad grew seen (follows_h seen f)) heard first same
         (place ∙ ap (λ (x : Capture). min (x.lines + ticks) (2 ^ 64 - 1)) capture_same) sent noted came
         (subst (λ (x : Capture). Undelivered x heard first text' sent noted came) capture_same u)
 
     pub bad_line_halts : (new : Serving) (n : ℕ) (bad : LineFault)
-        → Grew text text' (λ more. (seen : List ℕ) → Follows h seen → EndsBefore n bad seen piece more)
-        → (sent noted : List ℕ) → Delivered k new.capture text' sent noted → Halts old (fault.Capture n (bus.Line bad)) piece sent noted
+        → Grew text text' (λ more. (seen : List ℕ) → HasHeard h seen → EndsBefore n bad seen piece more)
+        → (sent noted : List ℕ) → Delivered k new.capture text' sent noted → ServingHalts old (fault.Capture n (bus.Line bad)) piece sent noted
     bad_line_halts new n bad grew sent noted d = λ seen wrote before s rest.
         let here : Delivered old.capture new.capture text' sent noted = subst (λ (x : Capture). Delivered x new.capture text' sent noted) capture_same d in
         let e = grew.holds seen (follows_h seen s.follows) in
@@ -453,7 +454,7 @@ module _ (h : Hearing) (span ticks : ℕ) (text text' piece : List ℕ) (was : t
         (bus_lines ((seen ++ piece) ++ rest)) next.others next.bad next.are next.number next.says
 
 -- memory was refused before anything was recorded
-pub refused_halts : (old : Serving) (piece : List ℕ) → Halts old fault.Memory piece [] []
+pub refused_halts : (old : Serving) (piece : List ℕ) → ServingHalts old fault.Memory piece [] []
 refused_halts old piece = unrecorded_halts old piece [] 0 (λ seen f. brings_nothing seen piece) fault.Memory [] (inr refl) ([], refl)
 
 -- ---- the end of the input

@@ -10,7 +10,7 @@ use Rattle.diag_live.specs.declared.hearing.HearFault.TheVariants.{Line, Memory}
 use Rattle.diag_live.specs.declared.hearing.Hearing.{Hearing}
 
 -- these bytes were heard
-pub record Follows (hearing : Hearing) (seen : List ℕ) : Type 0 where
+pub record HasHeard (hearing : Hearing) (seen : List ℕ) : Type 0 where
   pub kept : hearing.kept.items ≡ begun_line seen
   pub count : hearing.lines ≡ length (ended_lines seen)
 
@@ -20,11 +20,11 @@ pub record Ends (new : Hearing) (seen bytes more : List ℕ) : Type 0 where
   pub ended : ended_lines (seen ++ bytes) ≡ ended_lines seen ++ lines
   pub good : AreGood (map Heard lines)
   pub text : more ≡ record_text (capture_of (map Heard lines))
-  pub follows : Follows new (seen ++ bytes)
+  pub follows : HasHeard new (seen ++ bytes)
 
 -- these bytes were heard further, and the capture grew by this
-abbrev pub Hears : Hearing → Hearing → List ℕ → List ℕ → Type 0
-Hears old new bytes more = (seen : List ℕ) → Follows old seen → Ends new seen bytes more
+abbrev pub HeardLines : Hearing → Hearing → List ℕ → List ℕ → Type 0
+HeardLines old new bytes more = (seen : List ℕ) → HasHeard old seen → Ends new seen bytes more
 
 -- behind these lines one is at fault, by its number, whatever follows
 pub record IsNextBad (n : ℕ) (fault : LineFault) (before : List (List ℕ)) (bytes : List ℕ) : Type 0 where
@@ -45,10 +45,10 @@ pub record EndsBefore (n : ℕ) (fault : LineFault) (seen bytes more : List ℕ)
 abbrev pub Refuses : Hearing → List ℕ → List ℕ → List ℕ → HearFault → Type 0
 Refuses old bytes text text' Memory = Unit {0}
 Refuses old bytes text text' (Line n fault) = Grew text text'
-    (λ more. (seen : List ℕ) → Follows old seen → EndsBefore n fault seen bytes more)
+    (λ more. (seen : List ℕ) → HasHeard old seen → EndsBefore n fault seen bytes more)
 
 -- the line that is kept is with these bytes longer than a line may be, or memory was refused
-abbrev pub IsTooLong : Hearing → List ℕ → HearFault → Type 0
-IsTooLong old bytes Memory = Unit {0}
-IsTooLong old bytes (Line n fault) = (n ≡ old.lines + 1) × (fault ≡ BadLine)
+abbrev pub IsLineTooLong : Hearing → List ℕ → HearFault → Type 0
+IsLineTooLong old bytes Memory = Unit {0}
+IsLineTooLong old bytes (Line n fault) = (n ≡ old.lines + 1) × (fault ≡ BadLine)
     × (4096 < length old.kept.items + length bytes)

@@ -6,48 +6,47 @@ use Rattle.diag_setup.specs.declared.raw.RawSetup.{RawSetup}
 use Rattle.diag_bus.specs.declared.bus.Output.TheVariants.{Replies}
 use Rattle.diag_run.specs.Capture.{IsFrontOf}
 use Rattle.diag_text.specs.Bytes.{Sends, Takes}
-use Rattle.diag_run.specs.Capturing.{HaltsIn, fault_of}
-use Rattle.diag_run.specs.Capturing as run
+use Rattle.diag_run.specs.Capturing.{GoesOn, HaltsIn, Stands, fault_of}
 use Rattle.diag_run.specs.declared.capture.Capture.{Capture}
 use Rattle.diag_run.specs.declared.capture.CaptureFault.{CaptureFault}
 use Rattle.diag_run.specs.declared.capture.CaptureFault.TheVariants as capture
 use Rattle.diag_text.specs.declared.fault.RunFault.{RunFault}
 use Rattle.diag_text.specs.declared.fault.RunFault.TheVariants.{Capture as CaptureLine, Read}
-use Rattle.diag_live.specs.Hearing.{Follows}
+use Rattle.diag_live.specs.Hearing.{HasHeard}
 use Rattle.diag_live.specs.Live.{AreGood, Taken, capture_of, lines_of, record_text}
-use Rattle.diag_live.specs.Stops.{StopsOn}
+use Rattle.diag_live.specs.Stops.{LiveStopsOn}
 use Rattle.diag_live.specs.declared.serving.Serving.{Serving}
 
 -- These bytes were heard, these written, and those recorded: the lines that were ended were taken, with ticks between
 -- them, the record has them, and the capture that they are was followed to its end, with nothing left to be written.
-pub record Stands (serving : Serving) (seen wrote noted : List ℕ) : Type 0 where
+pub record ServingStands (serving : Serving) (seen wrote noted : List ℕ) : Type 0 where
   pub taken : List Taken
   pub heard : lines_of taken ≡ ended_lines seen
   pub good : AreGood taken
-  pub follows : Follows serving.hearing seen
+  pub follows : HasHeard serving.hearing seen
   pub recorded : noted ≡ record_text (capture_of taken)
   pub lines : ended_lines noted ≡ capture_of taken
   pub closed : begun_line noted ≡ []
-  pub capture : run.Stands serving.capture noted wrote
+  pub capture : Stands serving.capture noted wrote
   pub sent : serving.capture.text.items ≡ []
   pub output : serving.capture.bus.output ≡ Replies
 
 -- these bytes were heard further, these written, and those recorded
-pub record GoesOn (old new : Serving) (bytes sent noted : List ℕ) : Type 0 where
+pub record ServingGoesOn (old new : Serving) (bytes sent noted : List ℕ) : Type 0 where
   pub setup : new.capture.bus.setup ≡ old.capture.bus.setup
-  pub stands : (seen wrote before : List ℕ) → Stands old seen wrote before
-      → Stands new (seen ++ bytes) (wrote ++ sent) (before ++ noted)
+  pub stands : (seen wrote before : List ℕ) → ServingStands old seen wrote before
+      → ServingStands new (seen ++ bytes) (wrote ++ sent) (before ++ noted)
 
 -- the fault came with these bytes, whatever follows them, behind which these were written, and those recorded
-abbrev pub Halts : Serving → RunFault → List ℕ → List ℕ → List ℕ → Type 0
-Halts old fault bytes sent noted = (seen wrote before : List ℕ) → Stands old seen wrote before
-    → (rest : List ℕ) → StopsOn old.capture.bus.setup fault (bus_lines ((seen ++ bytes) ++ rest))
+abbrev pub ServingHalts : Serving → RunFault → List ℕ → List ℕ → List ℕ → Type 0
+ServingHalts old fault bytes sent noted = (seen wrote before : List ℕ) → ServingStands old seen wrote before
+    → (rest : List ℕ) → LiveStopsOn old.capture.bus.setup fault (bus_lines ((seen ++ bytes) ++ rest))
     (wrote ++ sent) (before ++ noted)
 
 -- the capture's text was recorded and taken
 pub record Delivered (old new : Capture) (text sent noted : List ℕ) : Type 0 where
   pub whole : noted ≡ text
-  pub on : run.GoesOn old new text sent
+  pub on : GoesOn old new text sent
   pub none : new.text.items ≡ []
 
 -- it was recorded, and then the fault came in taking it
@@ -89,17 +88,17 @@ last_feed (c ∷ kept) = 10 ∷ []
 -- so much was heard, written and recorded, and the run goes on; or the input has ended, and its last line was taken
 abbrev pub Turned : Serving → Serving → (input input' out out' noted noted' : Option (List ℕ)) → Bool → Type 0
 Turned old new input input' out out' noted noted' true = Takes input input' (λ bytes.
-    Sends out out' (λ sent. Sends noted noted' (λ recorded. GoesOn old new bytes sent recorded)))
+    Sends out out' (λ sent. Sends noted noted' (λ recorded. ServingGoesOn old new bytes sent recorded)))
 Turned old new input input' out out' noted noted' false = Keeps input input' × IsAtEnd input'
     × Sends out out' (λ sent. Sends noted noted' (λ recorded.
-    GoesOn old new (last_feed old.hearing.kept.items) sent recorded))
+    ServingGoesOn old new (last_feed old.hearing.kept.items) sent recorded))
 
 -- the fault came with these bytes; or at the end of the input
 abbrev pub HaltsWith : Serving → (input input' out out' noted noted' : Option (List ℕ)) → RunFault → Type 0
 HaltsWith old input input' out out' noted noted' fault = Takes input input' (λ bytes.
-    Sends out out' (λ sent. Sends noted noted' (λ recorded. Halts old fault bytes sent recorded)))
+    Sends out out' (λ sent. Sends noted noted' (λ recorded. ServingHalts old fault bytes sent recorded)))
     ⊎ (Keeps input input' × IsAtEnd input' × Sends out out' (λ sent. Sends noted noted' (λ recorded.
-    Halts old fault (last_feed old.hearing.kept.items) sent recorded)))
+    ServingHalts old fault (last_feed old.hearing.kept.items) sent recorded)))
 
 -- the input can't be heard further: nothing was written or recorded
 abbrev pub CannotHear : (input input' out out' noted noted' : Option (List ℕ)) → RunFault → Type 0
@@ -116,4 +115,4 @@ pub record SoFar (setup : RawSetup) (serving : Serving) (input input' out out' n
   pub sent : Appends out out' wrote
   pub recorded : List ℕ
   pub kept : Appends noted noted' recorded
-  pub stands : Stands serving seen wrote recorded
+  pub stands : ServingStands serving seen wrote recorded

@@ -69,7 +69,7 @@ pub record IsLate (setup : RawSetup) (n : ℕ) (lines : List (List ℕ)) (wrote 
 
 -- The first lines of the input were taken, with ticks between them, and none is at fault. A front of what they write was
 -- written. The record has them, and may have a front of those that were to be taken next.
-pub record IsCutShort (setup : RawSetup) (lines : List (List ℕ)) (wrote noted : List ℕ) : Type 0 where
+pub record IsLiveCutShort (setup : RawSetup) (lines : List (List ℕ)) (wrote noted : List ℕ) : Type 0 where
   pub taken : List Taken
   pub next : List Taken
   pub heard : AreFront (lines_of (taken ++ next)) lines
@@ -87,21 +87,21 @@ IsFaulty setup n bus.Late lines wrote noted = IsLate setup n lines wrote noted
 IsFaulty setup n bus.Memory lines wrote noted = ⊥
 
 -- the fault is one of an input of these lines, of which this was written, and that recorded
-abbrev pub StopsOn : RawSetup → RunFault → List (List ℕ) → List ℕ → List ℕ → Type 0
-StopsOn setup (Capture n fault) lines wrote noted = IsFaulty setup n fault lines wrote noted
-StopsOn setup Memory lines wrote noted = IsCutShort setup lines wrote noted
-StopsOn setup Write lines wrote noted = IsCutShort setup lines wrote noted
-StopsOn setup (Otherwise told) lines wrote noted = ⊥
-StopsOn setup (Files wanted given) lines wrote noted = ⊥
-StopsOn setup (Config fault) lines wrote noted = ⊥
-StopsOn setup ConfigLong lines wrote noted = ⊥
-StopsOn setup (Log who fault) lines wrote noted = ⊥
-StopsOn setup (JournalLine n) lines wrote noted = ⊥
-StopsOn setup (FileLong n) lines wrote noted = ⊥
-StopsOn setup JournalFull lines wrote noted = ⊥
-StopsOn setup (RecordsDisagree who) lines wrote noted = ⊥
-StopsOn setup (Read n) lines wrote noted = ⊥
-StopsOn setup (Differs n) lines wrote noted = ⊥
+abbrev pub LiveStopsOn : RawSetup → RunFault → List (List ℕ) → List ℕ → List ℕ → Type 0
+LiveStopsOn setup (Capture n fault) lines wrote noted = IsFaulty setup n fault lines wrote noted
+LiveStopsOn setup Memory lines wrote noted = IsLiveCutShort setup lines wrote noted
+LiveStopsOn setup Write lines wrote noted = IsLiveCutShort setup lines wrote noted
+LiveStopsOn setup (Otherwise told) lines wrote noted = ⊥
+LiveStopsOn setup (Files wanted given) lines wrote noted = ⊥
+LiveStopsOn setup (Config fault) lines wrote noted = ⊥
+LiveStopsOn setup ConfigLong lines wrote noted = ⊥
+LiveStopsOn setup (Log who fault) lines wrote noted = ⊥
+LiveStopsOn setup (JournalLine n) lines wrote noted = ⊥
+LiveStopsOn setup (FileLong n) lines wrote noted = ⊥
+LiveStopsOn setup JournalFull lines wrote noted = ⊥
+LiveStopsOn setup (RecordsDisagree who) lines wrote noted = ⊥
+LiveStopsOn setup (Read n) lines wrote noted = ⊥
+LiveStopsOn setup (Differs n) lines wrote noted = ⊥
 
 -- The whole lines that were heard were taken, with ticks between them, and none is at fault; what they write was
 -- written, and the record has them and nothing else.
@@ -115,10 +115,10 @@ pub record TookSoFar (setup : RawSetup) (seen wrote noted : List ℕ) : Type 0 w
 
 -- The input could not be heard further than this; or the fault is one of what was heard of it, and of the whole of it
 -- where what is left is known.
-abbrev pub StopsAt : RawSetup → Option (List ℕ) → RunFault → List ℕ → List ℕ → List ℕ → Type 0
-StopsAt setup left (Read n) seen wrote noted = (n ≡ 1) × TookSoFar setup seen wrote noted
-StopsAt setup left fault seen wrote noted = StopsOn setup fault (bus_lines seen) wrote noted
-    × IfSome left (λ rest. StopsOn setup fault (bus_lines (seen ++ rest)) wrote noted)
+abbrev pub LiveStopsAt : RawSetup → Option (List ℕ) → RunFault → List ℕ → List ℕ → List ℕ → Type 0
+LiveStopsAt setup left (Read n) seen wrote noted = (n ≡ 1) × TookSoFar setup seen wrote noted
+LiveStopsAt setup left fault seen wrote noted = LiveStopsOn setup fault (bus_lines seen) wrote noted
+    × IfSome left (λ rest. LiveStopsOn setup fault (bus_lines (seen ++ rest)) wrote noted)
 
 -- the fault came when so much had been heard, written and recorded
 pub record Stopped (setup : RawSetup) (input input' out out' noted noted' : Option (List ℕ))
@@ -129,7 +129,7 @@ pub record Stopped (setup : RawSetup) (input input' out out' noted noted' : Opti
   pub sent : Appends out out' wrote
   pub recorded : List ℕ
   pub kept : Appends noted noted' recorded
-  pub stops : StopsAt setup input' fault seen wrote recorded
+  pub stops : LiveStopsAt setup input' fault seen wrote recorded
 
 -- ---- behind the config
 

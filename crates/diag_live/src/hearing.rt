@@ -42,11 +42,11 @@ pub(crate) struct Hearing {
 }
 
 impl Hearing {
-    ghost use Rattle.diag_live.specs.Hearing.{Follows, Hears, IsTooLong, Refuses};
+    ghost use Rattle.diag_live.specs.Hearing.{HasHeard, HeardLines, IsLineTooLong, Refuses};
 
     /// Nothing was heard.
     pub(crate) fn new(alloc: Global) -> Hearing
-        ensures { Follows result [] }
+        ensures { HasHeard result [] }
     {
         Hearing {
             kept: Vec::new(alloc),
@@ -64,7 +64,7 @@ impl Hearing {
     /// Takes a piece, and adds to the capture the lines that it ends. At a line at fault it stops behind those before it.
     pub(crate) fn take_piece(&mut self, piece: &[u8], text: &mut Vec<u8>) -> Result<(), HearFault>
         ensures ok { OnOk result (Grew text.old.items text.new.items
-            (Hears self.old self.new piece.now)) }
+            (HeardLines self.old self.new piece.now)) }
         ensures err { IfErr result (Refuses self.old piece.now text.old.items text.new.items) }
     {
         let mut rest = piece;
@@ -88,7 +88,7 @@ impl Hearing {
     fn take_line(&mut self, bytes: &[u8], text: &mut Vec<u8>) -> Result<(), HearFault>
         requires line { HasNoFeed bytes.now }
         ensures ok { OnOk result (Grew text.old.items text.new.items
-            (Hears self.old self.new (bytes.now ++ 10 ∷ []))) }
+            (HeardLines self.old self.new (bytes.now ++ 10 ∷ []))) }
         ensures kept { OnOk result (self.new.kept.items ≡ []) }
         ensures err { IfErr result
             (Refuses self.old (bytes.now ++ 10 ∷ []) text.old.items text.new.items) }
@@ -112,7 +112,7 @@ impl Hearing {
     fn keep(&mut self, bytes: &[u8]) -> Result<(), HearFault>
         ensures ok { OnOk result (self.new.kept.items ≡ self.old.kept.items ++ bytes.now) }
         ensures lines { self.new.lines ≡ self.old.lines }
-        ensures err { IfErr result (IsTooLong self.old bytes.now) }
+        ensures err { IfErr result (IsLineTooLong self.old bytes.now) }
     {
         if bytes.len() > LINE_LIMIT - self.kept.len() {
             let Some(number) = self.lines.checked_add(1) else {

@@ -27,13 +27,13 @@ pub(crate) struct Serving {
 }
 
 impl Serving {
-    ghost use Rattle.diag_live.specs.Serving.{Delivered, GoesOn, Halts, Stands, Undelivered, last_feed};
+    ghost use Rattle.diag_live.specs.Serving.{Delivered, ServingGoesOn, ServingHalts, ServingStands, Undelivered, last_feed};
 
     /// A run that begins at this moment.
     pub(crate) fn begin(alloc: Global, bus: Bus, now: u64) -> Result<Serving, AllocError>
         requires took { TookLines bus [] }
         requires output { bus.output ≡ Output.Replies }
-        ensures stands { IfOk result (λ serving. Stands serving [] [] []) }
+        ensures stands { IfOk result (λ serving. ServingStands serving [] [] []) }
         ensures setup { IfOk result (λ serving. serving.capture.bus.setup ≡ bus.setup) }
     {
         let capture = Capture::begin(alloc, bus)?;
@@ -63,10 +63,10 @@ impl Serving {
     ) -> Result<(), RunFault>
         ensures ok { OnOk result (Sends (W.contents out.old) (W.contents out.new) (λ sent.
             Sends (R.contents recorder.old) (R.contents recorder.new) (λ noted.
-            GoesOn self.old self.new piece.now sent noted))) }
+            ServingGoesOn self.old self.new piece.now sent noted))) }
         ensures err { IfErr result (λ fault. Sends (W.contents out.old) (W.contents out.new) (λ sent.
             Sends (R.contents recorder.old) (R.contents recorder.new) (λ noted.
-            Halts self.old fault piece.now sent noted))) }
+            ServingHalts self.old fault piece.now sent noted))) }
     {
         let heard = self.hearing.lines();
         let ticks = self.pass(now)?;
@@ -92,10 +92,10 @@ impl Serving {
     ) -> Result<(), RunFault>
         ensures ok { OnOk result (Sends (W.contents out.old) (W.contents out.new) (λ sent.
             Sends (R.contents recorder.old) (R.contents recorder.new) (λ noted.
-            GoesOn self.old self.new (last_feed self.old.hearing.kept.items) sent noted))) }
+            ServingGoesOn self.old self.new (last_feed self.old.hearing.kept.items) sent noted))) }
         ensures err { IfErr result (λ fault. Sends (W.contents out.old) (W.contents out.new) (λ sent.
             Sends (R.contents recorder.old) (R.contents recorder.new) (λ noted.
-            Halts self.old fault (last_feed self.old.hearing.kept.items) sent noted))) }
+            ServingHalts self.old fault (last_feed self.old.hearing.kept.items) sent noted))) }
     {
         if self.hearing.is_begun() {
             self.serve(now, b"\n", out, recorder)

@@ -1,10 +1,11 @@
 //! Writers whose flush fails: what was written is flushed. (The program's own standard output has nothing to flush.)
 
+use crate::devices::CANNOT_WRITE;
 use crate::ending::{End, Trouble, WELL, holds, is_end, is_whole};
+use crate::given::{GIVEN, Given};
 use diag_bus::Output;
-use diag_can::Timing;
-use diag_run::{Job, run_and_tell, run_bus_and_tell};
-use diag_stored::{CONFIG, END, LOG_A, LOG_B, PLAYED};
+use diag_run::{run_and_tell, run_bus_and_tell};
+use diag_stored::CONFIG;
 use std::alloc::{AllocError, Global};
 use std::io;
 use std::io::{Error, ErrorKind, Write};
@@ -46,43 +47,6 @@ impl Write for Flushed {
     }
 }
 
-const CANNOT_WRITE: End<'static> = End {
-    line: b"uds_play: cannot write\n",
-    status: 7,
-};
-
-/// A job, its files, and the text of its run in two parts.
-#[derive(Clone, Copy)]
-struct Given {
-    job: Job,
-    files: &'static [&'static str],
-    text: [&'static str; 2],
-}
-
-const GIVEN: [Given; 3] = [
-    Given {
-        job: Job::Serial {
-            only_journal: false,
-            timing: Timing::Lines,
-        },
-        files: &[LOG_A, LOG_B],
-        text: [PLAYED, END],
-    },
-    Given {
-        job: Job::Play {
-            only_journal: true,
-            timing: Timing::Lines,
-        },
-        files: &["tick 5\n", ""],
-        text: ["diag-journal 1\n", "1 T 5\n"],
-    },
-    Given {
-        job: Job::Replay,
-        files: &["diag-journal 1\n1 P 1083 -\n"],
-        text: ["entries 1\n", END],
-    },
-];
-
 /// Whether a run whose flush at this call fails, 0 for none, ends so when its whole text was written.
 fn ends<T: Threads + Wait + Sync + AllocGlobal>(
     rt: &T,
@@ -97,7 +61,7 @@ fn ends<T: Threads + Wait + Sync + AllocGlobal>(
     let mut out = Flushed::failing(rt.alloc(), fails_at)?;
     let config = CONFIG.as_bytes();
     let outcome = run_and_tell(rt, rt.alloc(), given.job, config, files, &mut out);
-    Ok(is_end(&outcome, end)? && is_whole(out.taken.as_slice(), given.text))
+    Ok(is_end(&outcome, end)? && given.is_written(out.taken.as_slice(), given.len()))
 }
 
 /// The flush of a run fails, and no other is made.

@@ -1,8 +1,6 @@
 //! A serial play that is kept, with its texts, and runs that take no handles: the program keeps no such play, and makes its
 //! runs with threads.
 
-ghost use Rattle.std.specs.Prelude.{◌≡◌, length, IfOk};
-
 use crate::ending::{Trouble, holds, is_whole};
 use crate::flushing::Flushed;
 use diag_can::{Event, LogFault, Timing, read_log};

@@ -11,7 +11,7 @@ use diag_run::Job;
 use std::alloc::{AllocError, Global};
 
 /// What `--version` prints behind the program's name.
-const VERSION: &str = "0.1.0";
+const VERSION: &str = "0.2.0";
 
 /// What the words ask for.
 #[derive(Drop)]

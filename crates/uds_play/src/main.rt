@@ -44,6 +44,9 @@ fn main(rt: HostRuntime) -> ExitCode {
         Ok(words) => match words.collect::<Vec<String>>(rt.alloc()) {
             Err(AllocError) => refuse(&rt, &Refusal::Memory),
             Ok(words) => {
+                // A thread that nobody waits for owns its runtime, and only `main` has more of it than a reference: so it
+                // starts here, by the command's name alone, before the words are read. Where these are refused it ends
+                // with the program.
                 let pieces = if is_live(words.as_slice()) {
                     let Ok((to, pieces)) = bounded(rt.alloc(), PIECES) else {
                         return refuse(&rt, &Refusal::Memory);
@@ -177,8 +180,9 @@ fn run_live<R: Print + Eprint + Files + Input + AllocGlobal + Clock + Wait>(
         Ok(record) => record,
         Err(e) => return refuse_record(rt, e.kind()),
     };
-    let Ok(mut bench) = StandardBench::start(rt, pieces) else {
-        return refuse(rt, &Refusal::Memory);
+    let mut bench = match StandardBench::start(rt, pieces) {
+        Ok(bench) => bench,
+        Err(e) => return refuse_clock(rt, e.kind()),
     };
     let mut out = io::writer(rt);
     let outcome = serve(rt.alloc(), setup, &mut bench, &mut out, &mut record);
@@ -227,6 +231,14 @@ fn refuse_record(rt: &(impl Print + Eprint), why: ErrorKind) -> ExitCode {
             let _ = eprintln!(rt; "uds_play: cannot write");
             ExitCode::from(7)
         }
+    }
+}
+
+/// Prints that the time of the input can't be read, and says the status.
+fn refuse_clock(rt: &(impl Print + Eprint + AllocGlobal), why: ErrorKind) -> ExitCode {
+    match why {
+        ErrorKind::OutOfMemory => refuse(rt, &Refusal::Memory),
+        _ => tell(rt, &stopped(rt.alloc(), &RunFault::Read(1))),
     }
 }
 

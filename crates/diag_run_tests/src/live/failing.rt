@@ -1,7 +1,8 @@
 //! Benches and writers that fail.
 
-use super::given::{Comes, Full, Pipe, Script, Step, serves};
-use crate::ending::{End, Trouble, holds, holds_at, is_end};
+use super::given::{Comes, Script, Step, serves};
+use crate::devices::{CANNOT_WRITE, Full, Pipe, cannot_read};
+use crate::ending::{Trouble, holds, holds_at, is_end};
 use diag_live::run_live_and_tell;
 use diag_stored::CONFIG;
 use std::alloc::{AllocError, Global};
@@ -26,20 +27,10 @@ const RECORD: &str = "(0.000000) can0 7E0#023E00\ntick 50\n(0.000000) can0 7E1#0
 const TEXT: &str =
     "(0000000000.000000) A 7E8#027E00CCCCCCCCCC\n(0000000000.050000) B 7E9#027E00CCCCCCCCCC\n";
 
-const CANNOT_READ: End<'static> = End {
-    line: b"uds_play: cannot read file 1\n",
-    status: 7,
-};
-
-const CANNOT_WRITE: End<'static> = End {
-    line: b"uds_play: cannot write\n",
-    status: 7,
-};
-
 /// An input that fails is told, behind what was drawn.
 #[test]
 fn input_that_fails(rt: HostRuntime) -> Result<(), Trouble> {
-    holds(serves(rt.alloc(), &STEPS, CANNOT_READ, RECORD, TEXT))
+    holds(serves(rt.alloc(), &STEPS, cannot_read(1), RECORD, TEXT))
 }
 
 /// The bytes that went to each of two writers of so much room, and how the run ended.

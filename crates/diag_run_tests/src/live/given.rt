@@ -1,13 +1,12 @@
-//! What the tests run on: a script of what is heard and when, a writer that fails, and how a run ended.
+//! What the tests run on: a script of what is heard and when, and whether it is served.
 
+use crate::devices::Pipe;
 use crate::ending::{End, WELL, is_end};
 use diag_bus::Output;
 use diag_live::{Bench, Heard, run_live_and_tell};
 use diag_run::run_bus_and_tell;
 use diag_stored::CONFIG;
 use std::alloc::{AllocError, Global};
-use std::io;
-use std::io::{Error, ErrorKind, Write};
 
 /// What comes at a moment of the clock, in milliseconds.
 #[derive(Clone, Copy)]
@@ -66,60 +65,6 @@ impl Bench for Script<'_> {
 
     fn now(&mut self) -> u64 {
         self.clock
-    }
-}
-
-/// What a write does for which there is no room.
-#[derive(Clone, Copy, PartialEq, Eq)]
-pub enum Full {
-    /// It fails.
-    Fails,
-    /// It takes no byte.
-    TakesNone,
-}
-
-/// A writer that takes so many bytes.
-#[derive(Drop)]
-pub struct Pipe {
-    /// What it took.
-    pub taken: Vec<u8>,
-    /// How many bytes it takes.
-    pub room: usize,
-    /// What a write does behind them.
-    pub full: Full,
-}
-
-/// The bytes for which a writer has memory from its start, so that a write that fails isn't want of memory.
-const ROOM_AT_FIRST: usize = 4096;
-
-impl Pipe {
-    /// A writer of so much room.
-    pub fn of(alloc: Global, room: usize) -> Result<Pipe, AllocError> {
-        Ok(Pipe {
-            taken: Vec::with_capacity(alloc, ROOM_AT_FIRST)?,
-            room,
-            full: Full::Fails,
-        })
-    }
-
-    /// A writer that takes all.
-    pub fn open(alloc: Global) -> Result<Pipe, AllocError> {
-        Pipe::of(alloc, usize::MAX)
-    }
-}
-
-impl Write for Pipe {
-    fn write(&mut self, buf: &[u8]) -> io::Result<usize> {
-        let count = buf.len().min(self.room.saturating_sub(self.taken.len()));
-        if count == 0 && self.full == Full::Fails {
-            return Err(Error::from(ErrorKind::BrokenPipe));
-        }
-        self.taken.extend_from_slice(&buf[..count])?;
-        Ok(count)
-    }
-
-    fn flush(&mut self) -> io::Result<()> {
-        Ok(())
     }
 }
 
