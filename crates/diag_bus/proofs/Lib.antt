@@ -11,6 +11,7 @@ pub mod Examples
 pub mod Meaning
 pub mod Order
 pub mod Paces
+pub mod Passing
 pub mod Recordings
 pub mod Runs
 pub mod Stamps

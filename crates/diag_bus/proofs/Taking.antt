@@ -8,7 +8,7 @@ use Rattle.diag_can.specs.declared.frame.Event.TheVariants as event
 use Rattle.diag_tp.specs.declared.sent.Sent.{Sent}
 use Rattle.diag_setup.specs.declared.raw.RawSetup.{RawSetup}
 use Rattle.diag_world.specs.Server.{ServerView, closing_time, each_of, server_of}
-use Rattle.diag_bus.specs.Batch.{AreSentBy, BusStands, Gave, GoesOn, HasTime, IsBy, SaidBelow, SameShape, SentIn, StartsBelow, TookTime, added, lists_of, moment_end}
+use Rattle.diag_bus.specs.Batch.{AreSentBy, BusStands, Gave, GoesOn, HasTime, IsBy, IsReady, SaidBelow, SameShape, SentIn, StartsBelow, TookTime, added, lists_of, moment_end}
 use Rattle.diag_bus.specs.Bus.{AnswersLine, AreSound, BusState, Judges, TookLine, TookLines}
 use Rattle.diag_bus.specs.Comparing.{DrawnBy, TakesLine}
 use Rattle.diag_bus.specs.Events.{fault_said, line_fault, said_gives, span_said}
@@ -147,8 +147,12 @@ module _ (setup : RawSetup) (old begun : MidLine) (clock : Clock) (compared : Co
   begun_by = subst (λ (s : ServerView). IsBy s clock.time) (sym server) sound.3
 
   -- there is time for what it says
-  pub has_time : HasTime begun.server span
+  has_time : HasTime begun.server span
   has_time = record { time = clock.time; by = begun_by; early = early }
+
+  -- the line that begins is ready for it
+  pub is_ready : SameShape old begun → IsReady begun (length setup.testers) span
+  is_ready shape = record { in_setup = shape.links ∙ sound.0; lists = shape.lists ∙ sound.1; early = has_time; rest = shape.rest sound.6 }
 
   -- and what that draws is sent in time
   pub sent_in_time : (taken : MidLine) → ((i : ℕ) (frames : List Sent) → slice_get (lists_of begun) i ≡ Some frames → frames ≡ []) → SentIn begun taken span

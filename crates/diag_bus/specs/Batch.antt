@@ -1,5 +1,5 @@
 -- What the server stands for in the midst of a line, beside what the line has drawn so far; and between two lines.
-use Rattle.std.specs.Prelude.{◌≡◌, ◌≤◌, ◌<◌, ◌⊎◌, ◌^◌, ℕ, ◌+◌, IfSome, List, [], ◌∷◌, ◌++◌, length, map, Option, Some, None, Ok, slice_get}
+use Rattle.std.specs.Prelude.{◌≡◌, ◌≤◌, ◌<◌, ◌⊎◌, ◌^◌, ℕ, ◌+◌, IfSome, OnOk, List, [], ◌∷◌, ◌++◌, length, map, Option, Some, None, Result, Ok, slice_get}
 use Rattle.std.specs.List.{All}
 use Rattle.diag_can.specs.declared.bus.BusLine.{BusLine}
 use Rattle.diag_can.specs.declared.bus.BusLine.TheVariants.{Empty, Ticks, Stamped}
@@ -134,6 +134,21 @@ pub record SameShape (old new : MidLine) : Type 0 where
   pub output : new.output ≡ old.output
   pub filled : AreFilled old.filled (lists_of old) → AreFilled new.filled (lists_of new)
   pub rest : IsRest old.server old.rest → IsRest new.server new.rest
+
+-- the line is that of so many testers, so much may pass, and for how long no link does anything is known
+pub record IsReady (line : MidLine) (testers span : ℕ) : Type 0 where
+  pub in_setup : length line.server.links ≡ testers
+  pub lists : length line.drawn.items ≡ testers
+  pub early : HasTime line.server span
+  pub rest : IsRest line.server line.rest
+
+-- the server was given these events, by which at most so much passed, or those of them that there was memory for
+pub record Passed {A E : Type 0} (old new : MidLine) (span : ℕ) (more : List (ℕ × Event))
+    (result : Result A E) : Type 0 where
+  pub ok : OnOk result (Gave old new more)
+  pub shape : SameShape old new
+  pub pace : TookTime old.server new.server span
+  pub sent : OnOk result (SentIn old new span)
 
 -- ---- moments
 

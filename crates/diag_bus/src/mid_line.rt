@@ -46,7 +46,7 @@ pub struct MidLine {
 }
 
 impl MidLine {
-    ghost use Rattle.diag_bus.specs.Batch.{AreSentBy, Gave, HasTime, IsEarly, IsRest, Lasts, OneSentIn, OneWentOn, SameShape, SentIn, StartsBelow, TookTime, added, lists_of, moment_end};
+    ghost use Rattle.diag_bus.specs.Batch.{AreSentBy, Gave, HasTime, IsEarly, IsReady, IsRest, Lasts, OneSentIn, OneWentOn, Passed, SameShape, SentIn, StartsBelow, TookTime, added, lists_of, moment_end};
 
     /// Begins a line: nothing was drawn and nothing written.
     pub fn begin(&mut self)
@@ -180,15 +180,9 @@ impl MidLine {
     /// Gives the server so many ticks of each tester, in order.
     #[inline(always)]
     pub fn give_each(&mut self, setup: &Setup, count: TickCount) -> Result<(), AllocError>
-        requires in_setup { length self.old.server.links ≡ length setup.now.testers }
-        requires lists { length self.old.drawn.items ≡ length setup.now.testers }
-        requires early { HasTime self.old.server count }
-        requires rest { IsRest self.old.server self.old.rest }
-        ensures ok { OnOk result
-            (Gave self.old self.new (each_of (length setup.now.testers) (AnEvent.Ticks count))) }
-        ensures shape { SameShape self.old self.new }
-        ensures pace { TookTime self.old.server self.new.server count }
-        ensures sent { OnOk result (SentIn self.old self.new count) }
+        requires { IsReady self.old (length setup.now.testers) count }
+        ensures { Passed self.old self.new count
+            (each_of (length setup.now.testers) (AnEvent.Ticks count)) result }
     {
         if let Some(rest) = self.rest_after(count) {
             self.server.pass_quietly(setup, count);
@@ -201,15 +195,9 @@ impl MidLine {
     /// Lets so many milliseconds pass for each tester.
     #[inline(always)]
     fn pass(&mut self, setup: &Setup, ms: u64) -> Result<(), AllocError>
-        requires in_setup { length self.old.server.links ≡ length setup.now.testers }
-        requires lists { length self.old.drawn.items ≡ length setup.now.testers }
-        requires early { HasTime self.old.server ms }
-        requires rest { IsRest self.old.server self.old.rest }
-        ensures ok { OnOk result (Gave self.old self.new
-            (flat_map (each_of (length setup.now.testers)) (waited ms))) }
-        ensures shape { SameShape self.old self.new }
-        ensures pace { TookTime self.old.server self.new.server ms }
-        ensures sent { OnOk result (SentIn self.old self.new ms) }
+        requires { IsReady self.old (length setup.now.testers) ms }
+        ensures { Passed self.old self.new ms
+            (flat_map (each_of (length setup.now.testers)) (waited ms)) result }
     {
         if ms >= LONGEST_COUNT {
             return self.pass_parts(setup, ms);
@@ -223,15 +211,9 @@ impl MidLine {
     /// The same by the longest count each, and last the rest.
     #[inline(never)]
     fn pass_parts(&mut self, setup: &Setup, ms: u64) -> Result<(), AllocError>
-        requires in_setup { length self.old.server.links ≡ length setup.now.testers }
-        requires lists { length self.old.drawn.items ≡ length setup.now.testers }
-        requires early { HasTime self.old.server ms }
-        requires rest { IsRest self.old.server self.old.rest }
-        ensures ok { OnOk result (Gave self.old self.new
-            (flat_map (each_of (length setup.now.testers)) (waited ms))) }
-        ensures shape { SameShape self.old self.new }
-        ensures pace { TookTime self.old.server self.new.server ms }
-        ensures sent { OnOk result (SentIn self.old self.new ms) }
+        requires { IsReady self.old (length setup.now.testers) ms }
+        ensures { Passed self.old self.new ms
+            (flat_map (each_of (length setup.now.testers)) (waited ms)) result }
     {
         for part in 0..ms / LONGEST_COUNT {
             self.give_each(setup, TickCount::longest())?;
@@ -254,11 +236,7 @@ impl MidLine {
         requires lists { length self.old.drawn.items ≡ length setup.now.testers }
         requires owner { (id : ℕ) × IsOwner setup.now id (length setup.now.testers) owner }
         requires early { HasTime self.old.server 0 }
-        ensures ok { OnOk result (Gave self.old self.new
-            (given (length setup.now.testers) owner bytes)) }
-        ensures shape { SameShape self.old self.new }
-        ensures pace { TookTime self.old.server self.new.server 0 }
-        ensures sent { OnOk result (SentIn self.old self.new 0) }
+        ensures { Passed self.old self.new 0 (given (length setup.now.testers) owner bytes) result }
     {
         match owner {
             Owner::Nobody => Ok(()),
@@ -301,19 +279,12 @@ impl MidLine {
         id: CanId,
         at: usize,
     ) -> Result<(), AllocError>
-        requires in_setup { length self.old.server.links ≡ length setup.now.testers }
-        requires lists { length self.old.drawn.items ≡ length setup.now.testers }
+        requires ready { IsReady self.old (length setup.now.testers) ms }
         requires ids { AreRequestsOf setup.now ids.now }
-        requires early { HasTime self.old.server ms }
-        requires rest { IsRest self.old.server self.old.rest }
         requires usual { IsUsual line.now id at }
-        ensures ok { OnOk result (Gave self.old self.new
-            (flat_map (each_of (length setup.now.testers)) (waited ms)
+        ensures { Passed self.old self.new ms (flat_map (each_of (length setup.now.testers)) (waited ms)
             ++ flat_map (frame_to setup.now (Some (record { id = id; bytes = usual_bytes line.now at })))
-            (counted_from 1 (length setup.now.testers)))) }
-        ensures shape { SameShape self.old self.new }
-        ensures pace { TookTime self.old.server self.new.server ms }
-        ensures sent { OnOk result (SentIn self.old self.new ms) }
+            (counted_from 1 (length setup.now.testers))) result }
     {
         self.pass(setup, ms)?;
         match ids.owner(id) {
@@ -330,17 +301,10 @@ impl MidLine {
         reference: Option<u64>,
         said: &BusLine,
     ) -> Result<(), AllocError>
-        requires in_setup { length self.old.server.links ≡ length setup.now.testers }
-        requires lists { length self.old.drawn.items ≡ length setup.now.testers }
+        requires ready { IsReady self.old (length setup.now.testers) (span_said reference (Ok said.now)) }
         requires ids { AreRequestsOf setup.now ids.now }
-        requires early { HasTime self.old.server (span_said reference (Ok said.now)) }
-        requires rest { IsRest self.old.server self.old.rest }
-        ensures ok { OnOk result (Gave self.old self.new (said_gives setup.now reference said.now)) }
-        ensures shape { SameShape self.old self.new }
-        ensures pace { TookTime self.old.server self.new.server
-            (span_said reference (Ok said.now)) }
-        ensures sent { OnOk result (SentIn self.old self.new
-            (span_said reference (Ok said.now))) }
+        ensures { Passed self.old self.new (span_said reference (Ok said.now))
+            (said_gives setup.now reference said.now) result }
     {
         match said {
             BusLine::Empty => Ok(()),

@@ -2,7 +2,7 @@ use Rattle.std.proofs.Common.{◌≡◌, ◌∙◌, length, refl, arith}
 use Rattle.diag_bus.specs.Batch.{moment_end}
 use Rattle.diag_bus.specs.Bus.{AreSound}
 use Rattle.diag_bus.specs.declared.comparing.Comparisons.{Comparisons}
-use Rattle.diag_bus.proofs.Taking.{has_time, kept_written, sent_in_time, sound_taken, took_line}
+use Rattle.diag_bus.proofs.Taking.{is_ready, kept_written, sent_in_time, sound_taken, took_line}
 use Rattle.diag_bus.proofs.Stamps.{bus_line_low}
 use Rattle.diag_bus.proofs.bus.Bus.take_said.Goals as goal
 use Rattle.diag_bus.proofs.bus.Bus.take_said.Goals.{After-take_said}
@@ -20,12 +20,9 @@ returns c =
 
 -- ---- the clocks
 
-pub take_said-requires-clause-early : goal.take_said-requires-clause-early
-take_said-requires-clause-early c = has_time c.self.inside.setup c.self.inside.line c.begin.new.self c.self.inside.clock c.self.inside.compared
-    c.self.invariant.0 c.begin.ensures.server _ (omega (arith, c.in_ok-time.ensures.time, c.in_ok-time.ensures.early))
-
-pub take_said-requires-clause-rest : goal.take_said-requires-clause-rest
-take_said-requires-clause-rest c = c.begin.ensures.shape.rest c.self.invariant.0.6
+pub take_said-requires-clause-ready : goal.take_said-requires-clause-ready
+take_said-requires-clause-ready c = is_ready c.self.inside.setup c.self.inside.line c.begin.new.self c.self.inside.clock c.self.inside.compared
+    c.self.invariant.0 c.begin.ensures.server _ (omega (arith, c.in_ok-time.ensures.time, c.in_ok-time.ensures.early)) c.begin.ensures.shape
 
 -- what holds of the bus's parts behind it, whatever was compared
 sound : (c : After-take_said) (compared' : Comparisons) → length compared'.testers.items ≡ length c.self.inside.compared.testers.items

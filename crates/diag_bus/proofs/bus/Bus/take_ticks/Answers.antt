@@ -1,7 +1,7 @@
 use Rattle.std.proofs.Common.{refl, arith}
 use Rattle.diag_bus.specs.Batch.{moment_end}
 use Rattle.diag_bus.specs.Bus.{AreSound}
-use Rattle.diag_bus.proofs.Taking.{has_time, judged_not, kept_written, sent_in_time, sound_taken, ticks_gave, took_line}
+use Rattle.diag_bus.proofs.Taking.{is_ready, judged_not, kept_written, sent_in_time, sound_taken, ticks_gave, took_line}
 use Rattle.diag_bus.proofs.bus.Bus.take_ticks.Goals as goal
 use Rattle.diag_bus.proofs.bus.Bus.take_ticks.Goals.{After-give_each}
 
@@ -18,12 +18,9 @@ returns c =
 
 -- ---- the clocks
 
-pub give_each-requires-clause-early : goal.give_each-requires-clause-early
-give_each-requires-clause-early c = has_time c.self.inside.setup c.self.inside.line c.begin.new.self c.self.inside.clock c.self.inside.compared
-    c.self.invariant.0 c.begin.ensures.server _ (omega (arith, c.in_ok-time.ensures.time, c.in_ok-time.ensures.early))
-
-pub give_each-requires-clause-rest : goal.give_each-requires-clause-rest
-give_each-requires-clause-rest c = c.begin.ensures.shape.rest c.self.invariant.0.6
+pub give_each-requires : goal.give_each-requires
+give_each-requires c = is_ready c.self.inside.setup c.self.inside.line c.begin.new.self c.self.inside.clock c.self.inside.compared
+    c.self.invariant.0 c.begin.ensures.server _ (omega (arith, c.in_ok-time.ensures.time, c.in_ok-time.ensures.early)) c.begin.ensures.shape
 
 -- what holds of the bus's parts behind it
 sound : (c : After-give_each) → AreSound c.self.inside.setup c.give_each.new.self c.self.inside.compared c.go_on_by.new.self

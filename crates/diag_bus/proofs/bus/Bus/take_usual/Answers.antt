@@ -3,7 +3,7 @@ use Rattle.diag_can.specs.Usual.{usual_said}
 use Rattle.diag_bus.specs.Batch.{moment_end}
 use Rattle.diag_bus.specs.Bus.{AreSound}
 use Rattle.diag_bus.proofs.Stamps.{bus_line_low}
-use Rattle.diag_bus.proofs.Taking.{has_time, judged_not, kept_written, sent_in_time, took_line}
+use Rattle.diag_bus.proofs.Taking.{is_ready, judged_not, kept_written, sent_in_time, took_line}
 use Rattle.diag_bus.proofs.Usual.{sound_usual, usual_gave, usual_on}
 use Rattle.diag_bus.proofs.bus.Bus.take_usual.Goals as goal
 use Rattle.diag_bus.proofs.bus.Bus.take_usual.Goals.{After-take_usual}
@@ -26,12 +26,10 @@ returns c =
 
 -- ---- the clocks
 
-pub take_usual-requires-clause-early : goal.take_usual-requires-clause-early
-take_usual-requires-clause-early c = has_time c.self.inside.setup c.self.inside.line c.begin.new.self c.self.inside.clock c.self.inside.compared
+pub take_usual-requires-clause-ready : goal.take_usual-requires-clause-ready
+take_usual-requires-clause-ready c = is_ready c.self.inside.setup c.self.inside.line c.begin.new.self c.self.inside.clock c.self.inside.compared
     c.self.invariant.0 c.begin.ensures.server _ (omega (arith, c.in_ok-moment.ensures.time, c.in_ok-moment.ensures.early, c.silence-span.ensures))
-
-pub take_usual-requires-clause-rest : goal.take_usual-requires-clause-rest
-take_usual-requires-clause-rest c = c.begin.ensures.shape.rest c.self.invariant.0.6
+    c.begin.ensures.shape
 
 -- what holds of the bus's parts behind it
 sound : (c : After-take_usual) → AreSound c.self.inside.setup c.take_usual.new.self c.self.inside.compared c.go_on_at.new.self

@@ -8,9 +8,10 @@ give_to_each-requires-clause-early c =
     let time = c.requires.early in
     record { time = time.time; by = time.by; early = omega (arith, time.early) }
 
-pub returns-clause-pace : goal.returns-clause-pace
-returns-clause-pace c = c.give_to_each.ensures.pace c.args.count (ticks_time c.args.count)
-
-pub returns-clause-sent : goal.returns-clause-sent
-returns-clause-sent c =
-    on_ok _ _ c.give_to_each.result (λ sent. sent c.args.count (ticks_time c.args.count)) c.give_to_each.ensures.sent
+pub returns : goal.returns
+returns c = record {
+  ok = c.give_to_each.ensures.ok;
+  shape = c.give_to_each.ensures.shape;
+  pace = c.give_to_each.ensures.pace c.args.count (ticks_time c.args.count);
+  sent = on_ok _ _ c.give_to_each.result (λ sent. sent c.args.count (ticks_time c.args.count)) c.give_to_each.ensures.sent;
+}

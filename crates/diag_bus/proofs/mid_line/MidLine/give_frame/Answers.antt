@@ -1,20 +1,16 @@
-use Rattle.std.proofs.Common.{◌-◌, length, subst, sym, arith}
+use Rattle.std.proofs.Common.{◌-◌, length, refl, ap, subst, sym, arith}
 use Rattle.diag_world.proofs.Worlds.{on_ok}
 use Rattle.diag_bus.specs.Batch.{Gave}
 use Rattle.diag_bus.specs.Requests.{IsOwner, given}
 use Rattle.diag_bus.specs.declared.request_ids.Owner.{Owner}
 use Rattle.diag_bus.specs.declared.request_ids.Owner.TheVariants.{Tester}
-use Rattle.diag_bus.proofs.Batches.{gave_none}
 use Rattle.diag_bus.proofs.Paces.{sent_none, sent_then, took_none, took_one}
+use Rattle.diag_bus.proofs.Passing.{passed_as, passed_none}
 use Rattle.diag_bus.proofs.mid_line.MidLine.give_frame.Goals as goal
 
-pub returns-in-Nobody-clause-ok : goal.returns-in-Nobody-clause-ok
-returns-in-Nobody-clause-ok c =
-    let n = length c.args.setup.now.testers in
-    subst (λ (o : Owner). Gave c.args.self.now c.args.self.now (given n o c.args.bytes)) (sym c.in-Nobody.is) (gave_none c.args.self.now)
-
-pub returns-in-Nobody-clause-pace : goal.returns-in-Nobody-clause-pace
-returns-in-Nobody-clause-pace c = took_none c.args.self.now.server 0
+pub returns-in-Nobody : goal.returns-in-Nobody
+returns-in-Nobody c =
+    passed_as refl (ap (λ o. given (length c.args.setup.now.testers) o c.args.bytes) (sym c.in-Nobody.is)) (passed_none c.args.self.now 0)
 
 pub give-requires-clause-in_setup : goal.give-requires-clause-in_setup
 give-requires-clause-in_setup c =
@@ -29,33 +25,28 @@ give-requires-clause-early c = λ link at.
     let low = time.by (c.in-Tester.who - 1) link at in
     omega (arith, low, time.early)
 
-pub returns-in-Tester-clause-ok : goal.returns-in-Tester-clause-ok
-returns-in-Tester-clause-ok c =
+pub returns-in-Tester : goal.returns-in-Tester
+returns-in-Tester c =
     let n = length c.args.setup.now.testers in
-    on_ok _ _ c.give.result (λ gave.
-    subst (λ (o : Owner). Gave c.args.self.now c.give.new.self (given n o c.args.bytes)) (sym c.in-Tester.is) gave)
-    c.give.ensures.ok
+    let old = c.args.self.now in
+    let none = took_none old.server 0 in
+    record {
+      ok = on_ok _ _ c.give.result (λ gave. subst (λ (o : Owner). Gave old c.give.new.self (given n o c.args.bytes)) (sym c.in-Tester.is) gave)
+          c.give.ensures.ok;
+      shape = c.give.ensures.shape;
+      pace = took_one old.server old.server c.give.new.self.server 0 (c.in-Tester.who - 1) 0 0 (omega arith) none
+          (c.give.ensures.pace 0 (λ now. omega arith));
+      sent = on_ok _ _ c.give.result (λ sent.
+          sent_then old old c.give.new.self 0 (c.in-Tester.who - 1) 0 0 (omega arith) none (sent_none old 0) (sent 0 (λ now. omega arith)))
+          c.give.ensures.sent;
+    }
 
-pub returns-in-Tester-clause-pace : goal.returns-in-Tester-clause-pace
-returns-in-Tester-clause-pace c = took_one c.args.self.now.server c.args.self.now.server c.give.new.self.server 0 (c.in-Tester.who - 1) 0 0
-    (omega arith) (took_none c.args.self.now.server 0) (c.give.ensures.pace 0 (λ now. omega arith))
-
-pub returns-in-Tester-clause-sent : goal.returns-in-Tester-clause-sent
-returns-in-Tester-clause-sent c =
-    on_ok _ _ c.give.result (λ sent.
-    sent_then c.args.self.now c.args.self.now c.give.new.self 0 (c.in-Tester.who - 1) 0 0 (omega arith) (took_none c.args.self.now.server 0)
-    (sent_none c.args.self.now 0) (sent 0 (λ now. omega arith)))
-    c.give.ensures.sent
-
-pub returns-in-Each-clause-ok : goal.returns-in-Each-clause-ok
-returns-in-Each-clause-ok c =
+pub returns-in-Each : goal.returns-in-Each
+returns-in-Each c =
     let n = length c.args.setup.now.testers in
-    on_ok _ _ c.give_to_each.result (λ gave.
-    subst (λ (o : Owner). Gave c.args.self.now c.give_to_each.new.self (given n o c.args.bytes)) (sym c.in-Each.is) gave)
-    c.give_to_each.ensures.ok
-
-pub returns-in-Each-clause-pace : goal.returns-in-Each-clause-pace
-returns-in-Each-clause-pace c = c.give_to_each.ensures.pace 0 (λ now. omega arith)
-
-pub returns-in-Each-clause-sent : goal.returns-in-Each-clause-sent
-returns-in-Each-clause-sent c = on_ok _ _ c.give_to_each.result (λ sent. sent 0 (λ now. omega arith)) c.give_to_each.ensures.sent
+    passed_as refl (ap (λ o. given n o c.args.bytes) (sym c.in-Each.is)) (record {
+      ok = c.give_to_each.ensures.ok;
+      shape = c.give_to_each.ensures.shape;
+      pace = c.give_to_each.ensures.pace 0 (λ now. omega arith);
+      sent = on_ok _ _ c.give_to_each.result (λ sent. sent 0 (λ now. omega arith)) c.give_to_each.ensures.sent;
+    })

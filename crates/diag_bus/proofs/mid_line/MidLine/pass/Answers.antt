@@ -1,32 +1,20 @@
-use Rattle.std.proofs.Common.{◌≡◌, ◌≤◌, length, refl, subst, sym, arith}
+use Rattle.std.proofs.Common.{◌≡◌, ◌≤◌, length, refl, ap, sym, arith}
 use Rattle.std.proofs.lemmas.Bool.{false≢true}
 use Rattle.std.specs.List.{flat_map}
 use Rattle.diag_can.specs.Log.{waited}
-use Rattle.diag_world.proofs.Worlds.{on_ok}
 use Rattle.diag_world.specs.Server.{each_of}
-use Rattle.diag_bus.specs.Batch.{Gave, SentIn, TookTime}
-use Rattle.diag_bus.proofs.Batches.{gave_none, waited_few}
+use Rattle.diag_bus.proofs.Batches.{waited_few}
+use Rattle.diag_bus.proofs.Passing.{passed_as, passed_none}
 use Rattle.diag_bus.proofs.mid_line.MidLine.pass.Goals as goal
 
-pub returns-in-None-clause-ok : goal.returns-in-None-clause-ok
-returns-in-None-clause-ok c =
-    let self = c.args.self.now in
+pub returns-in-None : goal.returns-in-None
+returns-in-None c =
     let no : 1 ≤ c.args.ms → ⊥ = λ some. false≢true (c.in-None.ensures.found.1 (omega (arith, some), omega arith)) in
     let none : c.args.ms ≡ 0 = omega (arith, no) in
-    subst (λ ms. Gave self self (flat_map (each_of (length c.args.setup.now.testers)) (waited ms))) (sym none) (gave_none self)
+    passed_as refl (ap (λ ms. flat_map (each_of (length c.args.setup.now.testers)) (waited ms)) (sym none)) (passed_none c.args.self.now c.args.ms)
 
-pub returns-in-Some-clause-ok : goal.returns-in-Some-clause-ok
-returns-in-Some-clause-ok c =
+pub returns-in-Some : goal.returns-in-Some
+returns-in-Some c =
     let some : 1 ≤ c.args.ms = (c.in-Some.ensures.found.0 refl).0 in
-    on_ok _ _ c.give_each.result (λ gave.
-    subst (λ L. Gave c.args.self.now c.give_each.new.self L)
-    (waited_few (length c.args.setup.now.testers) c.args.ms c.in-Some.count c.in-Some.ensures.value some c.if-ms-ge-LONGEST_COUNT.false) gave)
-    c.give_each.ensures.ok
-
-pub returns-in-Some-clause-pace : goal.returns-in-Some-clause-pace
-returns-in-Some-clause-pace c =
-    subst (TookTime c.args.self.now.server c.give_each.new.self.server) c.in-Some.ensures.value c.give_each.ensures.pace
-
-pub returns-in-Some-clause-sent : goal.returns-in-Some-clause-sent
-returns-in-Some-clause-sent c =
-    on_ok _ _ c.give_each.result (λ sent. subst (SentIn c.args.self.now c.give_each.new.self) c.in-Some.ensures.value sent) c.give_each.ensures.sent
+    passed_as c.in-Some.ensures.value (waited_few (length c.args.setup.now.testers) c.args.ms c.in-Some.count c.in-Some.ensures.value some
+    c.if-ms-ge-LONGEST_COUNT.false) c.give_each.ensures
