@@ -8,8 +8,8 @@
 # A test must end with the error of a refused allocation, or pass where it had no more need of the memory. NotMet is such
 # an error, too: a thread that found no memory at its start left its work to its caller's thread.
 # A request may fall in any thread; how many there are may then be another from run to run.
-# A test that makes many requests, or that takes long, has 200 of them refused, evenly chosen, or as many as fit in
-# REFUSE_TEST_SECONDS (default 3). REFUSE_SECONDS (default 600) bounds the runs of the program, and each suite anew; what
+# A test that makes more than 2,500 requests has as many of them refused, evenly chosen, as fit in REFUSE_TEST_SECONDS
+# (default 3). REFUSE_SECONDS (default 600) bounds the runs of the program, and each suite anew; what
 # was not reached has failed. The last line is 'N passed, M failed'.
 set -uo pipefail
 cd "$(dirname "$0")/.." || exit 2
@@ -88,8 +88,7 @@ sweep_test() {
   total=$asked
   if [ "$status" != 0 ]; then bad "$name: status $status without a refusal"; return; fi
   most=$((${REFUSE_TEST_SECONDS:-3} * 1000 / took + 1))
-  [ "$most" -gt 200 ] && most=200
-  [ "$total" -gt "$most" ] && step=$((total / most + 1))
+  [ "$total" -gt 2500 ] && [ "$total" -gt "$most" ] && step=$((total / most + 1))
   while [ "$n" -le "$total" ]; do
     if late; then bad "$name: no time after $((n - 1)) requests"; return; fi
     refused "$n" "$program" "$name"
