@@ -1,6 +1,15 @@
-use Rattle.std.proofs.Common.{◌++◌, ◌∙◌, take, append_assoc, arith, length-append, subst}
+use Rattle.std.proofs.Common.{◌++◌, ◌∙◌, take, append_assoc, arith, length-append, rules, subst}
 use Rattle.std.proofs.KnownBytes.{Consumes-trans}
 use Rattle.diag_text.proofs.io.read_into.Goals as goal
+
+pub returns-then-count-eq0-clause-read : goal.returns-then-count-eq0-clause-read
+returns-then-count-eq0-clause-read g c = search rules
+
+pub returns-then-count-eq0-clause-end : goal.returns-then-count-eq0-clause-end
+returns-then-count-eq0-clause-end g c = search rules
+
+pub returns-then-count-eq0-clause-refused : goal.returns-then-count-eq0-clause-refused
+returns-then-count-eq0-clause-refused g c = search rules
 
 pub returns-then-count-eq0-clause-aim : goal.returns-then-count-eq0-clause-aim
 returns-then-count-eq0-clause-aim g c = c.loop-turn.invariant.5
@@ -13,6 +22,9 @@ returns-then-count-limit-clause-seen g c _ =
       Consumes-trans _ _ _ so_far.0 piece so_far.1 c.in-Ok.ensures.bytes.0,
       omega (arith, length-append so_far.0 piece, c.in-Ok.ensures.bound.1, c.if-count-limit.true, so_far.2),
     )
+
+pub returns-then-count-limit-clause-refused : goal.returns-then-count-limit-clause-refused
+returns-then-count-limit-clause-refused g c = search rules
 
 pub returns-in-Err-clause-refused : goal.returns-in-Err-clause-refused
 returns-in-Err-clause-refused g c _ =

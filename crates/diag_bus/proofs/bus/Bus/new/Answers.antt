@@ -1,4 +1,4 @@
-use Rattle.std.proofs.Common.{subst, sym, ◌∙◌, arith}
+use Rattle.std.proofs.Common.{refl, subst, sym, ◌∙◌, arith}
 use Rattle.std.proofs.lemmas.List.{length-map}
 use Rattle.diag_bus.specs.Batch.{StartsBelow, moment_end}
 use Rattle.diag_bus.specs.declared.clock.Clock.{Clock}
@@ -18,3 +18,6 @@ invariant_of-result c = (
   c.in_ok-ids.ensures,
   c.in_ok-writers.ensures,
 )
+
+pub returns-clause-output : goal.returns-clause-output
+returns-clause-output c = refl
