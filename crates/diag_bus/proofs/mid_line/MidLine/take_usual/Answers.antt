@@ -1,4 +1,4 @@
-use Rattle.std.proofs.Common.{◌≡◌, Some, [], refl, ap, length, sym, ◌∙◌, arith}
+use Rattle.std.proofs.Common.{◌≡◌, Some, [], refl, ap, length, sym, ◌∙◌, arith, rules}
 use Rattle.std.specs.List.{flat_map}
 use Rattle.diag_can.specs.Usual.{bytes_or_none, usual_bytes}
 use Rattle.diag_tp.specs.Moments.{counted_from}
@@ -31,3 +31,9 @@ returns-in_default c =
     let read : c.bytes_at.result ≡ bytes = sym (ap bytes_or_none c.bytes_at.ensures) in
     passed_then c.args.ms (omega arith) c.in_ok-pass.ensures (passed_as refl
     (ap (given (length setup.testers) c.owner.result) read ∙ sym ((c.owner.ensures setup c.requires.ids).gives bytes)) c.give_frame.ensures)
+
+pub pass-requires : goal.pass-requires
+pass-requires c = c.requires.ready
+
+pub returns-in_err-pass : goal.returns-in_err-pass
+returns-in_err-pass c = search rules
