@@ -1,4 +1,4 @@
-use Rattle.std.proofs.Common.{◌++◌, ap, subst, sym, ◌∙◌}
+use Rattle.std.proofs.Common.{◌++◌, refl, ap, subst, sym, ◌∙◌, rules}
 use Rattle.diag_bus.specs.Verdict.{Means}
 use Rattle.diag_bus.proofs.Meaning.{meaning}
 use Rattle.diag_run.proofs.ending.add_verdict.Goals as goal
@@ -15,3 +15,6 @@ returns-in_ok-extend_from_slice-in-Agrees-clause-ok c =
         c.in_ok-agreed-in-Agrees.ensures lines h,
       );
     }
+
+pub returns-in_ok-told-in_default : goal.returns-in_ok-told-in_default
+returns-in_ok-told-in_default c = record { ok = tt; err = (c.requires, search rules); kept = refl }
