@@ -11,3 +11,6 @@ invariant_of-self-2 c =
     let kept = keeps_legal c.self.inside.opening c.self.inside.journal.entries c.add.new.self.entries (entry c.args.who c.args.step.now c.put_reply.new.answer)
     c.self.inside.ecu c.settle_answered.new.ecu (c.self.invariant.0, c.self.invariant.1) pushed replied c.settle_answered.ensures in
     (kept.0, kept.1, c.add.ensures.journal, c.self.invariant.3)
+
+pub returns-then-is_full-clause-full : goal.returns-then-is_full-clause-full
+returns-then-is_full-clause-full c = search rules
