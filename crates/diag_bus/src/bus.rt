@@ -103,7 +103,7 @@ impl Model for Bus {
 }
 
 impl Bus {
-    /// A bus that took no line.
+    /// A bus that took no line, where memory isn't refused.
     pub fn new(alloc: Global, setup: Setup, output: Output) -> Result<Bus, AllocError>
         ensures took { IfOk result (λ bus. TookLines bus []) }
         ensures setup { IfOk result (λ bus. bus.setup ≡ setup) }

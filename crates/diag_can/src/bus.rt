@@ -100,7 +100,7 @@ fn line_says(line: &[u8]) -> Result<BusLine, LineFault>
     }
 }
 
-/// A whole line of a capture in the usual form, without its CR, the identifier of its frame, and where that's data begin: its
+/// A whole line of a capture in the usual form, without its CR, the identifier of its frame, and where its data begin: its
 /// moment and its bytes can be read from it. None of another line, whatever it says.
 #[inline(always)]
 pub fn usual_line(piece: &[u8]) -> Option<(&[u8], CanId, usize)>
@@ -115,7 +115,8 @@ pub fn usual_line(piece: &[u8]) -> Option<(&[u8], CanId, usize)>
     Some((line, id, at))
 }
 
-/// What a whole line of a capture says, from its bytes without LF.
+/// What a whole line of a capture says, from its bytes without LF, or how it is at fault: too long, or in none of the
+/// forms of a line.
 pub fn read_bus_line(piece: &[u8]) -> Result<BusLine, LineFault>
     ensures { result ≡ bus_line piece.now }
 {
@@ -132,7 +133,7 @@ pub fn read_bus_line(piece: &[u8]) -> Result<BusLine, LineFault>
 /// What is seen of a line of a capture by one look at it and at its end.
 #[derive(Clone, Copy)]
 pub enum Seen {
-    /// It is of the usual form, has a frame of this identifier, and there that's data begin in the line without its CR.
+    /// It is of the usual form, has a frame of this identifier, whose data begin there in the line without its CR.
     Usual(CanId, usize),
     /// It gives that many milliseconds.
     Ticks(TickCount),

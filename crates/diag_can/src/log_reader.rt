@@ -16,7 +16,7 @@ use std::alloc::{AllocError, Global};
 /// The most lines of a log.
 const MAX_LINES: u32 = 1_000_000;
 
-/// A usual line has more bytes than this.
+/// Most lines of a log have more bytes than this.
 const SHORT_LINE: usize = 32;
 
 /// A log (candump's log format) that is read as its lines come: what its lines so far give, or the first fault among

@@ -60,7 +60,7 @@ pub struct FirstLine<'a> {
     pub line: &'a [u8],
     /// What follows the LF.
     pub after: &'a [u8],
-    /// The identifier of its frame, and where that's data begin in `line`, where it was seen to be of the usual form.
+    /// The identifier of its frame, and where its data begin in `line`, where it was seen to be of the usual form.
     pub usual: Option<(CanId, usize)>,
 }
 

@@ -152,7 +152,7 @@ impl Model for LineWriter {
 }
 
 impl LineWriter {
-    /// A writer for a name, and mostly for frames of this identifier.
+    /// A writer for a name, and mostly for frames of this identifier, where memory isn't refused.
     pub fn new(alloc: Global, name: &[u8], id: CanId) -> Result<LineWriter, AllocError>
         ensures { IfOk result (λ writer. writer ≡ name.now) }
     {

@@ -72,7 +72,7 @@ impl Model for Desk {
 }
 
 impl Desk {
-    /// The desk of a setup, with no entry.
+    /// The desk of a setup, with no entry, where memory isn't refused.
     #[tactic(auto, using(crate::proofs::Runs::opens))]
     pub fn new(alloc: Global, setup: &Setup) -> Result<Desk, AllocError>
         ensures { IfOk result (λ desk.

@@ -17,7 +17,7 @@ use std::mem;
 /// The text of version 1: the line `diag-journal 1`, then a line for each entry, each ended by LF.
 ///
 /// A physical request is `N P REQ REPLY`, a functional one `N F REQ REPLY`, ticks are `N T COUNT`. N is the tester's
-/// place; a message is in upper-case hex, no reply is `-`.
+/// place; a message is in upper-case hex, no reply is `-`. There is none where memory is refused.
 pub fn journal_text(alloc: Global, journal: &Journal) -> Result<Vec<u8>, AllocError>
     ensures { IfOk result (λ text. text.items ≡ journal_text journal.now.entries) }
 {
@@ -25,7 +25,7 @@ pub fn journal_text(alloc: Global, journal: &Journal) -> Result<Vec<u8>, AllocEr
 }
 
 /// The text of version 2: the line `diag-journal 2`, then the lines of version 1, each with the ticks of its tester up
-/// to and with it, and a space, before it.
+/// to and with it, and a space, before it. There is none where memory is refused.
 pub fn journal_text_at(alloc: Global, journal: &Journal) -> Result<Vec<u8>, AllocError>
     ensures { IfOk result (λ text. text.items ≡ journal_text_at journal.now.entries) }
 {

@@ -46,7 +46,8 @@ impl Drop for Ecu {
 }
 
 impl Ecu {
-    /// The ECU of a setup at the opening: nobody is the holder, all is locked, and the routines are idle.
+    /// The ECU of a setup at the opening: nobody is the holder, all is locked, and the routines are idle. There is none
+    /// where memory is refused.
     pub fn new(alloc: Global, setup: &Setup) -> Result<Ecu, AllocError>
         ensures { IfOk result (λ ecu. ecu ≡ opening setup.now) }
     {
@@ -66,7 +67,7 @@ impl Ecu {
         })
     }
 
-    /// Another ECU in the same state.
+    /// Another ECU in the same state, where memory isn't refused.
     pub fn try_copy(&self) -> Result<Ecu, AllocError>
         ensures { IfOk result (λ copy. copy ≡ self.now) }
     {
@@ -107,7 +108,7 @@ impl Ecu {
         &self.dids
     }
 
-    /// The reply to a tester's request, or none where none is sent. Nothing changes.
+    /// The reply to a tester's request, or none where none is sent; an error where memory is refused. Nothing changes.
     #[inline(always)]
     pub fn reply(
         &self,

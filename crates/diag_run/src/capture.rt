@@ -20,7 +20,7 @@ use std::io::Write;
 /// The most bytes of a line, its LF not counted.
 const LINE_LIMIT: usize = 4096;
 
-/// The length of text from which on it is written before the piece ends.
+/// The most bytes of text that wait for the end of a piece.
 const TEXT_LIMIT: usize = 65_536;
 
 /// Why a capture could not be followed to its end.

@@ -17,7 +17,8 @@ const CONFIG_LIMIT: usize = 1_048_576;
 /// The most bytes of a log.
 pub(crate) const LOG_LIMIT: usize = 67_108_864;
 
-/// The setup that the config says.
+/// The setup that the config says, or why there is none: a config that can't be read, which is file 0, one that is too
+/// long, the first fault of its text, or want of memory.
 #[tactic(auto, unfolding(crate::specs::Files::config_of))]
 pub fn read_config<R: Read>(alloc: Global, config: &mut R) -> Result<Setup, RunFault>
     ensures read { IfSome (R.remaining config.old) (λ bytes.

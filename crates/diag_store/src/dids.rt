@@ -77,7 +77,7 @@ impl Model for Dids {
 }
 
 impl Dids {
-    /// The identifiers with their values at the opening.
+    /// The identifiers with their values at the opening, where memory isn't refused.
     pub fn new(alloc: Global, setup: &Setup) -> Result<Dids, AllocError>
         ensures { IfOk result (λ dids. dids ≡ opening_dids setup.now) }
     {
@@ -89,7 +89,7 @@ impl Dids {
         Ok(Dids { rows })
     }
 
-    /// Another table with the same rows.
+    /// Another table with the same rows, where memory isn't refused.
     pub fn try_copy(&self) -> Result<Dids, AllocError>
         ensures { IfOk result (λ copy. copy ≡ self.now) }
     {

@@ -59,7 +59,7 @@ pub const ALL_GROUPS: u32 = 0xFF_FFFF;
 const CLEARED_STATUS: u8 = 0x50;
 
 impl DtcMemory {
-    /// The codes with their status at the opening.
+    /// The codes with their status at the opening, where memory isn't refused.
     pub fn new(alloc: Global, setup: &Setup) -> Result<DtcMemory, AllocError>
         ensures { IfOk result (λ dtcs. dtcs ≡ opening_codes setup.now) }
     {
@@ -71,7 +71,7 @@ impl DtcMemory {
         Ok(DtcMemory { rows })
     }
 
-    /// Another memory with the same codes.
+    /// Another memory with the same codes, where memory isn't refused.
     pub fn try_copy(&self) -> Result<DtcMemory, AllocError>
         ensures { IfOk result (λ copy. copy ≡ self.now) }
     {

@@ -72,7 +72,7 @@ impl Model for Routines {
 }
 
 impl Routines {
-    /// The routines, all idle.
+    /// The routines, all idle, where memory isn't refused.
     pub fn new(alloc: Global, setup: &Setup) -> Result<Routines, AllocError>
         ensures { IfOk result (λ routines. routines ≡ opening_routines setup.now) }
     {
@@ -84,7 +84,7 @@ impl Routines {
         Ok(Routines { rows })
     }
 
-    /// Other routines, equal to these.
+    /// Other routines, equal to these, where memory isn't refused.
     pub fn try_copy(&self) -> Result<Routines, AllocError>
         ensures { IfOk result (λ copy. copy ≡ self.now) }
     {

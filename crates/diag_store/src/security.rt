@@ -81,7 +81,7 @@ impl Model for Security {
 }
 
 impl Security {
-    /// The levels at the opening: nothing is unlocked, and nobody is delayed.
+    /// The levels at the opening, where memory isn't refused: nothing is unlocked, and nobody is delayed.
     pub fn new(alloc: Global, setup: &Setup) -> Result<Security, AllocError>
         ensures { IfOk result (λ security. security ≡ opening_security setup.now) }
     {
@@ -99,7 +99,7 @@ impl Security {
         Ok(Security { state })
     }
 
-    /// Other levels, equal to these.
+    /// Other levels, equal to these, where memory isn't refused.
     pub fn try_copy(&self) -> Result<Security, AllocError>
         ensures { IfOk result (λ copy. copy ≡ self.now) }
     {

@@ -102,7 +102,7 @@ impl Model for Server {
 }
 
 impl Server {
-    /// A server to which nothing has happened.
+    /// A server to which nothing has happened, where memory isn't refused.
     pub fn new(alloc: Global, setup: &Setup) -> Result<Server, AllocError>
         ensures { IfOk result (λ server. Serves setup.now (server_of server) [] []) }
     {

@@ -55,7 +55,7 @@ impl Model for World {
 }
 
 impl World {
-    /// A world in which nothing has happened.
+    /// A world in which nothing has happened, where memory isn't refused.
     pub fn new(alloc: Global, setup: &Setup) -> Result<World, AllocError>
         ensures { IfOk result (λ world. Stands setup.now world []) }
     {

@@ -24,8 +24,14 @@ const STEPS: [Step; 3] = [
 
 const RECORD: &str = "(0.000000) can0 7E0#023E00\ntick 50\n(0.000000) can0 7E1#023E00\n";
 
+/// The length of the record's first line.
+const FIRST_RECORDED: usize = 27;
+
 const TEXT: &str =
     "(0000000000.000000) A 7E8#027E00CCCCCCCCCC\n(0000000000.050000) B 7E9#027E00CCCCCCCCCC\n";
+
+/// The length of the text's first line.
+const FIRST_WRITTEN: usize = 43;
 
 /// An input that fails is told, behind what was drawn.
 #[test]
@@ -33,7 +39,7 @@ fn input_that_fails(rt: HostRuntime) -> Result<(), Trouble> {
     holds(serves(rt.alloc(), &STEPS, cannot_read(1), RECORD, TEXT))
 }
 
-/// The bytes that went to each of two writers of so much room, and how the run ended.
+/// Whether a run whose output and record have so much room ends by `cannot write`, with a front of its text in each.
 fn is_cut(alloc: Global, room: usize, record_room: usize, full: Full) -> Result<bool, AllocError> {
     let bench = Script {
         alloc,
@@ -57,8 +63,8 @@ fn is_cut(alloc: Global, room: usize, record_room: usize, full: Full) -> Result<
 
 /// Whether the record has the lines whose replies were written.
 fn is_first(out: &Pipe, record: &Pipe) -> bool {
-    (out.taken.is_empty() || record.taken.len() >= 27)
-        && (out.taken.len() <= 43 || record.taken.len() == RECORD.len())
+    (out.taken.is_empty() || record.taken.len() >= FIRST_RECORDED)
+        && (out.taken.len() <= FIRST_WRITTEN || record.taken.len() == RECORD.len())
 }
 
 /// An output that takes no more is told, and both have a front; the record is ahead of the replies.
