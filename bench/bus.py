@@ -13,7 +13,6 @@ For each run of the first three: lines of the capture per second, of three runs 
 be no more than `serial` takes, and the memory the same for both lengths. The lines are those of bench/runs.py, the
 testers' turns of twelve lines one behind the other. The program is built first where that is needed.
 """
-import os
 import re
 import subprocess
 import sys

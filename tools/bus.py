@@ -147,7 +147,7 @@ class Live:
 
 def due(room, words, lines):
     """What the program writes for these whole lines, from a file, but for the end."""
-    status, out, err = run([*words, put(f"{room}/lines", lines)])
+    _, out, _ = run([*words, put(f"{room}/lines", lines)])
     return b"" if "--end" in words else out
 
 

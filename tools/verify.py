@@ -11,7 +11,7 @@ import sys
 import tempfile
 
 sys.dont_write_bytecode = True
-from bus import LONG, MOST_MEMORY, OTHERS, PROGRAM, SETUP, THIRD, WRONG, Live, capture, long_lines, peak_of, pieces, put, run, stamped, text_of
+from bus import LONG, MOST_MEMORY, PROGRAM, SETUP, THIRD, WRONG, Live, capture, long_lines, peak_of, pieces, put, run, stamped, text_of
 
 # the testers of the setup, and the identifier of the frames that the unit sends to each
 TESTERS = {"A": "7E8", "B": "7E9", "C": "7EA"}

@@ -14,6 +14,7 @@ ghost use Rattle.diag_can.specs.declared.log.Timing.TheVariants.{Stamps};
 
 use crate::fault::BusFault;
 use diag_can::{BusLine, CanId, TickCount, usual_moment};
+use diag_world::CLOSING_TIME;
 
 /// Where the bus's time begins.
 #[derive(Clone, Copy)]
@@ -141,9 +142,6 @@ fn span_of(reference: Option<u64>, said: &BusLine) -> u64
         BusLine::Stamped { moment, frame: _ } => silence(reference, *moment),
     }
 }
-
-/// The last time of a tester's clock.
-const CLOSING_TIME: u64 = 1 << 63;
 
 /// What each tester's clock tells so many milliseconds later, and `Late` where that is behind its last time.
 #[inline(always)]

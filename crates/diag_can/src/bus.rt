@@ -25,8 +25,8 @@ pub enum BusLine {
     Stamped { moment: u64, frame: Option<Frame> },
 }
 
-/// The most bytes of a line.
-const LONGEST_LINE: usize = 4096;
+/// The most bytes of a line of a capture, its LF not counted.
+pub const LONGEST_LINE: usize = 4096;
 
 /// The data frame of this identifier, from what stands behind the `#`, or that it is passed over.
 fn data_frame(id: CanId, rest: &[u8]) -> Result<Option<Frame>, LineFault>

@@ -52,9 +52,6 @@ pub enum TextFault {
     /// ECU's.
     #[error("entry {0} differs")]
     Differs(usize),
-    /// Memory was refused.
-    #[error("no memory")]
-    Memory,
 }
 
 /// The ECU that plays the entries, up to the first that differs.
@@ -584,7 +581,6 @@ impl TextReplay {
             → (setup : RawSetup) (seen : List ℕ)
             → HasTaken setup self seen
             → TextDiffers setup (seen ++ begun.now) n) }
-        ensures memory { result ≢ Err TextFault.Memory }
     {
         let TextReplay {
             fault,

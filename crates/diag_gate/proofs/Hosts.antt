@@ -11,10 +11,8 @@ use Rattle.diag_gate.specs.declared.view.View.{View}
 use Rattle.diag_gate.specs.Views.{own_if, own_of, naming, listed, host_without, new_seat}
 use Rattle.diag_gate.specs.Seats.{HostView, seat_as, of_host, was_given, AllHome, gave, fresh, Gave, Closed, IsHost}
 use Rattle.diag_gate.specs.Rule.{run, Kept}
+use Rattle.diag_gate.specs.Plays.{Sat}
 use Rattle.diag_gate.proofs.Keeps.{closes}
-
-abbrev pub Sat : Type 0
-Sat = Me (Option Run) View
 
 -- what a contract sees of a host
 abbrev pub seen_as : TableId → Sat → List Bool → HostView

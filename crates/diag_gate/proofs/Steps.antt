@@ -13,14 +13,11 @@ use Rattle.diag_desk.specs.declared.desk.StepFault.TheVariants.{Memory, JournalF
 use Rattle.diag_gate.specs.declared.view.View.{View}
 use Rattle.diag_gate.specs.Views.{IsLegal, own_of, seat_view, holding, letting_go}
 use Rattle.diag_gate.specs.Rule.{run}
-use Rattle.diag_gate.specs.Plays.{Taken}
+use Rattle.diag_gate.specs.Plays.{Sat, Taken}
 use Rattle.diag_gate.specs.declared.fault.TryFault.{TryFault}
 use Rattle.diag_gate.specs.Seats.{SeatView, Finds, Answered, IsFull, Refused, NotMade, as_tried, seat_as, IsSeat, IsGuard}
 use Rattle.diag_gate.proofs.Begins.{begins_whole, own-append, own_same}
 use Rattle.diag_gate.proofs.Keeps.{own_of_seat}
-
-abbrev pub Sat : Type 0
-Sat = Me (Option Run) View
 
 seat_has : (who : ℕ) (me : Sat) → IsSeat who me → own_of me.0 who ≡ Some me.0.own
 seat_has who me is = ap (λ (t : ℕ). own_of me.0 t) (sym (ap (λ (m : Sat). m.0.who) is.is)) ∙ own_of_seat me.0 (ap (λ (m : Sat). m.0.is_seat) is.is)

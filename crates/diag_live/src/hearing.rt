@@ -5,12 +5,9 @@ ghost use Rattle.diag_can.specs.Bus.{HasNoFeed};
 ghost use Rattle.diag_world.specs.Port.{Grew};
 
 use crate::restamp::add_restamped;
-use diag_can::{LineFault, read_bus_line};
+use diag_can::{LONGEST_LINE, LineFault, read_bus_line};
 use memchr::memchr;
 use std::alloc::{AllocError, Global};
-
-/// The most bytes of a line, its LF not counted.
-const LINE_LIMIT: usize = 4096;
 
 /// Why the lines that were heard can't be followed.
 #[derive(Clone, Copy, Drop)]
@@ -114,7 +111,7 @@ impl Hearing {
         ensures lines { self.new.lines ≡ self.old.lines }
         ensures err { IfErr result (IsLineTooLong self.old bytes.now) }
     {
-        if bytes.len() > LINE_LIMIT - self.kept.len() {
+        if bytes.len() > LONGEST_LINE - self.kept.len() {
             let Some(number) = self.lines.checked_add(1) else {
                 return Err(HearFault::Memory);
             };

@@ -11,11 +11,11 @@ use Rattle.diag_tp.specs.declared.sent.Sent.{Sent}
 use Rattle.diag_ecu.specs.State.{opening}
 use Rattle.diag_desk.specs.declared.entry.Entry.{Entry}
 use Rattle.diag_desk.specs.Entry.{IsJournal, most_entries}
-use Rattle.diag_desk.specs.Following.{HasTaken}
+use Rattle.diag_desk.specs.Following.{HasTaken, TextDiffers}
 use Rattle.diag_desk.specs.declared.following.TextReplay.{TextReplay}
 use Rattle.diag_desk.specs.Fault.{IsTextOf, FaultAt}
 use Rattle.diag_desk.specs.Legal.{Run, after}
-use Rattle.diag_desk.specs.Replay.{IsLegalFor, DiffersAt}
+use Rattle.diag_desk.specs.Replay.{IsLegalFor}
 use Rattle.diag_world.specs.Headline.{IsPlay}
 use Rattle.diag_world.specs.Weaving.{steps_of, turns, weave}
 use Rattle.diag_config.specs.Key.{◌>>=◌}
@@ -152,17 +152,10 @@ pub record IsReplayedText (setup : RawSetup) (bytes : List ℕ) (text : List ℕ
   pub run : IsLegalFor setup entries
   pub is : text ≡ replay_text setup (length entries) (after (opening setup) entries)
 
--- the bytes are the text of entries of which the n-th is the first that differs
-pub record Differ (setup : RawSetup) (bytes : List ℕ) (n : ℕ) : Type 0 where
-  pub entries : List Entry
-  pub journal : IsJournal entries
-  pub read : IsTextOf bytes entries
-  pub at : DiffersAt setup entries n
-
 abbrev pub GivesReplayed : RawSetup → List ℕ → Result (List ℕ) RunFault → Type 0
 GivesReplayed setup bytes (Ok text) = IsReplayedText setup bytes text
 GivesReplayed setup bytes (Err (JournalLine n)) = FaultAt bytes n
-GivesReplayed setup bytes (Err (Differs n)) = Differ setup bytes n
+GivesReplayed setup bytes (Err (Differs n)) = TextDiffers setup bytes n
 GivesReplayed setup bytes (Err Memory) = Unit {0}
 GivesReplayed setup bytes (Err fault) = ⊥
 

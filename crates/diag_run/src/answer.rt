@@ -204,6 +204,5 @@ fn told_replay(
         }
         Err(TextFault::Line(n)) => Err(RunFault::JournalLine(n)),
         Err(TextFault::Differs(n)) => Err(RunFault::Differs(n)),
-        Err(TextFault::Memory) => Err(RunFault::Memory),
     }
 }

@@ -12,13 +12,10 @@ ghost use Rattle.diag_run.specs.Capture.{IsBorneOut, IsFrontOf, StopsOn, capture
 
 use crate::ending::add_end;
 use diag_bus::{Bus, BusFault};
-use diag_can::{LineFault, Seen, first_bus_line};
+use diag_can::{LONGEST_LINE, LineFault, Seen, first_bus_line};
 use diag_text::write_text;
 use std::alloc::{AllocError, Global};
 use std::io::Write;
-
-/// The most bytes of a line, its LF not counted.
-const LINE_LIMIT: usize = 4096;
 
 /// The most bytes of text that wait for the end of a piece.
 const TEXT_LIMIT: usize = 65_536;
@@ -290,7 +287,7 @@ fn keep(kept: &mut Vec<u8>, bytes: &[u8]) -> Result<(), BusFault>
         ⊎ ((fault ≡ BusFault.Line LineFault.BadLine)
         × (4096 < length kept.old.items + length bytes.now))) }
 {
-    if bytes.len() > LINE_LIMIT - kept.len() {
+    if bytes.len() > LONGEST_LINE - kept.len() {
         return Err(BusFault::Line(LineFault::BadLine));
     }
     kept.extend_from_slice(bytes)?;

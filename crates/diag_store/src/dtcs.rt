@@ -3,8 +3,7 @@
 ghost use Rattle.std.specs.Prelude.{IsTrue, ◌≡◌, ◌≤◌, ℕ, true, IfOk, is_some, option_map, length, map, slice_get};
 ghost use Rattle.std.specs.Bool.{OnFalse};
 ghost use Rattle.diag_setup.specs.Rows.{is_rising};
-ghost use Rattle.diag_store.specs.Dtcs.{code_of, status_of, with_status, set_status, is_known_group, cleared, cleared_status, matching, matches_mask, row_pair};
-ghost use Rattle.diag_setup.specs.Fits.{CodeFits};
+ghost use Rattle.diag_store.specs.Dtcs.{code_of, status_of, with_status, set_status, is_known_group, cleared, cleared_status, matching, row_pair};
 ghost use Rattle.diag_store.specs.Opening.{opening_codes, dtc_row};
 
 use crate::search::{find_place, find_row};

@@ -1,5 +1,5 @@
 -- What one more event makes of a worker's record.
-use Rattle.std.proofs.Common.{◌≡◌, ◌≤◌, ℕ, Option, Some, None, length, length-append, arith, List, [], ◌∷◌, ◌++◌, take, drop, refl, ap, ap₂, subst, sym, ◌∙◌, append_assoc, append-nil}
+use Rattle.std.proofs.Common.{◌≡◌, ◌≤◌, ℕ, Option, Some, None, length, length-append, arith, List, [], ◌∷◌, ◌++◌, take, drop, refl, ap, ap₂, subst, sym, ◌∙◌, append_assoc}
 use Rattle.std.specs.Option.{option_to_list}
 use Rattle.std.proofs.lemmas.List.{length-map, take-append-drop, map-append}
 use Rattle.diag_can.specs.declared.frame.Event.{Event}

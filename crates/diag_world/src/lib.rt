@@ -17,6 +17,6 @@ pub use keeper::{Keeper, enter_step};
 pub use laws::{interleaving_law, turns_law, weaving_law};
 pub use port::Prepared;
 pub use serial_play::{Played, serial};
-pub use server::{Server, ServerFault};
+pub use server::{CLOSING_TIME, Server, ServerFault};
 pub use taking::{TakeEvents, take_turns};
 pub use world::World;

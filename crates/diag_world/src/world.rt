@@ -151,7 +151,7 @@ impl TakeEvents for World {
 fn index_of(who: TesterId) -> usize
     ensures { who ≡ result + 1 }
 {
-    usize::from(who.place()) - 1
+    who.index()
 }
 
 /// The frames of each channel, in order.

@@ -1,6 +1,6 @@
 use Rattle.std.proofs.Common.{sym, ap, ◌∙◌, arith}
 use Rattle.diag_gate.proofs.Keeps.{takes_seat_in, learns}
-use Rattle.diag_gate.proofs.Hosts.{Sat}
+use Rattle.diag_gate.specs.Plays.{Sat}
 use Rattle.diag_gate.proofs.gate.Gate.join.Goals as goal
 
 pub join_seat-requires : goal.join_seat-requires

@@ -3,7 +3,8 @@ use Rattle.atomic_table.specs.Table.{rest}
 use Rattle.diag_desk.specs.Legal.{Run}
 use Rattle.diag_gate.specs.Views.{letting_go}
 use Rattle.diag_gate.proofs.Keeps.{puts_back_as}
-use Rattle.diag_gate.proofs.Steps.{Sat, put_is}
+use Rattle.diag_gate.specs.Plays.{Sat}
+use Rattle.diag_gate.proofs.Steps.{put_is}
 use Rattle.diag_gate.proofs.gate.Gate.put.Goals as goal
 use Rattle.diag_gate.proofs.gate.Gate.put.Goals.{After-drop}
 

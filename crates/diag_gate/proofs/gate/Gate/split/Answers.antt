@@ -1,6 +1,7 @@
 use Rattle.std.proofs.Common.{◌≡◌, ◌<◌, sym, ap, ◌∙◌, arith}
 use Rattle.diag_gate.proofs.Keeps.{names_next, gives_seat}
-use Rattle.diag_gate.proofs.Hosts.{Sat, host_has, named_has, gave_is}
+use Rattle.diag_gate.specs.Plays.{Sat}
+use Rattle.diag_gate.proofs.Hosts.{host_has, named_has, gave_is}
 use Rattle.diag_gate.proofs.gate.Gate.split.Goals as goal
 
 pub compare_exchange-requires : goal.compare_exchange-requires

@@ -4,7 +4,8 @@ use Rattle.diag_desk.specs.Legal.{Run}
 use Rattle.diag_gate.specs.Seats.{seat_as, misses, IsSeat, IsGuard, Finds}
 use Rattle.diag_gate.specs.Rule.{run}
 use Rattle.diag_gate.proofs.Keeps.{takes_or_misses}
-use Rattle.diag_gate.proofs.Steps.{Sat, held_is, finds_is, run_is}
+use Rattle.diag_gate.specs.Plays.{Sat}
+use Rattle.diag_gate.proofs.Steps.{held_is, finds_is, run_is}
 use Rattle.diag_gate.proofs.gate.Gate.take.Goals as goal
 
 pub compare_exchange-requires : goal.compare_exchange-requires
