@@ -3,7 +3,7 @@
 # file `commands`, a command of the program on each line, which is run in that folder, with `< FILE` at its end where a
 # file of the folder is standard input; `stdout`, or `lines` where the order of the lines isn't fixed (with neither
 # nothing is written); `stderr` and `status`, where they aren't empty and 0.
-# Then come runs over files that are made here. The last line is 'N passed, M failed'.
+# Then come runs over files that are made here, and of the launcher. The last line is 'N passed, M failed'.
 set -uo pipefail
 cd "$(dirname "$0")/.." || exit 2
 program=$PWD/crates/uds_play/out/uds_play
@@ -122,5 +122,26 @@ for command in serial play; do
   : > "$room/out"
   ends "a text that can't be written: $command" 7 'cannot write'
 done
+
+# The launcher with a closed standard stream, by a link to it, over a copy of the built program, which is never stale.
+mkdir -p "$room/top/crates/uds_play/out"
+cp uds_play crates.txt "$room/top"
+cp "$program" "$room/top/crates/uds_play/out"
+ln -s top/uds_play "$room/launcher"
+for command in verify bus 'bus --journal'; do
+  status=0
+  # shellcheck disable=SC2086 # the word behind a command is its flag
+  timeout 120 "$room/launcher" $command "$setup" <&- > "$room/out" 2> "$room/err" || status=$?
+  ends "no standard input: $command" 7 'cannot read file 1'
+done
+: > "$room/out"
+status=0
+timeout 120 "$room/launcher" bus "$setup" runs/bus_order/no_last_line_feed.log >&- 2> "$room/err" || status=$?
+ends "no standard output: bus" 7 'cannot write'
+status=0
+echo '(0.000000) can0 7E0#021003' > "$room/line"
+timeout 120 "$room/launcher" live --record "$room/record" "$setup" < "$room/line" >&- 2>&- || status=$?
+if [ "$status" = 7 ] && grep -v '^tick ' "$room/record" | cmp -s - "$room/line"; then good "neither output: live"; else bad "neither output: live: status $status"; fi
+
 echo "$passed passed, $failed failed"
 [ "$failed" = 0 ]
