@@ -38,7 +38,7 @@ DOCUMENTS = ["README.md", "docs/USE.md", "docs/VIEW.md", "demo/README.md", "CONT
 CHANGES = "CHANGELOG.md"
 # names in the documents that are no names of the repository's
 OF_OTHERS = {"can_logger", "can_logconvert"}
-RUN = ("./uds_play", "tools/", "sort ", "sed ", "diff ", "grep ", "rt lemma ")
+RUN = ("./uds_play", "tools/", "LC_ALL=C sort ", "sed ", "diff ", "grep ", "rt lemma ")
 STAND_INS = {"candump": "sed -n 1,10p demo/bus.log", "canplayer": "cat"}
 # programs that a machine may not have, with Debian's packages of them
 OTHERS = {"asc2log": "can-utils", "log2asc": "can-utils", "can_logconvert": "python3-can"}
