@@ -3,14 +3,20 @@
 program passes over without a word. It is no part of what is proved: the program alone decides, and names the first fault.
 Usage: tools/setup.py SETUP
 A line each: the kind of the fault as the program tells it, or 'unknown key', then where it is. The status is 1 where
-the program refuses the setup, and 0 else. Needs Python 3.11 or later and its standard library alone."""
+the program refuses the setup, and 0 else. That goes for TOML 1.0 which isn't nested beyond the program's limits
+(docs/FORMATS.md), for these aren't looked at; what TOML 1.1 has besides, and a date or time that Python can't hold, is
+'syntax' here, and the program takes it. Needs Python 3.11 or later and its standard library alone."""
+import math
 import sys
 import tomllib
 from dataclasses import dataclass, replace
 
 # the order in which the program looks; keys that are missing and values that aren't of their kind are found in one go
-PHASES = {"syntax": 0, "missing": 1, "bad value": 1, "range": 2, "empty": 3, "duplicate": 4, "unknown code": 5, "unknown level": 6}
+PHASES = {"too long": 0, "syntax": 0, "missing": 1, "bad value": 1, "range": 2, "empty": 3, "duplicate": 4, "unknown code": 5, "unknown level": 6}
 MOST_NUMBER = 0xFFFFFFFF
+MOST_BYTES = 1 << 20
+# the whole numbers of the program's TOML
+WHOLE = range(-(1 << 63), 1 << 63)
 
 
 @dataclass(frozen=True)
@@ -209,13 +215,47 @@ def look_for_references(look, lists):
                 look.tell("unknown level", f"{name} of [[{path}]] {row} is {shown(known[name])}, which no [[level]] has as its sub")
 
 
+def float_of(text):
+    """A number with a point or an exponent."""
+    value = float(text)
+    if math.isinf(value) and "inf" not in text:
+        raise ValueError(f"the number {text[:20]} is beyond 64 bits")
+    return value
+
+
+def great_keys(tree):
+    """The keys in a tree whose whole numbers are beyond 64 bits."""
+    left = [("", tree)]
+    while left:
+        key, value = left.pop()
+        if isinstance(value, dict):
+            left += reversed(value.items())
+        elif isinstance(value, list):
+            left += [(key, it) for it in reversed(value)]
+        elif isinstance(value, int) and value not in WHOLE:
+            yield key
+
+
+def read_tree(look, data):
+    """The tree of these bytes, or none; tells for what the program has none."""
+    if len(data) > MOST_BYTES:
+        look.tell("too long", f"more than {MOST_BYTES} bytes")
+        return None
+    try:
+        tree = tomllib.loads(data.decode("utf-8-sig"), parse_float=float_of)
+    except (ValueError, RecursionError) as fault:
+        look.tell("syntax", str(fault))
+        return None
+    for key in great_keys(tree):
+        look.tell("syntax", f"the number of {key} is beyond 64 bits")
+    return tree
+
+
 def look_at(data):
     """All that is wrong with a setup file of these bytes."""
     look = Look()
-    try:
-        tree = tomllib.loads(data.decode())
-    except (UnicodeDecodeError, tomllib.TOMLDecodeError) as fault:
-        look.tell("syntax", str(fault))
+    tree = read_tree(look, data)
+    if tree is None:
         return look
     unit = look.table(tree, UNIT, "", 0, LISTS)
     lists = read_lists(look, tree)
@@ -231,7 +271,7 @@ def main():
         return 2
     try:
         with open(sys.argv[1], "rb") as file:
-            look = look_at(file.read())
+            look = look_at(file.read(MOST_BYTES + 1))
     except OSError as fault:
         print(f"setup: {fault}", file=sys.stderr)
         return 2

@@ -1,7 +1,8 @@
 #!/usr/bin/env python3
 """Holds tools/setup.py against the built program: setups with one thing wrong, each in turn, and with several, of a
 seed. The first fault that the tool tells is of the kind that the program tells, of the same key where the program names
-one, and the tool finds none where the program takes the setup. The last line is 'N passed, M failed'."""
+one, and the tool finds none where the program takes the setup; but where the tool's head says so, they differ as it
+says. The last line is 'N passed, M failed'."""
 import copy
 import os
 import random
@@ -27,6 +28,39 @@ GOOD = {
 # values of a wrong kind, and numbers at the borders of the ranges
 ODD = (-1, 4294967296, 1.5, "text", "0", "0 ", True, [], [1], {"a": 1})
 BORDERS = (0, 1, 2, 7, 8, 64, 65, 66, 67, 127, 128, 240, 241, 249, 250, 255, 256, 2047, 2048, 60000, 60001, 65535, 65536, 600000, 600001, 16777214, 16777215, 4294967295)
+# spoilt as texts: what stands before the good setup
+BEFORE = {
+    "a byte order mark": b"\xef\xbb\xbf",
+    "two byte order marks": b"\xef\xbb\xbf" * 2,
+    "no toml": b"a = \n",
+    "no UTF-8": b"# \xff\n",
+    "too long": b"#" * (1 << 20) + b"\n",
+    "too long, and no toml": b"a = " * (1 << 18) + b"\n",
+    "the least number": b"a = -9223372036854775808\n",
+    "a number below it": b"a = -9223372036854775809\n",
+    "the greatest number": b"a = [{ a = 9223372036854775807 }]\n",
+    "a number above it": b"a = [{ a = 9223372036854775808 }]\n",
+    "a number above it, in hex": b"a = 0x8000000000000000\n",
+    "a number above it, of a known key": b"p2_ms = 9223372036854775808\n",
+    "a number of 5,000 digits": b"a = " + b"9" * 5000 + b"\n",
+    "a number of 5,000 digits, in hex": b"a = 0x" + b"F" * 5000 + b"\n",
+    "a great number under 2,000 keys": b"a" + b".a" * 1999 + b" = 9223372036854775808\n",
+    "a great number with an exponent": b"a = 1e400\n",
+    "infinity": b"a = -inf\n",
+    "80 lists": b"a = " + b"[" * 80 + b"]" * 80 + b"\n",
+    "400,000 lists": b"a = " + b"[" * 400_000,
+}
+# what the tool's head says that it doesn't read as the program does: before the good setup, what each says
+APART = {
+    "a line end in an inline table": (b"a = {\na = 1 }\n", "", "syntax"),
+    "a comma at its end": (b"a = { a = 1, }\n", "", "syntax"),
+    "an escape": (b'a = "\\e"\n', "", "syntax"),
+    "a byte in hex": (b'a = "\\x41"\n', "", "syntax"),
+    "a time without seconds": (b"a = 07:32\n", "", "syntax"),
+    "a leap second": (b"a = 23:59:60\n", "", "syntax"),
+    "81 lists": (b"a = " + b"[" * 81 + b"]" * 81 + b"\n", "syntax", ""),
+    "a key of 81 parts": (b"a" + b".a" * 80 + b" = 1\n", "syntax", ""),
+}
 TEXTS = ("", "A", "a_1", "a b", "é", "abcdefghijklmnop", "abcdefghijklmnopq", "00", "00" * 16, "01" * 16, "01" * 17, "01" * 32, "01" * 33, "01" * 255, "01" * 256, "Ff", "0g")
 counts = {True: 0, False: 0}
 
@@ -108,11 +142,13 @@ def tool_says(data):
     return f"{kind} {place.partition(']]')[0]}.{name}" if place else f"{kind} {name}"
 
 
-def compare(folder, name, data):
+def compare(folder, name, data, apart=None):
+    """Whether the program and the tool say the same, or each what is wanted of it."""
     said, told = program_says(folder, data), tool_says(data)
-    counts[said == told] += 1
-    if said != told:
-        print(f"SETUP WRONG: {name}: the program says {said!r}, the tool {told!r}\n{data.decode()}")
+    good = (said, told) == (apart or (said, said))
+    counts[good] += 1
+    if not good:
+        print(f"SETUP WRONG: {name}: the program says {said!r}, the tool {told!r}\n{data[:4000].decode(errors='replace')}")
 
 
 def main():
@@ -120,7 +156,10 @@ def main():
     chance = random.Random(7)
     with tempfile.TemporaryDirectory() as folder:
         compare(folder, "good", toml_of(GOOD))
-        compare(folder, "no toml", b"a = \n")
+        for name, before in BEFORE.items():
+            compare(folder, name, before + toml_of(GOOD))
+        for name, (before, *apart) in APART.items():
+            compare(folder, name, before + toml_of(GOOD), tuple(apart))
         for change in every:
             compare(folder, change, spoilt([change]))
         for _ in range(SEVERAL):
