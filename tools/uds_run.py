@@ -34,7 +34,7 @@ class Setup:
 def read_setup(text):
     """The setup of a TOML text. The program looks at all of it; here only what is used is read."""
     try:
-        tree = tomllib.loads(text)
+        tree = tomllib.loads(text.removeprefix("\ufeff"))
         return Setup(
             [str(it["name"]) for it in tree["tester"]],
             [int(it["response"]) for it in tree["tester"]],
@@ -43,7 +43,7 @@ def read_setup(text):
             {it["id"]: int(it["time_ms"]) for it in tree.get("routine", [])},
             {it["sub"] for it in tree.get("level", [])},
         )
-    except (KeyError, TypeError, ValueError, AttributeError) as fault:
+    except (KeyError, TypeError, ValueError, AttributeError, RecursionError) as fault:
         raise Wrong(f"config: {type(fault).__name__}: {fault}") from None
 
 

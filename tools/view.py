@@ -5,7 +5,8 @@
     tools/view.py --text SETUP RUN..         the journal in words, a line a step
 
 RUN is what `serial`, `play`, `bus` or `bus --journal` wrote. The frames and the journal of one run may stand in two
-files, as `bus` writes them; without a journal the messages of the frames are shown. `-` is standard input.
+files, as `bus` writes them; without a journal the messages of the frames are shown. `-` is standard input. SETUP is read
+as TOML 1.0, by which tools/setup.py goes, too.
 """
 import argparse
 import html

@@ -307,10 +307,12 @@ def faults(room):
         ran = subprocess.run([VIEW, config, *paths], capture_output=True, timeout=60)
         good = ran.returncode == 1 and ran.stdout == b"" and ran.stderr.decode().startswith(f"view: {want.format(*paths)}")
         told(good, f"a fault: {name}", ran)
-    ran = subprocess.run([VIEW, put(f"{room}/0", 'tester = "x"'), paths[0]], capture_output=True, timeout=60)
-    told(ran.returncode == 1 and ran.stderr.startswith(b"view: config: "), "a fault: a setup", ran)
-    ran = subprocess.run([VIEW, "--text", config, "-"], input=journal.encode(), capture_output=True, timeout=60)
-    told((ran.returncode, ran.stdout) == (0, b"0.000 A  3E 00 TesterPresent zeroSubFunction -> 7E 00\n"), "standard input", ran)
+    for name, setup in [("a setup", 'tester = "x"'), ("lists within lists", "x = " + "[" * 9999)]:
+        ran = subprocess.run([VIEW, put(f"{room}/0", setup), paths[0]], capture_output=True, timeout=60)
+        told(ran.returncode == 1 and ran.stderr.startswith(b"view: config: "), f"a fault: {name}", ran)
+    for name, setup in [("standard input", config), ("a byte order mark", put(f"{room}/0", f"\ufeff{bus.SETUP}"))]:
+        ran = subprocess.run([VIEW, "--text", setup, "-"], input=journal.encode(), capture_output=True, timeout=60)
+        told((ran.returncode, ran.stdout) == (0, b"0.000 A  3E 00 TesterPresent zeroSubFunction -> 7E 00\n"), name, ran)
 
 
 # ---- the pages, in Chromium
