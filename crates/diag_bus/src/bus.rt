@@ -22,7 +22,7 @@ use crate::request_ids::RequestIds;
 use crate::verdict::Verdict;
 use crate::writing::{Drawn, writers_of};
 use diag_can::{BusLine, CanId, LineWriter, Seen, TickCount, read_bus_line, usual_line};
-use diag_desk::write_header_at;
+use diag_desk::{JournalVersion, write_header};
 use diag_ecu::Ecu;
 use diag_setup::{Setup, TesterId};
 use diag_tp::Sent;
@@ -139,7 +139,7 @@ impl Bus {
         ensures err { OnErr result (text.new.items ≡ text.old.items) }
     {
         match self.line.output {
-            Output::Journal => write_header_at(text),
+            Output::Journal => write_header(text, JournalVersion::Stamped),
             Output::Replies | Output::End | Output::Verdict => Ok(()),
         }
     }
