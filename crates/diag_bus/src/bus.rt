@@ -20,9 +20,9 @@ use crate::filled::Filled;
 use crate::mid_line::MidLine;
 use crate::request_ids::RequestIds;
 use crate::verdict::Verdict;
-use crate::writing::{Drawn, writers_of};
-use diag_can::{BusLine, CanId, LineWriter, Seen, TickCount, read_bus_line, usual_line};
-use diag_desk::write_header_at;
+use crate::writing::{Writing, writers_of};
+use diag_can::{BusLine, CanId, Seen, TickCount, read_bus_line, usual_line};
+use diag_desk::{JournalVersion, write_header};
 use diag_ecu::Ecu;
 use diag_setup::{Setup, TesterId};
 use diag_tp::Sent;
@@ -62,8 +62,7 @@ pub struct Bus {
     ids: RequestIds,
     line: MidLine,
     clock: Clock,
-    batch: Vec<Drawn>,
-    writers: Vec<LineWriter>,
+    writing: Writing,
     compared: Comparisons,
 }
 
@@ -75,8 +74,7 @@ impl Drop for Bus {
             ids: _,
             line: _,
             clock: _,
-            batch: _,
-            writers: _,
+            writing: _,
             compared: _,
         } = self;
     }
@@ -99,7 +97,7 @@ impl Model for Bus {
 
     ghost invariant = { λ b.
         AreSound b.setup b.line b.compared b.clock × AreRequestsOf b.setup b.ids
-        × AreNamesOf b.setup b.writers.items };
+        × AreNamesOf b.setup b.writing.writers.items };
 }
 
 impl Bus {
@@ -126,8 +124,10 @@ impl Bus {
             setup,
             ids,
             clock: Clock::new(),
-            batch: Vec::new(alloc),
-            writers,
+            writing: Writing {
+                writers,
+                batch: Vec::new(alloc),
+            },
             compared,
         })
     }
@@ -139,7 +139,7 @@ impl Bus {
         ensures err { OnErr result (text.new.items ≡ text.old.items) }
     {
         match self.line.output {
-            Output::Journal => write_header_at(text),
+            Output::Journal => write_header(text, JournalVersion::Stamped),
             Output::Replies | Output::End | Output::Verdict => Ok(()),
         }
     }
@@ -211,9 +211,9 @@ impl Bus {
         self.line.begin();
         self.line
             .take_usual(&self.setup, &self.ids, span, usual, id, at)?;
-        let (writers, batch) = (&mut self.writers, &mut self.batch);
-        let (setup, clock) = (&self.setup, &self.clock);
-        Ok(self.line.write(setup, clock, writers, batch, text)?)
+        self.line
+            .write(&self.setup, &self.clock, &mut self.writing, text)?;
+        Ok(())
     }
 
     /// Takes a line that says so many ticks.
@@ -234,9 +234,9 @@ impl Bus {
         self.clock.go_on_by(count, time);
         self.line.begin();
         self.line.give_each(&self.setup, count)?;
-        let (writers, batch) = (&mut self.writers, &mut self.batch);
-        let (setup, clock) = (&self.setup, &self.clock);
-        Ok(self.line.write(setup, clock, writers, batch, text)?)
+        self.line
+            .write(&self.setup, &self.clock, &mut self.writing, text)?;
+        Ok(())
     }
 
     /// The same where a verdict is wanted.
@@ -278,9 +278,8 @@ impl Bus {
         self.line
             .take_said(&self.setup, &self.ids, reference, said)?;
         compare(&mut self.compared, &self.setup, said, &self.line)?;
-        let (writers, batch) = (&mut self.writers, &mut self.batch);
-        let (setup, clock) = (&self.setup, &self.clock);
-        self.line.write(setup, clock, writers, batch, text)?;
+        self.line
+            .write(&self.setup, &self.clock, &mut self.writing, text)?;
         Ok(())
     }
 

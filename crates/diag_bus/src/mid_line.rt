@@ -18,8 +18,8 @@ use crate::clock::{Clock, silence};
 use crate::entering::LineEntries;
 use crate::filled::Filled;
 use crate::request_ids::{Owner, RequestIds};
-use crate::writing::{Drawn, is_in_order, write_drawn, write_own};
-use diag_can::{BusLine, CanId, Event, FrameBytes, LineWriter, TickCount, usual_bytes};
+use crate::writing::{Writing, is_in_order, write_drawn, write_own};
+use diag_can::{BusLine, CanId, Event, FrameBytes, TickCount, usual_bytes};
 use diag_setup::{Setup, TesterId};
 use diag_tp::Sent;
 use diag_world::{Server, ServerFault};
@@ -62,23 +62,21 @@ impl MidLine {
         self.text.clear();
     }
 
-    /// Adds what the line writes: its entries, or the reply lines of what it drew. The batch is room to work in, the
-    /// writers are those of the testers' lines. Refused, the text is as it was.
+    /// Adds what the line writes: its entries, or the reply lines of what it drew. Refused, the text is as it was.
     #[inline(always)]
     pub fn write(
         &mut self,
         setup: &Setup,
         clock: &Clock,
-        writers: &mut Vec<LineWriter>,
-        batch: &mut Vec<Drawn>,
+        writing: &mut Writing,
         text: &mut Vec<u8>,
     ) -> Result<(), AllocError>
         requires lists { length self.old.drawn.items ≡ length setup.now.testers }
-        requires names { AreNamesOf setup.now writers.old.items }
+        requires names { AreNamesOf setup.now writing.old.writers.items }
         requires start { StartsBelow clock.now.start moment_end }
         requires sent { AreSentBy (lists_of self.old) closing_time }
         requires filled { AreFilled self.old.filled (lists_of self.old) }
-        ensures names { writers.new.items ≡ writers.old.items }
+        ensures names { writing.new.writers.items ≡ writing.old.writers.items }
         ensures ok { OnOk result (text.new.items ≡ text.old.items
             ++ added self.old.output self.old.text.items setup.now clock.now.start (lists_of self.old)) }
         ensures err { OnErr result (text.new.items ≡ text.old.items) }
@@ -90,10 +88,11 @@ impl MidLine {
                 Filled::Nowhere => Ok(()),
                 Filled::At(place) if is_in_order(self.drawn[place].as_slice()) => {
                     let frames = self.drawn[place].as_slice();
-                    write_own(setup, clock, writers, place, frames, text)
+                    write_own(setup, clock, &mut writing.writers, place, frames, text)
                 }
                 Filled::At(_) | Filled::Anywhere => {
                     self.filled = Filled::Anywhere;
+                    let (writers, batch) = (&mut writing.writers, &mut writing.batch);
                     write_drawn(setup, clock, writers, &mut self.drawn, batch, text)
                 }
             },

@@ -24,6 +24,15 @@ pub struct Drawn {
     pub sent: Sent,
 }
 
+/// What reply lines are written with.
+#[derive(Drop)]
+pub struct Writing {
+    /// The writers of the testers' lines.
+    pub writers: Vec<LineWriter>,
+    /// Room to put a line's frames in order.
+    pub batch: Vec<Drawn>,
+}
+
 /// A link's time as a moment of the bus.
 fn bus_moment(start: Option<Start>, at: u64) -> u64
     requires start { StartsBelow start moment_end }

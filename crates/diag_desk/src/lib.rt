@@ -26,5 +26,5 @@ pub use journal::{Journal, JournalPush};
 pub use laws::{legal_prefix_law, one_journal_law, unlock_law};
 pub use read::{JournalFault, read_journal};
 pub use replaying::{ReplayFault, replay};
-pub use text::{journal_text, journal_text_at, write_entry, write_header, write_header_at};
+pub use text::{journal_text, journal_text_at, write_entry, write_header};
 pub use version::JournalVersion;

@@ -32,16 +32,6 @@ pub fn journal_text_at(alloc: Global, journal: &Journal) -> Result<Vec<u8>, Allo
     write_all(alloc, journal, JournalVersion::Stamped)
 }
 
-/// Appends the header of version 2, as the text of a journal without entries has it.
-///
-/// After an error the bytes that stood there are as before.
-pub fn write_header_at(text: &mut Vec<u8>) -> Result<(), AllocError>
-    ensures ok { OnOk result (text.new.items ≡ text.old.items ++ journal_text_at []) }
-    ensures err { OnErr result (text.new.items ≡ text.old.items) }
-{
-    write_header(text, JournalVersion::Stamped)
-}
-
 /// Appends the line of an entry in this version; `before` is the ticks of its tester before it.
 ///
 /// After an error the bytes that stood there are as before.

@@ -192,9 +192,7 @@ impl RoutineState {
             other => other,
         }
     }
-}
 
-impl RoutineState {
     /// How many ticks don't end the routine.
     fn quiet_ticks(self) -> u32
         ensures { result ≡ quiet_in self }

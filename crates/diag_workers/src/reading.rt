@@ -11,11 +11,13 @@ use diag_setup::{Setup, TesterId};
 use std::alloc::Global;
 use std::thread::{Threads, join};
 
-/// Reads the log of the tester of this place, and then those of the testers after it.
+/// Reads the log of the tester of this place beside those of the testers after it: the last on the calling thread, each
+/// other in a thread of its own, or on the calling thread where none can be started.
 ///
 /// # Errors
-/// `Log` for the first log that is at fault, behind which none is read; `Memory` where memory is refused.
-fn read_from(
+/// `Log` for a log that is at fault, `Memory` where memory is refused: the first that refuses, in order, decides.
+pub(crate) fn read_beside<R: Threads + Sync>(
+    rt: &R,
     alloc: Global,
     setup: &Setup,
     place: u8,
@@ -30,35 +32,10 @@ fn read_from(
     let Some((text, rest)) = texts.split_first() else {
         return Ok(Vec::new(alloc));
     };
-    let one = read_one(alloc, setup, place, text.as_slice(), timing)?;
-    let others = read_from(alloc, setup, place + 1, rest, timing)?;
-    in_front(one, others)
-}
-
-/// Reads the log of the tester of this place beside those of the testers after it: the last on the calling thread, each
-/// other in a thread of its own, or on the calling thread where none can be started.
-///
-/// # Errors
-/// As those of `read_from`: the first that refuses, in order, decides.
-pub(crate) fn read_beside<R: Threads + Sync>(
-    rt: &R,
-    alloc: Global,
-    setup: &Setup,
-    place: u8,
-    texts: &[Vec<u8>],
-    timing: Timing,
-) -> Result<Vec<Vec<Event>>, PlayFault>
-    requires place { (1 ≤ place) × (place + length texts.now ≤ 9) }
-    requires in_setup { place + length texts.now ≤ length setup.now.testers + 1 }
-    ensures { Reads (logs_from place setup.now timing (map (λ text. text.items) texts.now))
-        (length texts.now) result }
-{
-    if texts.len() < 2 {
-        return read_from(alloc, setup, place, texts, timing);
+    if rest.is_empty() {
+        let one = read_one(alloc, setup, place, text.as_slice(), timing)?;
+        return in_front(one, Vec::new(alloc));
     }
-    let Some((text, rest)) = texts.split_first() else {
-        unreachable!()
-    };
     let (one, others) = join(
         rt,
         move || -> Result<Vec<Event>, PlayFault>
