@@ -63,7 +63,7 @@ fn add_first(text: &mut Vec<u8>, number: u64)
 }
 
 /// Appends a number of one or two digits.
-#[tactic(auto, using(crate::proofs::DecimalText::decimal_two, crate::proofs::DecimalText::decimal_one))]
+#[tactic(auto, using(crate::proofs::DecimalText::decimal_two, crate::proofs::DecimalText::decimal_digit))]
 #[inline(always)]
 fn add_few(text: &mut Vec<u8>, number: u64)
     requires few { number < 100 }
