@@ -1,6 +1,6 @@
 //! Numbers in decimal, appended to a text where there is room for them.
 ghost use Rattle.std.specs.Prelude.{◌≡◌, ◌<◌, ◌≤◌, ◌+◌, ◌/◌, ◌%◌, ◌++◌, decimal, vec_len, vec_capacity};
-ghost use Rattle.diag_desk.specs.Text.{two_digits};
+ghost use Rattle.diag_can.specs.Reply.{two_digits};
 
 use diag_can::{add_bytes, decimal_pair};
 
