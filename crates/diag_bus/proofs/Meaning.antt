@@ -10,12 +10,13 @@ use Rattle.diag_can.specs.Bus.{bus_line}
 use Rattle.diag_setup.specs.Setup.{ids_of}
 use Rattle.diag_tp.specs.Moments.{counted_from}
 use Rattle.diag_setup.specs.declared.raw.RawSetup.{RawSetup}
+use Rattle.diag_ecu.proofs.Unlocking.{bytes_same}
 use Rattle.diag_bus.specs.Verdict.{Agree, IsDifferent, IsFirstDifference, IsPlace, Means, VerdictLaw, at_line, bytes_of, difference, difference_of, earlier, expected, first_difference, lack_of, places, recorded, recorded_from, reply_said, verdict, verdict_by}
 use Rattle.diag_bus.specs.declared.verdict.Recorded.{Recorded}
 use Rattle.diag_bus.specs.declared.verdict.Difference.{Difference}
 use Rattle.diag_bus.specs.declared.verdict.Verdict.{Verdict}
 use Rattle.diag_bus.specs.declared.verdict.Verdict.TheVariants.{Agrees, Lacks}
-use Rattle.diag_bus.proofs.Apart.{bytes_same, bytes_self, differs_by}
+use Rattle.diag_bus.proofs.Apart.{bytes_self, differs_by}
 use Rattle.diag_bus.proofs.Verdicts.{both_none, none_left, unmapped}
 
 -- ---- one tester's lists

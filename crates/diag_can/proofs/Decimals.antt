@@ -7,7 +7,7 @@ use Rattle.std.proofs.lemmas.Bool.{agree_below_at, cases_lt}
 use Rattle.std.proofs.lemmas.Slice.Eq.{bytes_eq-Decides}
 use Rattle.std.proofs.lemmas.Fmt.{decimal_digit, decimal_nonempty, decimal_step}
 use Rattle.diag_can.proofs.Digits.{pow-suc}
-use Rattle.diag_can.specs.Reply.{zero_filled}
+use Rattle.diag_can.specs.Reply.{two_digits, zero_filled}
 use Rattle.diag_can.specs.declared.table.TheConstants.{DECIMALS}
 
 -- so many of a number's last digits
@@ -80,24 +80,20 @@ stamp_parts old seconds thousandths a b c d e p q r s t = rw (t, s, r, q, p) (si
 
 -- ---- two digits at a time
 
--- the two digits of a number below 100
-abbrev pub two : ℕ → List ℕ
-two n = (48 + n / 10) ∷ (48 + n % 10) ∷ []
-
-pub decimals_at : (n : ℕ) → n < 100 → get_or DECIMALS n [] ≡ two n
+pub decimals_at : (n : ℕ) → n < 100 → get_or DECIMALS n [] ≡ two_digits n
 decimals_at n below =
-    (bytes_eq-Decides (get_or DECIMALS n []) (two n)).0 (agree_below_at (λ n. bytes_eq (get_or DECIMALS n []) (two n)) (λ n. true) 100 n refl below)
+    (bytes_eq-Decides (get_or DECIMALS n []) (two_digits n)).0 (agree_below_at (λ n. bytes_eq (get_or DECIMALS n []) (two_digits n)) (λ n. true) 100 n refl below)
 
 -- so many pairs of a number's last digits
 abbrev pub last_pairs : ℕ → ℕ → List ℕ
 last_pairs zero n = []
-last_pairs (suc count) n = last_pairs count (n / 100) ++ two (n % 100)
+last_pairs (suc count) n = last_pairs count (n / 100) ++ two_digits (n % 100)
 
 abbrev double : ℕ → ℕ
 double zero = zero
 double (suc n) = suc (suc (double n))
 
-pub last_two : (width n : ℕ) → last_digits (suc (suc width)) n ≡ last_digits width (n / 100) ++ two (n % 100)
+pub last_two : (width n : ℕ) → last_digits (suc (suc width)) n ≡ last_digits width (n / 100) ++ two_digits (n % 100)
 last_two width n =
     let front : n / 10 / 10 ≡ n / 100 = omega arith in
     let tens : n / 10 % 10 ≡ n % 100 / 10 = omega arith in
@@ -106,18 +102,18 @@ last_two width n =
 
 by_pairs : (count n : ℕ) → last_digits (double count) n ≡ last_pairs count n
 by_pairs zero n = refl
-by_pairs (suc count) n = last_two (double count) n ∙ ap (λ (xs : List ℕ). xs ++ two (n % 100)) (by_pairs count (n / 100))
+by_pairs (suc count) n = last_two (double count) n ∙ ap (λ (xs : List ℕ). xs ++ two_digits (n % 100)) (by_pairs count (n / 100))
 
 -- the two pairs of four digits
-pub four_by_pairs : (n : ℕ) → n < 10 ^ 4 → zero_filled 4 (decimal n) ≡ (48 + n / 100 / 10) ∷ (48 + n / 100 % 10) ∷ two (n % 100)
+pub four_by_pairs : (n : ℕ) → n < 10 ^ 4 → zero_filled 4 (decimal n) ≡ (48 + n / 100 / 10) ∷ (48 + n / 100 % 10) ∷ two_digits (n % 100)
 four_by_pairs n few =
     let first : n / 100 % 100 ≡ n / 100 = omega arith in
     rw first at (zero_filled-digits 3 n few (omega arith) ∙ by_pairs 2 n)
 
 -- the five pairs of ten digits, by two and twice four
 pub ten_by_pairs : (n : ℕ) → n < 10 ^ 10 → n < 2 ^ 64 → zero_filled 10 (decimal n)
-    ≡ two (n / 10 ^ 8) ++ two (n % 10 ^ 8 / 10 ^ 4 / 100) ++ two (n % 10 ^ 8 / 10 ^ 4 % 100) ++ two (n % 10 ^ 8 % 10 ^ 4 / 100)
-    ++ two (n % 10 ^ 8 % 10 ^ 4 % 100)
+    ≡ two_digits (n / 10 ^ 8) ++ two_digits (n % 10 ^ 8 / 10 ^ 4 / 100) ++ two_digits (n % 10 ^ 8 / 10 ^ 4 % 100) ++ two_digits (n % 10 ^ 8 % 10 ^ 4 / 100)
+    ++ two_digits (n % 10 ^ 8 % 10 ^ 4 % 100)
 ten_by_pairs n few small =
     let a : n / 100 / 100 / 100 / 100 % 100 ≡ n / 10 ^ 8 = omega arith in
     let b : n / 100 / 100 / 100 % 100 ≡ n % 10 ^ 8 / 10 ^ 4 / 100 = omega arith in
@@ -127,7 +123,7 @@ ten_by_pairs n few small =
     rw (a, b, c, d, e) at (zero_filled-digits 9 n few small ∙ by_pairs 5 n)
 
 -- a digit and a pair
-pub three_by_pairs : (n : ℕ) → n < 1000 → zero_filled 3 (decimal n) ≡ (48 + n / 100) ∷ two (n % 100)
+pub three_by_pairs : (n : ℕ) → n < 1000 → zero_filled 3 (decimal n) ≡ (48 + n / 100) ∷ two_digits (n % 100)
 three_by_pairs n few =
     let digit : n / 100 % 10 ≡ n / 100 = omega arith in
-    zero_filled-digits 2 n few (omega arith) ∙ last_two 1 n ∙ ap (λ (d : ℕ). (48 + d) ∷ two (n % 100)) digit
+    zero_filled-digits 2 n few (omega arith) ∙ last_two 1 n ∙ ap (λ (d : ℕ). (48 + d) ∷ two_digits (n % 100)) digit

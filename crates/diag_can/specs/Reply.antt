@@ -1,5 +1,5 @@
 -- The line of a frame that a tester was sent, in candump's log notation.
-use Rattle.std.specs.Prelude.{ℕ, ◌-◌, ◌/◌, ◌%◌, codes, true, List, ◌++◌, length, replicate}
+use Rattle.std.specs.Prelude.{ℕ, ◌+◌, ◌-◌, ◌/◌, ◌%◌, codes, true, List, [], ◌∷◌, ◌++◌, length, replicate}
 use Rattle.std.specs.Fmt.{decimal, digits}
 use Rattle.hex.specs.Hex.{encode_upper}
 use Rattle.diag_can.specs.declared.frame.Frame.{Frame}
@@ -7,6 +7,10 @@ use Rattle.diag_can.specs.declared.frame.Frame.{Frame}
 -- the digits with zeros before them, up to a width
 abbrev pub zero_filled : ℕ → List ℕ → List ℕ
 zero_filled width ds = replicate (width - length ds) 48 ++ ds
+
+-- the two digits of a number below 100
+abbrev pub two_digits : ℕ → List ℕ
+two_digits n = (48 + n / 10) ∷ (48 + n % 10) ∷ []
 
 -- `(SECONDS.MILLISECONDS000)` of a time in milliseconds
 abbrev pub stamp : ℕ → List ℕ

@@ -1,8 +1,9 @@
 //! Hex digits, by a table.
 
-ghost use Rattle.std.specs.Prelude.{◌≡◌, ◌<◌, ◌≤◌, ◌+◌, ◌/◌, ◌%◌, ◌∷◌, [], Some, IsSome, unwrap_or};
+ghost use Rattle.std.specs.Prelude.{◌≡◌, ◌<◌, ◌≤◌, ◌+◌, ◌/◌, ◌∷◌, [], Some, IsSome, unwrap_or};
 ghost use Rattle.hex.specs.Hex.{encode_upper, hex_digit_value};
 ghost use Rattle.diag_can.specs.Line.{pair};
+ghost use Rattle.diag_can.specs.Reply.{two_digits};
 
 /// The value of each byte as a hex digit of either case, and 4096 of every other byte.
 static VALUES: [u16; 256] = [
@@ -103,7 +104,7 @@ pub fn digits(byte: u8) -> [u8; 2]
 /// The two digits of a number below 100.
 pub fn decimals(number: u64) -> [u8; 2]
     requires { number < 100 }
-    ensures { result ≡ (48 + number / 10) ∷ (48 + number % 10) ∷ [] }
+    ensures { result ≡ two_digits number }
 {
     DECIMALS[number as usize]
 }

@@ -1,7 +1,8 @@
 -- Numbers in decimal by two digits and by four.
 use Rattle.std.proofs.Common.{◌≡◌, ℕ, ◌+◌, ◌/◌, ◌%◌, ◌^◌, ◌<◌, ◌≤◌, List, [], ◌∷◌, ◌++◌, sym, ap, ◌∙◌, append_assoc, arith, decimal}
-use Rattle.std.proofs.lemmas.Fmt.{decimal_digit, decimal_step}
-use Rattle.diag_desk.specs.Text.{two_digits}
+pub use Rattle.std.proofs.lemmas.Fmt.{decimal_digit}
+use Rattle.std.proofs.lemmas.Fmt.{decimal_step}
+use Rattle.diag_can.specs.Reply.{two_digits}
 
 pub decimal_two : (n : ℕ) → 10 ≤ n → n < 100 → decimal n ≡ two_digits n
 decimal_two n some few =
@@ -29,9 +30,6 @@ decimal_four n some small =
     let low : n % 100 ≡ n % 10000 % 100 = omega arith in
     last ∙ ap (λ (l : List ℕ). l ++ two_digits (n % 100)) before
     ∙ (λ i. (decimal (front i) ++ two_digits (high i)) ++ two_digits (low i))
-
-pub decimal_one : (n : ℕ) → n < 10 → decimal n ≡ (48 + n) ∷ []
-decimal_one n few = decimal_digit n few
 
 -- a text with a number behind it, by its parts
 pub pair_joined : (old text next : List ℕ) (n : ℕ) → 100 ≤ n → n < 10000 → text ≡ old ++ decimal (n / 100) → next ≡ text ++ two_digits (n % 100)

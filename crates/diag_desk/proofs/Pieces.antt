@@ -2,6 +2,7 @@
 use Rattle.std.proofs.Common.{◌≡◌, ◌==◌, ℕ, ◌+◌, ◌<◌, true, false, cond, List, [], ◌∷◌, ◌++◌, length, Some, None, refl, sym, ap, ◌∙◌, subst, arith, inl, inr, append_assoc, append-nil, length-append}
 use Rattle.std.specs.Prelude.{option_map}
 use Rattle.std.proofs.lemmas.List.{append_cancel_right}
+use Rattle.std.proofs.lemmas.Option.{same_Some}
 use Rattle.std.proofs.lemmas.List.Elements.{All-cons, All-head, All-nil, All-tail}
 use Rattle.diag_setup.specs.declared.raw.RawSetup.{RawSetup}
 use Rattle.diag_can.specs.Bus.{HasNoFeed}
@@ -154,9 +155,6 @@ line_fault setup old f new text rest line after same follows cuts wrong so_far s
 
 -- ---- the replay of a text
 
-same_number : (n m : ℕ) → Some n ≡ Some m → n ≡ m
-same_number n m same = cc
-
 module _ (setup : RawSetup) (old new : TextReplay) (text : List ℕ) where
   -- the line of that number is at fault
   pub fault_taken : (n : ℕ) → new.fault ≡ Some n → ((seen : List ℕ) → HasTaken setup old seen → (more : List ℕ) → FaultAt (seen ++ (text ++ more)) n)
@@ -165,7 +163,7 @@ module _ (setup : RawSetup) (old new : TextReplay) (text : List ℕ) where
       all_taken (HasTaken setup old) (HasTaken setup new) text (λ seen h. record {
         well = λ none. cc (sym some ∙ none);
         fault = λ m same more.
-            let number : n ≡ m = same_number n m (sym some ∙ same) in
+            let number : n ≡ m = same_Some n m (sym some ∙ same) in
             subst (FaultAt ((seen ++ text) ++ more)) number (subst (λ t. FaultAt t n) (sym (append_assoc seen text more)) (at seen h more));
       })
 

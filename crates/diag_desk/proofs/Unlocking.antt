@@ -11,7 +11,7 @@ use Rattle.diag_desk.specs.Unlocking.{SendsKey, UnlockedBefore, UnlockLaw}
 use Rattle.diag_tp.specs.declared.step.Step.{Step}
 use Rattle.diag_tp.specs.declared.step.Step.TheVariants.{Request, Ticks}
 use Rattle.diag_desk.specs.declared.entry.Entry.{Entry}
-use Rattle.std.proofs.lemmas.Option.{same_Some}
+use Rattle.std.proofs.lemmas.Option.{same_Some, slice_get_within}
 use Rattle.std.proofs.lemmas.Bool.{cases_lt}
 
 abbrev after_entry : State → Entry → State
@@ -103,11 +103,6 @@ reply_open : (s : State) (who id : ℕ) (step : Step) → reply_to s who step �
 reply_open s who id (Ticks n) e above = cc e
 reply_open s who id (Request functional p) e above = ecu.reply_open s who id functional p e above
 
-within_run : (entries : List Entry) (i : ℕ) (e : Entry) → slice_get entries i ≡ Some e → i < length entries
-within_run [] i e at = cc
-within_run (x ∷ entries) zero e at = omega arith
-within_run (x ∷ entries) (suc i) e at = let below = within_run entries i e at in omega arith
-
 -- the law
 pub unlock : UnlockLaw
 unlock s entries locked legal i e id at written above =
@@ -115,5 +110,5 @@ unlock s entries locked legal i e id at written above =
     let rules : write_level_of now id ≡ write_level_of s id = ap write_level (run_rules s (take i entries) id) in
     let reply = sym (legal_at s entries i e legal at) ∙ written in
     let opened = reply_open now e.who id e.step reply (rw rules above) in
-    let below = within_run entries i e at in
+    let below = slice_get_within entries i e at in
     since s entries i e.who (write_level_of s id) locked (omega arith) (rw rules at opened)

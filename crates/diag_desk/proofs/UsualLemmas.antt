@@ -3,11 +3,11 @@ use Rattle.std.proofs.Common.{◌≡◌, ℕ, suc, ◌+◌, ◌-◌, ◌*◌, �
 use Rattle.std.proofs.lemmas.Bool.{agree_below_at, eqb-true}
 use Rattle.std.proofs.lemmas.Bool.Decides.{nat_tests}
 use Rattle.std.proofs.lemmas.Fmt.{decimal_digit, decimal_step}
-use Rattle.std.proofs.lemmas.List.{take_all, take_more, take-append-drop, take-take}
+use Rattle.std.proofs.lemmas.List.{take_all, take-append-drop, take-take}
 use Rattle.std.proofs.Math.Seq.{drop-cons}
-use Rattle.std.proofs.lemmas.Option.{slice_get_within, get_or_from_slice_get}
 use Rattle.hex.specs.Hex.{encode_upper, encode_with, upper_digits}
 use Rattle.diag_can.proofs.Hex.{upper-parts}
+use Rattle.diag_desk.proofs.Runs.{take_one}
 use Rattle.diag_desk.specs.Text.{entry_line, reply_text, upper_value}
 use Rattle.diag_desk.specs.Line.{fronted, kind_code, request_kind}
 use Rattle.diag_desk.specs.Entries.{entry}
@@ -102,9 +102,6 @@ pub hex_joined : (a b text between rest : List ℕ) → text ≡ encode_upper a 
 hex_joined a b text between rest t s =
     t ∙ ap (λ l. encode_upper a ++ l) s ∙ sym (append_assoc (encode_upper a) (encode_upper b) rest) ∙ ap (λ l. l ++ rest) (sym (upper-parts a b))
 
-pub taken_more : (bytes : List ℕ) (i b : ℕ) → slice_get bytes i ≡ Some b → take (i + 1) bytes ≡ take i bytes ++ b ∷ []
-taken_more bytes i b at = take_more bytes i b (slice_get_within bytes i b at) ∙ ap (λ x. take i bytes ++ x ∷ []) (get_or_from_slice_get bytes i b b at)
-
 digit_small : (n : ℕ) → n < 16 → nat_lt (slice_index upper_digits n) 256 ≡ true
 digit_small n below = agree_below_at (λ n. nat_lt (slice_index upper_digits n) 256) (λ n. true) 16 n refl below
 
@@ -131,7 +128,7 @@ byte_more text bytes i b high low t room at h l spelled =
     let rest : drop (2 * i) text ≡ high ∷ low ∷ drop (2 * (i + 1)) text =
     first ∙ ap (λ r. get_or text (2 * i) 0 ∷ r) second
     ∙ (λ j. h j ∷ (ap (λ k. get_or text k 0) after ∙ l) j ∷ drop (sym next j) text) in
-    front-more text (take i bytes) (take (i + 1) bytes) (drop (2 * i) text) (drop (2 * (i + 1)) text) b high low t rest spelled (taken_more bytes i b at)
+    front-more text (take i bytes) (take (i + 1) bytes) (drop (2 * i) text) (drop (2 * (i + 1)) text) b high low t rest spelled (take_one bytes i b at)
 
 -- ---- whole lines
 

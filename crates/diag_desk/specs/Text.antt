@@ -1,5 +1,5 @@
 -- The text of a journal: a header, and a line for each entry. There is one spelling.
-use Rattle.std.specs.Prelude.{◌≢◌, ◌≤◌, ◌<◌, ◌^◌, ◌+◌, ◌/◌, ◌%◌, ◌==◌, ◌&&◌, ◌||◌, ℕ, Bool, nat_le, List, [], ◌∷◌, ◌++◌, codes, decimal, Option, Some, None, unwrap_or, if◌then◌else◌}
+use Rattle.std.specs.Prelude.{◌≢◌, ◌≤◌, ◌<◌, ◌^◌, ◌+◌, ◌==◌, ◌&&◌, ◌||◌, ℕ, Bool, nat_le, List, [], ◌∷◌, ◌++◌, codes, decimal, Option, Some, None, unwrap_or, if◌then◌else◌}
 use Rattle.hex.specs.Hex.{encode_upper, hex_digit_value}
 use Rattle.diag_tp.specs.declared.step.Step.{Step}
 use Rattle.diag_tp.specs.declared.step.Step.TheVariants.{Request, Ticks}
@@ -7,10 +7,6 @@ use Rattle.diag_desk.specs.declared.entry.Entry.{Entry}
 use Rattle.diag_desk.specs.declared.version.JournalVersion.{JournalVersion}
 use Rattle.diag_desk.specs.declared.version.JournalVersion.TheVariants.{Plain, Stamped}
 use Rattle.diag_desk.specs.Entry.{IsEntry, IsMessage}
-
--- the two digits of a number below 100
-abbrev pub two_digits : ℕ → List ℕ
-two_digits n = (48 + n / 10) ∷ (48 + n % 10) ∷ []
 
 abbrev pub reply_text : Option (List ℕ) → List ℕ
 reply_text None = codes "-"

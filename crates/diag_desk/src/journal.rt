@@ -76,13 +76,6 @@ impl Journal {
         self.heads.len()
     }
 
-    /// Whether there are no entries.
-    pub fn is_empty(&self) -> bool
-        ensures { IsTrue result ↔ (length self.now.entries ≡ 0) }
-    {
-        self.heads.is_empty()
-    }
-
     /// Whether there are 1,000,000 entries, so that no more are taken.
     pub fn is_full(&self) -> bool
         ensures { IsTrue result ↔ (length self.now.entries ≡ most_entries) }

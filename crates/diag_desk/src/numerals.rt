@@ -1,6 +1,6 @@
 //! Numbers in decimal, appended to a text where there is room for them.
 ghost use Rattle.std.specs.Prelude.{◌≡◌, ◌<◌, ◌≤◌, ◌+◌, ◌/◌, ◌%◌, ◌++◌, decimal, vec_len, vec_capacity};
-ghost use Rattle.diag_desk.specs.Text.{two_digits};
+ghost use Rattle.diag_can.specs.Reply.{two_digits};
 
 use diag_can::{add_bytes, decimal_pair};
 
@@ -63,7 +63,7 @@ fn add_first(text: &mut Vec<u8>, number: u64)
 }
 
 /// Appends a number of one or two digits.
-#[tactic(auto, using(crate::proofs::DecimalText::decimal_two, crate::proofs::DecimalText::decimal_one))]
+#[tactic(auto, using(crate::proofs::DecimalText::decimal_two, crate::proofs::DecimalText::decimal_digit))]
 #[inline(always)]
 fn add_few(text: &mut Vec<u8>, number: u64)
     requires few { number < 100 }

@@ -1,6 +1,6 @@
 -- What a search for a row's index says of a change of that row.
 use Rattle.std.proofs.Common.{◌≡◌, ℕ, zero, suc, ◌+◌, ◌<◌, ◌≤◌, Bool, true, false, cond, not, ◌&&◌, sym, nat_lt, List, [], ◌∷◌, length, refl, ap, ◌∙◌, arith, Some, None, slice_index_or, slice_set, ◌++◌, take, drop, add-one, length-append}
-use Rattle.std.proofs.lemmas.List.{length-map}
+use Rattle.std.proofs.lemmas.List.{length-map, take_all}
 use Rattle.std.proofs.Math.Seq.{take-append_seam}
 use Rattle.std.specs.Prelude.{position, map}
 use Rattle.std.proofs.lemmas.Grind.{common_steps}
@@ -109,15 +109,9 @@ map_rises key other f same ys h = same_keys-rise key other (map f ys) ys (map-ke
 pub refilled : {X : Type 0} (xs ys : List X) (n : ℕ) → n ≡ length xs → take n (xs ++ drop (length xs) ys) ≡ xs
 refilled xs ys n same = rw same (take-append_seam xs (drop (length xs) ys))
 
-take_over : {X : Type 0} (xs : List X) (n : ℕ) → length xs ≤ n → take n xs ≡ xs
-take_over [] zero h = refl
-take_over [] (suc n) h = refl
-take_over (x ∷ xs) zero h = absurd (omega arith)
-take_over (x ∷ xs) (suc n) h = ap (λ zs. x ∷ zs) (take_over xs n (omega arith))
-
 -- what a loop that pushes f of each row has made at its end
 made_of_all : {X Y : Type 0} (f : X → Y) (xs : List X) (ys : List Y) (n : ℕ) → ys ≡ map f (take n xs) → length xs ≤ n → ys ≡ map f xs
-made_of_all f xs ys n e h = e ∙ ap (map f) (take_over xs n h)
+made_of_all f xs ys n e h = e ∙ ap (map f) (take_all n xs h)
 
 -- rows that a loop has made of rows that rise, of which there are few, are few and rise
 pub made_rise : {X Y : Type 0} (key : Y → ℕ) (other : X → ℕ) (f : X → Y) → ((x : X) → key (f x) ≡ other x) → (most : ℕ) (xs : List X) (ys : List Y) (n : ℕ)

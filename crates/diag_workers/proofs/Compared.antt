@@ -1,19 +1,13 @@
 -- One tester's entries, compared place by place.
-use Rattle.std.proofs.Common.{◌≡◌, inl, inr, ℕ, ◌+◌, true, false, cond, Some, None, List, [], ◌∷◌, ◌++◌, take, drop, ap, sym, ◌∙◌, append_assoc}
+use Rattle.std.proofs.Common.{◌≡◌, inl, inr, ℕ, ◌+◌, true, false, cond, Some, None, List, [], ◌∷◌, ◌++◌, take, drop, ap, sym, ◌∙◌}
 use Rattle.std.proofs.lemmas.List.{append-nil, append_cancel_left, drop_all, take-append-drop}
 use Rattle.std.proofs.lemmas.Option.{slice_get_cases}
 use Rattle.std.specs.Prelude.{◌==◌, slice_get}
+use Rattle.diag_tp.proofs.Lists.{drop-next}
 use Rattle.diag_desk.specs.declared.entry.Entry.{Entry}
 use Rattle.diag_desk.specs.Entries.{own}
 use Rattle.diag_desk.proofs.Runs.{take_one}
 use Rattle.diag_world.proofs.Worlds.{own-append}
-
--- the rest from an item on
-pub drop_next : (xs : List Entry) (i : ℕ) (x : Entry) → slice_get xs i ≡ Some x → drop i xs ≡ x ∷ drop (i + 1) xs
-drop_next xs i x h =
-    append_cancel_left (take i xs) (drop i xs) (x ∷ drop (i + 1) xs)
-    (take-append-drop i xs ∙ (sym (take-append-drop (i + 1) xs)
-    ∙ (ap (λ w. w ++ drop (i + 1) xs) (take_one xs i x h) ∙ append_assoc (take i xs) (x ∷ []) (drop (i + 1) xs))))
 
 pub own_skips : (journal : List Entry) (t i : ℕ) (x : Entry) → slice_get journal i ≡ Some x → (x.who == t) ≡ false
     → own (take (i + 1) journal) t ≡ own (take i journal) t
@@ -31,7 +25,7 @@ own_from : (journal : List Entry) (t i : ℕ) (x : Entry) → slice_get journal 
     → own journal t ≡ own (take i journal) t ++ x ∷ own (drop (i + 1) journal) t
 own_from journal t i x at mine =
     ap (λ w. own w t) (sym (take-append-drop i journal)) ∙ (own-append (take i journal) (drop i journal) t
-    ∙ (ap (λ w. own (take i journal) t ++ own w t) (drop_next journal i x at)
+    ∙ (ap (λ w. own (take i journal) t ++ own w t) (drop-next journal i x at)
     ∙ ap (λ b. own (take i journal) t ++ cond b (x ∷ own (drop (i + 1) journal) t) (own (drop (i + 1) journal) t)) mine))
 
 -- where a record that began alike is the tester's entries, it goes on with the tester's entry
@@ -58,6 +52,6 @@ pub other_left : (journal kept : List Entry) (t i next : ℕ) (x k : Entry) → 
     → slice_get kept next ≡ Some k → (x ≡ k → ⊥) → kept ≡ own journal t → ⊥
 other_left journal kept t i next x k at mine same known apart whole =
     let rest = kept_from journal kept t i next x at mine same whole in
-    let here = drop_next kept next k known in
+    let here = drop-next kept next k known in
     let one : x ≡ k = cc in
     apart one

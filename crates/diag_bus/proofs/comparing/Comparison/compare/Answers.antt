@@ -1,8 +1,9 @@
 use Rattle.std.proofs.Common.{◌≡◌, ◌∙◌, true, false, ap₂, sym, subst}
 use Rattle.std.specs.Prelude.{bytes_eq}
 use Rattle.std.proofs.lemmas.Bool.{not-false, not-true}
+use Rattle.diag_ecu.proofs.Unlocking.{bytes_same}
 use Rattle.diag_bus.specs.Comparing.{Apart}
-use Rattle.diag_bus.proofs.Apart.{bytes_same, part_ends, part_on}
+use Rattle.diag_bus.proofs.Apart.{part_ends, part_on}
 use Rattle.diag_bus.proofs.comparing.Comparison.compare.Goals as goal
 
 pub returns-then-ne : goal.returns-then-ne
