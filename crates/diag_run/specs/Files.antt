@@ -1,6 +1,5 @@
 -- What the files of a run say: the first fault in the order in which a run meets them, or what is read.
 use Rattle.std.specs.Prelude.{◌≡◌, ◌≤◌, ◌<◌, ℕ, ◌+◌, ◌==◌, nat_le, nat_lt, Bool, false, IfErr, if◌then◌else◌, List, [], ◌∷◌, ◌++◌, length, map, Option, Some, Result, Ok, Err}
-use Rattle.std.specs.Io.KnownBytes.{Consumes}
 use Rattle.diag_can.specs.declared.fault.LogFault.{LogFault}
 use Rattle.diag_setup.specs.declared.raw.RawSetup.{RawSetup}
 use Rattle.diag_config.specs.Key.{Fault, syntax, missing, bad_value, refused, ◌>>=◌}
@@ -77,17 +76,17 @@ pub record SaysSetup (old new : Option (List ℕ)) (setup : RawSetup) : Type 0 w
   pub read : ReadWhole old new bytes
   pub says : config_of bytes ≡ Ok setup
 
--- bytes of the config were read that are refused for this fault
+-- the config was read whole, and is refused for this fault
 pub record IsRefused (old new : Option (List ℕ)) (fault : RunFault) : Type 0 where
   pub bytes : List ℕ
-  pub read : Consumes old new bytes
+  pub read : ReadWhole old new bytes
   pub fails : Fails fault (config_of bytes)
 
 -- The fault came in reading the config. Before a failed read, and before memory was refused, no more than its limit
 -- was read.
 abbrev pub ConfigEnds : Option (List ℕ) → Option (List ℕ) → RunFault → Type 0
 ConfigEnds old new (Config fault) = IsRefused old new (Config fault)
-ConfigEnds old new ConfigLong = IsRefused old new ConfigLong
+ConfigEnds old new ConfigLong = Takes old new (λ bytes. 1048576 < length bytes)
 ConfigEnds old new Memory = Takes old new (λ bytes. length bytes ≤ 1048576)
 ConfigEnds old new (Read n) = (n ≡ 0) × Takes old new (λ bytes. length bytes ≤ 1048576)
 ConfigEnds old new (Files wanted given) = ⊥
