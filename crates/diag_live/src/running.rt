@@ -10,7 +10,7 @@ use crate::serving::Serving;
 use diag_bus::{Bus, Output};
 use diag_run::{Outcome, read_config};
 use diag_setup::Setup;
-use diag_text::{RunFault, fault_text, status};
+use diag_text::RunFault;
 use std::alloc::Global;
 use std::io::{Read, Write};
 
@@ -128,9 +128,6 @@ pub fn run_live_and_tell<C: Read + Drop, B: Bench + Drop, W: Write, R: Write>(
 {
     match run_live(alloc, &mut config, &mut bench, out, recorder) {
         Ok(()) => Outcome::Done,
-        Err(fault) => Outcome::Fault {
-            told: fault_text(alloc, &fault).ok(),
-            status: status(&fault),
-        },
+        Err(fault) => Outcome::of(alloc, &fault),
     }
 }

@@ -7,4 +7,5 @@ pub mod Pieces
 pub mod Plays
 pub mod Reading
 pub mod Runs
+pub mod Told
 pub mod Written

@@ -267,10 +267,13 @@ pub record IsFaultOf {R : Type 0} (remaining : R → Option (List ℕ)) (job : J
   pub device : (n : ℕ) → fault ≡ Read n → n ≤ length files
   pub answer : WhereKnown remaining job config files (λ said. AnswersFault job said old new fault)
 
--- where it ends with a fault, the line and the status are those of a fault of which P holds
+-- it ended by this fault: the line, unless there was no memory for it, and the status are the fault's
+abbrev pub Tells : RunFault → Outcome → Type 0
+Tells fault outcome.Done = ⊥
+Tells fault (outcome.Fault told number) =
+    IfSome told (λ line. line.items ≡ fault_text fault) × (number ≡ status fault)
+
+-- where it ended by a fault, it was one of which P holds
 abbrev pub TellsOf : (RunFault → Type 0) → Outcome → Type 0
 TellsOf P outcome.Done = Unit {0}
-TellsOf P (outcome.Fault told number) = (fault : RunFault)
-    × P fault
-    × IfSome told (λ line. line.items ≡ fault_text fault)
-    × (number ≡ status fault)
+TellsOf P (outcome.Fault told number) = (fault : RunFault) × P fault × Tells fault (outcome.Fault told number)

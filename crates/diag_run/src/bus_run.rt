@@ -12,7 +12,7 @@ use crate::capture::{Capture, CaptureFault};
 use crate::file_run::Outcome;
 use crate::files::read_config;
 use diag_bus::{Bus, Output};
-use diag_text::{RunFault, fault_text, status};
+use diag_text::RunFault;
 use std::alloc::Global;
 use std::io::{Read, Write};
 
@@ -166,9 +166,6 @@ pub fn run_bus_and_tell<R: Read + Drop, W: Write>(
 {
     match run_bus(alloc, output, &mut config, &mut capture, out) {
         Ok(()) => Outcome::Done,
-        Err(fault) => Outcome::Fault {
-            told: fault_text(alloc, &fault).ok(),
-            status: status(&fault),
-        },
+        Err(fault) => Outcome::of(alloc, &fault),
     }
 }

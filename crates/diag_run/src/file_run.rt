@@ -3,7 +3,7 @@
 ghost use Rattle.std.specs.Prelude.{◌≡◌, ◌≢◌, ℕ, List, length, IfOk, IfErr, OnOk, Some, Ok, Err};
 ghost use Rattle.std.specs.Io.KnownBytes.{Keeps};
 ghost use Rattle.diag_run.specs.Files.{AreKnown, Fails, SaysSetup};
-ghost use Rattle.diag_run.specs.Run.{NamesAFile, ReadsConfigFirst, TextStops, WhereKnown, Writes, joined, job_of, wanted, read_of, FilesGive, ReadToEnd, ReadingStops, RunStops, GivesRun, Wrote, WroteFront, IsFaultOf, TellsOf, answered};
+ghost use Rattle.diag_run.specs.Run.{NamesAFile, ReadsConfigFirst, TextStops, WhereKnown, Writes, joined, job_of, wanted, read_of, FilesGive, ReadToEnd, ReadingStops, RunStops, GivesRun, Wrote, WroteFront, IsFaultOf, Tells, TellsOf, answered};
 
 use crate::answer::{played_text, read_texts, replayed_text, woven_text};
 use crate::files::read_config;
@@ -287,6 +287,18 @@ pub enum Outcome {
     Fault { told: Option<Vec<u8>>, status: u8 },
 }
 
+impl Outcome {
+    /// How a run ends by this fault.
+    pub fn of(alloc: Global, fault: &RunFault) -> Outcome
+        ensures { Tells fault.now result }
+    {
+        Outcome::Fault {
+            told: fault_text(alloc, fault).ok(),
+            status: status(fault),
+        }
+    }
+}
+
 /// Runs, and says how it ended: with the whole text written, or with the line and the status of the run's fault.
 pub fn run_and_tell<T: Threads + Wait + Sync, R: Read + Drop, W: Write>(
     rt: &T,
@@ -309,9 +321,6 @@ pub fn run_and_tell<T: Threads + Wait + Sync, R: Read + Drop, W: Write>(
 {
     match run(rt, alloc, job, config, files, out) {
         Ok(()) => Outcome::Done,
-        Err(fault) => Outcome::Fault {
-            told: fault_text(alloc, &fault).ok(),
-            status: status(&fault),
-        },
+        Err(fault) => Outcome::of(alloc, &fault),
     }
 }

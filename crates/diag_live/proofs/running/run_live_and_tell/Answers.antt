@@ -1,4 +1,12 @@
+use Rattle.diag_run.proofs.Told.{not_done, tells_of}
 use Rattle.diag_live.proofs.running.run_live_and_tell.Goals as goal
 
 pub returns-in-Ok-clause-done : goal.returns-in-Ok-clause-done
 returns-in-Ok-clause-done g c _ = (c.run_live.new.config, c.run_live.new.bench, c.in-Ok.ensures.done)
+
+pub returns-clause-done : goal.returns-clause-done
+returns-clause-done g c is = absurd (not_done c.in-Err.fault c.of.result c.of.ensures is)
+
+pub returns-clause-fault : goal.returns-clause-fault
+returns-clause-fault g c =
+    tells_of _ c.in-Err.fault c.of.result (c.run_live.new.config, c.run_live.new.bench, c.in-Err.ensures.fault) c.of.ensures

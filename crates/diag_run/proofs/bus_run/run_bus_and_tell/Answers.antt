@@ -1,13 +1,12 @@
-use Rattle.std.proofs.Common.{rules}
+use Rattle.diag_run.proofs.Told.{not_done, tells_of}
 use Rattle.diag_run.proofs.bus_run.run_bus_and_tell.Goals as goal
 
 pub returns-in-Ok-clause-done : goal.returns-in-Ok-clause-done
 returns-in-Ok-clause-done g c _ = (c.run_bus.new.config, c.run_bus.new.capture, c.in-Ok.ensures.done)
 
+pub returns-clause-done : goal.returns-clause-done
+returns-clause-done g c is = absurd (not_done c.in-Err.fault c.of.result c.of.ensures is)
+
 pub returns-clause-fault : goal.returns-clause-fault
-returns-clause-fault g c = (
-  c.in-Err.fault,
-  (c.run_bus.new.config, c.run_bus.new.capture, c.in-Err.ensures.fault),
-  search rules,
-  c.status.ensures,
-)
+returns-clause-fault g c =
+    tells_of _ c.in-Err.fault c.of.result (c.run_bus.new.config, c.run_bus.new.capture, c.in-Err.ensures.fault) c.of.ensures

@@ -1,6 +1,13 @@
 use Rattle.std.proofs.Common.{rules}
+use Rattle.diag_run.proofs.Told.{not_done, tells_of}
 use Rattle.diag_run.proofs.file_run.run_and_tell.Goals as goal
+
+pub returns-in-Err-clause-done : goal.returns-in-Err-clause-done
+returns-in-Err-clause-done g c is = absurd (not_done c.in-Err.fault c.of.result c.of.ensures is)
+
+pub returns-in-Err-clause-reads : goal.returns-in-Err-clause-reads
+returns-in-Err-clause-reads g c is = absurd (not_done c.in-Err.fault c.of.result c.of.ensures is)
 
 pub returns-in-Err-clause-fault : goal.returns-in-Err-clause-fault
 returns-in-Err-clause-fault g c =
-    let stops = c.in-Err.ensures.stops in (c.in-Err.fault, (search rules, stops.0, stops.1, stops.2), search rules, c.status.ensures)
+    let stops = c.in-Err.ensures.stops in tells_of _ c.in-Err.fault c.of.result (search rules, stops.0, stops.1, stops.2) c.of.ensures
