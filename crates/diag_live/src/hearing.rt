@@ -66,9 +66,7 @@ impl Hearing {
     {
         let mut rest = piece;
         while let Some(end) = memchr(b'\n', rest) {
-            if let Err(fault) = self.take_line(&rest[..end], text) {
-                return Err(fault);
-            }
+            self.take_line(&rest[..end], text)?;
             rest = &rest[end + 1..];
         }
         self.keep(rest)
@@ -90,9 +88,7 @@ impl Hearing {
         ensures err { IfErr result
             (Refuses self.old (bytes.now ++ 10 ∷ []) text.old.items text.new.items) }
     {
-        if let Err(fault) = self.keep(bytes) {
-            return Err(fault);
-        }
+        self.keep(bytes)?;
         let Some(number) = self.lines.checked_add(1) else {
             return Err(HearFault::Memory);
         };

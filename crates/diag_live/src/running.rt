@@ -68,18 +68,18 @@ fn turn<B: Bench, W: Write, R: Write>(
     let heard = bench.hear(serving.due());
     let now = bench.now();
     match heard {
-        Heard::Piece(piece) => match serving.serve(now, piece.as_slice(), out, recorder) {
-            Ok(()) => Ok(true),
-            Err(fault) => Err(fault),
-        },
-        Heard::Silence => match serving.serve(now, &[], out, recorder) {
-            Ok(()) => Ok(true),
-            Err(fault) => Err(fault),
-        },
-        Heard::End => match serving.end(now, out, recorder) {
-            Ok(()) => Ok(false),
-            Err(fault) => Err(fault),
-        },
+        Heard::Piece(piece) => {
+            serving.serve(now, piece.as_slice(), out, recorder)?;
+            Ok(true)
+        }
+        Heard::Silence => {
+            serving.serve(now, &[], out, recorder)?;
+            Ok(true)
+        }
+        Heard::End => {
+            serving.end(now, out, recorder)?;
+            Ok(false)
+        }
         Heard::Fault => Err(RunFault::Read(1)),
         Heard::Memory => Err(RunFault::Memory),
     }

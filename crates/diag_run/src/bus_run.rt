@@ -42,10 +42,7 @@ pub fn run_bus<R: Read, W: Write>(
     ensures fault { IfErr result (Stops R.remaining output config.old config.new
         capture.old capture.new (W.contents out.old) (W.contents out.new)) }
 {
-    let setup = match read_config(alloc, config) {
-        Ok(setup) => setup,
-        Err(fault) => return Err(fault),
-    };
+    let setup = read_config(alloc, config)?;
     let bus = Bus::new(alloc, setup, output)?;
     match run_capture(alloc, bus, capture, out) {
         Ok(()) => Ok(()),
@@ -82,20 +79,13 @@ fn run_capture<R: Read, W: Write>(
         (W.contents out.old) (W.contents out.new)) }
 {
     let mut buffer = [0u8; PIECE];
-    let count = match read_piece(capture, &mut buffer) {
-        Ok(count) => count,
-        Err(fault) => return Err(fault),
-    };
+    let count = read_piece(capture, &mut buffer)?;
     let mut taking = Capture::begin(alloc, bus)?;
-    if let Err(fault) = taking.take_piece(&buffer[..count], out) {
-        return Err(fault);
-    }
+    taking.take_piece(&buffer[..count], out)?;
     if count == 0 {
         return taking.finish(alloc, out);
     }
-    if let Err(fault) = follow(&mut taking, capture, out) {
-        return Err(fault);
-    }
+    follow(&mut taking, capture, out)?;
     taking.finish(alloc, out)
 }
 
@@ -119,16 +109,11 @@ fn follow<R: Read, W: Write>(
         if taking.lines() > LINES_BEFORE_A_READ {
             break;
         }
-        let count = match read_piece(capture, &mut buffer) {
-            Ok(count) => count,
-            Err(fault) => return Err(fault),
-        };
+        let count = read_piece(capture, &mut buffer)?;
         if count == 0 {
             return Ok(());
         }
-        if let Err(fault) = taking.take_piece(&buffer[..count], out) {
-            return Err(fault);
-        }
+        taking.take_piece(&buffer[..count], out)?;
     }
     Err(CaptureFault::Read)
 }

@@ -218,12 +218,8 @@ impl Capture {
         ensures err { IfErr result (λ fault.
             HaltsIn self.old (fault_at (self.old.lines + 1) fault) (bytes.now ++ 10 ∷ []) self.new.text.items) }
     {
-        if let Err(fault) = keep(&mut self.kept, bytes) {
-            return Err(fault);
-        }
-        if let Err(fault) = self.bus.take_line(self.kept.as_slice(), &mut self.text) {
-            return Err(fault);
-        }
+        keep(&mut self.kept, bytes)?;
+        self.bus.take_line(self.kept.as_slice(), &mut self.text)?;
         self.kept.clear();
         self.lines += 1;
         Ok(())
@@ -253,9 +249,7 @@ impl Capture {
         if self.kept.is_empty() {
             return self.close(alloc, out);
         }
-        if let Err(fault) = self.take_line(&[], &[], Seen::Nothing, out) {
-            return Err(fault);
-        }
+        self.take_line(&[], &[], Seen::Nothing, out)?;
         self.close(alloc, out)
     }
 
