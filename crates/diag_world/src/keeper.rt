@@ -50,6 +50,34 @@ pub trait Keeper {
     ghost unkept_same: { (keeper : Self) → unkept keeper keeper };
 }
 
+/// Keeps no entry, and is never full: for who wants a server's frames and no journal.
+#[derive(Drop)]
+pub struct NoJournal;
+
+impl Keeper for NoJournal {
+    ghost use Rattle.std.specs.Prelude.{◌≡◌, refl};
+
+    ghost keeps = { λ old _ _ new. new ≡ old };
+
+    ghost is_full = { λ _. ⊥ };
+
+    ghost unkept = { λ old new. new ≡ old };
+
+    ghost place = { λ _. 0 };
+
+    fn keep(
+        &mut self,
+        _before: u64,
+        _who: TesterId,
+        _step: &Step,
+        _reply: Option<&Message>,
+    ) -> Result<(), StepFault> {
+        Ok(())
+    }
+
+    ghost unkept_same = { λ _. refl };
+}
+
 /// Appends the line of the entry of a step and its reply in this version; `before` is the ticks of its tester before
 /// it. After an error the text is as before. (Not inlined: what a line is made of is passed in registers.)
 #[inline(never)]

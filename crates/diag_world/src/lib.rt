@@ -13,7 +13,7 @@ mod taking;
 mod world;
 
 pub use channel::Channel;
-pub use keeper::{Keeper, enter_step};
+pub use keeper::{Keeper, NoJournal, enter_step};
 pub use laws::{interleaving_law, turns_law, weaving_law};
 pub use port::Prepared;
 pub use serial_play::{Played, serial};
