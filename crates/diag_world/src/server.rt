@@ -151,7 +151,7 @@ impl Server {
         ensures closed { result ≡ Err ServerFault.Clock
             → IsClosed (server_of self.old).links (who - 1) }
     {
-        let index = who.index();
+        let index = usize::from(who.place()) - 1;
         let lazy = &mut self.links[index];
         lazy.catch_up(self.passed);
         take_at(&mut lazy.link, &mut self.ecu, who, event, keeper, out)
@@ -176,7 +176,7 @@ impl Server {
         requires in_setup { who ≤ length self.now.links }
         ensures { IfSome (slice_get self.now.links (who - 1)) (λ link. result ≡ link.state.now) }
     {
-        let index = who.index();
+        let index = usize::from(who.place()) - 1;
         self.links[index].now(self.passed)
     }
 
@@ -200,7 +200,7 @@ impl Server {
         ensures is { IfSome (slice_get self.now.links (who - 1)) (λ link. result ≡ quiet link.state) }
         ensures some { 1 ≤ result }
     {
-        let index = who.index();
+        let index = usize::from(who.place()) - 1;
         self.links[index].quiet(self.passed)
     }
 
