@@ -1,8 +1,8 @@
 -- What the calls that let time pass answer, one behind the other.
 use Rattle.std.proofs.Common.{◌≡◌, ◌≤◌, ℕ, ◌+◌, List, [], ◌++◌, Result, Ok, Err, subst, sym, arith}
+use Rattle.std.proofs.lemmas.Result.{on_ok_weaker}
 use Rattle.std.specs.declared.alloc.AllocError.{AllocError}
 use Rattle.diag_can.specs.declared.frame.Event.{Event}
-use Rattle.diag_world.proofs.Worlds.{on_ok}
 use Rattle.diag_bus.specs.Batch.{Passed}
 use Rattle.diag_bus.specs.declared.mid_line.MidLine.{MidLine}
 use Rattle.diag_bus.proofs.Batches.{gave_more, gave_none, same_more, same_none}
@@ -18,10 +18,10 @@ passed_as {r} {a} {b} {n} {m} {L} {M} time events h = subst (λ k. Passed a b k 
 pub passed_then : {r : Result (Unit {0}) AllocError} {a b c : MidLine} {n m : ℕ} {L M : List (ℕ × Event)} (all : ℕ) → n + m ≤ all
     → Passed {A = Unit {0}} {E = AllocError} a b n L (Ok tt) → Passed b c m M r → Passed a c all (L ++ M) r
 passed_then {r} {a} {b} {c} {n} {m} {L} {M} all fits first second = record {
-  ok = on_ok _ _ r (λ gave. gave_more a b c L M first.ok gave) second.ok;
+  ok = on_ok_weaker r (λ gave. gave_more a b c L M first.ok gave) second.ok;
   shape = same_more a b c first.shape second.shape;
   pace = took_more a.server b.server c.server n m all fits first.pace second.pace;
-  sent = on_ok _ _ r (λ sent. sent_more a b c n m all fits first.pace first.sent sent) second.sent;
+  sent = on_ok_weaker r (λ sent. sent_more a b c n m all fits first.pace first.sent sent) second.sent;
 }
 
 -- where memory was refused, nothing is said of the events

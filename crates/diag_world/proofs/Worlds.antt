@@ -4,7 +4,7 @@ use Rattle.std.proofs.lemmas.List.{append-nil}
 use Rattle.std.proofs.lemmas.List.Elements.{filter-append}
 use Rattle.std.proofs.lemmas.Bool.{eq-eqb}
 use Rattle.std.proofs.lemmas.Bool.Decides.{nat_tests}
-use Rattle.std.specs.Prelude.{◌==◌, ◌⊎◌, nat_lt, slice_get, slice_set, Result, Ok, Err, OnOk, OnErr}
+use Rattle.std.specs.Prelude.{◌==◌, ◌⊎◌, nat_lt, slice_get, slice_set}
 use Rattle.diag_can.specs.declared.frame.Event.{Event}
 use Rattle.diag_tp.specs.declared.step.Step.{Step}
 use Rattle.diag_desk.specs.declared.entry.Entry.{Entry}
@@ -77,16 +77,6 @@ who_found setup i who h = pick (nat_lt i (length setup.testers)) h
     pick : (b : Bool) → Some who ≡ cond b (Some (i + 1)) None → who ≡ i + 1
     pick true h = cc
     pick false h = cc
-
--- what follows from what an Ok says
-pub on_ok : {X Y : Type 0} (P Q : Type 0) (r : Result X Y) → (P → Q) → OnOk r P → OnOk r Q
-on_ok P Q (Ok x) f h = f h
-on_ok P Q (Err y) f h = h
-
--- and of what an Err says
-pub on_err : {X Y : Type 0} (P Q : Type 0) (r : Result X Y) → (P → Q) → OnErr r P → OnErr r Q
-on_err P Q (Ok x) f h = h
-on_err P Q (Err y) f h = f h
 
 -- what stands in a list after one more item
 pub push_cases : {X : Type 0} (xs : List X) (j : ℕ) (v x : X) → slice_get (xs ++ v ∷ []) j ≡ Some x → ((j ≡ length xs) × (x ≡ v)) ⊎ (slice_get xs j ≡ Some x)

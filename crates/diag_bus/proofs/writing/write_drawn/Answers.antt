@@ -1,9 +1,9 @@
 use Rattle.std.proofs.Common.{◌≤◌, ◌+◌, ◌++◌, Vec, Global, List, length, map, ap, subst, sym, ◌∙◌, arith}
 use Rattle.std.proofs.lemmas.List.{length-map}
+use Rattle.std.proofs.lemmas.Result.{on_ok_weaker}
 use Rattle.std.specs.List.{All, flat_map}
 use Rattle.diag_setup.specs.Rows.{in_order}
 use Rattle.diag_tp.specs.declared.sent.Sent.{Sent}
-use Rattle.diag_world.proofs.Worlds.{on_ok}
 use Rattle.diag_world.specs.Server.{closing_time}
 use Rattle.diag_bus.specs.Text.{gathered, line_of, time_of}
 use Rattle.diag_bus.specs.declared.writing.Drawn.{Drawn}
@@ -22,7 +22,7 @@ pub returns-clause-ok : goal.returns-clause-ok
 returns-clause-ok c =
     let lists = map (λ (f : Vec Sent Global). f.items) c.args.drawn.now.items in
     let all = c.in_ok-gather.ensures.all ∙ ap (λ b. b ++ gathered 1 lists) c.clear.ensures.items in
-    on_ok _ _ c.write_batch.result (λ written.
+    on_ok_weaker c.write_batch.result (λ written.
     written ∙ ap (λ (ds : List Drawn). c.args.text.now.items ++ flat_map (line_of c.args.setup.now c.args.clock.now.start) (in_order time_of ds)) all)
     c.write_batch.ensures.ok
 

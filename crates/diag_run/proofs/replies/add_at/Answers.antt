@@ -1,7 +1,7 @@
 use Rattle.std.proofs.Common.{◌≡◌, ◌≤◌, ◌<◌, Some, length, refl, arith}
 use Rattle.std.proofs.lemmas.Option.{slice_get_read}
+use Rattle.std.proofs.lemmas.Result.{on_ok_weaker}
 use Rattle.std.specs.Prelude.{slice_get}
-use Rattle.diag_world.proofs.Worlds.{on_ok}
 use Rattle.diag_run.proofs.Written.{wrote_one, wrote_past}
 use Rattle.diag_run.proofs.replies.add_at.Goals as goal
 
@@ -17,5 +17,5 @@ returns c =
     let within : c.args.place < length lines = omega (arith, c.if-place-len.false, c.len.ensures, c.args.lines.now.ok.0) in
     let found : slice_get lines c.args.place ≡ Some before =
     slice_get_read lines (length lines) c.args.place before refl within c.index_mut.ensures.value in
-    on_ok _ _ c.add.result (λ text. wrote_one lines c.args.place c.args.sent.now before c.add.new.self found c.add.ensures.writer text)
+    on_ok_weaker c.add.result (λ text. wrote_one lines c.args.place c.args.sent.now before c.add.new.self found c.add.ensures.writer text)
     c.add.ensures.text

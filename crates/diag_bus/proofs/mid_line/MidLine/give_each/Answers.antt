@@ -1,5 +1,5 @@
 use Rattle.std.proofs.Common.{arith}
-use Rattle.diag_world.proofs.Worlds.{on_ok}
+use Rattle.std.proofs.lemmas.Result.{on_ok_weaker}
 use Rattle.diag_bus.proofs.Paces.{ticks_time}
 use Rattle.diag_bus.proofs.mid_line.MidLine.give_each.Goals as goal
 
@@ -13,5 +13,5 @@ returns c = record {
   ok = c.give_to_each.ensures.ok;
   shape = c.give_to_each.ensures.shape;
   pace = c.give_to_each.ensures.pace c.args.count (ticks_time c.args.count);
-  sent = on_ok _ _ c.give_to_each.result (λ sent. sent c.args.count (ticks_time c.args.count)) c.give_to_each.ensures.sent;
+  sent = on_ok_weaker c.give_to_each.result (λ sent. sent c.args.count (ticks_time c.args.count)) c.give_to_each.ensures.sent;
 }

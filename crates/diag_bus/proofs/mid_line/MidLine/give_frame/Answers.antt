@@ -1,5 +1,5 @@
 use Rattle.std.proofs.Common.{◌-◌, length, refl, ap, subst, sym, arith}
-use Rattle.diag_world.proofs.Worlds.{on_ok}
+use Rattle.std.proofs.lemmas.Result.{on_ok_weaker}
 use Rattle.diag_bus.specs.Batch.{Gave}
 use Rattle.diag_bus.specs.Requests.{IsOwner, given}
 use Rattle.diag_bus.specs.declared.request_ids.Owner.{Owner}
@@ -31,12 +31,12 @@ returns-in-Tester c =
     let old = c.args.self.now in
     let none = took_none old.server 0 in
     record {
-      ok = on_ok _ _ c.give.result (λ gave. subst (λ (o : Owner). Gave old c.give.new.self (given n o c.args.bytes)) (sym c.in-Tester.is) gave)
+      ok = on_ok_weaker c.give.result (λ gave. subst (λ (o : Owner). Gave old c.give.new.self (given n o c.args.bytes)) (sym c.in-Tester.is) gave)
           c.give.ensures.ok;
       shape = c.give.ensures.shape;
       pace = took_one old.server old.server c.give.new.self.server 0 (c.in-Tester.who - 1) 0 0 (omega arith) none
           (c.give.ensures.pace 0 (λ now. omega arith));
-      sent = on_ok _ _ c.give.result (λ sent.
+      sent = on_ok_weaker c.give.result (λ sent.
           sent_then old old c.give.new.self 0 (c.in-Tester.who - 1) 0 0 (omega arith) none (sent_none old 0) (sent 0 (λ now. omega arith)))
           c.give.ensures.sent;
     }
@@ -48,5 +48,5 @@ returns-in-Each c =
       ok = c.give_to_each.ensures.ok;
       shape = c.give_to_each.ensures.shape;
       pace = c.give_to_each.ensures.pace 0 (λ now. omega arith);
-      sent = on_ok _ _ c.give_to_each.result (λ sent. sent 0 (λ now. omega arith)) c.give_to_each.ensures.sent;
+      sent = on_ok_weaker c.give_to_each.result (λ sent. sent 0 (λ now. omega arith)) c.give_to_each.ensures.sent;
     })

@@ -1,13 +1,13 @@
 use Rattle.std.proofs.Common.{◌≡◌, ◌≤◌, ◌++◌, List, Some, Vec, Global, get_or, length, refl, ap, subst, sym, ◌∙◌, arith}
 use Rattle.std.proofs.lemmas.List.{append-nil, length-map}
 use Rattle.std.proofs.lemmas.Option.{slice_get-map, slice_get_read}
+use Rattle.std.proofs.lemmas.Result.{on_ok_weaker}
 use Rattle.std.specs.List.{All}
 use Rattle.std.specs.List.Sorted.{IsNonDecreasingBy}
 use Rattle.std.specs.Option.{option_map}
 use Rattle.std.specs.Prelude.{slice_get}
 use Rattle.diag_tp.specs.declared.sent.Sent.{Sent}
 use Rattle.diag_world.specs.Server.{closing_time}
-use Rattle.diag_world.proofs.Worlds.{on_ok}
 use Rattle.diag_bus.specs.Batch.{added, lists_of}
 use Rattle.diag_bus.specs.Requests.{AreFilled}
 use Rattle.diag_bus.specs.Text.{own_text}
@@ -68,7 +68,7 @@ returns-in-At-clause-ok c =
     let text = c.args.text.now.items in
     let list = c.index-in-At.result.now in
     let place = c.in-At.place in
-    on_ok _ _ c.write_own.result (λ wrote.
+    on_ok_weaker c.write_own.result (λ wrote.
     subst (λ (o : Output). c.write_own.new.text.items ≡ text ++ added o self.text.items setup start (lists_of self)) (sym c.in-Replies.is)
     (wrote ∙ ap (λ (fs : List Sent). text ++ own_text setup start place fs) c.as_slice-frames.ensures.value
     ∙ ap (λ w. text ++ w) (own_written setup start place self.drawn.items list (there c.before.before list c.index-in-At.ensures)

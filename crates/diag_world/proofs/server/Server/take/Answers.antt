@@ -1,4 +1,5 @@
 use Rattle.std.proofs.Common.{◌≡◌, ◌≤◌, ◌-◌, subst, sym, ◌∙◌, arith}
+use Rattle.std.proofs.lemmas.Result.{on_err_weaker, on_ok_weaker}
 use Rattle.std.specs.Prelude.{slice_set}
 use Rattle.diag_tp.specs.Link.{last_tick, pending}
 use Rattle.diag_setup.specs.Setup.{link_of}
@@ -7,7 +8,6 @@ use Rattle.diag_world.specs.Weaving.{items_of}
 use Rattle.diag_world.specs.declared.lazy_link.LazyLink.{LazyLink}
 use Rattle.diag_world.proofs.Lazy.{caught_still, caught_told, seen_after, seen_links, set_lazy, told_after}
 use Rattle.diag_world.proofs.Tester.{IsAt, closed_here, late_here, lazy_at, link_at, port_here, same_here, took_here}
-use Rattle.diag_world.proofs.Worlds.{on_ok, on_err}
 use Rattle.diag_world.proofs.server.Server.take.Given.{Over}
 use Rattle.diag_world.proofs.server.Server.take.Goals as goal
 use Rattle.diag_world.proofs.server.Server.take.Goals.{After-take_at}
@@ -55,7 +55,7 @@ invariant_of-self g c =
 pub returns-clause-took : goal.returns-clause-took
 returns-clause-took g c =
     let after = (goal.at.returns-clause-took g c).After-take_at in
-    on_ok _ _ c.take_at.result (λ took. subst (λ s. ServerTook g.K.Keeper.keeps (server_of c.args.self.now) s c.args.keeper.now c.take_at.new.keeper
+    on_ok_weaker c.take_at.result (λ took. subst (λ s. ServerTook g.K.Keeper.keeps (server_of c.args.self.now) s c.args.keeper.now c.take_at.new.keeper
     c.args.who c.args.event.now c.args.out.now.items c.take_at.new.out.items) (sym (seen g after))
     (took_here (here g after) g.K.Keeper.keeps c.args.keeper.now c.take_at.new.keeper c.take_at.new.ecu c.take_at.new.link c.args.event.now
     c.args.out.now.items c.take_at.new.out.items took)) c.take_at.ensures.took
@@ -63,7 +63,7 @@ returns-clause-took g c =
 pub returns-clause-err : goal.returns-clause-err
 returns-clause-err g c =
     let after = (goal.at.returns-clause-err g c).After-take_at in
-    on_err _ _ c.take_at.result (λ err. (seen g after ∙ same_here (here g after) c.take_at.new.ecu c.take_at.new.link err.0 err.1, err.2))
+    on_err_weaker c.take_at.result (λ err. (seen g after ∙ same_here (here g after) c.take_at.new.ecu c.take_at.new.link err.0 err.1, err.2))
     c.take_at.ensures.err
 
 pub returns-clause-full : goal.returns-clause-full

@@ -1,8 +1,9 @@
 use Rattle.std.proofs.Common.{length, map, ap, sym, ◌∙◌, inl, inr}
 use Rattle.std.proofs.lemmas.List.{map-set}
+use Rattle.std.proofs.lemmas.Result.{on_err_weaker, on_ok_weaker}
 use Rattle.diag_world.specs.Channel.{channel_of}
 use Rattle.diag_world.proofs.Standing.{channel_stands, found, world_same, world_takes}
-use Rattle.diag_world.proofs.Worlds.{on_err, on_ok, set_cases}
+use Rattle.diag_world.proofs.Worlds.{set_cases}
 use Rattle.diag_world.proofs.world.World.event.Goals as goal
 
 pub take-requires : goal.take-requires
@@ -23,13 +24,13 @@ invariant_of-self c =
     ]
 
 pub returns-clause-ok : goal.returns-clause-ok
-returns-clause-ok c = on_ok _ _ c.take.result (λ took setup M h.
+returns-clause-ok c = on_ok_weaker c.take.result (λ took setup M h.
     world_takes c.self.inside.desk c.self.inside.channels.items c.index_of-index.result c.self.view_is c.requires.in_setup c.index_of-index.ensures
     c.index_mut.ensures.value setup M c.args.event.now
     c.take.new.desk c.take.new.channel c.take.ensures.journal took h) c.take.ensures.ok
 
 pub returns-clause-err : goal.returns-clause-err
-returns-clause-err c = on_err _ _ c.take.result (λ same.
+returns-clause-err c = on_err_weaker c.take.result (λ same.
     world_same c.self.inside.desk c.self.inside.channels.items c.index_of-index.result c.self.view_is c.requires.in_setup c.index_of-index.ensures
     c.index_mut.ensures.value
     c.take.new.desk c.take.new.channel same.0 same.1) c.take.ensures.err
