@@ -1,8 +1,7 @@
 -- What a run makes of its files, by the bytes that were read, and where it is known what the readers have left.
-use Rattle.std.proofs.Common.{suc, ◌≡◌, ◌≢◌, ℕ, ◌+◌, ◌≤◌, ◌<◌, true, nat_le, length, drop, take, map, slice_index_or, List, [], ◌∷◌, ◌++◌, Option, Some, None, Result, Ok, Err, IfOk, IfErr, inl, inr, refl, sym, ap, subst, ◌∙◌, arith, length-append}
+use Rattle.std.proofs.Common.{suc, ◌≡◌, ◌≢◌, ℕ, ◌+◌, ◌≤◌, ◌<◌, true, nat_le, length, drop, map, slice_index_or, List, [], ◌∷◌, ◌++◌, Option, Some, None, Result, Ok, Err, IfOk, IfErr, inl, inr, refl, sym, ap, subst, ◌∙◌, arith, length-append}
 use Rattle.std.proofs.lemmas.Bool.{cases_Bool}
 use Rattle.std.specs.Global.{Vec}
-use Rattle.std.proofs.Math.Seq.{take-append_seam}
 use Rattle.std.specs.Io.KnownBytes.{Consumes}
 use Rattle.std.proofs.KnownBytes.{Consumes-nil}
 use Rattle.diag_config.specs.Key.{◌>>=◌}
@@ -191,10 +190,6 @@ pub texts_give : {R : Type 0} (remaining : R → Option (List ℕ)) (job : Job) 
 texts_give remaining job setup old new result device texts read gives =
     files_give remaining job setup old new result device (λ read. read ≡ texts) read
     (subst (λ t. GivesText job (inputs setup t) (answered result)) (sym read.holds) gives)
-
--- what a lent list has where all of it was lent
-pub take_seam : {A : Type 0} (n : ℕ) (xs ys : List A) → length xs ≡ n → take n (xs ++ ys) ≡ xs
-take_seam n xs ys same = subst (λ m. take m (xs ++ ys) ≡ xs) same (take-append_seam xs ys)
 
 -- each text was kept as it is
 pub kept_texts : (texts : List (Vec ℕ)) (read : List (List ℕ)) → AreTaken (λ text bytes. text.items ≡ bytes) texts read → read ≡ map (λ text. text.items) texts

@@ -1,6 +1,6 @@
-use Rattle.std.proofs.Common.{◌∙◌, ap, arith, slice_index_or}
+use Rattle.std.proofs.Common.{◌∙◌, ap, arith, slice_index_or, take_at}
 use Rattle.std.proofs.lemmas.Result.{err_from_is_err_and}
-use Rattle.diag_run.proofs.Known.{FilesRead-map, journal_read, refused_before, take_seam}
+use Rattle.diag_run.proofs.Known.{FilesRead-map, journal_read, refused_before}
 use Rattle.diag_run.proofs.answer.read_journal.Goals as goal
 
 pub returns-in_err-replay-clause-ends : goal.returns-in_err-replay-clause-ends
@@ -19,5 +19,5 @@ returns-clause-read g c =
     (journal_read c.read_each.new.takers c.as_mut_slice.result.now c.new-takers.result.items _ c.remove.result c.in_ok-read_each.ensures.aims
     (c.as_mut_slice.ensures.value ∙ c.in_ok-push.ensures.items) c.new-takers.ensures.items
     (c.remove.ensures.value
-    ∙ ap (λ l. slice_index_or l 0 c.remove.result) (take_seam _ c.read_each.new.takers _ (c.in_ok-read_each.ensures.as_many ∙ c.as_mut_slice.ensures.len))))
+    ∙ ap (λ l. slice_index_or l 0 c.remove.result) (take_at c.read_each.new.takers _ _ (c.in_ok-read_each.ensures.as_many ∙ c.as_mut_slice.ensures.len))))
     c.in_ok-read_each.ensures.read

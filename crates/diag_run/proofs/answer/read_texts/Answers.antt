@@ -1,6 +1,6 @@
-use Rattle.std.proofs.Common.{◌∙◌, ap, map, rules, sym}
+use Rattle.std.proofs.Common.{◌∙◌, ap, map, rules, sym, take_at}
 use Rattle.std.proofs.lemmas.Result.{err_from_is_err_and}
-use Rattle.diag_run.proofs.Known.{FilesRead-map, kept_texts, refused_before, take_seam}
+use Rattle.diag_run.proofs.Known.{FilesRead-map, kept_texts, refused_before}
 use Rattle.diag_run.proofs.answer.read_texts.Goals as goal
 
 pub returns-in_err-push-clause-ends : goal.returns-in_err-push-clause-ends
@@ -12,4 +12,4 @@ pub returns-clause-read : goal.returns-clause-read
 returns-clause-read g c =
     FilesRead-map g.R.Read.remaining 67108864 _ _ _ _
     (λ read taken. kept_texts _ read taken
-    ∙ ap (map (λ text. text.items)) (sym (take_seam _ _ _ (c.in_ok-read_each.ensures.as_many ∙ c.as_mut_slice.ensures.len)))) c.in_ok-read_each.ensures.read
+    ∙ ap (map (λ text. text.items)) (sym (take_at _ _ _ (c.in_ok-read_each.ensures.as_many ∙ c.as_mut_slice.ensures.len)))) c.in_ok-read_each.ensures.read

@@ -1,8 +1,8 @@
-use Rattle.std.proofs.Common.{◌∙◌, subst, sym, arith}
+use Rattle.std.proofs.Common.{◌∙◌, subst, sym, take_at, arith}
 use Rattle.std.proofs.lemmas.Result.{err_from_is_err_and}
 use Rattle.diag_run.specs.Logs.{AreLogs}
 use Rattle.diag_run.proofs.Finishing.{AreLogs-same}
-use Rattle.diag_run.proofs.Known.{refused_before, take_seam}
+use Rattle.diag_run.proofs.Known.{refused_before}
 use Rattle.diag_run.proofs.logs.read_logs.Goals as goal
 
 pub returns-in_err-takers-clause-ends : goal.returns-in_err-takers-clause-ends
@@ -13,6 +13,6 @@ returns-in_err-takers-clause-ends g c =
 pub returns-clause-logs : goal.returns-clause-logs
 returns-clause-logs g c =
     let logs = AreLogs 1 c.args.setup.now c.args.timing in
-    subst logs (sym (take_seam _ c.read_each.new.takers _ (c.in_ok-read_each.ensures.as_many ∙ c.as_mut_slice.ensures.len)))
+    subst logs (sym (take_at c.read_each.new.takers _ _ (c.in_ok-read_each.ensures.as_many ∙ c.as_mut_slice.ensures.len)))
     (AreLogs-same c.args.setup.now c.args.timing 1 c.read_each.new.takers c.as_mut_slice.result.now c.in_ok-read_each.ensures.aims
     (subst logs (sym c.as_mut_slice.ensures.value) c.in_ok-takers.ensures.logs))
