@@ -22,9 +22,9 @@ use Rattle.diag_bus.specs.Batch.{SaidBelow, moment_end}
 -- ---- a stamp
 
 -- a chain that gives something went through
-went : {A B : Type 0} (o : Option A) (f : A → Option B) (y : B) → (o >>= f) ≡ Some y → (x : A) × (o ≡ Some x) × (f x ≡ Some y)
-went None f y h = absurd (none-some y h)
-went (Some x) f y h = (x, refl, h)
+pub bind_some : {A B : Type 0} (o : Option A) (f : A → Option B) (y : B) → (o >>= f) ≡ Some y → (x : A) × (o ≡ Some x) × (f x ≡ Some y)
+bind_some None f y h = absurd (none-some y h)
+bind_some (Some x) f y h = (x, refl, h)
 
 digits_low : (least most : ℕ) (text : List ℕ) (r : List ℕ × List ℕ) → digits_of least most text ≡ Some r → AllPass is_digit r.0 × (length r.0 ≤ most)
 digits_low least most text r h = pick (nat_le least (prefix_len is_digit text)) (nat_le (prefix_len is_digit text) most) refl h
@@ -67,11 +67,11 @@ behind_open text = digits_of 1 12 text >>= behind_seconds
 
 stamp_low : (text : List ℕ) (r : ℕ × List ℕ) → stamp_of text ≡ Some r → r.0 < moment_end
 stamp_low text r h =
-    let a = went (behind 40 text) behind_open r h in
-    let b = went (digits_of 1 12 a.0) behind_seconds r a.2 in
-    let c = went (behind 46 b.0.1) (behind_point b.0.0) r b.2 in
-    let d = went (digits_of 6 9 c.0) (behind_fraction b.0.0) r c.2 in
-    let e = went (behind 41 d.0.1) (closed b.0.0 d.0.0) r d.2 in
+    let a = bind_some (behind 40 text) behind_open r h in
+    let b = bind_some (digits_of 1 12 a.0) behind_seconds r a.2 in
+    let c = bind_some (behind 46 b.0.1) (behind_point b.0.0) r b.2 in
+    let d = bind_some (digits_of 6 9 c.0) (behind_fraction b.0.0) r c.2 in
+    let e = bind_some (behind 41 d.0.1) (closed b.0.0 d.0.0) r d.2 in
     let seconds = digits_low 1 12 a.0 b.0 b.1 in
     let fraction = digits_low 6 9 c.0 d.0 d.1 in
     let low = moment_low b.0.0 d.0.0 seconds.0 seconds.1 fraction.0 in
@@ -90,8 +90,8 @@ behind_stamp stamp = behind_name stamp.1 >>= λ text. Some (stamp.0, text)
 
 stamped_low : (line : List ℕ) (r : ℕ × List ℕ) → stamped_frame line ≡ Some r → r.0 < moment_end
 stamped_low line r h =
-    let a = went (stamp_of line) behind_stamp r h in
-    let b = went (behind_name a.0.1) (λ text. (let o : Option (ℕ × List ℕ) = Some (a.0.0, text) in o)) r a.2 in
+    let a = bind_some (stamp_of line) behind_stamp r h in
+    let b = bind_some (behind_name a.0.1) (λ text. (let o : Option (ℕ × List ℕ) = Some (a.0.0, text) in o)) r a.2 in
     let low = stamp_low line a.0 a.1 in
     one a.0.0 b.0 r low b.2
   where

@@ -24,17 +24,13 @@ use Rattle.std.proofs.lemmas.Fmt.{digits_decimal, digits_value-decimal, first_de
 use Rattle.diag_can.specs.Stamp.{decimal_value}
 use Rattle.diag_can.specs.Line.{is_decimal}
 use Rattle.diag_can.proofs.TickFronts.{begins}
+use Rattle.diag_bus.proofs.Stamps.{bind_some}
 use Rattle.diag_live.specs.Live.{but_for_moment, is_close, null_stamp, restamped, tick_line}
 
 -- ---- parts of a text
 
 ok_same : {A E : Type 0} {x y : A} → ◌≡◌ {A = Result A E} (Ok x) (Ok y) → x ≡ y
 ok_same h = cc
-
--- what the first of two parts gave
-bind_some : {A B : Type 0} (o : Option A) (f : A → Option B) (y : B) → (o >>= f) ≡ Some y → (x : A) × (o ≡ Some x) × (f x ≡ Some y)
-bind_some None f y h = cc h
-bind_some (Some x) f y h = (x, refl, h)
 
 -- no byte closes a stamp
 abbrev IsOpen : List ℕ → Type 0
