@@ -1,9 +1,10 @@
-//! A copy of an ECU that is unlocked.
+//! A copy of an ECU that is unlocked, and the delay behind wrong keys, tick by tick.
 
 use crate::trouble::{Trouble, holds};
 use diag_can::TickCount;
 use diag_ecu::{Ecu, Session};
 use diag_setup::TesterId;
+use diag_store::Security;
 use diag_stored::two_testers;
 use diag_tp::Message;
 use std::alloc::Global;
@@ -72,12 +73,25 @@ fn copy_answers(alloc: Global, ecu: &Ecu) -> Result<bool, Trouble> {
     answers_all(alloc, &mut copy, &WRITES)
 }
 
+/// Whether the reply to a request for the default session leaves the ECU as it is, and settling that request ends the
+/// session of a tester.
+fn leaves(alloc: Global, ecu: &mut Ecu, who: TesterId) -> Result<bool, Trouble> {
+    let request = Message::new(alloc, b"\x10\x01")?;
+    let told = match ecu.reply(who, false, &request)? {
+        Some(reply) => reply.bytes() == b"\x50\x01\x00\x32\x01\xF4".as_slice(),
+        None => false,
+    };
+    let stays = ecu.session_of(who) == Session::Extended;
+    ecu.settle(who, false, &request);
+    Ok(told && stays && ecu.session_of(who) == Session::Default)
+}
+
 /// Whether a copy goes on where the first stands, and what it does leaves the first as it was.
 fn copies(alloc: Global, ecu: &mut Ecu) -> Result<bool, Trouble> {
     let who = TesterId::new(1).ok_or(Trouble::Wrong)?;
     let gone = answers_all(alloc, ecu, &ACCESS)? && copy_answers(alloc, ecu)?;
     let left = answers_all(alloc, ecu, &LEFT)?;
-    Ok(gone && left && ecu.session_of(who) == Session::Extended)
+    Ok(gone && left && leaves(alloc, ecu, who)?)
 }
 
 fn opened(alloc: Global) -> Result<Ecu, Trouble> {
@@ -89,4 +103,41 @@ fn opened(alloc: Global) -> Result<Ecu, Trouble> {
 fn copied_ecu(rt: HostRuntime) -> Result<(), Trouble> {
     let mut ecu = opened(rt.alloc())?;
     holds(copies(rt.alloc(), &mut ecu))
+}
+
+/// Asks for the seed of level 1, and sends a wrong key.
+fn try_wrong_key(security: &mut Security, who: TesterId) {
+    if security.key_len(1).is_some() {
+        let _seed = security.seed(who, 1);
+    }
+    if security.key_len(1).is_some() {
+        let _answer = security.key(who, 1, b"\0\0\0\0");
+    }
+}
+
+/// Takes so many ticks of a tester, each by itself.
+fn tick_often(security: &mut Security, who: TesterId, count: u32) {
+    for _ in 0..count {
+        security.tick(who);
+    }
+}
+
+/// Whether the third wrong key, and not the second, delays a tester for 2000 ticks.
+fn delays(security: &mut Security, who: TesterId) -> bool {
+    try_wrong_key(security, who);
+    try_wrong_key(security, who);
+    let free = security.nobody_is_delayed();
+    try_wrong_key(security, who);
+    tick_often(security, who, 1999);
+    let delayed = !security.nobody_is_delayed();
+    security.tick(who);
+    free && delayed && security.nobody_is_delayed()
+}
+
+#[test]
+fn third_wrong_key_delays(rt: HostRuntime) -> Result<(), Trouble> {
+    let who = TesterId::new(1).ok_or(Trouble::Wrong)?;
+    let setup = two_testers(rt.alloc())?;
+    let mut security = Security::new(rt.alloc(), &setup)?;
+    holds(Ok(delays(&mut security, who)))
 }
