@@ -8,14 +8,14 @@ top=$(cd "$(dirname "${BASH_SOURCE[0]}")/.." && pwd)
 work=${TMPDIR:-/tmp}/uds_play_bench$top/check_setup
 mkdir -p "$work/crates/check_setup/src"
 : > "$work/crates.txt"
-for crate in diag_can diag_tp diag_setup diag_store; do
+for crate in diag_can diag_pdu diag_setup diag_store; do
   mkdir -p "$work/crates/$crate"
   for part in src specs proofs out; do
     [ -d "$top/crates/$crate/$part" ] && cp -rpu "$top/crates/$crate/$part" "$work/crates/$crate/"
   done
   grep "^$crate:" "$top/crates.txt" >> "$work/crates.txt"
 done
-printf '%s\n' 'check_setup: diag_store diag_setup diag_tp diag_can' >> "$work/crates.txt"
+printf '%s\n' 'check_setup: diag_store diag_setup diag_pdu diag_can' >> "$work/crates.txt"
 printf '%s\n' 'Handles allowed: none.' > "$work/HANDLES"
 cp "$top/bench/check_setup/main.rt.in" "$work/crates/check_setup/src/main.rt"
 (cd "$work/crates/check_setup" && rt run > "$work/build.log" 2>&1) || { cat "$work/build.log" >&2; exit 1; }

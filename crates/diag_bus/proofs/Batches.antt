@@ -10,7 +10,8 @@ use Rattle.std.specs.Prelude.{◌==◌, replicate, slice_get, slice_set, IfSome}
 use Rattle.std.specs.Option.{option_to_list}
 use Rattle.diag_can.specs.declared.frame.Event.{Event}
 use Rattle.diag_tp.specs.declared.sent.Sent.{Sent}
-use Rattle.diag_tp.specs.Moments.{counted_from, last_time}
+use Rattle.diag_pdu.specs.Cut.{counted_from}
+use Rattle.diag_tp.specs.Moments.{last_time}
 use Rattle.diag_setup.specs.declared.raw.RawSetup.{RawSetup}
 use Rattle.diag_desk.specs.declared.entry.Entry.{Entry}
 use Rattle.diag_world.specs.Server.{ServerState, Serves, Settled, closing_time, each_of, sent_to, server_of}

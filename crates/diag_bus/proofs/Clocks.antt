@@ -15,7 +15,8 @@ use Rattle.diag_can.specs.declared.frame.Event.{Event}
 use Rattle.diag_can.specs.declared.frame.Event.TheVariants.{Physical, Functional, Ticks}
 use Rattle.diag_can.specs.declared.frame.Frame.{Frame}
 use Rattle.diag_can.specs.declared.log.Timing.TheVariants.{Stamps}
-use Rattle.diag_tp.specs.Moments.{counted_from, is_tick, last_time, moments}
+use Rattle.diag_pdu.specs.Cut.{counted_from}
+use Rattle.diag_tp.specs.Moments.{is_tick, last_time, moments}
 use Rattle.diag_tp.proofs.Moments.{last_time-is, last_time-ticks, moments-append}
 use Rattle.diag_setup.specs.Setup.{ids_of}
 use Rattle.diag_setup.specs.declared.raw.RawSetup.{RawSetup}

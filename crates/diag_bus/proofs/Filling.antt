@@ -9,7 +9,7 @@ use Rattle.std.specs.List.Sorted.{IsNonDecreasingBy}
 use Rattle.std.specs.Option.{option_map}
 use Rattle.std.proofs.lemmas.Option.{none-some, slice_get-map}
 use Rattle.diag_can.specs.declared.frame.Event.{Event}
-use Rattle.diag_tp.proofs.Lists.{length-zero}
+use Rattle.diag_pdu.proofs.Lists.{length-zero}
 use Rattle.diag_tp.specs.Link.{quiet}
 use Rattle.diag_tp.specs.State.{LinkState, LinkView}
 use Rattle.diag_tp.specs.declared.sent.Sent.{Sent}

@@ -8,7 +8,7 @@ use Rattle.std.specs.Option.{option_to_list}
 use Rattle.std.specs.Prelude.{bytes_eq, if◌then◌else◌, nat_lt, option_map, slice_get}
 use Rattle.diag_can.specs.Bus.{bus_line}
 use Rattle.diag_setup.specs.Setup.{ids_of}
-use Rattle.diag_tp.specs.Moments.{counted_from}
+use Rattle.diag_pdu.specs.Cut.{counted_from}
 use Rattle.diag_setup.specs.declared.raw.RawSetup.{RawSetup}
 use Rattle.diag_ecu.proofs.Unlocking.{bytes_same}
 use Rattle.diag_bus.specs.Verdict.{Agree, IsDifferent, IsFirstDifference, IsPlace, Means, VerdictLaw, at_line, bytes_of, difference, difference_of, earlier, expected, first_difference, lack_of, places, recorded, recorded_from, reply_said, verdict, verdict_by}

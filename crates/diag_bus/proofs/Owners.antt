@@ -12,7 +12,7 @@ use Rattle.diag_setup.specs.Setup.{can_ids, fault_of, faults, has_repeated_name,
 use Rattle.diag_setup.specs.declared.raw.RawSetup.{RawSetup}
 use Rattle.diag_setup.specs.declared.raw.RawTester.{RawTester}
 use Rattle.diag_setup.proofs.SetupLemmas.{NoneHold, none_hold}
-use Rattle.diag_tp.specs.Moments.{counted_from}
+use Rattle.diag_pdu.specs.Cut.{counted_from}
 use Rattle.diag_world.proofs.Waiting.{each_more}
 use Rattle.diag_bus.specs.Events.{frame_to}
 use Rattle.diag_bus.specs.Requests.{IsOwner, given}

@@ -3,8 +3,8 @@ use Rattle.std.proofs.Common.{◌≡◌, ℕ, List, ◌++◌, codes, refl}
 use Rattle.std.specs.Fmt.{digits}
 use Rattle.hex.proofs.OnLiterals.{hex_on_literals}
 use Rattle.diag_tp.specs.Gives.{gives}
-use Rattle.diag_tp.specs.Kind.{kind}
-use Rattle.diag_tp.specs.Cut.{cut}
+use Rattle.diag_pdu.specs.Kind.{kind}
+use Rattle.diag_pdu.specs.Cut.{cut}
 use Rattle.diag_tp.specs.Reception.{open_at}
 use Rattle.diag_tp.specs.Sending.{course}
 use Rattle.diag_tp.specs.Wire.{wire, sendings, grant}

@@ -9,7 +9,7 @@ use Rattle.diag_bus.specs.declared.writing.Drawn.{Drawn}
 use Rattle.std.specs.Prelude.{slice_get}
 use Rattle.diag_can.specs.declared.frame.Event.{Event}
 use Rattle.diag_tp.specs.declared.sent.Sent.{Sent}
-use Rattle.diag_tp.specs.Moments.{counted_from}
+use Rattle.diag_pdu.specs.Cut.{counted_from}
 use Rattle.diag_setup.specs.declared.raw.RawSetup.{RawSetup}
 use Rattle.diag_setup.specs.Rows.{in_order}
 use Rattle.diag_world.specs.Server.{ServerState}

@@ -7,7 +7,7 @@ use Rattle.std.proofs.lemmas.Option.{none-some}
 use Rattle.std.specs.List.{cons_option, filter_map, reduce}
 use Rattle.std.specs.Prelude.{option_map}
 use Rattle.std.specs.Option.{option_to_list}
-use Rattle.diag_tp.specs.Moments.{counted_from}
+use Rattle.diag_pdu.specs.Cut.{counted_from}
 use Rattle.diag_setup.specs.declared.raw.RawSetup.{RawSetup}
 use Rattle.diag_bus.specs.Comparing.{earlier_of}
 use Rattle.diag_bus.specs.Verdict.{difference, difference_of, earlier, expected, first_difference, lack_of, places, recorded, verdict, verdict_by}

@@ -13,7 +13,8 @@ use Rattle.diag_can.specs.declared.frame.Frame.{Frame}
 use Rattle.diag_can.specs.declared.log.Timing.TheVariants.{Stamps}
 use Rattle.diag_setup.specs.declared.raw.RawSetup.{RawSetup}
 use Rattle.diag_setup.specs.Setup.{ids_of}
-use Rattle.diag_tp.specs.Moments.{counted_from, last_time}
+use Rattle.diag_pdu.specs.Cut.{counted_from}
+use Rattle.diag_tp.specs.Moments.{last_time}
 use Rattle.diag_world.specs.Server.{closing_time, each_of}
 use Rattle.diag_world.specs.Weaving.{all_by, items_of}
 use Rattle.diag_bus.specs.declared.fault.BusFault.{BusFault}

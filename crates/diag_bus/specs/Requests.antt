@@ -6,7 +6,7 @@ use Rattle.diag_can.specs.declared.frame.Event.TheVariants as event
 use Rattle.diag_setup.specs.declared.raw.RawSetup.{RawSetup}
 use Rattle.diag_setup.specs.Setup.{ids_of, name_of}
 use Rattle.diag_tp.specs.declared.sent.Sent.{Sent}
-use Rattle.diag_tp.specs.Moments.{counted_from}
+use Rattle.diag_pdu.specs.Cut.{counted_from}
 use Rattle.diag_world.specs.Server.{each_of}
 use Rattle.diag_bus.specs.Events.{frame_to}
 use Rattle.diag_bus.specs.declared.filled.Filled.{Filled}

@@ -9,7 +9,7 @@ use Rattle.diag_can.specs.declared.bus.BusLine.{BusLine}
 use Rattle.diag_can.specs.declared.fault.LineFault.{LineFault}
 use Rattle.diag_can.specs.declared.frame.Frame.{Frame}
 use Rattle.diag_tp.specs.declared.sent.Sent.{Sent}
-use Rattle.diag_tp.specs.Moments.{counted_from}
+use Rattle.diag_pdu.specs.Cut.{counted_from}
 use Rattle.diag_setup.specs.declared.raw.RawSetup.{RawSetup}
 use Rattle.diag_setup.specs.Setup.{ids_of, name_of}
 use Rattle.diag_bus.specs.Events.{events_of, frame_said}

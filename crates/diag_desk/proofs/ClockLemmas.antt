@@ -3,8 +3,8 @@ use Rattle.std.proofs.Common.{◌≡◌, ℕ, ◌+◌, ◌*◌, ◌<◌, ◌≤�
 use Rattle.std.proofs.lemmas.Bool.{eqb-true}
 use Rattle.std.proofs.lemmas.List.{get_or-set_same, get_or-set_other, length-set}
 use Rattle.diag_desk.specs.declared.entry.Entry.{Entry}
-use Rattle.diag_tp.specs.declared.step.Step.{Step}
-use Rattle.diag_tp.specs.declared.step.Step.TheVariants.{Request, Ticks}
+use Rattle.diag_pdu.specs.declared.step.Step.{Step}
+use Rattle.diag_pdu.specs.declared.step.Step.TheVariants.{Request, Ticks}
 use Rattle.diag_desk.specs.Entry.{IsEntry, IsStep, AreEntries}
 use Rattle.diag_desk.specs.Text.{ticks_in, ticks_of}
 use Rattle.diag_desk.specs.Clocks.{Tells}

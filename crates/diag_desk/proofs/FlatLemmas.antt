@@ -7,7 +7,7 @@ use Rattle.diag_desk.specs.declared.entry.Entry.{Entry}
 use Rattle.diag_desk.specs.declared.flat.Head.{Head}
 use Rattle.diag_desk.specs.declared.flat.Head.TheVariants.{Answered, Silent, Ticks}
 use Rattle.diag_desk.specs.Flat.{HeadFits, HeadsFit, entry_of, part}
-use Rattle.diag_tp.specs.declared.step.Step.TheVariants as step
+use Rattle.diag_pdu.specs.declared.step.Step.TheVariants as step
 
 -- the head at an index fits
 pub fits_at : (heads : List Head) (n i : ℕ) (d : Head) → HeadsFit heads n → i < length heads → HeadFits (slice_index_or heads i d) n

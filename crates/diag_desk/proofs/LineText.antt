@@ -16,8 +16,8 @@ use Rattle.diag_desk.specs.Cut.{cut}
 use Rattle.diag_desk.specs.Entry.{IsEntry, IsMessage, IsReply, IsStep}
 use Rattle.diag_desk.specs.Text.{IsNoReply, entry_line, is_upper_digit, reply_text, step_text}
 use Rattle.diag_desk.specs.Line.{HasBody, IsHex, decoded, fronted, kind_code, request_kind}
-use Rattle.diag_tp.specs.declared.step.Step.{Step}
-use Rattle.diag_tp.specs.declared.step.Step.TheVariants.{Request, Ticks}
+use Rattle.diag_pdu.specs.declared.step.Step.{Step}
+use Rattle.diag_pdu.specs.declared.step.Step.TheVariants.{Request, Ticks}
 use Rattle.diag_desk.specs.declared.entry.Entry.{Entry}
 use Rattle.diag_desk.specs.declared.line.Kind.{Kind}
 use Rattle.diag_desk.specs.declared.line.Kind.TheVariants as kind

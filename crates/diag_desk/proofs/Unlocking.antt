@@ -8,8 +8,8 @@ use Rattle.diag_ecu.specs.Unlocking.{HasUnlocked, write_level_of}
 use Rattle.diag_ecu.proofs.Unlocking as ecu
 use Rattle.diag_desk.specs.Legal.{after_step, after, Legal, reply_to}
 use Rattle.diag_desk.specs.Unlocking.{SendsKey, UnlockedBefore, UnlockLaw}
-use Rattle.diag_tp.specs.declared.step.Step.{Step}
-use Rattle.diag_tp.specs.declared.step.Step.TheVariants.{Request, Ticks}
+use Rattle.diag_pdu.specs.declared.step.Step.{Step}
+use Rattle.diag_pdu.specs.declared.step.Step.TheVariants.{Request, Ticks}
 use Rattle.diag_desk.specs.declared.entry.Entry.{Entry}
 use Rattle.std.proofs.lemmas.Option.{same_Some, slice_get_within}
 use Rattle.std.proofs.lemmas.Bool.{cases_lt}

@@ -13,7 +13,7 @@ use Rattle.diag_desk.specs.Line.{fronted, kind_code, request_kind}
 use Rattle.diag_desk.specs.Entries.{entry}
 use Rattle.diag_desk.specs.declared.line.Kind.TheVariants as kind
 use Rattle.diag_desk.specs.declared.table.TheConstants.{VALUES}
-use Rattle.diag_tp.specs.declared.step.Step.TheVariants.{Request, Ticks}
+use Rattle.diag_pdu.specs.declared.step.Step.TheVariants.{Request, Ticks}
 
 -- ---- the table
 

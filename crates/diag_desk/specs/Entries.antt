@@ -1,6 +1,6 @@
 -- Lists of entries, by tester, by what was asked and by what was answered.
 use Rattle.std.specs.Prelude.{◌≡◌, ℕ, ◌==◌, List, ◌++◌, Option, filter, map}
-use Rattle.diag_tp.specs.declared.step.Step.{Step}
+use Rattle.diag_pdu.specs.declared.step.Step.{Step}
 use Rattle.diag_desk.specs.declared.entry.Entry.{Entry}
 
 abbrev pub entry : ℕ → Step → Option (List ℕ) → Entry

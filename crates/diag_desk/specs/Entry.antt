@@ -1,8 +1,8 @@
 -- The entries of the journal, and the room that is kept for the next one.
 use Rattle.std.specs.Prelude.{ℕ, ◌+◌, ◌≤◌, ◌≡◌, List, [], ◌∷◌, ◌++◌, length, Option, Some, None, option_copied, unwrap_or}
 use Rattle.hex.specs.Hex.{IsBytes}
-use Rattle.diag_tp.specs.declared.step.Step.{Step}
-use Rattle.diag_tp.specs.declared.step.Step.TheVariants.{Request, Ticks}
+use Rattle.diag_pdu.specs.declared.step.Step.{Step}
+use Rattle.diag_pdu.specs.declared.step.Step.TheVariants.{Request, Ticks}
 use Rattle.diag_desk.specs.declared.entry.Entry.{Entry}
 use Rattle.diag_desk.specs.declared.entry.EntryRef.{EntryRef}
 use Rattle.diag_desk.specs.declared.entry.StepRef.{StepRef}

@@ -1,7 +1,7 @@
 -- The flat representation of a journal: small heads, and the bytes of all messages in one list.
 use Rattle.std.specs.Prelude.{ℕ, ◌+◌, ◌-◌, ◌≤◌, List, [], ◌∷◌, map, length, take, drop, Some, None, vec_len, vec_capacity}
 use Rattle.diag_desk.specs.Entry.{IsJournal, Kept}
-use Rattle.diag_tp.specs.declared.step.Step.TheVariants as step
+use Rattle.diag_pdu.specs.declared.step.Step.TheVariants as step
 use Rattle.diag_desk.specs.declared.entry.Entry.{Entry}
 use Rattle.diag_desk.specs.declared.flat.Head.{Head}
 use Rattle.diag_desk.specs.declared.flat.Head.TheVariants.{Answered, Silent, Ticks}

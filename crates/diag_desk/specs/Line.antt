@@ -2,7 +2,7 @@
 use Rattle.std.specs.Prelude.{◌≡◌, ℕ, Bool, if◌then◌else◌, List, [], ◌∷◌, Option, Some, None, option_map, option_copied}
 use Rattle.std.specs.Result.{result_unwrap_or}
 use Rattle.hex.specs.Hex.{decode_of, encode_upper}
-use Rattle.diag_tp.specs.declared.step.Step.TheVariants as step
+use Rattle.diag_pdu.specs.declared.step.Step.TheVariants as step
 use Rattle.diag_desk.specs.declared.entry.Entry.{Entry}
 use Rattle.diag_desk.specs.declared.line.Line.{Line}
 use Rattle.diag_desk.specs.declared.line.LineStep.{LineStep}
@@ -11,7 +11,7 @@ use Rattle.diag_desk.specs.declared.line.Kind.{Kind}
 use Rattle.diag_desk.specs.declared.line.Kind.TheVariants as kind
 use Rattle.diag_desk.specs.Entry.{IsMessage, IsReply, IsEntry, IsStep}
 use Rattle.diag_desk.specs.Text.{entry_line, reply_text, step_text}
-use Rattle.diag_tp.specs.declared.step.Step.{Step}
+use Rattle.diag_pdu.specs.declared.step.Step.{Step}
 
 abbrev pub decoded : List ℕ → List ℕ
 decoded text = result_unwrap_or (decode_of text) []

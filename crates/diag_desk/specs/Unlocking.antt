@@ -1,6 +1,6 @@
 -- What has to come before a value is written that needs a security level.
 use Rattle.std.specs.Prelude.{◌≡◌, ◌<◌, ◌≤◌, ℕ, Bool, List, ◌∷◌, take, slice_get, Some, None}
-use Rattle.diag_tp.specs.declared.step.Step.TheVariants.{Request}
+use Rattle.diag_pdu.specs.declared.step.Step.TheVariants.{Request}
 use Rattle.diag_desk.specs.declared.entry.Entry.{Entry}
 use Rattle.diag_desk.specs.Legal.{Legal, after}
 use Rattle.diag_ecu.specs.Bytes.{bytes_16}

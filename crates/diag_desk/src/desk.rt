@@ -9,7 +9,7 @@ use crate::flat::len_of;
 use crate::journal::Journal;
 use diag_ecu::Ecu;
 use diag_setup::{Setup, TesterId};
-use diag_tp::{Message, Step};
+use diag_pdu::{Message, Step};
 use std::alloc::{AllocError, Global};
 use std::marker::Model;
 use thiserror::Error;

@@ -2,7 +2,7 @@
 
 use diag_can::TickCount;
 use diag_setup::TesterId;
-use diag_tp::{Message, Step};
+use diag_pdu::{Message, Step};
 
 /// The most entries that a journal holds.
 pub const MOST_ENTRIES: usize = 1_000_000;

@@ -10,7 +10,7 @@ use crate::entry::{EntryRef, StepRef};
 use crate::line::{Line, LineStep};
 use diag_can::{TickCount, add_bytes, read_hex};
 use diag_setup::TesterId;
-use diag_tp::{Message, Step};
+use diag_pdu::{Message, Step};
 use std::alloc::AllocError;
 
 /// Where the bytes of an entry stand: the reply's right after the request's.

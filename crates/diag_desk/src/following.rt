@@ -29,7 +29,7 @@ use crate::usual::{
 use crate::version::JournalVersion;
 use diag_ecu::Ecu;
 use diag_setup::{Setup, TesterId};
-use diag_tp::Message;
+use diag_pdu::Message;
 use std::alloc::{AllocError, Global};
 use thiserror::Error;
 

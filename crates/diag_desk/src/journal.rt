@@ -9,7 +9,7 @@ use crate::flat::{Head, entry_at, head_of, head_of_line, len_of, step_len};
 use crate::line::Line;
 use crate::version::JournalVersion;
 use diag_setup::TesterId;
-use diag_tp::{Message, Step};
+use diag_pdu::{Message, Step};
 use std::alloc::{AllocError, Global};
 use std::marker::Model;
 use thiserror::Error;

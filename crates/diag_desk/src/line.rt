@@ -10,7 +10,7 @@ ghost use Rattle.diag_desk.specs.declared.line.Kind.{Kind as IsKind};
 use crate::table::upper_value;
 use diag_can::TickCount;
 use diag_setup::TesterId;
-use diag_tp::Message;
+use diag_pdu::Message;
 use memchr::memchr;
 
 /// What kind of line it is.

@@ -10,7 +10,7 @@ use crate::entry::{EntryRef, StepRef};
 use crate::journal::Journal;
 use diag_ecu::Ecu;
 use diag_setup::Setup;
-use diag_tp::Message;
+use diag_pdu::Message;
 use std::alloc::{AllocError, Global};
 use thiserror::Error;
 

@@ -13,7 +13,7 @@ use crate::table::pair_value;
 use diag_can::{FrameBytes, TickCount, hex_digits};
 use diag_ecu::Lent;
 use diag_setup::TesterId;
-use diag_tp::Message;
+use diag_pdu::Message;
 use std::alloc::AllocError;
 
 /// What a line says first, and what follows that.

@@ -12,7 +12,7 @@ use crate::write_data::write_reply;
 use diag_can::FrameBytes;
 use diag_setup::{ServerParameters, Setup, TesterId};
 use diag_store::{Dids, DtcMemory, Routines, Security};
-use diag_tp::Message;
+use diag_pdu::Message;
 use std::alloc::{AllocError, Global};
 
 /// The ECU: the sequential server of all testers, of whom one at most is in the extended session, the holder.

@@ -9,7 +9,7 @@ use crate::bytes::{bytes_16, number_16};
 use crate::ecu::{Ecu, say};
 use crate::service::Nrc;
 use diag_setup::TesterId;
-use diag_tp::Message;
+use diag_pdu::Message;
 use std::alloc::AllocError;
 
 /// The reply to a request for one identifier: three bytes, and behind them the value where it stands.

@@ -9,7 +9,7 @@ use crate::ecu::{Ecu, say};
 use crate::service::{Nrc, Service};
 use diag_setup::TesterId;
 use diag_store::RoutineState;
-use diag_tp::Message;
+use diag_pdu::Message;
 use std::alloc::AllocError;
 
 impl Ecu {

@@ -7,7 +7,7 @@ use crate::bytes::{bytes_16, sub_of};
 use crate::ecu::{Ecu, say};
 use crate::service::Service;
 use diag_setup::TesterId;
-use diag_tp::Message;
+use diag_pdu::Message;
 
 /// The session of a tester.
 #[derive(Clone, Copy, PartialEq, Eq, Debug, Drop)]

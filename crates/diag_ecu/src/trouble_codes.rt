@@ -10,7 +10,7 @@ use crate::bytes::{bytes_16, bytes_24, number_24, sub_of};
 use crate::ecu::{Ecu, say};
 use crate::service::Nrc;
 use diag_store::ALL_GROUPS;
-use diag_tp::Message;
+use diag_pdu::Message;
 use std::alloc::AllocError;
 
 impl Ecu {

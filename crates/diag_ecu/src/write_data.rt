@@ -9,7 +9,7 @@ use crate::bytes::{bytes_16, number_16_at};
 use crate::ecu::{Ecu, say};
 use crate::service::Nrc;
 use diag_setup::TesterId;
-use diag_tp::Message;
+use diag_pdu::Message;
 
 impl Ecu {
     /// The code of the first check of a value to be written that holds.

@@ -7,7 +7,7 @@ use Rattle.diag_desk.specs.Entries.{BeginsWith, entry}
 use Rattle.diag_desk.specs.Legal.{Legal, Run, entered}
 use Rattle.diag_desk.specs.declared.entry.Entry.{Entry}
 use Rattle.diag_gate.proofs.Owned.{owned}
-use Rattle.diag_tp.specs.declared.step.Step.{Step}
+use Rattle.diag_pdu.specs.declared.step.Step.{Step}
 use Rattle.diag_desk.specs.declared.desk.StepFault.{StepFault}
 use Rattle.diag_desk.specs.declared.desk.StepFault.TheVariants.{Memory, JournalFull}
 use Rattle.diag_gate.specs.declared.view.View.{View}

@@ -6,7 +6,7 @@ use Rattle.atomic_table.specs.Seated.{TableId}
 use Rattle.diag_ecu.specs.State.{State}
 use Rattle.diag_desk.specs.Entries.{own, BeginsWith, entry}
 use Rattle.diag_desk.specs.Legal.{Legal, Run}
-use Rattle.diag_tp.specs.declared.step.Step.{Step}
+use Rattle.diag_pdu.specs.declared.step.Step.{Step}
 use Rattle.diag_desk.specs.declared.desk.StepFault.{StepFault}
 use Rattle.diag_desk.specs.declared.desk.StepFault.TheVariants.{Memory, JournalFull}
 use Rattle.diag_desk.specs.declared.entry.Entry.{Entry}

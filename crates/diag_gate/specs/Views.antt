@@ -1,7 +1,7 @@
 -- Views, as plain data: the host's, a seat's, and how one becomes another.
 use Rattle.std.specs.Prelude.{ℕ, zero, suc, ◌+◌, ◌==◌, nat_le, Bool, true, false, if◌then◌else◌, List, [], ◌∷◌, ◌++◌, length, slice_index_or, slice_set, Option, Some, None}
 use Rattle.diag_ecu.specs.State.{State, blank}
-use Rattle.diag_tp.specs.declared.step.Step.{Step}
+use Rattle.diag_pdu.specs.declared.step.Step.{Step}
 use Rattle.diag_desk.specs.Entries.{entry, own}
 use Rattle.diag_desk.specs.Legal.{IsOpening, Legal, Run}
 use Rattle.diag_desk.specs.declared.entry.Entry.{Entry}

@@ -7,7 +7,7 @@ ghost use Rattle.diag_gate.specs.Views.{IsLegal};
 
 use diag_desk::{Desk, StepFault};
 use diag_setup::TesterId;
-use diag_tp::{Message, Step};
+use diag_pdu::{Message, Step};
 use std::alloc::{AllocError, Global};
 use std::marker::Model;
 

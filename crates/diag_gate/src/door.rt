@@ -7,7 +7,7 @@ ghost use Rattle.diag_gate.specs.Seats.{Answered, Refused, waited};
 use crate::gate::{Gate, Seat};
 use diag_desk::StepFault;
 use diag_setup::TesterId;
-use diag_tp::{Message, Step};
+use diag_pdu::{Message, Step};
 use std::marker::Model;
 use std::sync::Wait;
 

@@ -1,5 +1,5 @@
 //! Why a step was not made.
-use diag_tp::Step;
+use diag_pdu::Step;
 use std::fmt::{self, Debug, Formatter};
 use thiserror::Error;
 

@@ -7,7 +7,7 @@ ghost use Rattle.diag_gate.specs.Views.{IsLawful};
 use crate::door::Door;
 use diag_desk::{Desk, Journal, StepFault};
 use diag_setup::TesterId;
-use diag_tp::{Message, Step};
+use diag_pdu::{Message, Step};
 use std::alloc::Global;
 use std::sync::{Mutex, Wait};
 

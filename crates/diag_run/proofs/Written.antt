@@ -13,12 +13,12 @@ use Rattle.diag_can.specs.declared.log.Timing.{Timing}
 use Rattle.diag_can.specs.declared.log.Timing.TheVariants.{Lines, Stamps}
 use Rattle.diag_setup.specs.declared.raw.RawSetup.{RawSetup}
 use Rattle.diag_setup.specs.Setup.{link_of, name_of}
-use Rattle.diag_tp.proofs.CutFrames.{length-counted}
-use Rattle.diag_tp.proofs.Lists.{map-at}
-use Rattle.diag_tp.specs.Moments.{counted_from}
+use Rattle.diag_pdu.proofs.CutFrames.{length-counted}
+use Rattle.diag_pdu.proofs.Lists.{map-at}
+use Rattle.diag_pdu.specs.Cut.{counted_from}
 use Rattle.diag_tp.specs.State.{LinkState}
 use Rattle.diag_tp.specs.declared.sent.Sent.{Sent}
-use Rattle.diag_tp.specs.declared.setup.LinkSetup.{LinkSetup}
+use Rattle.diag_pdu.specs.declared.setup.LinkSetup.{LinkSetup}
 use Rattle.diag_tp.specs.Placing.{drawn}
 use Rattle.diag_tp.specs.Wire.{grant, sendings, wire}
 use Rattle.diag_ecu.specs.State.{State, opening}

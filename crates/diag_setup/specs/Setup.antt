@@ -2,7 +2,7 @@
 use Rattle.std.specs.Prelude.{◌≡◌, ◌==◌, ◌&&◌, ◌||◌, ◌%◌, ◌+◌, ◌-◌, bytes_eq, ℕ, Bool, true, false, not, List, [], ◌∷◌, ◌++◌, length, Option, Some, None, Result, Ok, Err, if◌then◌else◌, nat_le, nat_lt, slice_get, unwrap_or}
 use Rattle.std.specs.List.{list_all, list_any, flat_map}
 use Rattle.diag_can.specs.declared.frame.Ids.{Ids}
-use Rattle.diag_tp.specs.declared.setup.LinkSetup.{LinkSetup}
+use Rattle.diag_pdu.specs.declared.setup.LinkSetup.{LinkSetup}
 use Rattle.diag_setup.specs.declared.setup.ServerParameters.{ServerParameters}
 use Rattle.diag_setup.specs.Rows.{is_between, has_length, have_one_length, has_key, has_repeat, in_order, is_rising}
 use Rattle.diag_setup.specs.declared.raw.RawSetup.{RawSetup}

@@ -10,7 +10,7 @@ use crate::fault::SetupFault;
 use crate::raw::{RawCode, RawDid, RawLevel, RawRoutine, RawSetup, RawTester};
 use crate::tester_id::TesterId;
 use diag_can::{CanId, Ids, TickCount};
-use diag_tp::LinkSetup;
+use diag_pdu::LinkSetup;
 use std::marker::Model;
 
 /// A setup without a fault, its tables in rising order.

@@ -5,20 +5,23 @@ use Rattle.std.proofs.lemmas.List.Sums.{sum_by-cons}
 use Rattle.std.proofs.Math.Seq.{drop-append_seam}
 use Rattle.std.proofs.lemmas.Bool.Decides.{nat_tests}
 use Rattle.diag_can.specs.declared.frame.Event.{Event}
-use Rattle.diag_tp.specs.declared.setup.LinkSetup.{LinkSetup}
-use Rattle.diag_tp.specs.declared.sending.Sending.{Sending}
+use Rattle.diag_pdu.specs.declared.setup.LinkSetup.{LinkSetup}
+use Rattle.diag_sides.specs.declared.sending.Sending.{Sending}
 use Rattle.diag_tp.specs.declared.sent.Sent.{Sent}
-use Rattle.diag_tp.specs.Moments.{counted_from, last_time}
-use Rattle.diag_tp.specs.Reception.{head_size, consecutive_count}
-use Rattle.diag_tp.specs.Cut.{filled, single_bytes, first_bytes, consecutive_bytes, part_of, cut}
+use Rattle.diag_pdu.specs.Cut.{counted_from, head_size, consecutive_count, filled, single_bytes, first_bytes, consecutive_bytes, part_of, cut, frames_of}
+use Rattle.diag_tp.specs.Moments.{last_time}
 use Rattle.diag_tp.specs.Wire.{Placed, stamped, wire}
 use Rattle.diag_tp.specs.State.{LinkState, due}
-use Rattle.diag_tp.specs.Sender.{SenderState, Settled, frame_count, frames_of, fields_left, current_left, one_on, once_gone, begun_sending, started, settled_in, settled}
+use Rattle.diag_sides.specs.Sender.{SenderState, Settled, frame_count, fields_left, current_left, one_on, once_gone, begun_sending, started, settled_in, settled}
 use Rattle.diag_tp.specs.Link.{StandsFor, is_flow, IsFlow, message_frames, frames_left}
-use Rattle.diag_tp.proofs.Lists.{Each}
-use Rattle.diag_tp.proofs.CutFrames.{filled-cons, frames-count}
+use Rattle.diag_pdu.proofs.CutFrames.{filled-cons, frames-count}
 use Rattle.diag_tp.proofs.Numbers.{left, settled-total}
 use Rattle.diag_tp.proofs.History.{frames-left}
+
+-- P holds of each of these
+abbrev Each : {X : Type 0} → (X → Type 0) → List X → Type 0
+Each P [] = Unit {0}
+Each P (x ∷ xs) = P x × Each P xs
 
 Each-drop : {X : Type 0} (P : X → Type 0) (n : ℕ) (xs : List X) → Each P xs → Each P (drop n xs)
 Each-drop P zero xs h = h

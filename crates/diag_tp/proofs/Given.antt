@@ -3,10 +3,11 @@ use Rattle.std.proofs.Common.{◌≡◌, ℕ, Bool, List, refl, sym, subst}
 use Rattle.std.specs.Prelude.{Option, Some, None, IsSome, IsTrue}
 use Rattle.diag_can.specs.declared.frame.Event.{Event}
 use Rattle.diag_can.specs.declared.frame.Event.TheVariants.{Physical, Functional, Ticks}
-use Rattle.diag_tp.specs.declared.setup.LinkSetup.{LinkSetup}
-use Rattle.diag_tp.specs.declared.step.Step.TheVariants as step
+use Rattle.diag_pdu.specs.declared.setup.LinkSetup.{LinkSetup}
+use Rattle.diag_pdu.specs.declared.step.Step.TheVariants as step
 use Rattle.diag_tp.specs.Gives.{gives, is_request}
-use Rattle.diag_tp.specs.Link.{is_frame, ask_of}
+use Rattle.diag_tp.specs.Link.{is_frame}
+use Rattle.diag_sides.specs.Receiver.{ask_of}
 use Rattle.diag_tp.proofs.Partials.{gives-more}
 
 pub gives_ticks : (s : LinkSetup) (E : List Event) (n : ℕ) → gives s E (Ticks n) ≡ Some (step.Ticks n)

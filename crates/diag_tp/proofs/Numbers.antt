@@ -4,16 +4,17 @@ use Rattle.std.specs.Prelude.{Option, Some, None, sum_by, nat_le, ◌==◌, if�
 use Rattle.std.proofs.lemmas.List.Sums.{sum_by-cons}
 use Rattle.diag_can.specs.declared.frame.Event.{Event}
 use Rattle.diag_can.specs.declared.frame.Event.TheVariants.{Physical, Functional, Ticks}
-use Rattle.diag_tp.specs.declared.setup.LinkSetup.{LinkSetup}
-use Rattle.diag_tp.specs.declared.pci.Pci.{Pci}
-use Rattle.diag_tp.specs.declared.pci.Pci.TheVariants.{FlowControl}
-use Rattle.diag_tp.specs.declared.sending.Phase.{Phase}
-use Rattle.diag_tp.specs.declared.sending.Phase.TheVariants.{AwaitsFlow, InBlock}
-use Rattle.diag_tp.specs.declared.sending.Sending.{Sending as Current}
-use Rattle.diag_tp.specs.Kind.{kind}
-use Rattle.diag_tp.specs.Cut.{cut}
-use Rattle.diag_tp.specs.Sending.{Decision, Go, Wait, GiveUp, flow_decision}
-use Rattle.diag_tp.specs.Sender.{SenderState, Settled, frame_count, current_left, begun_sending, one_on, once_gone, started, in_phase, settled_in, settled, tick_fields, flow_fields, sender_ticks, sender_frame, sender_event, no_flow, replied, replied_in}
+use Rattle.diag_pdu.specs.declared.setup.LinkSetup.{LinkSetup}
+use Rattle.diag_pdu.specs.declared.pci.Pci.{Pci}
+use Rattle.diag_pdu.specs.declared.pci.Pci.TheVariants.{FlowControl}
+use Rattle.diag_sides.specs.declared.sending.Phase.{Phase}
+use Rattle.diag_sides.specs.declared.sending.Phase.TheVariants.{AwaitsFlow, InBlock}
+use Rattle.diag_sides.specs.declared.sending.Sending.{Sending as Current}
+use Rattle.diag_pdu.specs.Kind.{kind}
+use Rattle.diag_pdu.specs.Cut.{cut}
+use Rattle.diag_sides.specs.Flow.{Decision, Go, Wait, GiveUp, flow_decision}
+use Rattle.diag_sides.specs.Sender.{SenderState, Settled, frame_count, current_left, begun_sending, one_on, once_gone, started, in_phase, settled_in, settled, tick_fields, flow_fields, replied, replied_in}
+use Rattle.diag_tp.specs.Kept.{sender_ticks, sender_frame, sender_event, no_flow}
 
 -- the frames of what a sender keeps that have not gone
 abbrev pub left : LinkSetup → SenderState → ℕ

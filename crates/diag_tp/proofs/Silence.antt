@@ -5,18 +5,19 @@ use Rattle.std.proofs.lemmas.Bool.Decides.{nat_tests}
 use Rattle.std.proofs.lemmas.List.{nil_from_length}
 use Rattle.diag_can.specs.declared.frame.Event.{Event}
 use Rattle.diag_can.specs.declared.frame.Event.TheVariants.{Ticks}
-use Rattle.diag_tp.specs.declared.setup.LinkSetup.{LinkSetup}
+use Rattle.diag_pdu.specs.declared.setup.LinkSetup.{LinkSetup}
 use Rattle.diag_tp.specs.declared.sent.Sent.{Sent}
-use Rattle.diag_tp.specs.declared.sending.Phase.{Phase}
-use Rattle.diag_tp.specs.declared.sending.Phase.TheVariants.{AwaitsFlow, InBlock}
+use Rattle.diag_sides.specs.declared.sending.Phase.{Phase}
+use Rattle.diag_sides.specs.declared.sending.Phase.TheVariants.{AwaitsFlow, InBlock}
 use Rattle.diag_tp.specs.Moments.{moments}
 use Rattle.diag_tp.specs.Wire.{Placed}
-use Rattle.diag_tp.specs.Receiver.{Partial, one_tick_later, ticks_later}
-use Rattle.diag_tp.specs.declared.sending.Sending.{Sending as Current}
-use Rattle.diag_tp.specs.Sender.{SenderState, kept_as, in_phase, once_gone, one_on, started, settled_in, tick_fields, ticked_fields, sender_ticks}
-use Rattle.diag_tp.specs.Cut.{cut}
+use Rattle.diag_sides.specs.Receiver.{Partial, one_tick_later, ticks_later}
+use Rattle.diag_sides.specs.declared.sending.Sending.{Sending as Current}
+use Rattle.diag_sides.specs.Sender.{SenderState, kept_as, in_phase, once_gone, one_on, started, settled_in, tick_fields, ticked_fields}
+use Rattle.diag_tp.specs.Kept.{sender_ticks}
+use Rattle.diag_pdu.specs.Cut.{cut}
 use Rattle.diag_tp.specs.State.{LinkState, due}
-use Rattle.diag_tp.specs.Quiet.{always, reception_quiet, phase_quiet, sender_quiet, reception_later, phase_later, current_later}
+use Rattle.diag_sides.specs.Quiet.{always, reception_quiet, phase_quiet, sender_quiet, reception_later, phase_later, current_later}
 use Rattle.diag_tp.specs.Link.{StandsFor, last_tick, pending, quiet, quiet_later}
 use Rattle.diag_tp.proofs.Moments.{moments-sum}
 use Rattle.diag_tp.proofs.History.{drained_parts, stands_more, stands_moments}

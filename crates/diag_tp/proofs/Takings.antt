@@ -4,19 +4,20 @@ use Rattle.std.specs.Prelude.{Option, Some, None, IsTrue, sum_by, is_some, optio
 use Rattle.std.proofs.lemmas.Bool.Decides.{nat_tests}
 use Rattle.diag_can.specs.declared.frame.Event.{Event}
 use Rattle.diag_can.specs.declared.frame.Event.TheVariants.{Physical, Functional, Ticks}
-use Rattle.diag_tp.specs.declared.pci.Pci.{Pci}
-use Rattle.diag_tp.specs.declared.pci.Pci.TheVariants.{Single, Consecutive}
-use Rattle.diag_tp.specs.declared.setup.LinkSetup.{LinkSetup}
+use Rattle.diag_pdu.specs.declared.pci.Pci.{Pci}
+use Rattle.diag_pdu.specs.declared.pci.Pci.TheVariants.{Single, Consecutive}
+use Rattle.diag_pdu.specs.declared.setup.LinkSetup.{LinkSetup}
 use Rattle.diag_tp.specs.declared.taken.Taken.{Taken}
 use Rattle.diag_tp.specs.declared.taken.Taken.TheVariants as left
 use Rattle.diag_tp.specs.declared.sent.Sent.{Sent}
-use Rattle.diag_tp.specs.declared.sending.Sending.{Sending}
-use Rattle.diag_tp.specs.Kind.{kind}
-use Rattle.diag_tp.specs.Receiver.{Partial, with_consecutive, is_complete, if_open, if_complete, open_after, completed_by, ends_block, go_on, block_answer, granted_by}
-use Rattle.diag_tp.specs.Sender.{sender_frame, sender_event, frame_count, current_left}
+use Rattle.diag_sides.specs.declared.sending.Sending.{Sending}
+use Rattle.diag_pdu.specs.Kind.{kind, single_only, is_consecutive}
+use Rattle.diag_sides.specs.Receiver.{Partial, with_consecutive, is_complete, if_open, if_complete, open_after, completed_by, ends_block, go_on, block_answer, granted_by}
+use Rattle.diag_tp.specs.Kept.{sender_frame, sender_event}
+use Rattle.diag_sides.specs.Sender.{frame_count, current_left}
 use Rattle.diag_tp.specs.State.{LinkState}
 use Rattle.diag_tp.specs.Wire.{Placed}
-use Rattle.diag_tp.specs.Link.{is_frame, single_only, partial_after, grant_after, IsReadHere, pending, StandsFor}
+use Rattle.diag_tp.specs.Link.{is_frame, partial_after, grant_after, IsReadHere, pending, StandsFor}
 use Rattle.diag_tp.specs.Taken.{IsTaken, left_of_kind, taken_of, reception_after, granted_after, sender_after}
 use Rattle.diag_tp.proofs.Numbers.{IsWithin, no-flow-within, event_within}
 use Rattle.diag_tp.proofs.History.{stands_fed}
@@ -33,6 +34,11 @@ last-ends s (Some p) h = (
   where
     whole : (p : Partial) → IsTrue (is_some (if is_complete p then Some p.bytes else None)) → (if ends_block s p then Some (go_on s) else None) ≡ None
     whole p h = grind (arith, nat_tests)
+
+-- what is no Consecutive completes what a Single does
+pub completes_alone : (o : Option Partial) (k : Pci) → is_consecutive k ≡ false → completed_by o k ≡ completed_by None (single_only k)
+completes_alone o (Consecutive number part) h = cc
+completes_alone o k h = refl
 
 -- a frame that completes nothing is left as its bytes
 pub taken_read : (link : LinkState) (bytes : List ℕ) → IsReadHere link.setup (Physical bytes) → completed_by link.partial (kind bytes link.setup.max_request) ≡ None

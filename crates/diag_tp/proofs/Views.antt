@@ -1,13 +1,17 @@
 -- What the words of a link's contract say of its fields.
-use Rattle.std.proofs.Common.{◌≡◌, ℕ, ◌+◌, ◌<◌, ◌≤◌, true, List, ◌∷◌, length, ◌∙◌, ap, arith, length-append}
-use Rattle.std.specs.Prelude.{Option, Some, None, IsTrue, option_to_list, nat_le, nat_lt}
+use Rattle.std.proofs.Common.{◌≡◌, ℕ, ◌+◌, ◌<◌, ◌≤◌, Bool, true, List, ◌∷◌, length, ◌∙◌, ap, arith, length-append}
+use Rattle.std.specs.Prelude.{◌↔◌, Option, Some, None, IfSome, IsTrue, option_to_list, nat_le, nat_lt}
+use Rattle.std.proofs.lemmas.List.{nil_from_length}
 use Rattle.std.proofs.lemmas.Bool.Decides.{nat_tests}
 use Rattle.diag_can.specs.declared.frame.Event.{Event}
+use Rattle.diag_pdu.specs.declared.setup.LinkSetup.{LinkSetup}
 use Rattle.diag_tp.specs.State.{LinkState, LinkView, due}
-use Rattle.diag_tp.specs.Sender.{SenderState, settled, sender_event, sender_ticks, replied}
+use Rattle.diag_sides.specs.Sender.{SenderState, settled, settled_in, replied, IsSound}
+use Rattle.diag_sides.specs.declared.sending.Sending.{Sending}
+use Rattle.diag_tp.specs.Kept.{sender_event, sender_ticks}
 use Rattle.diag_tp.specs.Link.{pending, unsent, waiting_count, has_room, has_reply_room, KeepsRoom, KeepsReplyRoom, needed}
 use Rattle.diag_tp.proofs.Numbers.{left, IsWithin, settled-total, settled-fewer, event_within, sender_ticks_within, replied-numbers}
-use Rattle.diag_tp.proofs.Settled.{none-due}
+use Rattle.diag_sides.proofs.Settled.{none-due, IsDrained, drained_fields, fields_drained}
 use Rattle.diag_tp.proofs.History.{drained_parts}
 
 pub room : (v : LinkView) (x : Event) → IsTrue (has_room v x) → needed v.state.setup x ≤ v.room
@@ -126,3 +130,13 @@ pub waiting_same : (link link' : LinkState) → (settled link'.setup link'.sende
     → waiting_count link' ≤ waiting_count link
 unfolding waiting_count
 waiting_same link link' e = let same = ap (λ r. length r.waiting) e in omega arith
+
+pub iff_then : {P Q R : Type 0} → P ↔ Q → Q ↔ R → P ↔ R
+iff_then f g = (λ p. g.0 (f.0 p), λ r. f.1 (g.1 r))
+
+-- drained, as a test says
+pub drained_iff : (s : LinkSetup) (cur : Option Sending) (W : List (List ℕ)) (b : Bool) → IfSome cur (λ c. IsSound c) →
+    (IsTrue b → IsDrained cur W) → (IsDrained cur W → IsTrue b) →
+    (IsTrue b → length (settled_in s cur W).due ≡ 0) × (length (settled_in s cur W).due ≡ 0 → IsTrue b)
+drained_iff s cur W b sound f g =
+    (λ t. ap length (fields_drained s cur W (f t)), λ e. g (drained_fields s cur W sound (nil_from_length (settled_in s cur W).due e)))

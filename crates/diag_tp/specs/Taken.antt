@@ -2,18 +2,19 @@
 use Rattle.std.specs.Prelude.{◌≡◌, ◌≤◌, ℕ, IsTrue, List, [], Option, None, Some, is_some, if◌then◌else◌}
 use Rattle.diag_can.specs.declared.frame.Event.{Event}
 use Rattle.diag_can.specs.declared.frame.Event.TheVariants.{Physical, Functional, Ticks}
-use Rattle.diag_tp.specs.declared.pci.Pci.{Pci}
-use Rattle.diag_tp.specs.declared.pci.Pci.TheVariants.{Single, First, Overflow, Consecutive, FlowControl, Ignored}
-use Rattle.diag_tp.specs.declared.setup.LinkSetup.{LinkSetup}
-use Rattle.diag_tp.specs.declared.step.Step.{Step}
+use Rattle.diag_pdu.specs.declared.pci.Pci.{Pci}
+use Rattle.diag_pdu.specs.declared.pci.Pci.TheVariants.{Single, First, Overflow, Consecutive, FlowControl, Ignored}
+use Rattle.diag_pdu.specs.declared.setup.LinkSetup.{LinkSetup}
+use Rattle.diag_pdu.specs.declared.step.Step.{Step}
 use Rattle.diag_tp.specs.declared.taken.Taken.{Taken}
 use Rattle.diag_tp.specs.declared.taken.Taken.TheVariants as left
-use Rattle.diag_tp.specs.declared.sending.Sending.{Sending}
-use Rattle.diag_tp.specs.Kind.{kind}
-use Rattle.diag_tp.specs.Receiver.{Partial, completed_by}
-use Rattle.diag_tp.specs.Sender.{SenderState, no_flow, sender_event}
+use Rattle.diag_sides.specs.declared.sending.Sending.{Sending}
+use Rattle.diag_pdu.specs.Kind.{kind, single_only}
+use Rattle.diag_sides.specs.Receiver.{Partial, completed_by}
+use Rattle.diag_sides.specs.Sender.{SenderState}
+use Rattle.diag_tp.specs.Kept.{no_flow, sender_event}
 use Rattle.diag_tp.specs.State.{LinkState, LinkView}
-use Rattle.diag_tp.specs.Link.{is_frame, single_only, needed, partial_after, grant_after, IsReadHere}
+use Rattle.diag_tp.specs.Link.{is_frame, needed, partial_after, grant_after, IsReadHere}
 
 -- of a Single nothing is left but that it ends a reception, and of the last Consecutive of a message the same, for their
 -- requests stand with the link; of any other frame its bytes

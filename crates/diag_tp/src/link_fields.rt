@@ -1,78 +1,27 @@
 //! What a link does with an event, field by field: the histories that it stands for come in at its public calls.
 
-ghost use Rattle.std.specs.Prelude.{
-  ◌≡◌,
-  ◌↔◌,
-  ◌≤◌,
-  ◌+◌,
-  [],
-  ◌∷◌,
-  length,
-  if◌then◌else◌,
-  is_some,
-  Some,
-  min,
-  max,
-  None,
-  option_and_then,
-  IfSome,
-  IsNone,
-  IsSome,
-  IfNone,
-  IfOk,
-  OnOk,
-  IsTrue,
-  ◌<◌,
-  true,
-  false,
-};
+ghost use Rattle.std.specs.Prelude.{◌≡◌, ◌↔◌, ◌≤◌, ◌+◌, [], ◌∷◌, length, if◌then◌else◌, is_some, Some, min, max, None, option_and_then, IfSome, IsNone, IsSome, IfNone, IfOk, OnOk, IsTrue, ◌<◌, true, false};
 ghost use Rattle.diag_can.specs.declared.frame.Event.{Event as AnEvent};
-ghost use Rattle.diag_tp.specs.declared.step.Step.{Step as AStep};
-ghost use Rattle.diag_tp.specs.Cut.{cut};
-ghost use Rattle.diag_tp.specs.Kind.{kind};
+ghost use Rattle.diag_pdu.specs.declared.step.Step.{Step as AStep};
+ghost use Rattle.diag_pdu.specs.Cut.{cut};
+ghost use Rattle.diag_pdu.specs.Kind.{kind, IsRead, single_only, needed_for};
 ghost use Rattle.diag_tp.specs.Gives.{is_request};
-ghost use Rattle.diag_tp.specs.Sender.{settled, sender_event, sender_frame, sender_ticks};
-ghost use Rattle.diag_tp.specs.Receiver.{
-  open_after,
-  completed_by,
-  granted_by,
-  ticks_later,
-  IsRead,
-  needed_for,
-};
+ghost use Rattle.diag_sides.specs.Sender.{settled};
+ghost use Rattle.diag_tp.specs.Kept.{sender_event, sender_frame, sender_ticks};
+ghost use Rattle.diag_sides.specs.Receiver.{open_after, completed_by, granted_by, ticks_later, ask_of};
 ghost use Rattle.diag_tp.specs.State.{due};
-ghost use Rattle.diag_tp.specs.Taken.{
-  IsTaken,
-  FitsIn,
-  asked_in,
-  reception_after,
-  granted_after,
-  sender_after,
-};
-ghost use Rattle.diag_tp.specs.Quiet.{reception_quiet, sender_quiet, reception_later, current_later};
-ghost use Rattle.diag_tp.specs.Link.{
-  is_frame,
-  last_tick,
-  single_only,
-  needed,
-  asked_of,
-  ask_of,
-  partial_after,
-  grant_after,
-  step_after,
-  IsReadHere,
-  IsIdle,
-};
+ghost use Rattle.diag_tp.specs.Taken.{IsTaken, FitsIn, asked_in, reception_after, granted_after, sender_after};
+ghost use Rattle.diag_sides.specs.Quiet.{reception_quiet, sender_quiet, reception_later, current_later};
+ghost use Rattle.diag_tp.specs.Link.{is_frame, last_tick, needed, asked_of, partial_after, grant_after, step_after, IsReadHere, IsIdle};
 
-use crate::frames::lone_frame;
-use crate::kind::{consecutive_part, first_parts, flow_parts, is_of_no_kind, single_size};
 use crate::link::Link;
-use crate::message::Message;
-use crate::pci::Pci;
-use crate::reception::go_on;
-use crate::step::{Request, Step};
 use crate::taken::Taken;
 use diag_can::{Event, FrameBytes};
+use diag_pdu::{
+    Message, Pci, Request, Step, consecutive_part, first_parts, first_size, flow_parts,
+    is_of_no_kind, lone_frame, single_size,
+};
+use diag_sides::go_on;
 use std::alloc::AllocError;
 
 impl Link {
@@ -111,7 +60,7 @@ impl Link {
     }
 
     /// Whether neither flow control nor a frame of a message is due.
-    #[tactic(auto, using(crate::proofs::Settled::drained_iff))]
+    #[tactic(auto, using(crate::proofs::Views::drained_iff))]
     #[inline(always)]
     pub(crate) fn has_none_due(&self) -> bool
         ensures { IsTrue result ↔ (length (due self.now.state) ≡ 0) }
@@ -120,6 +69,7 @@ impl Link {
     }
 
     /// Whether the event completes a request, from the fields.
+    #[tactic(auto, using(crate::proofs::Takings::completes_alone))]
     pub(crate) fn gives_request(&self, event: &Event) -> bool
         ensures value { result
             ≡ is_request (step_after self.now.state.setup self.now.state.partial event.now) }
@@ -184,7 +134,7 @@ impl Link {
     }
 
     /// Reads a frame with the tester's own identifier and makes room for its message. No `Pci` is made but of a FirstFrame.
-    #[tactic(auto, using(crate::proofs::Takings::taken_read))]
+    #[tactic(auto, using(crate::proofs::Takings::taken_read, crate::proofs::Takings::completes_alone))]
     #[inline(always)]
     fn take_up_own(&mut self, bytes: &FrameBytes) -> Result<Taken, AllocError>
         ensures same { self.new.state ≡ self.old.state }
@@ -211,7 +161,6 @@ impl Link {
     }
 
     /// Makes room for the message of a frame with the tester's own identifier: a FirstFrame alone needs some.
-    #[tactic(auto, unfolding(crate::specs::Kind::kind))]
     #[inline(always)]
     pub(crate) fn make_room_for(&mut self, bytes: &FrameBytes) -> Result<(), AllocError>
         ensures ok { OnOk result
@@ -221,16 +170,11 @@ impl Link {
         ensures same { self.new.state ≡ self.old.state }
         ensures reply_room { self.new.reply_room ≡ self.old.reply_room }
     {
-        match bytes.as_slice() {
-            [control, ..] if *control / 16 == 1 => {
-                if let Some((len, _)) = first_parts(bytes, self.setup.max_request) {
-                    return self.receiver.reserve(len);
-                }
-                let kind = Pci::of_frame(bytes, self.setup.max_request);
-                self.receiver.make_room(&kind)
-            }
-            _ => Ok(()),
+        let len = first_size(bytes, self.setup.max_request);
+        if len > 0 {
+            return self.receiver.reserve(len);
         }
+        Ok(())
     }
 
     /// Notes the request of one frame, in the place of the one before.

@@ -3,7 +3,7 @@ use Rattle.std.proofs.Common.{◌≡◌, inl, inr, ℕ, ◌+◌, true, false, co
 use Rattle.std.proofs.lemmas.List.{append-nil, append_cancel_left, drop_all, take-append-drop}
 use Rattle.std.proofs.lemmas.Option.{slice_get_cases}
 use Rattle.std.specs.Prelude.{◌==◌, slice_get}
-use Rattle.diag_tp.proofs.Lists.{drop-next}
+use Rattle.diag_pdu.proofs.Lists.{drop-next}
 use Rattle.diag_desk.specs.declared.entry.Entry.{Entry}
 use Rattle.diag_desk.specs.Entries.{own}
 use Rattle.diag_desk.proofs.Runs.{take_one}

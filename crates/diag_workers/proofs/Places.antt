@@ -2,8 +2,8 @@
 use Rattle.std.proofs.Common.{◌≡◌, ◌≤◌, ℕ, zero, suc, ◌+◌, List, [], ◌∷◌, length, map, ap, sym, ◌∙◌, arith}
 use Rattle.std.proofs.lemmas.List.{length-map}
 use Rattle.std.specs.List.{AllByRecursion}
-use Rattle.diag_tp.specs.Moments.{counted_from}
-use Rattle.diag_tp.proofs.CutFrames.{length-counted}
+use Rattle.diag_pdu.specs.Cut.{counted_from}
+use Rattle.diag_pdu.proofs.CutFrames.{length-counted}
 
 pub places_count : {D : Type 0} (tester : D → ℕ) (doors : List D) (first n : ℕ) → map tester doors ≡ counted_from first n → length doors ≡ n
 places_count tester doors first n h = sym (length-map doors tester) ∙ (ap length h ∙ length-counted first n)

@@ -2,7 +2,7 @@
 use Rattle.std.specs.Prelude.{◌≡◌, ℕ, List, [], ◌∷◌, Option}
 use Rattle.atomic_table.specs.Seated.{TableId}
 use Rattle.diag_can.specs.declared.frame.Event.{Event}
-use Rattle.diag_tp.specs.declared.setup.LinkSetup.{LinkSetup}
+use Rattle.diag_pdu.specs.declared.setup.LinkSetup.{LinkSetup}
 use Rattle.diag_desk.specs.declared.entry.Entry.{Entry}
 use Rattle.diag_workers.specs.Work.{PlayedLog}
 use Rattle.diag_workers.specs.declared.working.WorkerRecord.{WorkerRecord}

@@ -3,7 +3,7 @@ ghost use Rattle.std.specs.Prelude.{◌≡◌, ◌<◌, ◌≤◌, ◌∷◌, []
 ghost use Rattle.std.specs.List.{AllByRecursion};
 ghost use Rattle.std.specs.Thread.{IsSync, IsSend};
 ghost use Rattle.diag_can.specs.Log.{most_events};
-ghost use Rattle.diag_tp.specs.Moments.{counted_from};
+ghost use Rattle.diag_pdu.specs.Cut.{counted_from};
 ghost use Rattle.diag_setup.specs.Setup.{link_of};
 ghost use Rattle.diag_workers.specs.Crew.{Worked, AllWorked};
 ghost use Rattle.diag_workers.specs.Work.{holds};

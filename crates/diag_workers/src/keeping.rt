@@ -7,14 +7,14 @@ ghost use Rattle.diag_workers.specs.Work.{CanKeep};
 
 use diag_desk::Journal;
 use diag_setup::TesterId;
-use diag_tp::{Message, Step};
+use diag_pdu::{Message, Step};
 use std::alloc::{AllocError, Global};
 
 /// What a worker keeps of its entries: all of them, or nothing.
 pub trait Keep {
     ghost use Rattle.std.specs.Prelude.{List};
     ghost use Rattle.diag_desk.specs.declared.entry.Entry.{Entry};
-    ghost use Rattle.diag_tp.specs.declared.step.Step.{Step};
+    ghost use Rattle.diag_pdu.specs.declared.step.Step.{Step};
 
     /// It is what is kept of these entries.
     ghost keeps: { Self → List Entry → Type 0 };

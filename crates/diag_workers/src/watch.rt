@@ -2,7 +2,7 @@
 use diag_desk::StepFault;
 use diag_gate::Door;
 use diag_setup::TesterId;
-use diag_tp::{Message, Step};
+use diag_pdu::{Message, Step};
 
 /// Is told of each step before its door is asked, while nothing is held.
 pub trait Watch {

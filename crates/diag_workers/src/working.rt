@@ -14,7 +14,8 @@ use diag_can::Event;
 use diag_desk::{Journal, StepFault};
 use diag_gate::Door;
 use diag_setup::{Setup, TesterId};
-use diag_tp::{LinkSetup, Sent};
+use diag_pdu::LinkSetup;
+use diag_tp::Sent;
 use diag_world::Channel;
 use std::alloc::Global;
 

@@ -5,7 +5,7 @@ use crate::trouble::{Trouble, holds};
 use diag_can::{FrameBytes, TickCount};
 use diag_desk::{Desk, MOST_ENTRIES, StepFault};
 use diag_setup::TesterId;
-use diag_tp::{Message, Step};
+use diag_pdu::{Message, Step};
 
 /// Takes so many steps of one tick.
 fn fill(desk: &mut Desk, who: TesterId) -> Result<(), Trouble> {

@@ -6,7 +6,7 @@ use diag_ecu::{Ecu, Session};
 use diag_setup::TesterId;
 use diag_store::Security;
 use diag_stored::two_testers;
-use diag_tp::Message;
+use diag_pdu::Message;
 use std::alloc::Global;
 
 /// A physical request of a tester and its reply, empty for none; of an empty request 2000 ticks.

@@ -5,7 +5,8 @@ use crate::trouble::{Trouble, holds};
 use diag_can::{Event, FrameBytes};
 use diag_setup::Setup;
 use diag_stored::two_testers;
-use diag_tp::{Link, LinkSetup, Message, Pci, Request, frame_of};
+use diag_pdu::{LinkSetup, Message, Pci, Request, frame_of};
+use diag_tp::Link;
 use std::alloc::Global;
 
 /// The settings of the first tester's link.

@@ -3,7 +3,7 @@
 use diag_can::LogFault;
 use diag_desk::{JournalFault, ReplayFault, StepFault};
 use diag_gate::TryFault;
-use diag_tp::MessageFault;
+use diag_pdu::MessageFault;
 use diag_workers::PlayFault;
 use std::alloc::{AllocError, AllocFailed};
 

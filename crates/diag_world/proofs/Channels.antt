@@ -7,9 +7,9 @@ use Rattle.std.specs.Prelude.{replicate, IsTrue, IsSome, ◌⊎◌, nat_lt}
 use Rattle.std.specs.Option.{option_to_list}
 use Rattle.diag_can.specs.declared.frame.Event.{Event}
 use Rattle.diag_can.specs.declared.frame.Event.TheVariants.{Physical, Functional, Ticks}
-use Rattle.diag_tp.specs.declared.setup.LinkSetup.{LinkSetup}
-use Rattle.diag_tp.specs.declared.step.Step.{Step}
-use Rattle.diag_tp.specs.declared.step.Step.TheVariants as step
+use Rattle.diag_pdu.specs.declared.setup.LinkSetup.{LinkSetup}
+use Rattle.diag_pdu.specs.declared.step.Step.{Step}
+use Rattle.diag_pdu.specs.declared.step.Step.TheVariants as step
 use Rattle.diag_tp.specs.Gives.{gives, steps}
 use Rattle.diag_tp.specs.Laws.{TimeLaw, GivesLaw}
 use Rattle.diag_tp.specs.Moments.{moments, last_moment, last_time}

@@ -2,10 +2,10 @@
 use Rattle.std.proofs.Common.{◌≡◌, ℕ, false, None, Some, List, [], ◌∷◌, refl}
 use Rattle.diag_can.specs.declared.frame.Event.{Event}
 use Rattle.diag_can.specs.declared.frame.Event.TheVariants.{Physical, Ticks}
-use Rattle.diag_tp.specs.declared.setup.LinkSetup.{LinkSetup}
-use Rattle.diag_tp.specs.declared.step.Step.TheVariants as step
+use Rattle.diag_pdu.specs.declared.setup.LinkSetup.{LinkSetup}
+use Rattle.diag_pdu.specs.declared.step.Step.TheVariants as step
 use Rattle.diag_tp.specs.Gives.{gives, steps}
-use Rattle.diag_tp.specs.Kind.{kind}
+use Rattle.diag_pdu.specs.Kind.{kind}
 use Rattle.diag_tp.specs.Placing.{moments_of_steps, placed}
 use Rattle.diag_tp.specs.Reception.{open_at}
 use Rattle.diag_desk.specs.declared.entry.Entry.{Entry}

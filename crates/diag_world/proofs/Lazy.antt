@@ -7,16 +7,16 @@ use Rattle.std.specs.Prelude.{slice_get, slice_set, Result, Ok, Err, OnOk, OnErr
 use Rattle.diag_can.specs.declared.frame.Event.{Event}
 use Rattle.diag_can.specs.declared.frame.Event.TheVariants.{Physical, Functional, Ticks}
 use Rattle.diag_tp.specs.declared.sent.Sent.{Sent}
-use Rattle.diag_tp.specs.declared.setup.LinkSetup.{LinkSetup}
+use Rattle.diag_pdu.specs.declared.setup.LinkSetup.{LinkSetup}
 use Rattle.diag_tp.specs.Wire.{Placed}
 use Rattle.diag_tp.specs.Link.{StandsFor, last_tick, pending, quiet, quiet_later, view_later}
-use Rattle.diag_tp.specs.Quiet.{current_later, phase_later, reception_later}
-use Rattle.diag_tp.specs.Receiver.{Partial}
-use Rattle.diag_tp.specs.Sender.{in_phase, kept_as}
+use Rattle.diag_sides.specs.Quiet.{current_later, phase_later, reception_later}
+use Rattle.diag_sides.specs.Receiver.{Partial}
+use Rattle.diag_sides.specs.Sender.{in_phase, kept_as}
 use Rattle.diag_tp.specs.State.{LinkState, LinkView}
-use Rattle.diag_tp.specs.declared.sending.Phase.{Phase}
-use Rattle.diag_tp.specs.declared.sending.Phase.TheVariants.{AwaitsFlow, InBlock}
-use Rattle.diag_tp.specs.declared.sending.Sending.{Sending}
+use Rattle.diag_sides.specs.declared.sending.Phase.{Phase}
+use Rattle.diag_sides.specs.declared.sending.Phase.TheVariants.{AwaitsFlow, InBlock}
+use Rattle.diag_sides.specs.declared.sending.Sending.{Sending}
 use Rattle.diag_tp.proofs.Given.{gives_ticks}
 use Rattle.diag_tp.proofs.Silence.{current_none, due_later, quiet_drained, quiet_left, reception_none, reception_still, current_still, same_link, stands_ticks}
 use Rattle.diag_ecu.specs.Elapse.{elapse_each}

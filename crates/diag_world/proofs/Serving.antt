@@ -6,12 +6,12 @@ use Rattle.std.proofs.lemmas.Option.{slice_get-map}
 use Rattle.std.specs.Option.{option_map, option_to_list}
 use Rattle.diag_can.specs.declared.frame.Event.{Event}
 use Rattle.diag_can.specs.declared.frame.Event.TheVariants.{Physical, Functional, Ticks}
-use Rattle.diag_tp.specs.declared.setup.LinkSetup.{LinkSetup}
+use Rattle.diag_pdu.specs.declared.setup.LinkSetup.{LinkSetup}
 use Rattle.diag_tp.specs.declared.sent.Sent.{Sent}
-use Rattle.diag_tp.specs.declared.step.Step.{Step}
+use Rattle.diag_pdu.specs.declared.step.Step.{Step}
 use Rattle.diag_tp.specs.Moments.{is_tick, last_time}
 use Rattle.diag_tp.specs.Wire.{stamped}
-use Rattle.diag_tp.proofs.Lists.{length-zero}
+use Rattle.diag_pdu.proofs.Lists.{length-zero}
 use Rattle.diag_tp.specs.Gives.{gives}
 use Rattle.diag_tp.specs.Placing.{drawn}
 use Rattle.diag_tp.specs.State.{LinkState, LinkView, due}

@@ -8,7 +8,7 @@ use Rattle.std.specs.Prelude.{◌==◌, not, slice_get}
 use Rattle.std.specs.Option.{option_map}
 use Rattle.diag_can.specs.declared.frame.Event.{Event}
 use Rattle.diag_tp.specs.declared.sent.Sent.{Sent}
-use Rattle.diag_tp.specs.declared.setup.LinkSetup.{LinkSetup}
+use Rattle.diag_pdu.specs.declared.setup.LinkSetup.{LinkSetup}
 use Rattle.diag_tp.specs.Link.{StandsFor}
 use Rattle.diag_tp.specs.Placing.{placed}
 use Rattle.diag_tp.specs.State.{LinkState}

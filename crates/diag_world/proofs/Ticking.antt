@@ -3,7 +3,7 @@ use Rattle.std.proofs.Common.{◌≡◌, ◌≤◌, ℕ, ◌+◌, min, Some, Non
 use Rattle.std.proofs.lemmas.List.{append-nil}
 use Rattle.diag_can.specs.declared.frame.Event.{Event}
 use Rattle.diag_can.specs.declared.frame.Event.TheVariants.{Ticks}
-use Rattle.diag_tp.specs.declared.setup.LinkSetup.{LinkSetup}
+use Rattle.diag_pdu.specs.declared.setup.LinkSetup.{LinkSetup}
 use Rattle.diag_tp.specs.declared.sent.Sent.{Sent}
 use Rattle.diag_tp.specs.Moments.{last_moment, last_time}
 use Rattle.diag_tp.specs.Placing.{placed, placed_at, drawn}
@@ -11,7 +11,7 @@ use Rattle.diag_tp.specs.State.{LinkState, LinkView, due}
 use Rattle.diag_tp.specs.Link.{StandsFor, last_tick, pending}
 use Rattle.diag_tp.specs.Wire.{Placed, stamped}
 use Rattle.diag_tp.proofs.Given.{gives_ticks}
-use Rattle.diag_tp.proofs.Lists.{length-zero}
+use Rattle.diag_pdu.proofs.Lists.{length-zero}
 use Rattle.diag_desk.specs.Entries.{replies}
 use Rattle.diag_world.specs.Port.{HandedOut, Passed}
 use Rattle.diag_world.specs.Server.{PortSettled, closing_time, entry_of_ticks}

@@ -6,9 +6,9 @@ use Rattle.std.specs.Prelude.{◌==◌, IsSome, IsTrue, sum_by}
 use Rattle.std.specs.Option.{option_to_list}
 use Rattle.diag_can.specs.declared.frame.Event.{Event}
 use Rattle.diag_can.specs.declared.frame.Event.TheVariants.{Physical, Functional, Ticks}
-use Rattle.diag_tp.specs.declared.setup.LinkSetup.{LinkSetup}
-use Rattle.diag_tp.specs.declared.step.Step.{Step}
-use Rattle.diag_tp.specs.declared.step.Step.TheVariants as step
+use Rattle.diag_pdu.specs.declared.setup.LinkSetup.{LinkSetup}
+use Rattle.diag_pdu.specs.declared.step.Step.{Step}
+use Rattle.diag_pdu.specs.declared.step.Step.TheVariants as step
 use Rattle.diag_tp.specs.Gives.{gives, is_request, steps, steps_after}
 use Rattle.diag_tp.specs.Moments.{last_time}
 use Rattle.diag_tp.proofs.Given.{frame_gives, gives_ticks}

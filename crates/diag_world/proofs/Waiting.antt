@@ -6,7 +6,7 @@ use Rattle.std.specs.Prelude.{◌==◌, slice_get, slice_set}
 use Rattle.diag_can.specs.declared.frame.Event.{Event}
 use Rattle.diag_can.specs.declared.frame.Event.TheVariants.{Ticks}
 use Rattle.diag_tp.specs.Link.{quiet}
-use Rattle.diag_tp.specs.Moments.{counted_from}
+use Rattle.diag_pdu.specs.Cut.{counted_from}
 use Rattle.diag_tp.specs.State.{LinkState}
 use Rattle.diag_setup.specs.declared.raw.RawSetup.{RawSetup}
 use Rattle.diag_desk.specs.declared.entry.Entry.{Entry}

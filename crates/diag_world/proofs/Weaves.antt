@@ -7,9 +7,9 @@ use Rattle.std.proofs.Math.Seq.{drop-nil, drop-append-add}
 use Rattle.std.specs.Prelude.{◌==◌, is_some}
 use Rattle.std.specs.Option.{option_to_list}
 use Rattle.diag_can.specs.declared.frame.Event.{Event}
-use Rattle.diag_tp.specs.declared.step.Step.{Step}
+use Rattle.diag_pdu.specs.declared.step.Step.{Step}
 use Rattle.diag_desk.specs.declared.entry.Entry.{Entry}
-use Rattle.diag_tp.specs.declared.setup.LinkSetup.{LinkSetup}
+use Rattle.diag_pdu.specs.declared.setup.LinkSetup.{LinkSetup}
 use Rattle.diag_tp.specs.Gives.{gives, steps_after}
 use Rattle.diag_desk.specs.Entries.{own}
 use Rattle.diag_desk.specs.Entries.{asked, asked_by}

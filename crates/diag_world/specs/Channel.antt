@@ -2,9 +2,9 @@
 use Rattle.std.specs.Prelude.{◌≡◌, ℕ, ◌*◌, ◌≤◌, List, [], ◌∷◌, ◌++◌, length, Option, Some, slice_get, vec_len, vec_capacity}
 use Rattle.std.specs.Option.{option_to_list}
 use Rattle.diag_can.specs.declared.frame.Event.{Event}
-use Rattle.diag_tp.specs.declared.setup.LinkSetup.{LinkSetup}
+use Rattle.diag_pdu.specs.declared.setup.LinkSetup.{LinkSetup}
 use Rattle.diag_tp.specs.declared.sent.Sent.{Sent}
-use Rattle.diag_tp.specs.declared.step.Step.{Step}
+use Rattle.diag_pdu.specs.declared.step.Step.{Step}
 use Rattle.diag_world.specs.declared.port.Prepared.{Prepared}
 use Rattle.diag_tp.specs.Gives.{gives, steps}
 use Rattle.diag_tp.specs.Moments.{last_time}

@@ -3,7 +3,7 @@ use Rattle.std.specs.Prelude.{◌≡◌, ℕ, ◌+◌, ◌≤◌, List, ◌∷�
 use Rattle.std.specs.List.{All}
 use Rattle.diag_can.specs.declared.frame.Event.{Event}
 use Rattle.diag_can.specs.declared.frame.Event.TheVariants.{Physical, Functional, Ticks}
-use Rattle.diag_tp.specs.declared.setup.LinkSetup.{LinkSetup}
+use Rattle.diag_pdu.specs.declared.setup.LinkSetup.{LinkSetup}
 use Rattle.diag_tp.specs.declared.sent.Sent.{Sent}
 use Rattle.diag_tp.specs.Gives.{gives, steps}
 use Rattle.diag_tp.specs.Moments.{is_tick, last_time}
@@ -16,7 +16,7 @@ use Rattle.diag_tp.specs.Link.{EachHistory, StandsFor, has_reply_room, is_frame,
 use Rattle.diag_desk.specs.declared.entry.Entry.{Entry}
 use Rattle.diag_desk.specs.Entry.{HasNoReply}
 use Rattle.diag_desk.specs.Entries.{asked, entry, replies}
-use Rattle.diag_tp.specs.declared.step.Step.{Step}
+use Rattle.diag_pdu.specs.declared.step.Step.{Step}
 use Rattle.diag_world.specs.declared.port.Prepared.{Prepared}
 use Rattle.diag_world.specs.declared.port.Prepared.TheVariants as prepared
 

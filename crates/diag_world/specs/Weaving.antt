@@ -2,8 +2,8 @@
 use Rattle.std.specs.Prelude.{◌≡◌, ℕ, zero, suc, max, ◌+◌, ◌==◌, if◌then◌else◌, is_some, List, [], ◌∷◌, ◌++◌, map, drop, length}
 use Rattle.std.specs.Option.{option_to_list}
 use Rattle.diag_can.specs.declared.frame.Event.{Event}
-use Rattle.diag_tp.specs.declared.step.Step.{Step}
-use Rattle.diag_tp.specs.declared.setup.LinkSetup.{LinkSetup}
+use Rattle.diag_pdu.specs.declared.step.Step.{Step}
+use Rattle.diag_pdu.specs.declared.setup.LinkSetup.{LinkSetup}
 use Rattle.diag_desk.specs.declared.entry.Entry.{Entry}
 use Rattle.diag_tp.specs.Gives.{gives, steps}
 use Rattle.diag_desk.specs.Entries.{own}

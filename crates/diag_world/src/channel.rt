@@ -20,7 +20,7 @@ ghost use Rattle.std.specs.Prelude.{
 };
 ghost use Rattle.diag_desk.specs.Entry.{most_entries};
 ghost use Rattle.diag_can.specs.declared.frame.Event.{Event as AnEvent};
-ghost use Rattle.diag_tp.specs.declared.setup.LinkSetup.{LinkSetup as ALinkSetup};
+ghost use Rattle.diag_pdu.specs.declared.setup.LinkSetup.{LinkSetup as ALinkSetup};
 ghost use Rattle.diag_tp.specs.Gives.{gives};
 ghost use Rattle.diag_tp.specs.Link.{is_frame};
 ghost use Rattle.diag_desk.specs.declared.entry.Entry.{Entry as AnEntry};
@@ -29,7 +29,8 @@ ghost use Rattle.diag_world.specs.Channel.{due, channel_of, step_of, waiting, Ea
 
 use crate::port::{Prepared, gives_step, prepare, settle, step};
 use diag_can::Event;
-use diag_tp::{Link, LinkSetup, Message, Sent, Step, gives_law, time_law};
+use diag_pdu::{LinkSetup, Message, Step};
+use diag_tp::{Link, Sent, gives_law, time_law};
 use std::alloc::{AllocError, Global};
 
 /// One tester's link, and the frames that the tester was sent.

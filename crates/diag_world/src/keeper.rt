@@ -8,7 +8,7 @@ ghost use Rattle.diag_world.specs.Server.{closing_time};
 
 use diag_desk::{EntryRef, JournalVersion, StepFault, StepRef, write_entry};
 use diag_setup::TesterId;
-use diag_tp::{Message, Step};
+use diag_pdu::{Message, Step};
 use std::alloc::AllocError;
 
 /// Keeps the entries of what a server takes, or passes them over.

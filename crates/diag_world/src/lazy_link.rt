@@ -4,7 +4,8 @@ ghost use Rattle.std.specs.Prelude.{◌≡◌, ◌≤◌, []};
 ghost use Rattle.diag_tp.specs.Link.{quiet, StandsFor};
 ghost use Rattle.diag_world.specs.Lazy.{caught_up, IsLazy};
 
-use diag_tp::{Link, LinkSetup};
+use diag_pdu::LinkSetup;
+use diag_tp::Link;
 use std::alloc::Global;
 
 /// A tester's link, and how many of the ticks it has taken that have passed for all links.

@@ -17,7 +17,7 @@ ghost use Rattle.std.specs.Prelude.{
   vec_capacity,
 };
 ghost use Rattle.diag_can.specs.declared.frame.Event.{Event as AnEvent};
-ghost use Rattle.diag_tp.specs.declared.setup.LinkSetup.{LinkSetup as ALinkSetup};
+ghost use Rattle.diag_pdu.specs.declared.setup.LinkSetup.{LinkSetup as ALinkSetup};
 ghost use Rattle.diag_tp.specs.declared.sent.Sent.{Sent as ASent};
 ghost use Rattle.diag_tp.specs.Moments.{last_moment, last_time};
 ghost use Rattle.diag_tp.specs.Placing.{placed_at};
@@ -27,7 +27,8 @@ ghost use Rattle.diag_tp.specs.Link.{StandsFor, has_reply_room, last_tick, pendi
 ghost use Rattle.diag_world.specs.Port.{AreWithin, Grew, HandedOut, Passed, SentDue};
 
 use diag_can::{Event, TickCount};
-use diag_tp::{Link, Message, Sent, Taken, moments_law, time_law};
+use diag_pdu::Message;
+use diag_tp::{Link, Sent, Taken, moments_law, time_law};
 
 /// Lets so many ticks pass, and hands out what falls due.
 #[inline(always)]

@@ -20,7 +20,7 @@ ghost use Rattle.std.specs.Prelude.{
   vec_capacity,
 };
 ghost use Rattle.diag_can.specs.declared.frame.Event.{Event as AnEvent};
-ghost use Rattle.diag_tp.specs.declared.setup.LinkSetup.{LinkSetup as ALinkSetup};
+ghost use Rattle.diag_pdu.specs.declared.setup.LinkSetup.{LinkSetup as ALinkSetup};
 ghost use Rattle.diag_tp.specs.Gives.{gives};
 ghost use Rattle.diag_tp.specs.Moments.{last_time};
 ghost use Rattle.diag_tp.specs.Link.{EachHistory, is_frame, last_tick, pending, waiting_count};
@@ -29,7 +29,8 @@ ghost use Rattle.diag_world.specs.Port.{AreWithin, Grew, HasRoomFor, IsPrepared,
 
 use crate::passing::{pass, receive};
 use diag_can::Event;
-use diag_tp::{Link, Message, Sent, Step, Taken, gives_law, time_law};
+use diag_pdu::{Message, Step};
+use diag_tp::{Link, Sent, Taken, gives_law, time_law};
 use std::alloc::AllocError;
 
 /// Whether the event gives a step.

@@ -11,7 +11,7 @@ use crate::fault::TryFault;
 use crate::view::{Release, Take};
 use diag_desk::StepFault;
 use diag_setup::TesterId;
-use diag_tp::{Message, Step};
+use diag_pdu::{Message, Step};
 use std::sync::Wait;
 use std::thread;
 

@@ -7,7 +7,7 @@ use crate::gate::seating::{gate_of_two, seat_of, tries};
 use crate::trouble::{Trouble, holds};
 use diag_desk::{Desk, StepFault};
 use diag_gate::{Door, Gate, GateDoor, Host, LockDoor};
-use diag_tp::Step;
+use diag_pdu::Step;
 use std::alloc::Global;
 use std::sync::{Mutex, Wait};
 

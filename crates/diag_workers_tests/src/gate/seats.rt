@@ -8,7 +8,7 @@ use crate::trouble::{Trouble, holds};
 use diag_can::TickCount;
 use diag_desk::{Journal, StepFault, StepRef};
 use diag_gate::{Gate, Host, Seat, TryFault};
-use diag_tp::{Message, Step};
+use diag_pdu::{Message, Step};
 use std::alloc::Global;
 use std::sync::Wait;
 

@@ -9,7 +9,7 @@ use diag_desk::{Desk, StepFault, replay};
 use diag_gate::{Door, Gate, GateDoor, Host, Seat};
 use diag_setup::{Setup, TesterId};
 use diag_stored::two_testers;
-use diag_tp::Step;
+use diag_pdu::Step;
 use std::alloc::Global;
 use std::sync::Wait;
 use std::thread::{Threads, join};

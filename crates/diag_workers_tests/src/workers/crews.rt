@@ -2,7 +2,7 @@
 
 ghost use Rattle.std.specs.Prelude.{◌≡◌, ◌≤◌, length, map, vec_len, IfOk};
 ghost use Rattle.diag_can.specs.Log.{most_events};
-ghost use Rattle.diag_tp.specs.Moments.{counted_from};
+ghost use Rattle.diag_pdu.specs.Cut.{counted_from};
 
 use crate::trouble::{Trouble, holds};
 use crate::workers::given::setup_of_two;
@@ -12,7 +12,7 @@ use diag_can::{Event, TickCount};
 use diag_desk::{Journal, StepFault};
 use diag_gate::Door;
 use diag_setup::{Setup, TesterId};
-use diag_tp::{Message, Step};
+use diag_pdu::{Message, Step};
 use diag_workers::{Watch, crew};
 use std::alloc::Global;
 use std::sync::Wait;

@@ -3,7 +3,7 @@ use Rattle.std.proofs.lemmas.Bool.{eqb-true}
 use Rattle.std.proofs.lemmas.List.{append-nil, length-set}
 use Rattle.std.proofs.lemmas.Option.{slice_get_read}
 use Rattle.std.specs.Prelude.{◌==◌, slice_get}
-use Rattle.diag_tp.proofs.Lists.{length-zero}
+use Rattle.diag_pdu.proofs.Lists.{length-zero}
 use Rattle.diag_tp.specs.declared.sent.Sent.{Sent}
 use Rattle.diag_world.proofs.Worlds.{who_found}
 use Rattle.diag_bus.specs.Text.{drawn_for, gathered}

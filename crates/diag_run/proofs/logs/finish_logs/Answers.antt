@@ -1,7 +1,7 @@
 use Rattle.std.proofs.Common.{◌≡◌, ◌++◌, ◌∷◌, [], ℕ, List, length, sym, ap, subst, arith, length-append}
 use Rattle.std.proofs.lemmas.Result.{err_from_is_err_and}
 use Rattle.std.specs.Vec.Iter.{into_iter_items}
-use Rattle.diag_tp.proofs.Lists.{length-zero}
+use Rattle.diag_pdu.proofs.Lists.{length-zero}
 use Rattle.diag_run.specs.Files.{AreTaken}
 use Rattle.diag_run.specs.Logs.{TookLog}
 use Rattle.diag_run.proofs.Finishing.{Finished, all_finished, next_taken, one_at_fault, one_finished}

@@ -1,6 +1,6 @@
 use Rattle.std.proofs.Common.{◌≡◌, ℕ, List}
 use Rattle.std.specs.List.{flat_map}
-use Rattle.diag_tp.specs.Moments.{counted_from}
+use Rattle.diag_pdu.specs.Cut.{counted_from}
 use Rattle.diag_bus.specs.Bus.{TookLines}
 use Rattle.diag_bus.specs.Verdict.{agreed_line}
 use Rattle.diag_text.proofs.told.agreement_text.Given as goal

@@ -1,6 +1,6 @@
 use Rattle.std.proofs.Common.{Option, Some, None, refl, inl, inr}
 use Rattle.std.specs.Prelude.{IsTrue, IsSome}
-use Rattle.diag_tp.specs.declared.step.Step.{Step}
+use Rattle.diag_pdu.specs.declared.step.Step.{Step}
 use Rattle.diag_tp.specs.Gives.{gives, is_request}
 use Rattle.diag_tp.specs.Link.{is_frame}
 use Rattle.diag_world.proofs.port.gives_step.Goals as goal

@@ -1,6 +1,6 @@
 use Rattle.std.proofs.Common.{◌≡◌, Option, None, refl, subst}
 use Rattle.std.specs.Prelude.{IsSome, IsTrue}
-use Rattle.diag_tp.specs.declared.step.Step.{Step}
+use Rattle.diag_pdu.specs.declared.step.Step.{Step}
 use Rattle.diag_tp.specs.Gives.{gives}
 use Rattle.diag_tp.specs.Link.{EachHistory}
 use Rattle.diag_tp.specs.Moments.{is_tick}

@@ -1,5 +1,5 @@
 use Rattle.std.proofs.Common.{Option, ap, subst, sym, ◌∙◌}
-use Rattle.diag_tp.specs.declared.step.Step.{Step}
+use Rattle.diag_pdu.specs.declared.step.Step.{Step}
 use Rattle.diag_world.specs.Port.{step_in}
 use Rattle.diag_world.specs.Server.{HasKept, answer_to, entry_of, went_to}
 use Rattle.diag_world.proofs.Serving.{port_went}

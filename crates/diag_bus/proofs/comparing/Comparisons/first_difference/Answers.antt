@@ -2,7 +2,7 @@ use Rattle.std.proofs.Common.{◌≡◌, ◌<◌, ◌+◌, Option, Some, length,
 use Rattle.std.proofs.lemmas.Option.{slice_get_read}
 use Rattle.std.specs.List.{filter_map, reduce}
 use Rattle.std.specs.Prelude.{option_map, slice_get}
-use Rattle.diag_tp.specs.Moments.{counted_from}
+use Rattle.diag_pdu.specs.Cut.{counted_from}
 use Rattle.diag_world.proofs.Worlds.{who_found}
 use Rattle.diag_bus.specs.Comparing.{earlier_of}
 use Rattle.diag_bus.specs.Verdict.{difference_of, earlier, expected, recorded}

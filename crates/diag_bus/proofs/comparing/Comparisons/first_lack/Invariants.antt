@@ -1,6 +1,6 @@
 use Rattle.std.proofs.Common.{◌≡◌, ℕ, List, [], None}
 use Rattle.std.specs.List.{filter_map}
-use Rattle.diag_tp.specs.Moments.{counted_from}
+use Rattle.diag_pdu.specs.Cut.{counted_from}
 use Rattle.diag_bus.specs.Comparing.{ComparesLines}
 use Rattle.diag_bus.specs.Verdict.{first_difference, lack_of}
 use Rattle.diag_bus.proofs.comparing.Comparisons.first_lack.Given as goal

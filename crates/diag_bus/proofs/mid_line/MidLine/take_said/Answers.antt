@@ -2,7 +2,7 @@ use Rattle.std.proofs.Common.{◌∙◌, ◌++◌, Ok, Some, ap, length, refl, s
 use Rattle.std.proofs.lemmas.Result.{err_from_is_err_and}
 use Rattle.std.specs.List.{flat_map}
 use Rattle.diag_can.specs.Log.{waited}
-use Rattle.diag_tp.specs.Moments.{counted_from}
+use Rattle.diag_pdu.specs.Cut.{counted_from}
 use Rattle.diag_world.specs.Server.{each_of}
 use Rattle.diag_bus.specs.Batch.{HasTime, IsReady}
 use Rattle.diag_bus.specs.Events.{frame_to, span_said}

@@ -1,7 +1,7 @@
 use Rattle.std.proofs.Common.{◌≡◌, Some, [], refl, ap, length, sym, ◌∙◌, arith, rules}
 use Rattle.std.specs.List.{flat_map}
 use Rattle.diag_can.specs.Usual.{bytes_or_none, usual_bytes}
-use Rattle.diag_tp.specs.Moments.{counted_from}
+use Rattle.diag_pdu.specs.Cut.{counted_from}
 use Rattle.diag_bus.specs.Events.{frame_to}
 use Rattle.diag_bus.specs.Requests.{given}
 use Rattle.diag_bus.proofs.Paces.{has_left}

@@ -1,6 +1,6 @@
 use Rattle.std.proofs.Common.{◌∷◌, [], ◌++◌, ◌∙◌, refl, sym, ap, arith, length-append}
 use Rattle.diag_ecu.specs.Respond.{reply}
-use Rattle.diag_tp.specs.declared.step.Step.TheVariants.{Request}
+use Rattle.diag_pdu.specs.declared.step.Step.TheVariants.{Request}
 use Rattle.diag_desk.specs.Entries.{entry}
 use Rattle.diag_desk.specs.Entry.{IsEntry}
 use Rattle.diag_desk.specs.Text.{line_after}

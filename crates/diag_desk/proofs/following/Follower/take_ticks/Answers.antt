@@ -1,5 +1,5 @@
 use Rattle.std.proofs.Common.{◌∷◌, [], ◌++◌, ◌∙◌, None, refl, sym, ap, arith, length-append}
-use Rattle.diag_tp.specs.declared.step.Step.TheVariants.{Ticks}
+use Rattle.diag_pdu.specs.declared.step.Step.TheVariants.{Ticks}
 use Rattle.diag_desk.specs.Entries.{entry}
 use Rattle.diag_desk.specs.Entry.{IsEntry}
 use Rattle.diag_desk.specs.Text.{line_after}

@@ -1,7 +1,7 @@
 use Rattle.std.proofs.Common.{◌≡◌, ◌-◌, true, Vec, Global, vec_len, sym, ◌∙◌, [], arith}
 use Rattle.std.proofs.lemmas.Bool.{eqb-true}
 use Rattle.std.specs.Prelude.{◌==◌}
-use Rattle.diag_tp.proofs.Lists.{length-zero}
+use Rattle.diag_pdu.proofs.Lists.{length-zero}
 use Rattle.diag_tp.specs.declared.sent.Sent.{Sent}
 use Rattle.diag_run.proofs.Written.{wrote_none}
 use Rattle.diag_run.proofs.playing.Playing.write_replies.Goals as goal

@@ -1,0 +1,111 @@
+-- ISO 15765-2:2016, 9.6, protocol control information: what the first bytes of a frame say.
+use Rattle.std.specs.Prelude.{◌≡◌, ◌≤◌, ℕ, ◌+◌, ◌*◌, ◌/◌, ◌%◌, ◌^◌, ◌==◌, nat_le, nat_lt, Bool, true, false, ◌&&◌, if◌then◌else◌, List, [], ◌∷◌, length, take, drop, slice_index}
+use Rattle.diag_pdu.specs.declared.pci.Pci.{Pci}
+use Rattle.diag_pdu.specs.declared.pci.Pci.TheVariants.{Single, First, Overflow, Consecutive, FlowControl, Ignored}
+use Rattle.diag_pdu.specs.Cut.{head_size}
+
+-- a Single of n bytes, 1 to 7, which are there
+abbrev pub single_kind : ℕ → List ℕ → Pci
+single_kind n bytes =
+    if nat_le 1 n && nat_le n 7 && nat_lt n (length bytes)
+    then Single (take n (drop 1 bytes))
+    else Ignored
+
+-- the length of four bytes, the highest first, from byte 2 on
+abbrev pub escape_length : List ℕ → ℕ
+escape_length bytes =
+    slice_index bytes 2 * 2 ^ 24 + slice_index bytes 3 * 2 ^ 16 + slice_index bytes 4 * 2 ^ 8
+    + slice_index bytes 5
+
+-- a First whose length of 32 bits is above what 12 bits hold
+abbrev pub escape_kind : ℕ → List ℕ → ℕ → Pci
+escape_kind len bytes max =
+    if nat_le len 4095 then Ignored
+    else if nat_lt max len then Overflow
+    else First len (take 2 (drop 6 bytes))
+
+-- a First of 12 bits of length; a length of 0 is the escape to 32 bits
+abbrev pub first_kind : ℕ → List ℕ → ℕ → Pci
+first_kind len bytes max =
+    if nat_lt (length bytes) 8 then Ignored
+    else if len == 0 then escape_kind (escape_length bytes) bytes max
+    else if nat_lt len 8 then Ignored
+    else if nat_lt max len then Overflow
+    else First len (take 6 (drop 2 bytes))
+
+-- a FlowControl has status, block size and separation time
+abbrev pub flow_kind : ℕ → List ℕ → Pci
+flow_kind status bytes =
+    if nat_lt (length bytes) 3
+    then Ignored
+    else FlowControl status (slice_index bytes 1) (slice_index bytes 2)
+
+-- the high nibble of byte 0 decides
+unfoldable pub kind : List ℕ → ℕ → Pci
+kind [] max = Ignored
+kind (control ∷ rest) max =
+    let bytes = control ∷ rest in
+    let high = control / 16 in
+    let low = control % 16 in
+    if high == 0 then single_kind low bytes
+    else if high == 1 then first_kind (low * 256 + slice_index bytes 1) bytes max
+    else if high == 2 then Consecutive low rest
+    else if high == 3 then flow_kind low bytes
+    else Ignored
+
+-- of a functional frame a Single alone counts
+abbrev pub single_only : Pci → Pci
+single_only (Single payload) = Single payload
+single_only (First len head) = Ignored
+single_only Overflow = Ignored
+single_only (Consecutive number part) = Ignored
+single_only (FlowControl status block gap) = Ignored
+single_only Ignored = Ignored
+
+abbrev pub is_consecutive : Pci → Bool
+is_consecutive (Single payload) = false
+is_consecutive (First len head) = false
+is_consecutive Overflow = false
+is_consecutive (Consecutive number part) = true
+is_consecutive (FlowControl status block gap) = false
+is_consecutive Ignored = false
+
+abbrev pub is_flow_control : Pci → Bool
+is_flow_control (Single payload) = false
+is_flow_control (First len head) = false
+is_flow_control Overflow = false
+is_flow_control (Consecutive number part) = false
+is_flow_control (FlowControl status block gap) = true
+is_flow_control Ignored = false
+
+-- a First whose length stands in 12 bits
+abbrev pub is_short_first : Pci → Bool
+is_short_first (Single payload) = false
+is_short_first (First len head) = nat_le len 4095
+is_short_first Overflow = false
+is_short_first (Consecutive number part) = false
+is_short_first (FlowControl status block gap) = false
+is_short_first Ignored = false
+
+-- the high nibble of byte 0 is none of the four
+abbrev pub begins_no_kind : List ℕ → Bool
+begins_no_kind [] = true
+begins_no_kind (control ∷ rest) = nat_le 64 control
+
+-- how many bytes of memory a frame needs for its message; a message of one frame needs none
+abbrev pub needed_for : Pci → ℕ
+needed_for (Single payload) = 0
+needed_for (First len head) = len
+needed_for Overflow = 0
+needed_for (Consecutive number part) = 0
+needed_for (FlowControl status block gap) = 0
+needed_for Ignored = 0
+
+-- what is read of a frame of at most 8 bytes
+abbrev pub IsRead : ℕ → Pci → Type 0
+IsRead max (Single payload) = (1 ≤ length payload) × (length payload ≤ 7)
+IsRead max (First len head) = (8 ≤ len) × (len ≤ max) × (length head ≡ head_size len)
+IsRead max Overflow = Unit {0}
+IsRead max (Consecutive number part) = length part ≤ 7
+IsRead max (FlowControl status block gap) = Unit {0}
+IsRead max Ignored = Unit {0}

@@ -1,0 +1,4 @@
+pub mod Message
+pub mod Bytes
+pub mod Cut
+pub mod Kind

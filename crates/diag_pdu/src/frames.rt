@@ -1,0 +1,204 @@
+//! Writing of frames (ISO 15765-2:2016, 9.6), before padding, and the frames of a message (9.2 and 9.3).
+
+ghost use Rattle.std.specs.Prelude.{◌≡◌, ℕ, ◌≤◌, ◌<◌, ◌+◌, ◌↔◌, [], ◌∷◌, Some, IfSome, IsSome, length, slice_get};
+ghost use Rattle.diag_pdu.specs.declared.pci.Pci.{Pci};
+ghost use Rattle.diag_pdu.specs.Kind.{kind};
+ghost use Rattle.diag_pdu.specs.Cut.{head_size, filled, single_bytes, first_bytes, consecutive_bytes, flow_bytes, part_of, cut, frames_of};
+
+use crate::kind::{consecutive_count, head_size};
+use crate::message::Message;
+use diag_can::FrameBytes;
+
+/// The SingleFrame (9.6.2) of a message of 1 to 7 bytes.
+#[tactic(auto, using(crate::proofs::CutFrames::single_read))]
+pub fn single_frame(payload: &[u8]) -> FrameBytes
+    requires few { (1 ≤ length payload.now) × (length payload.now ≤ 7) }
+    ensures bytes { result ≡ single_bytes payload.now }
+    ensures read { (max : ℕ) → kind result max ≡ Pci.Single payload.now }
+{
+    let mut frame = FrameBytes::new();
+    frame.push(payload.len() as u8);
+    frame.append(payload);
+    frame
+}
+
+/// The FirstFrame (9.6.3) of a message of `len` bytes, from 8 on, the first 6 of which are `head`; for a length above
+/// 4095, which is written in four bytes after a length of 0, the first 2.
+pub fn first_frame(len: u16, head: &[u8]) -> FrameBytes
+    requires long { 8 ≤ len }
+    requires whole { length head.now ≡ head_size len }
+    ensures bytes { result ≡ first_bytes len head.now }
+    ensures read { (max : ℕ) → len ≤ max → kind result max ≡ Pci.First len head.now }
+{
+    first_of(len, head)
+}
+
+/// Its bytes. Those with the length in twelve bits are put together at once.
+#[inline(always)]
+fn first_of(len: u16, head: &[u8]) -> FrameBytes
+    requires long { 8 ≤ len }
+    requires whole { length head.now ≡ head_size len }
+    ensures { result ≡ first_bytes len head.now }
+{
+    let [high, low] = len.to_be_bytes();
+    match head {
+        [a, b, c, d, e, f] => FrameBytes::full([0x10 + high, low, *a, *b, *c, *d, *e, *f]),
+        _ => {
+            let mut frame = FrameBytes::made_of(&[0x10, 0, 0, 0, high, low]);
+            frame.append(head);
+            frame
+        }
+    }
+}
+
+/// A ConsecutiveFrame (9.6.4): the sequence number, 0 to 15, and at most 7 bytes of the message.
+pub fn consecutive_frame(number: u8, part: &[u8]) -> FrameBytes
+    requires nibble { number < 16 }
+    requires few { length part.now ≤ 7 }
+    ensures bytes { result ≡ consecutive_bytes number part.now }
+    ensures read { (max : ℕ) → kind result max ≡ Pci.Consecutive number part.now }
+{
+    let mut frame = FrameBytes::new();
+    frame.push(0x20 + number);
+    frame.append(part);
+    frame
+}
+
+/// A FlowControl (9.6.5): the flow status, 0 (continue to send), 1 (wait) or 2 (overflow), block size and STmin.
+#[tactic(auto, using(crate::proofs::CutFrames::flow_read))]
+pub fn flow_frame(status: u8, block: u8, gap: u8) -> FrameBytes
+    requires nibble { status < 16 }
+    ensures bytes { result ≡ flow_bytes status block gap }
+    ensures read { (max : ℕ) → kind result max ≡ Pci.FlowControl status block gap }
+{
+    FrameBytes::made_of(&[0x30 + status, block, gap])
+}
+
+/// The frame filled to 8 bytes with the pad byte, if any.
+#[inline(always)]
+pub fn padded(frame: FrameBytes, pad: Option<u8>) -> FrameBytes
+    requires { length frame ≤ 8 }
+    ensures { result ≡ filled pad frame }
+{
+    match pad {
+        Some(byte) => filled_with(&frame, byte),
+        None => frame,
+    }
+}
+
+/// The frame filled to 8 bytes. (Not inlined, so that its bytes are read from memory as one word, and aren't taken apart.)
+#[inline(never)]
+fn filled_with(frame: &FrameBytes, byte: u8) -> FrameBytes
+    requires { length frame.now ≤ 8 }
+    ensures { result ≡ filled (Some byte) frame.now }
+{
+    let mut all = frame.copy();
+    all.fill(byte);
+    all
+}
+
+/// The part of the message that the `i`-th Consecutive carries, from 1.
+fn part(message: &[u8], i: usize) -> &[u8]
+    requires { (1 ≤ i) × (length message.now ≤ 65535) × (i ≤ 65535) }
+    ensures part { result.now ≡ part_of message.now i }
+    ensures few { length result.now ≤ 7 }
+{
+    let start = usize::from(head_size(message.len() as u16)) + 7 * (i - 1);
+    let rest = &message[start.min(message.len())..];
+    &rest[..rest.len().min(7)]
+}
+
+/// The `i`-th ConsecutiveFrame of a message, from 1. One of 8 bytes, as most are, is moved at once, with the byte before its
+/// part, whose place its first byte takes.
+fn nth_consecutive(message: &[u8], i: u16, pad: Option<u8>) -> FrameBytes
+    requires some { 1 ≤ i }
+    requires fits { length message.now ≤ 65535 }
+    ensures { result ≡ filled pad (consecutive_bytes i (part_of message.now i)) }
+{
+    let number = (i % 16) as u8;
+    let before = usize::from(head_size(message.len() as u16)) + 7 * usize::from(i - 1) - 1;
+    if let Some(eight) = message[before.min(message.len())..].first_chunk::<8>() {
+        let mut whole = *eight;
+        whole[0] = 0x20 + number;
+        FrameBytes::full(whole)
+    } else {
+        padded(
+            consecutive_frame(number, part(message, usize::from(i))),
+            pad,
+        )
+    }
+}
+
+/// The `k`-th frame of the message, from 0, filled to 8 bytes with the pad byte, if any. The message has one.
+pub fn frame_at(message: &Message, k: u16, pad: Option<u8>) -> FrameBytes
+    requires { k < frames_of message.now }
+    ensures { slice_get (cut message.now pad) k ≡ Some result }
+{
+    let bytes = message.bytes();
+    let len = bytes.len() as u16;
+    if len <= 7 {
+        padded(single_frame(bytes), pad)
+    } else if k == 0 {
+        let head = &bytes[..usize::from(head_size(len))];
+        padded(first_frame(len, head), pad)
+    } else {
+        nth_consecutive(bytes, k, pad)
+    }
+}
+
+/// The frame of a message that has a single one, filled as `frame_at` does; None where it has more. Bytes that stand in
+/// place are moved together.
+#[tactic(auto, unfolding(crate::specs::Cut::cut))]
+#[inline(always)]
+pub fn lone_frame(message: &Message, pad: Option<u8>) -> Option<FrameBytes>
+    ensures some { IfSome result (λ frame. cut message.now pad ≡ frame ∷ []) }
+    ensures found { IsSome result ↔ (length message.now ≤ 7) }
+{
+    match message.in_frame() {
+        Some(bytes) if bytes.len() <= 7 => Some(padded(bytes.behind(bytes.len() as u8), pad)),
+        _ if message.bytes().len() > 7 => None,
+        _ => lone_long(message, pad),
+    }
+}
+
+/// The same, wherever the bytes stand.
+#[tactic(auto, unfolding(crate::specs::Cut::cut))]
+#[inline(never)]
+fn lone_long(message: &Message, pad: Option<u8>) -> Option<FrameBytes>
+    ensures some { IfSome result (λ frame. cut message.now pad ≡ frame ∷ []) }
+    ensures found { IsSome result ↔ (length message.now ≤ 7) }
+{
+    let bytes = message.bytes();
+    if bytes.len() <= 7 {
+        Some(padded(single_frame(bytes), pad))
+    } else {
+        None
+    }
+}
+
+/// The `k`-th frame of the message, from 0, filled to 8 bytes with the pad byte, if any; None past the last. The first
+/// is a SingleFrame or a FirstFrame, the others carry 7 bytes each and are numbered 1, 2, .., 15, 0, 1, ..
+#[tactic(auto, using(crate::proofs::CutFrames::frame_past))]
+pub fn frame_of(message: &Message, k: usize, pad: Option<u8>) -> Option<FrameBytes>
+    ensures { result ≡ slice_get (cut message.now pad) k }
+{
+    if k < usize::from(frames_of(message)) {
+        Some(frame_at(message, k as u16, pad))
+    } else {
+        None
+    }
+}
+
+/// How many frames a message has.
+pub fn frames_of(message: &Message) -> u16
+    ensures count { result ≡ frames_of message.now }
+    ensures some { 1 ≤ result }
+    ensures few { result < 10000 }
+{
+    let len = message.bytes().len();
+    if len <= 7 {
+        1
+    } else {
+        consecutive_count(len as u16) + 1
+    }
+}

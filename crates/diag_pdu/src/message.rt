@@ -1,0 +1,234 @@
+//! Messages of the transport: requests and replies of a diagnostic service.
+
+ghost use Rattle.std.specs.Prelude.{◌≡◌, ◌<◌, ◌≤◌, ◌⊎◌, ◌↔◌, ◌-◌, ◌++◌, length, take, OnOk, IfOk, IfSome, Err};
+ghost use Rattle.diag_pdu.specs.Message.{IsInRange};
+
+use diag_can::FrameBytes;
+use std::alloc::{AllocError, Global};
+use std::marker::Model;
+use thiserror::Error;
+
+/// Why there is no message.
+#[derive(Clone, Copy, Debug, PartialEq, Eq, Error)]
+pub enum MessageFault {
+    /// There are no bytes, or more than 65535.
+    #[error("a message has 1 to 65535 bytes")]
+    Length,
+    /// Memory was refused.
+    #[error("no memory for a message")]
+    Memory,
+}
+
+/// The most bytes that a message keeps in place: those of a frame.
+const IN_PLACE: usize = 8;
+
+/// The bytes of a message that stand in place. They begin where a word does, so that a message moves word by word.
+#[derive(Drop)]
+struct InPlace {
+    at_a_word: [u64; 0],
+    bytes: FrameBytes,
+}
+
+impl Model for InPlace {
+    ghost use Rattle.std.specs.Prelude.{ℕ, List};
+
+    ghost Value = { List ℕ };
+
+    ghost view = { λ a. a.bytes };
+}
+
+/// The bytes of a message: where a frame could carry them in place, else in memory of their own.
+#[derive(Drop)]
+enum Bytes {
+    Short(InPlace),
+    Long(Vec<u8>),
+}
+
+/// Bytes of a frame, in place.
+#[inline(always)]
+fn in_place(bytes: FrameBytes) -> InPlace
+    ensures { result ≡ bytes }
+{
+    InPlace {
+        at_a_word: [],
+        bytes,
+    }
+}
+
+const _: () = prove!(size_of::<Message>() <= 32);
+
+/// A message of 1 to 65535 bytes. One of up to eight bytes takes no memory, unless it was made of a `Vec`.
+#[derive(Drop)]
+pub struct Message {
+    bytes: Bytes,
+}
+
+impl Model for Message {
+    ghost use Rattle.std.specs.Prelude.{ℕ, List};
+    ghost use Rattle.diag_pdu.specs.Message.{IsInRange};
+    ghost use Rattle.diag_pdu.specs.Bytes.{bytes_of};
+
+    ghost Value = { List ℕ };
+
+    ghost view = { λ a. bytes_of a.bytes };
+
+    ghost invariant = { λ a. IsInRange (bytes_of a.bytes) };
+}
+
+impl Message {
+    /// The longest message, in bytes.
+    pub const MAX: usize = 65535;
+
+    /// The message of these bytes; `Length` where there are none or more than 65535, which is looked at first.
+    pub fn new(alloc: Global, bytes: &[u8]) -> Result<Message, MessageFault>
+        ensures value { IfOk result (λ message. message ≡ bytes.now) }
+        ensures in_range { OnOk result (IsInRange bytes.now) }
+        ensures length { result ≡ Err MessageFault.Length
+            ↔ ((length bytes.now < 1) ⊎ (65535 < length bytes.now)) }
+    {
+        if bytes.is_empty() || bytes.len() > Message::MAX {
+            return Err(MessageFault::Length);
+        }
+        match Message::of(alloc, bytes) {
+            Ok(message) => Ok(message),
+            Err(_) => Err(MessageFault::Memory),
+        }
+    }
+
+    /// The message of bytes that a message can have.
+    ///
+    /// # Errors
+    /// `AllocError` where memory is refused.
+    pub fn of(alloc: Global, bytes: &[u8]) -> Result<Message, AllocError>
+        requires some { 1 ≤ length bytes.now }
+        requires fits { length bytes.now ≤ 65535 }
+        ensures { IfOk result (λ message. message ≡ bytes.now) }
+    {
+        if bytes.len() <= IN_PLACE {
+            return Ok(Message::short(bytes));
+        }
+        let bytes = Vec::from_slice(alloc, bytes)?;
+        Ok(Message::from_vec(bytes))
+    }
+
+    /// The message of bytes that a frame can carry, which takes no memory.
+    fn short(bytes: &[u8]) -> Message
+        requires some { 1 ≤ length bytes.now }
+        requires fits { length bytes.now ≤ 8 }
+        ensures { result ≡ bytes.now }
+    {
+        Message {
+            bytes: Bytes::Short(in_place(FrameBytes::from_slice(bytes))),
+        }
+    }
+
+    /// The message that these bytes of a frame are, which are handed over. It takes no memory.
+    pub fn in_place(bytes: FrameBytes) -> Message
+        requires { 1 ≤ length bytes }
+        ensures { result ≡ bytes }
+    {
+        Message {
+            bytes: Bytes::Short(in_place(bytes)),
+        }
+    }
+
+    /// The message that these bytes are, which are handed over and not copied.
+    pub fn from_vec(bytes: Vec<u8>) -> Message
+        requires some { 1 ≤ length bytes.items }
+        requires fits { length bytes.items ≤ 65535 }
+        ensures { result ≡ bytes.items }
+    {
+        Message {
+            bytes: Bytes::Long(bytes),
+        }
+    }
+
+    /// The bytes with their memory, where they have some.
+    pub fn into_vec(self) -> Option<Vec<u8>>
+        ensures { IfSome result (λ bytes. bytes.items ≡ self) }
+    {
+        match self.bytes {
+            Bytes::Short(_) => None,
+            Bytes::Long(bytes) => Some(bytes),
+        }
+    }
+
+    /// Becomes the message that these bytes of a frame are.
+    #[inline(always)]
+    pub fn set_in_place(&mut self, bytes: FrameBytes)
+        requires { 1 ≤ length bytes }
+        ensures { self.new ≡ bytes }
+    {
+        match &mut self.bytes {
+            Bytes::Short(short) => short.bytes = bytes,
+            Bytes::Long(_) => self.bytes = Bytes::Short(in_place(bytes)),
+        }
+    }
+
+    /// Puts these bytes in place of the last ones.
+    pub fn set_end(&mut self, part: &[u8])
+        requires { length part.now ≤ length self.old }
+        ensures { self.new ≡ take (length self.old - length part.now) self.old ++ part.now }
+    {
+        match &mut self.bytes {
+            Bytes::Short(short) => set_frame_end(&mut short.bytes, part),
+            Bytes::Long(bytes) => set_end(bytes.as_mut_slice(), part),
+        }
+    }
+
+    /// A message of the same bytes.
+    ///
+    /// # Errors
+    /// `AllocError` where memory is refused.
+    pub fn try_copy(&self) -> Result<Message, AllocError>
+        ensures { IfOk result (λ message. message ≡ self.now) }
+    {
+        match &self.bytes {
+            Bytes::Short(short) => Ok(Message::short(short.bytes.as_slice())),
+            Bytes::Long(bytes) => Message::of(*bytes.allocator(), bytes.as_slice()),
+        }
+    }
+
+    /// The bytes as those of a frame, where they stand in place.
+    #[inline(always)]
+    pub(crate) fn in_frame(&self) -> Option<&FrameBytes>
+        ensures { IfSome result (λ bytes. bytes.now ≡ self.now) }
+    {
+        match &self.bytes {
+            Bytes::Short(short) => Some(&short.bytes),
+            Bytes::Long(_) => None,
+        }
+    }
+
+    /// The bytes.
+    #[inline(always)]
+    pub fn bytes(&self) -> &[u8]
+        ensures same { result.now ≡ self.now }
+        ensures fits { (1 ≤ length result.now) × (length result.now ≤ 65535) }
+    {
+        match &self.bytes {
+            Bytes::Short(short) => short.bytes.as_slice(),
+            Bytes::Long(bytes) => bytes.as_slice(),
+        }
+    }
+}
+
+/// Puts these bytes in place of the last ones.
+fn set_end(bytes: &mut [u8], part: &[u8])
+    requires { length part.now ≤ length bytes.old }
+    ensures { bytes.new ≡ take (length bytes.old - length part.now) bytes.old ++ part.now }
+{
+    let kept = bytes.len() - part.len();
+    bytes[kept..].copy_from_slice(part);
+}
+
+/// The same, in a frame.
+fn set_frame_end(bytes: &mut FrameBytes, part: &[u8])
+    requires { length part.now ≤ length bytes.old }
+    ensures { bytes.new ≡ take (length bytes.old - length part.now) bytes.old ++ part.now }
+{
+    let kept = bytes.len() - part.len();
+    let mut whole = FrameBytes::from_slice(&bytes.as_slice()[..kept]);
+    whole.append(part);
+    *bytes = whole;
+}

@@ -1,0 +1,6 @@
+pub mod Receiver
+pub mod Held
+pub mod Flow
+pub mod Sender
+pub mod Queue
+pub mod Quiet

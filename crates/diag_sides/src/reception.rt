@@ -1,0 +1,555 @@
+//! The receiving side of a link: messages of one frame and of several (ISO 15765-2:2016, 9.2, 9.3, 9.6.4 and 9.8.3).
+
+ghost use Rattle.std.specs.Prelude.{◌≡◌, ◌≤◌, ◌<◌, ◌+◌, ◌%◌, ◌++◌, [], false, length, min, Some, None, take, vec_capacity, OnOk, IfOk, IfSome, option_and_then, option_copied, is_some, if◌then◌else◌, ◌&&◌, ◌==◌, nat_lt, IsTrue};
+ghost use Rattle.diag_pdu.specs.declared.pci.Pci.{Pci};
+ghost use Rattle.diag_pdu.specs.declared.setup.LinkSetup.{LinkSetup as ALinkSetup};
+ghost use Rattle.diag_sides.specs.Quiet.{reception_quiet, reception_later};
+ghost use Rattle.diag_pdu.specs.Cut.{head_size, consecutive_count};
+ghost use Rattle.diag_sides.specs.Held.{step_bytes, IsHeld};
+ghost use Rattle.diag_sides.specs.declared.reception.Held.{Held};
+ghost use Rattle.diag_sides.specs.Receiver.{ask_of, kept_bytes, begun_partial, expects, with_bytes, ends_block, ticks_later, open_after, completed_by, granted_by, go_on};
+ghost use Rattle.diag_pdu.specs.declared.step.Step.{Step as AStep};
+ghost use Rattle.diag_pdu.specs.Kind.{IsRead, needed_for};
+
+use diag_can::FrameBytes;
+use diag_pdu::{LinkSetup, Message, Pci, Step, consecutive_count, flow_frame, head_size, padded};
+use std::alloc::{AllocError, Global};
+use std::marker::Model;
+use std::mem;
+
+/// The bytes of a reception.
+#[derive(Drop)]
+enum Held {
+    /// Those that came, with room for the whole message.
+    Growing(Vec<u8>),
+    /// The whole message, staged as the request that it is: with the last Consecutive, which wasn't taken yet.
+    Staged(Step),
+}
+
+/// A message of `len` bytes of which the First and `count` of `total` Consecutives came, `silence` ticks after the last of
+/// them.
+#[derive(Drop)]
+struct Partial {
+    held: Held,
+    len: u16,
+    total: u16,
+    count: u16,
+    silence: u16,
+}
+
+impl Model for Partial {
+    ghost use Rattle.std.specs.Prelude.{◌≡◌};
+    ghost use Rattle.diag_pdu.specs.Cut.{consecutive_count};
+    ghost use Rattle.diag_sides.specs.Receiver.{PartialView};
+    ghost use Rattle.diag_sides.specs.Held.{bytes_held, staged_in, IsHeld};
+
+    ghost Value = { PartialView };
+
+    ghost view = { λ a. record {
+      seen = record {
+        len = a.len;
+        count = a.count;
+        bytes = bytes_held a.len a.count a.held;
+        silence = a.silence;
+      };
+      staged = staged_in a.held;
+    } };
+
+    ghost invariant = { λ a. IsHeld a.len a.count a.held × (a.total ≡ consecutive_count a.len) };
+}
+
+impl Partial {
+    /// Whether this is the number of the next Consecutive: after 15 comes 0.
+    #[inline(always)]
+    fn is_next_number(&self, number: u8) -> bool
+        ensures { result ≡ (number == (self.now.seen.count + 1) % 16) }
+    {
+        u32::from(number) == (u32::from(self.count) + 1) % 16
+    }
+
+    /// Whether a Consecutive of this number and size is the next one.
+    #[inline(never)]
+    fn expects(&self, number: u8, size: usize) -> bool
+        ensures { result ≡ expects self.now.seen number size }
+    {
+        let left = usize::from(self.len.saturating_sub(head_size(self.len))).saturating_sub(
+            7 * usize::from(self.count),
+        );
+        self.is_next_number(number) && left.min(7) <= size
+    }
+
+    /// Adds the bytes of the next Consecutive, which isn't the last.
+    #[inline(never)]
+    fn add(&mut self, part: &[u8])
+        requires more { self.old.seen.count + 1 < consecutive_count self.old.seen.len }
+        requires few { length part.now ≤ 7 }
+        requires fits { 7 ≤ length part.now }
+        ensures { self.new.seen ≡ with_bytes self.old.seen part.now }
+    {
+        match &mut self.held {
+            Held::Growing(bytes) => {
+                let taken = bytes.extend_from_slice(&part[..7]).is_ok();
+                prove!(taken);
+            }
+            Held::Staged(_) => unreachable!(),
+        }
+        self.count += 1;
+        self.silence = 0;
+    }
+
+    /// Stages the message with the bytes of the last Consecutive. What is seen of the reception stays.
+    #[inline(never)]
+    fn stage(&mut self, part: &[u8])
+        requires last { self.old.seen.count + 1 ≡ consecutive_count self.old.seen.len }
+        requires fits { self.old.seen.len ≤ length self.old.seen.bytes + length part.now }
+        ensures seen { self.new.seen ≡ self.old.seen }
+        ensures staged { self.new.staged
+            ≡ Some (AStep.Request false (with_bytes self.old.seen part.now).bytes) }
+    {
+        match &mut self.held {
+            Held::Growing(bytes) => {
+                let begun = mem::replace(bytes, Vec::new(*bytes.allocator()));
+                self.held = Held::Staged(Step::Request {
+                    functional: false,
+                    message: whole(begun, self.len, part),
+                });
+            }
+            Held::Staged(step) => set_last(step, self.len, self.count, part),
+        }
+    }
+
+    /// Whether a block ends here, and more is to come.
+    fn ends_block(&self, setup: &LinkSetup) -> bool
+        ensures { result ≡ ends_block setup.now self.now.seen }
+    {
+        let block = u16::from(setup.block_size);
+        block > 0 && self.count % block == 0 && self.count < self.total
+    }
+
+    /// Whether a Consecutive of this number and size is the next one, and the last.
+    #[inline(always)]
+    fn is_completed_by(&self, number: u8, size: usize) -> bool
+        ensures is { result ≡ ((self.now.seen.count + 1 == consecutive_count self.now.seen.len)
+            && expects self.now.seen number size) }
+        ensures fits { IsTrue result
+            → self.now.seen.len ≤ length self.now.seen.bytes + size }
+    {
+        u32::from(self.count) + 1 == u32::from(self.total) && self.expects(number, size)
+    }
+
+    /// Whether a Consecutive of this number and size is the next one, and not the last.
+    fn goes_on_with(&self, number: u8, size: usize) -> bool
+        ensures is { result ≡ (expects self.now.seen number size
+            && nat_lt (self.now.seen.count + 1) (consecutive_count self.now.seen.len)) }
+    {
+        u32::from(self.count) + 1 < u32::from(self.total)
+            && self.is_next_number(number)
+            && size >= 7
+    }
+
+    /// The bytes that came.
+    fn bytes(&self) -> &[u8]
+        ensures same { result.now ≡ self.now.seen.bytes }
+        ensures size { length result.now ≤ self.now.seen.len }
+        ensures some { 1 ≤ length result.now }
+    {
+        match &self.held {
+            Held::Growing(bytes) => bytes.as_slice(),
+            Held::Staged(step) => &bytes_of(step)[..kept_bytes(self.len, self.count)],
+        }
+    }
+
+    /// The message with the bytes of the last Consecutive, in memory of its own.
+    fn copy_with(&self, alloc: Global, part: &[u8]) -> Result<Message, AllocError>
+        ensures { IfOk result (λ message. message ≡ (with_bytes self.now.seen part.now).bytes) }
+    {
+        let mut bytes = Vec::with_capacity(alloc, usize::from(self.len))?;
+        bytes.extend_from_slice(self.bytes())?;
+        Ok(whole(bytes, self.len, part))
+    }
+
+    /// The request that is staged.
+    fn staged(&self) -> Option<&Step>
+        ensures { option_copied result ≡ self.now.staged }
+    {
+        match &self.held {
+            Held::Growing(_) => None,
+            Held::Staged(step) => Some(step),
+        }
+    }
+
+    /// The message of the request that is staged.
+    fn into_message(self) -> Option<Message>
+        ensures { ask_of false result ≡ self.staged }
+    {
+        match self.held {
+            Held::Staged(Step::Request { message, .. }) => Some(message),
+            _ => None,
+        }
+    }
+
+    /// The memory of the message, which isn't wanted.
+    fn into_memory(self) -> Option<Vec<u8>>
+        ensures { IfSome result (λ bytes. self.seen.len ≤ vec_capacity bytes) }
+    {
+        match self.held {
+            Held::Growing(bytes) => Some(bytes),
+            Held::Staged(Step::Request { message, .. }) => message.into_vec(),
+            Held::Staged(Step::Ticks(_)) => None,
+        }
+    }
+}
+
+/// The receiving side of a link: the message that comes, if any, and memory for the next one.
+///
+/// A reception that ends without handing its message out leaves its memory for the next one. So a receiver has at most two
+/// lists: that of the reception, and a spare one.
+#[derive(Drop)]
+pub struct Receiver {
+    alloc: Global,
+    partial: Option<Partial>,
+    spare: Vec<u8>,
+}
+
+impl Model for Receiver {
+    ghost use Rattle.std.specs.Prelude.{◌≡◌, ◌<◌, [], vec_capacity, IfSome, option_map, option_and_then};
+    ghost use Rattle.diag_sides.specs.Receiver.{ReceiverState};
+    ghost use Rattle.diag_pdu.specs.Cut.{consecutive_count};
+
+    ghost Value = { ReceiverState };
+
+    ghost view = { λ a. record {
+      partial = option_map (λ p. p.seen) a.partial;
+      room = vec_capacity a.spare;
+      staged = option_and_then (λ p. p.staged) a.partial;
+    } };
+
+    ghost invariant = { λ a. (a.spare.items ≡ [])
+        × IfSome a.partial (λ p. p.seen.count < consecutive_count p.seen.len) };
+}
+
+impl Receiver {
+    /// A receiver without a reception.
+    pub fn new(alloc: Global) -> Receiver
+        ensures { result.partial ≡ None }
+    {
+        Receiver {
+            alloc,
+            partial: None,
+            spare: Vec::new(alloc),
+        }
+    }
+
+    /// Makes room for a message of this length.
+    #[inline(always)]
+    pub fn reserve(&mut self, len: u16) -> Result<(), AllocError>
+        ensures ok { OnOk result (len ≤ self.new.room) }
+        ensures kept { self.old.room ≤ self.new.room }
+        ensures same { self.new.partial ≡ self.old.partial }
+    {
+        self.spare.reserve_exact(usize::from(len))
+    }
+
+    /// Takes a frame whose message, if it completes one, was handed over, and answers the flow control that it draws.
+    pub fn take(&mut self, setup: &LinkSetup, kind: &Pci) -> Option<FrameBytes>
+        requires read { IsRead setup.now.max_request kind.now }
+        requires room { needed_for kind.now ≤ self.old.room }
+        ensures partial { self.new.partial ≡ open_after self.old.partial kind.now }
+        ensures grant { result ≡ granted_by setup.now self.old.partial kind.now }
+    {
+        match kind {
+            Pci::Single(_) => {
+                self.end();
+                None
+            }
+            Pci::First { len, head } => {
+                self.begin(*len, head.as_slice());
+                Some(go_on(setup))
+            }
+            Pci::Overflow => {
+                self.end();
+                Some(padded(flow_frame(2, 0, 0), setup.pad))
+            }
+            Pci::Consecutive {
+                sequence_number,
+                part,
+            } if self.consecutive(setup, *sequence_number, part.as_slice()) => Some(go_on(setup)),
+            Pci::Consecutive { .. } | Pci::FlowControl { .. } | Pci::Ignored => None,
+        }
+    }
+
+    /// The message that this frame completes, taken out of the reception, which it ends.
+    pub fn complete(&mut self, kind: &Pci) -> Option<Message>
+        requires read { IsRead 65535 kind.now }
+        ensures message { result ≡ completed_by self.old.partial kind.now }
+        ensures partial { open_after self.new.partial kind.now
+            ≡ open_after self.old.partial kind.now }
+        ensures grant { (s : ALinkSetup) → granted_by s self.new.partial kind.now
+            ≡ granted_by s self.old.partial kind.now }
+        ensures room { self.new.room ≡ self.old.room }
+    {
+        match kind {
+            Pci::Single(payload) => Some(Message::in_place(payload.copy())),
+            Pci::Consecutive {
+                sequence_number,
+                part,
+            } if self.completes(*sequence_number, part.as_slice()) => {
+                let Some(mut whole) = self.partial.take() else {
+                    return None;
+                };
+                whole.stage(part.as_slice());
+                whole.into_message()
+            }
+            _ => None,
+        }
+    }
+
+    /// Whether this Consecutive would complete a message.
+    #[inline(always)]
+    pub fn completes(&self, number: u8, part: &[u8]) -> bool
+        ensures { result
+            ≡ is_some (completed_by self.now.partial (Pci.Consecutive number part.now)) }
+    {
+        match &self.partial {
+            Some(partial) => partial.is_completed_by(number, part.len()),
+            None => false,
+        }
+    }
+
+    /// The message that this frame would complete.
+    pub fn peek(&self, kind: &Pci) -> Result<Option<Message>, AllocError>
+        requires read { IsRead 65535 kind.now }
+        ensures { IfOk result (λ message. message ≡ completed_by self.now.partial kind.now) }
+    {
+        match kind {
+            Pci::Single(payload) => Ok(Some(Message::in_place(payload.copy()))),
+            Pci::Consecutive {
+                sequence_number,
+                part,
+            } => match &self.partial {
+                Some(partial) if partial.is_completed_by(*sequence_number, part.len()) => {
+                    Ok(Some(partial.copy_with(self.alloc, part.as_slice())?))
+                }
+                _ => Ok(None),
+            },
+            _ => Ok(None),
+        }
+    }
+
+    /// Stages the message that this Consecutive completes; whether it completes one. What is seen of the reception stays.
+    #[inline(always)]
+    pub fn stage(&mut self, number: u8, part: &[u8]) -> bool
+        requires few { length part.now ≤ 7 }
+        ensures is { result
+            ≡ is_some (completed_by self.old.partial (Pci.Consecutive number part.now)) }
+        ensures staged { IsTrue result → self.new.staged
+            ≡ ask_of false (completed_by self.old.partial (Pci.Consecutive number part.now)) }
+        ensures partial { self.new.partial ≡ self.old.partial }
+        ensures room { self.new.room ≡ self.old.room }
+    {
+        let Some(partial) = &mut self.partial else {
+            return false;
+        };
+        if !partial.is_completed_by(number, part.len()) {
+            return false;
+        }
+        partial.stage(part);
+        true
+    }
+
+    /// The request that is staged.
+    pub fn staged(&self) -> Option<&Step>
+        ensures { option_copied result ≡ self.now.staged }
+    {
+        match &self.partial {
+            Some(partial) => partial.staged(),
+            None => None,
+        }
+    }
+
+    /// Ends the reception that is open, if any: mostly there is none, and nothing is written then.
+    #[inline(always)]
+    pub fn end(&mut self)
+        ensures partial { self.new.partial ≡ None }
+        ensures room { self.old.room ≤ self.new.room }
+    {
+        if self.partial.is_some() {
+            self.close();
+        }
+    }
+
+    /// Ends the reception, whose memory is for the next one then.
+    #[inline(never)]
+    fn close(&mut self)
+        ensures partial { self.new.partial ≡ None }
+        ensures room { self.old.room ≤ self.new.room }
+    {
+        let Some(partial) = self.partial.take() else {
+            return;
+        };
+        if let Some(bytes) = partial.into_memory() {
+            self.take_back(bytes);
+        }
+    }
+
+    /// Keeps this memory for the next message, where it is more than there is.
+    fn take_back(&mut self, mut bytes: Vec<u8>)
+        ensures partial { self.new.partial ≡ self.old.partial }
+        ensures kept { self.old.room ≤ self.new.room }
+        ensures taken { vec_capacity bytes ≤ self.new.room }
+    {
+        if self.spare.capacity() < bytes.capacity() {
+            bytes.clear();
+            self.spare = bytes;
+        }
+    }
+
+    /// A reception begins, in the place of the one that is open, if any.
+    pub fn begin(&mut self, len: u16, head: &[u8])
+        requires read { (8 ≤ len) × (length head.now ≡ head_size len) }
+        requires room { len ≤ self.old.room }
+        ensures { self.new.partial ≡ Some (begun_partial len head.now) }
+    {
+        add_head(&mut self.spare, head);
+        let bytes = mem::replace(&mut self.spare, Vec::new(self.alloc));
+        self.end();
+        self.partial = Some(Partial {
+            held: Held::Growing(bytes),
+            len,
+            total: consecutive_count(len),
+            count: 0,
+            silence: 0,
+        });
+    }
+
+    /// A Consecutive: the next one adds its part, any other ends the reception, and so does the last. Whether the sender is to
+    /// be let go on.
+    #[inline(always)]
+    pub fn consecutive(&mut self, setup: &LinkSetup, number: u8, part: &[u8]) -> bool
+        requires few { length part.now ≤ 7 }
+        ensures partial { self.new.partial
+            ≡ open_after self.old.partial (Pci.Consecutive number part.now) }
+        ensures grant { (if result then Some (go_on setup.now) else None)
+            ≡ granted_by setup.now self.old.partial (Pci.Consecutive number part.now) }
+    {
+        let Some(partial) = &mut self.partial else {
+            return false;
+        };
+        if !partial.goes_on_with(number, part.len()) {
+            self.end();
+            return false;
+        }
+        partial.add(part);
+        partial.ends_block(setup)
+    }
+
+    /// So many ticks.
+    #[inline(always)]
+    pub fn pass(&mut self, n_cr: u16, count: u16)
+        ensures partial { self.new.partial
+            ≡ option_and_then (ticks_later n_cr count) self.old.partial }
+        ensures room { self.old.room ≤ self.new.room }
+    {
+        if let Some(partial) = &mut self.partial {
+            if u32::from(partial.silence) + u32::from(count) < u32::from(n_cr) {
+                partial.silence += count;
+            } else {
+                self.end();
+            }
+        }
+    }
+
+    /// So many ticks, before the end of the reception.
+    #[inline(always)]
+    pub fn pass_quietly(&mut self, count: u64)
+        requires few { 0 < count → IfSome self.old.partial (λ p. p.silence + count ≤ 65535) }
+        ensures partial { self.new.partial ≡ reception_later count self.old.partial }
+        ensures room { self.new.room ≡ self.old.room }
+        ensures staged { self.new.staged ≡ self.old.staged }
+    {
+        if let Some(partial) = &mut self.partial {
+            partial.silence += count as u16;
+        }
+    }
+
+    /// In how many ticks the reception ends, once so many have passed; without one, in 2^64 - 1.
+    #[inline(always)]
+    pub fn quiet(&self, n_cr: u16, passed: u64) -> u64
+        ensures { result ≡ reception_quiet n_cr (reception_later passed self.now.partial) }
+    {
+        match &self.partial {
+            Some(partial) => u64::from(n_cr.saturating_sub(partial.silence)).saturating_sub(passed),
+            None => u64::MAX,
+        }
+    }
+}
+
+/// Adds the bytes of a First, where there is room: mostly there are six, which are read before any is written.
+#[inline(always)]
+fn add_head(bytes: &mut Vec<u8>, head: &[u8])
+    requires room { length bytes.old.items + length head.now ≤ vec_capacity bytes.old }
+    ensures items { bytes.new.items ≡ bytes.old.items ++ head.now }
+    ensures kept { vec_capacity bytes.old ≤ vec_capacity bytes.new }
+{
+    let added = match head.as_array::<6>() {
+        Some(&six) => bytes.extend_from_slice(&six),
+        None => bytes.extend_from_slice(head),
+    };
+    let taken = added.is_ok();
+    prove!(taken);
+}
+
+/// Flow control that lets the sender go on.
+#[inline(never)]
+pub fn go_on(setup: &LinkSetup) -> FrameBytes
+    ensures { result ≡ go_on setup.now }
+{
+    padded(flow_frame(0, setup.block_size, setup.st_min), setup.pad)
+}
+
+/// How many bytes came with the First and so many Consecutives.
+fn kept_bytes(len: u16, count: u16) -> usize
+    ensures { result ≡ kept_bytes len count }
+{
+    usize::from(len).min(usize::from(head_size(len)) + 7 * usize::from(count))
+}
+
+/// The bytes of a step.
+fn bytes_of(step: &Step) -> &[u8]
+    ensures { result.now ≡ step_bytes step.now }
+{
+    match step {
+        Step::Request { message, .. } => message.bytes(),
+        Step::Ticks(_) => &[],
+    }
+}
+
+/// The message of this length that begins with these bytes and ends with a part; what goes past it is padding.
+fn whole(mut bytes: Vec<u8>, len: u16, part: &[u8]) -> Message
+    requires some { 1 ≤ length bytes.items }
+    requires fits { length bytes.items ≤ len }
+    requires room { len ≤ vec_capacity bytes }
+    ensures { result ≡ take len (bytes.items ++ part.now) }
+{
+    let left = usize::from(len) - bytes.len();
+    let taken = bytes
+        .extend_from_slice(&part[..left.min(part.len())])
+        .is_ok();
+    prove!(taken);
+    Message::from_vec(bytes)
+}
+
+/// Puts another last part into a request that is staged.
+fn set_last(step: &mut Step, len: u16, count: u16, part: &[u8])
+    requires whole { IsHeld len count (Held.Staged step.old) }
+    requires fits { len ≤ kept_bytes len count + length part.now }
+    ensures whole { IsHeld len count (Held.Staged step.new) }
+    ensures staged { step.new ≡ AStep.Request false
+        (take len (take (kept_bytes len count) (step_bytes step.old) ++ part.now)) }
+{
+    let left = usize::from(len) - kept_bytes(len, count);
+    match step {
+        Step::Request { message, .. } => message.set_end(&part[..left]),
+        Step::Ticks(_) => unreachable!(),
+    }
+}
