@@ -38,7 +38,7 @@ fn stays_full(desk: &mut Desk, who: TesterId) -> Result<bool, Trouble> {
 }
 
 #[test]
-fn full_journal(rt: HostRuntime) -> Result<(), Trouble> {
+fn full_journal_takes_no_step(rt: HostRuntime) -> Result<(), Trouble> {
     let who = tester(1)?;
     let mut desk = desk_of_two(rt.alloc())?;
     holds(stays_full(&mut desk, who))

@@ -100,7 +100,7 @@ fn opened(alloc: Global) -> Result<Ecu, Trouble> {
 }
 
 #[test]
-fn copied_ecu(rt: HostRuntime) -> Result<(), Trouble> {
+fn copied_ecu_goes_on_alone(rt: HostRuntime) -> Result<(), Trouble> {
     let mut ecu = opened(rt.alloc())?;
     holds(copies(rt.alloc(), &mut ecu))
 }

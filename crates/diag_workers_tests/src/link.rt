@@ -125,6 +125,6 @@ fn is_copied(alloc: Global) -> Result<bool, Trouble> {
 }
 
 #[test]
-fn copied_message(rt: HostRuntime) -> Result<(), Trouble> {
+fn copied_message_is_the_same(rt: HostRuntime) -> Result<(), Trouble> {
     holds(is_copied(rt.alloc()))
 }

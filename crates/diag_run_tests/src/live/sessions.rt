@@ -129,7 +129,7 @@ const SESSIONS: [Session; 8] = [
 ];
 
 #[test]
-fn sessions(rt: HostRuntime) -> Result<(), Trouble> {
+fn each_session_is_served_and_recorded(rt: HostRuntime) -> Result<(), Trouble> {
     for (place, Session(steps, end, record, text)) in SESSIONS.iter().enumerate() {
         holds_at(place, serves(rt.alloc(), steps, *end, record, text))?;
     }

@@ -132,6 +132,6 @@ fn all_entered<R: Threads + Wait + Sync>(rt: &R, alloc: Global) -> Result<bool, 
 }
 
 #[test]
-fn two_threads(rt: HostRuntime) -> Result<(), Trouble> {
+fn steps_of_two_threads_replay(rt: HostRuntime) -> Result<(), Trouble> {
     holds(all_entered(&rt, rt.alloc()))
 }
