@@ -44,6 +44,18 @@ const LEFT: [Exchange; 2] = [
     (2, b"\x10\x03", b"\x7F\x10\x21"),
 ];
 
+/// The reply to a physical request of these bytes, or none where none is sent.
+fn ask(
+    alloc: Global,
+    ecu: &mut Ecu,
+    who: TesterId,
+    bytes: &[u8],
+) -> Result<Option<Message>, Trouble> {
+    let request = Message::new(alloc, bytes)?;
+    let reply = ecu.request(who, false, &request)?;
+    Ok(reply)
+}
+
 /// Whether a request is answered so.
 fn answers(alloc: Global, ecu: &mut Ecu, exchange: &Exchange) -> Result<bool, Trouble> {
     let (place, request, wanted) = *exchange;
@@ -52,8 +64,7 @@ fn answers(alloc: Global, ecu: &mut Ecu, exchange: &Exchange) -> Result<bool, Tr
         ecu.ticks(who, TickCount::new(2000).ok_or(Trouble::Wrong)?);
         return Ok(true);
     }
-    let request = Message::new(alloc, request)?;
-    Ok(match ecu.request(who, false, &request)? {
+    Ok(match ask(alloc, ecu, who, request)? {
         Some(reply) => reply.bytes() == wanted,
         None => wanted.is_empty(),
     })
@@ -94,7 +105,8 @@ fn copies(alloc: Global, ecu: &mut Ecu) -> Result<bool, Trouble> {
     Ok(gone && left && leaves(alloc, ecu, who)?)
 }
 
-fn opened(alloc: Global) -> Result<Ecu, Trouble> {
+/// The ECU of the stored setup at its opening.
+pub(crate) fn opened(alloc: Global) -> Result<Ecu, Trouble> {
     let setup = two_testers(alloc)?;
     Ok(Ecu::new(alloc, &setup)?)
 }

@@ -1,11 +1,14 @@
 //! Tests of the sequential server and of testers together, by public calls: what no run of the program shows of a link, a
 //! message, the ECU and the desk, a world to which a refused event is given again, the gate with its doors, and the
-//! workers. (What a play or a capture writes is run by the built program: `runs/`, `tools/examples.py`, `tools/twin.py`.)
+//! workers. Callers that docs/EMBED.md shows are among them, as those of a server whose journal nobody keeps, and of a bus
+//! that is given its lines. (What a play or a capture writes is run by the built program: `runs/`, `tools/examples.py`, `tools/twin.py`.)
 //!
 //! Where memory is refused, a test ends with that as its error: so each allocation can be refused in turn, and with
 //! memory enough such an answer fails the test.
 #![tactic(auto)]
 
+#[cfg(test)]
+mod capture;
 #[cfg(test)]
 mod desk;
 #[cfg(test)]
@@ -17,7 +20,11 @@ mod link;
 #[cfg(test)]
 mod logs;
 #[cfg(test)]
+mod server;
+#[cfg(test)]
 mod trouble;
+#[cfg(test)]
+mod unit;
 #[cfg(test)]
 mod workers;
 #[cfg(test)]

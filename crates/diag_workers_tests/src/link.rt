@@ -1,6 +1,9 @@
 //! A link by the calls that no run of the program makes: what a frame asks, told before it comes and as it comes, ticks
 //! one by one, and how much waits.
 
+ghost use Rattle.std.specs.Prelude.{◌≡◌, IfOk};
+ghost use Rattle.diag_tp.specs.Link.{pending};
+
 use crate::trouble::{Trouble, holds};
 use diag_can::{Event, FrameBytes};
 use diag_setup::Setup;
@@ -23,8 +26,10 @@ fn stored_settings(alloc: Global) -> Result<LinkSetup, Trouble> {
     settings(&setup)
 }
 
-/// The link of the first tester.
-fn opened(alloc: Global) -> Result<Link, Trouble> {
+/// The link of the first tester, on which nothing is due.
+pub(crate) fn opened(alloc: Global) -> Result<Link, Trouble>
+    ensures { IfOk result (λ link. pending link.state ≡ 0) }
+{
     Ok(Link::new(alloc, stored_settings(alloc)?))
 }
 

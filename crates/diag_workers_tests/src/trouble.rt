@@ -1,10 +1,12 @@
 //! What ends a test early.
 
+use diag_bus::BusFault;
 use diag_can::LogFault;
 use diag_desk::{JournalFault, ReplayFault, StepFault};
 use diag_gate::TryFault;
 use diag_pdu::MessageFault;
 use diag_workers::PlayFault;
+use diag_world::ServerFault;
 use std::alloc::{AllocError, AllocFailed};
 
 /// Why a test did not come to its end: memory was refused, or a call answered what it must not. Two workers that are
@@ -82,6 +84,24 @@ impl From<ReplayFault> for Trouble {
         match fault {
             ReplayFault::Memory => Trouble::Memory,
             ReplayFault::Differs(_) => Trouble::Wrong,
+        }
+    }
+}
+
+impl From<ServerFault> for Trouble {
+    fn from(fault: ServerFault) -> Trouble {
+        match fault {
+            ServerFault::Memory => Trouble::Memory,
+            ServerFault::JournalFull | ServerFault::Clock => Trouble::Wrong,
+        }
+    }
+}
+
+impl From<BusFault> for Trouble {
+    fn from(fault: BusFault) -> Trouble {
+        match fault {
+            BusFault::Memory => Trouble::Memory,
+            BusFault::Line(_) | BusFault::Late => Trouble::Wrong,
         }
     }
 }

@@ -1,0 +1,48 @@
+//! A capture of the whole bus, line by line.
+
+use crate::trouble::{Trouble, holds};
+use diag_bus::{Bus, BusFault, Output};
+use diag_stored::two_testers;
+use std::alloc::Global;
+
+/// Gives the bus the lines of a capture, and puts what they draw behind the text.
+fn take_lines(bus: &mut Bus, lines: &[&str], text: &mut Vec<u8>) -> Result<(), BusFault> {
+    bus.begin(text)?;
+    for line in lines {
+        bus.take_line(line.as_bytes(), text)?;
+    }
+    Ok(())
+}
+
+const CAPTURE: [&str; 5] = [
+    "(0000000100.000000) can0 7E0#021003",
+    "(0000000100.000400) can0 7E8#065003003201F4CC",
+    "(0000000100.010000) can0 7E1#021003",
+    "(0000000100.020000) can0 7E0#021001",
+    "(0000000100.030000) can0 7E1#021003",
+];
+
+const DRAWN: &[u8] = b"\
+(0000000100.000000) A 7E8#065003003201F4CC
+(0000000100.010000) B 7E9#037F1021CCCCCCCC
+(0000000100.020000) A 7E8#065001003201F4CC
+(0000000100.030000) B 7E9#065003003201F4CC
+";
+
+/// Whether the lines of the capture draw these.
+fn draws(alloc: Global, bus: &mut Bus) -> Result<bool, Trouble> {
+    let mut text = Vec::new(alloc);
+    take_lines(bus, &CAPTURE, &mut text)?;
+    Ok(text.as_slice() == DRAWN)
+}
+
+fn opened(alloc: Global) -> Result<Bus, Trouble> {
+    let setup = two_testers(alloc)?;
+    Ok(Bus::new(alloc, setup, Output::Replies)?)
+}
+
+#[test]
+fn each_line_draws_its_replies(rt: HostRuntime) -> Result<(), Trouble> {
+    let mut bus = opened(rt.alloc())?;
+    holds(draws(rt.alloc(), &mut bus))
+}

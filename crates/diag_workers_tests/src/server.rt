@@ -1,0 +1,168 @@
+//! The whole server where no journal is wanted: frames of a bus and milliseconds in, frames out.
+
+ghost use Rattle.std.specs.Prelude.{◌≡◌, ◌≤◌, length};
+
+use crate::trouble::{Trouble, holds};
+use diag_can::{CanId, Event, Frame, FrameBytes, Ids, TickCount};
+use diag_setup::{Setup, TesterId};
+use diag_stored::two_testers;
+use diag_tp::Sent;
+use diag_world::{NoJournal, Server, ServerFault};
+use std::alloc::Global;
+
+/// What a frame of the bus is for a tester with these identifiers, if anything.
+fn event_for(ids: &Ids, frame: &Frame) -> Option<Event> {
+    if frame.id == ids.request {
+        Some(Event::Physical(frame.bytes.copy()))
+    } else if frame.id == ids.functional {
+        Some(Event::Functional(frame.bytes.copy()))
+    } else {
+        None
+    }
+}
+
+/// Has the server take an event of a tester; the frames that are to be sent go behind those in `out`.
+fn take(
+    server: &mut Server,
+    who: TesterId,
+    event: &Event,
+    out: &mut Vec<Sent>,
+) -> Result<(), ServerFault>
+    requires { who ≤ length server.old.links }
+    ensures { length server.new.links ≡ length server.old.links }
+{
+    server.take(who, event, &mut NoJournal, out)
+}
+
+/// Takes a frame of the bus, for each tester that it is for.
+fn take_frame(
+    server: &mut Server,
+    setup: &Setup,
+    frame: &Frame,
+    out: &mut Vec<Sent>,
+) -> Result<(), ServerFault>
+    requires { length server.old.links ≡ length setup.now.testers }
+    ensures { length server.new.links ≡ length server.old.links }
+{
+    for index in 0..setup.testers() {
+        let Some(who) = setup.who(index) else {
+            unreachable!()
+        };
+        if let Some(event) = event_for(&setup.ids(who), frame) {
+            take(server, who, &event, out)?;
+        }
+    }
+    Ok(())
+}
+
+/// Lets so many milliseconds pass, for each tester.
+fn pass(
+    server: &mut Server,
+    setup: &Setup,
+    count: TickCount,
+    out: &mut Vec<Sent>,
+) -> Result<(), ServerFault>
+    requires { length server.old.links ≡ length setup.now.testers }
+    ensures { length server.new.links ≡ length server.old.links }
+{
+    for index in 0..setup.testers() {
+        let Some(who) = setup.who(index) else {
+            unreachable!()
+        };
+        take(server, who, &Event::Ticks(count), out)?;
+    }
+    Ok(())
+}
+
+/// A frame of the bus and the milliseconds before it: these, its identifier and its bytes.
+type Heard = (u16, u16, &'static [u8]);
+
+/// The testers ask for the extended session in turn, and then the value of F190 is asked of every ECU.
+const HEARD: [Heard; 5] = [
+    (1, 0x7E0, b"\x02\x10\x03"),
+    (10, 0x7E1, b"\x02\x10\x03"),
+    (10, 0x7E0, b"\x02\x10\x01"),
+    (10, 0x7E1, b"\x02\x10\x03"),
+    (10, 0x7DF, b"\x03\x22\xF1\x90"),
+];
+
+/// What is sent: when, with which identifier, and the bytes.
+const SENT: [(u64, u16, &[u8]); 6] = [
+    (1, 0x7E8, b"\x06\x50\x03\x00\x32\x01\xF4\xCC"),
+    (11, 0x7E9, b"\x03\x7F\x10\x21\xCC\xCC\xCC\xCC"),
+    (21, 0x7E8, b"\x06\x50\x01\x00\x32\x01\xF4\xCC"),
+    (31, 0x7E9, b"\x06\x50\x03\x00\x32\x01\xF4\xCC"),
+    (41, 0x7E8, b"\x10\x14\x62\xF1\x90\x54\x45\x53"),
+    (41, 0x7E9, b"\x10\x14\x62\xF1\x90\x54\x45\x53"),
+];
+
+/// The frame with this identifier and these bytes.
+fn frame_of(id: u16, bytes: &[u8]) -> Option<Frame> {
+    if bytes.len() > 8 {
+        return None;
+    }
+    Some(Frame {
+        id: CanId::new(id)?,
+        bytes: FrameBytes::from_slice(bytes),
+    })
+}
+
+/// Lets the milliseconds before a frame pass, and takes it.
+fn hear(
+    server: &mut Server,
+    setup: &Setup,
+    heard: &Heard,
+    out: &mut Vec<Sent>,
+) -> Result<(), Trouble>
+    requires { length server.old.links ≡ length setup.now.testers }
+    ensures { length server.new.links ≡ length server.old.links }
+{
+    let (count, id, bytes) = *heard;
+    let count = TickCount::new(count).ok_or(Trouble::Wrong)?;
+    let frame = frame_of(id, bytes).ok_or(Trouble::Wrong)?;
+    pass(server, setup, count, out)?;
+    take_frame(server, setup, &frame, out)?;
+    Ok(())
+}
+
+fn hear_all(server: &mut Server, setup: &Setup, out: &mut Vec<Sent>) -> Result<(), Trouble>
+    requires { length server.old.links ≡ length setup.now.testers }
+{
+    for heard in &HEARD {
+        hear(server, setup, heard, out)?;
+    }
+    Ok(())
+}
+
+/// Whether these frames were sent.
+fn are_sent(out: &[Sent]) -> bool {
+    for (sent, (at, id, bytes)) in out.iter().zip(&SENT) {
+        if sent.at != *at || sent.frame.id.get() != *id || sent.frame.bytes.as_slice() != *bytes {
+            return false;
+        }
+    }
+    out.len() == SENT.len()
+}
+
+fn all_are_sent(alloc: Global, server: &mut Server, setup: &Setup) -> Result<bool, Trouble>
+    requires { length server.old.links ≡ length setup.now.testers }
+{
+    let mut out = Vec::new(alloc);
+    hear_all(server, setup, &mut out)?;
+    Ok(are_sent(out.as_slice()))
+}
+
+fn serves(alloc: Global, setup: &Setup) -> Result<bool, Trouble> {
+    let mut server = Server::new(alloc, setup)?;
+    all_are_sent(alloc, &mut server, setup)
+}
+
+fn serves_two(alloc: Global) -> Result<bool, Trouble> {
+    let setup = two_testers(alloc)?;
+    serves(alloc, &setup)
+}
+
+#[test]
+fn frames_are_answered_without_a_journal(rt: HostRuntime) -> Result<(), Trouble> {
+    holds(serves_two(rt.alloc()))
+}

@@ -1,0 +1,180 @@
+//! A unit with one tester, made of a link and an ECU: what a frame asks is lent before the link takes the frame.
+
+ghost use Rattle.std.specs.Prelude.{◌≡◌, ◌≤◌, IsTrue, OnErr};
+ghost use Rattle.diag_tp.specs.Link.{is_frame, pending, quiet};
+
+use crate::ecu::opened as opened_ecu;
+use crate::link::opened as opened_link;
+use crate::trouble::{Trouble, holds};
+use diag_can::{Event, Frame, FrameBytes, TickCount};
+use diag_ecu::Ecu;
+use diag_setup::TesterId;
+use diag_tp::{Link, Message, Step};
+use std::alloc::{AllocError, Global};
+
+/// What puts frames on the bus.
+trait Driver {
+    fn send(&mut self, frame: Frame);
+}
+
+/// Sends the frames that are due.
+fn send_due<D: Driver>(link: &mut Link, driver: &mut D)
+    ensures { pending link.new.state ≡ 0 }
+{
+    while let Some(frame) = link.next_frame() {
+        driver.send(frame);
+    }
+}
+
+/// The reply to what a frame asks, if anything. Refused, the ECU is as before.
+fn reply_to(
+    ecu: &mut Ecu,
+    who: TesterId,
+    asked: Option<&Step>,
+) -> Result<Option<Message>, AllocError>
+    ensures { OnErr result (ecu.new ≡ ecu.old) }
+{
+    let Some(step) = asked else {
+        return Ok(None);
+    };
+    match step {
+        Step::Request {
+            functional,
+            message,
+        } => ecu.request(who, *functional, message),
+        Step::Ticks(_) => Ok(None),
+    }
+}
+
+/// Takes a frame of the tester, and sends what is due then. Refused, the link and the ECU are as before.
+fn take<D: Driver>(
+    link: &mut Link,
+    ecu: &mut Ecu,
+    who: TesterId,
+    event: &Event,
+    driver: &mut D,
+) -> Result<(), AllocError>
+    requires frame { IsTrue (is_frame event.now) }
+    requires drained { pending link.old.state ≡ 0 }
+    ensures drained { pending link.new.state ≡ 0 }
+    ensures refused { OnErr result ((link.new.state ≡ link.old.state) × (ecu.new ≡ ecu.old)) }
+{
+    let taken = link.begin(event)?;
+    let reply = reply_to(ecu, who, link.request(&taken))?;
+    link.settle(&taken);
+    if let Some(reply) = reply {
+        link.answer(reply);
+    }
+    send_due(link, driver);
+    Ok(())
+}
+
+/// Lets so many milliseconds pass in one move, and sends what is due then.
+fn pass<D: Driver>(link: &mut Link, ecu: &mut Ecu, who: TesterId, count: TickCount, driver: &mut D)
+    requires drained { pending link.old.state ≡ 0 }
+    requires quiet { count ≤ quiet link.old.state }
+    ensures { pending link.new.state ≡ 0 }
+{
+    link.advance(count);
+    ecu.ticks(who, count);
+    send_due(link, driver);
+}
+
+/// The frames that were sent, where memory wasn't refused.
+#[derive(Drop)]
+struct Sent {
+    frames: Vec<Frame>,
+    is_refused: bool,
+}
+
+impl Driver for Sent {
+    fn send(&mut self, frame: Frame) {
+        if self.frames.push(frame).is_err() {
+            self.is_refused = true;
+        }
+    }
+}
+
+impl Sent {
+    /// Whether these frames were sent, with the first tester's identifier.
+    fn is(&self, frames: &[&[u8]]) -> Result<bool, Trouble> {
+        if self.is_refused {
+            return Err(Trouble::Memory);
+        }
+        for (sent, bytes) in self.frames.iter().zip(frames) {
+            if sent.id.get() != 0x7E8 || sent.bytes.as_slice() != *bytes {
+                return Ok(false);
+            }
+        }
+        Ok(self.frames.len() == frames.len())
+    }
+}
+
+/// The three frames of the reply with the value of F190.
+const VALUE: [&[u8]; 3] = [
+    b"\x10\x14\x62\xF1\x90TES",
+    b"\x21TVIN012",
+    b"\x22\x33\x34\x35\x36\x37\x38\x39",
+];
+
+/// Asks for the value, and wants 5 ms between the last two frames of the reply.
+fn ask(link: &mut Link, ecu: &mut Ecu, who: TesterId, sent: &mut Sent) -> Result<(), AllocError>
+    requires { pending link.old.state ≡ 0 }
+    ensures { pending link.new.state ≡ 0 }
+{
+    let read = Event::Physical(FrameBytes::from_slice(b"\x03\x22\xF1\x90"));
+    let flow = Event::Physical(FrameBytes::from_slice(b"\x30\x00\x05"));
+    take(link, ecu, who, &read, sent)?;
+    take(link, ecu, who, &flow, sent)
+}
+
+/// Lets so many milliseconds pass, where the link allows it in one move. Whether it does.
+fn passes(link: &mut Link, ecu: &mut Ecu, who: TesterId, count: u16, sent: &mut Sent) -> bool
+    requires { pending link.old.state ≡ 0 }
+    ensures { pending link.new.state ≡ 0 }
+{
+    let Some(count) = TickCount::new(count) else {
+        return false;
+    };
+    if u64::from(count.get()) > link.quiet() {
+        return false;
+    }
+    pass(link, ecu, who, count, sent);
+    true
+}
+
+/// Whether the last frame of the reply is sent 5 ms behind the one before it.
+fn is_answered(
+    link: &mut Link,
+    ecu: &mut Ecu,
+    who: TesterId,
+    sent: &mut Sent,
+) -> Result<bool, Trouble>
+    requires { pending link.old.state ≡ 0 }
+{
+    ask(link, ecu, who, sent)?;
+    let early = passes(link, ecu, who, 4, sent) && sent.is(&VALUE[..2])?;
+    Ok(early && passes(link, ecu, who, 1, sent) && sent.is(&VALUE)?)
+}
+
+fn answers(alloc: Global, link: &mut Link, ecu: &mut Ecu) -> Result<bool, Trouble>
+    requires { pending link.old.state ≡ 0 }
+{
+    let who = TesterId::new(1).ok_or(Trouble::Wrong)?;
+    let mut sent = Sent {
+        frames: Vec::new(alloc),
+        is_refused: false,
+    };
+    is_answered(link, ecu, who, &mut sent)
+}
+
+fn unit_answers(alloc: Global, ecu: &mut Ecu) -> Result<bool, Trouble> {
+    let mut link = opened_link(alloc)?;
+    answers(alloc, &mut link, ecu)
+}
+
+#[test]
+fn frames_are_answered_in_halves(rt: HostRuntime) -> Result<(), Trouble> {
+    let mut ecu = opened_ecu(rt.alloc())?;
+    holds(unit_answers(rt.alloc(), &mut ecu))
+}
