@@ -17,6 +17,8 @@ In a document a block is what is indented by four spaces, or stands between line
 - what the command before it prints, its faults included, where the text before it ends with `prints:`; where the text
   before says `status N` that is the command's status, else 0 is; `...` for the lines that are left out at the end;
 - lines that the command before it prints, where the text before it ends with `in it:`;
+- code, where the text before it ends with the path of a source in backticks and a colon: it stands in that file, word for
+  word; in a document of QUOTING each block is code;
 - commands that can't be run here, where the first one begins with one of NOT_RUN, which says why; a line tells of each;
 - else something that is only shown, with no command of the program in it.
 """
@@ -34,6 +36,8 @@ TOP = os.path.dirname(os.path.dirname(os.path.abspath(__file__)))
 PROGRAM = "crates/uds_play/out/uds_play"
 # those whose commands are run
 DOCUMENTS = ["README.md", "docs/USE.md", "docs/VIEW.md", "demo/README.md", "CONTRIBUTING.md"]
+# those that show code alone
+QUOTING = ["docs/EMBED.md"]
 # the one that tells of names which are gone, too
 CHANGES = "CHANGELOG.md"
 # names in the documents that are no names of the repository's
@@ -92,6 +96,11 @@ class Block:
     def file(self):
         """The name of the file whose lines these are."""
         found = re.search(r"`([a-z_]+\.(?:toml|log|txt))`:$", self.before)
+        return found and found[1]
+
+    def source(self):
+        """The path of the source in which these lines stand."""
+        found = re.search(r"`(crates/[\w/]+\.rt)`:$", self.before)
         return found and found[1]
 
     def is_added(self):
@@ -270,11 +279,23 @@ def unexplained():
     return sorted(cited & defined - words_of(whole(f"{TOP}/docs/DEFINITIONS.md")))
 
 
+def compare_code(name, text):
+    """Sees that the code of a document stands in the sources that it names."""
+    for block in blocks_of(text):
+        place, source = f"{name}:{block.number}", block.source()
+        if source:
+            there = os.path.exists(f"{TOP}/{source}") and "\n" + block.text() in "\n" + whole(f"{TOP}/{source}")
+            told(there, f"{place}: it stands in {source}: {block.lines[0]}", "another text stands there")
+        elif name in QUOTING:
+            told(False, f"{place}: the code stands in a source", "the text before it names none")
+
+
 def look():
     """Sees that what the documents tell of is there."""
     known = known_names()
     for path in sorted([*glob.glob(f"{TOP}/*.md"), *glob.glob(f"{TOP}/docs/*.md"), f"{TOP}/demo/README.md"]):
         name, text = os.path.relpath(path, TOP), whole(path)
+        compare_code(name, text)
         missing = missing_files(text)
         told(not missing, f"{name}: the files that it tells of are there", ", ".join(missing))
         if name != CHANGES:
@@ -284,15 +305,23 @@ def look():
     told(not missing, "docs/PROMISES.md: docs/DEFINITIONS.md has the words that it cites", ", ".join(missing))
 
 
+def play_alone(name):
+    """Runs the commands of a document in a folder of its own."""
+    with tempfile.TemporaryDirectory() as room:
+        before = counts[True] + counts[False]
+        play(name, room)
+        told(counts[True] + counts[False] > before, f"{name} has commands")
+
+
 def main():
-    if not os.access(f"{TOP}/{PROGRAM}", os.X_OK):
-        told(False, f"{PROGRAM} isn't built")
-    else:
-        for name in sys.argv[1:] or DOCUMENTS:
-            with tempfile.TemporaryDirectory() as room:
-                before = counts[True] + counts[False]
-                play(name, room)
-                told(counts[True] + counts[False] > before, f"{name} has commands")
+    built = os.access(f"{TOP}/{PROGRAM}", os.X_OK)
+    for name in sys.argv[1:] or DOCUMENTS:
+        if name in QUOTING:
+            compare_code(name, whole(f"{TOP}/{name}"))
+        elif built:
+            play_alone(name)
+        else:
+            told(False, f"{name}: {PROGRAM} isn't built")
     if not sys.argv[1:]:
         look()
     print(f"{counts[True]} passed, {counts[False]} failed")
