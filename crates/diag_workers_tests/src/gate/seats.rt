@@ -2,7 +2,7 @@
 
 ghost use Rattle.std.specs.Prelude.{◌≡◌, IfOk};
 
-use crate::gate::given::{request, says};
+use crate::gate::given::{and, request, says};
 use crate::gate::seating::{bring_home, closed, gate_of_two, is_out, seat_of, tries};
 use crate::trouble::{Trouble, holds};
 use diag_can::TickCount;
@@ -209,6 +209,27 @@ fn has_requests(journal: &Journal, wanted: &[Wanted]) -> bool {
     next == wanted.len()
 }
 
+/// Whether a second seat is told that the session is another tester's, and the first one, which waits, is told the value.
+fn others_step<R: Wait>(
+    rt: &R,
+    alloc: Global,
+    gate: &Gate,
+    first: &mut Seat,
+    second: &mut Seat,
+    third: &mut Seat,
+) -> Result<bool, Trouble>
+    requires first { first.old.gate ≡ gate.now }
+    requires second { second.old.gate ≡ gate.now }
+    requires third { third.old.gate ≡ gate.now }
+    ensures first { first.new.gate ≡ first.old.gate }
+    ensures second { second.new.gate ≡ second.old.gate }
+    ensures third { third.new.gate ≡ third.old.gate }
+{
+    let session = tries_again(alloc, gate, second, third, &[0x10, 0x03], &BUSY);
+    let value = waits(rt, alloc, gate, first, &[0x22, 0xF1, 0x90], VALUE);
+    and(session, value)
+}
+
 /// Three seats step one after another, the first comes home.
 fn first_steps<R: Wait>(
     rt: &R,
@@ -228,10 +249,9 @@ fn first_steps<R: Wait>(
 {
     let seat = seat_of(gate, host, 1)?;
     let (mut seat, held) = step_held_again(alloc, gate, seat, second, third, silent)?;
-    let session = tries_again(alloc, gate, second, third, &[0x10, 0x03], &BUSY);
-    let value = waits(rt, alloc, gate, &mut seat, &[0x22, 0xF1, 0x90], VALUE);
+    let others = others_step(rt, alloc, gate, &mut seat, second, third);
     bring_home(gate, host, seat);
-    Ok(held? && session? && value?)
+    Ok(held? && others?)
 }
 
 /// Whether a seat is given the desk; it puts the desk back.

@@ -44,23 +44,22 @@ fn both_step<D: Door + Send + Drop, R: Threads + Sync>(
     )
 }
 
-/// Two seats step in threads of their own, and come back.
+/// Two seats step in threads of their own, and come back, whatever the steps are answered.
 fn seats_step<R: Threads + Wait + Sync>(
     rt: &R,
     gate: &Gate,
     a: Seat,
     b: Seat,
     step: &Step,
-) -> Result<(Seat, Seat), Trouble>
+) -> (Seat, Seat, Result<(), StepFault>)
     requires a { a.gate ≡ gate.now }
     requires b { b.gate ≡ gate.now }
-    ensures { IfOk result (λ r. (r.0.gate ≡ gate.now) × (r.1.gate ≡ gate.now)) }
+    ensures { (result.0.gate ≡ gate.now) × (result.1.gate ≡ gate.now) }
 {
     let one = GateDoor::new(rt, gate, a);
     let two = GateDoor::new(rt, gate, b);
     let ((one, first), (two, second)) = both_step(rt, one, two, step);
-    first.and(second)?;
-    Ok((one.into_seat(), two.into_seat()))
+    (one.into_seat(), two.into_seat(), first.and(second))
 }
 
 /// The holder that a replay of a desk's journal leaves.
@@ -87,10 +86,10 @@ fn both_enter<R: Threads + Wait + Sync>(
 {
     let a = seat_of(gate, host, 1)?;
     let b = seat_of(gate, host, 2)?;
-    let (a, b) = seats_step(rt, gate, a, b, step)?;
+    let (a, b, stepped) = seats_step(rt, gate, a, b, step);
     bring_home(gate, host, a);
     bring_home(gate, host, b);
-    Ok(())
+    Ok(stepped?)
 }
 
 /// A gate of a desk of this setup.
