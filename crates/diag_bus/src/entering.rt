@@ -2,8 +2,8 @@
 
 use crate::bus::Output;
 use diag_desk::{JournalVersion, StepFault};
-use diag_setup::TesterId;
 use diag_pdu::{Message, Step};
+use diag_setup::TesterId;
 use diag_world::{Keeper, enter_step};
 
 /// The entries of a line: their text, as far as a journal is wanted.

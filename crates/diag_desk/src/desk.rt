@@ -8,8 +8,8 @@ ghost use Rattle.diag_desk.specs.Legal.{IsOpening, Legal, after, after_step, rep
 use crate::flat::len_of;
 use crate::journal::Journal;
 use diag_ecu::Ecu;
-use diag_setup::{Setup, TesterId};
 use diag_pdu::{Message, Step};
+use diag_setup::{Setup, TesterId};
 use std::alloc::{AllocError, Global};
 use std::marker::Model;
 use thiserror::Error;

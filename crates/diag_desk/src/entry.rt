@@ -1,8 +1,8 @@
 //! An entry of the journal, as it is entered and as it is shown.
 
 use diag_can::TickCount;
-use diag_setup::TesterId;
 use diag_pdu::{Message, Step};
+use diag_setup::TesterId;
 
 /// The most entries that a journal holds.
 pub const MOST_ENTRIES: usize = 1_000_000;

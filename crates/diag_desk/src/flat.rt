@@ -9,8 +9,8 @@ ghost use Rattle.diag_desk.specs.Line.{HasHex, IsHex, IsHexReply, decoded, line_
 use crate::entry::{EntryRef, StepRef};
 use crate::line::{Line, LineStep};
 use diag_can::{TickCount, add_bytes, read_hex};
-use diag_setup::TesterId;
 use diag_pdu::{Message, Step};
+use diag_setup::TesterId;
 use std::alloc::AllocError;
 
 /// Where the bytes of an entry stand: the reply's right after the request's.

@@ -28,8 +28,8 @@ use crate::usual::{
 };
 use crate::version::JournalVersion;
 use diag_ecu::Ecu;
-use diag_setup::{Setup, TesterId};
 use diag_pdu::Message;
+use diag_setup::{Setup, TesterId};
 use std::alloc::{AllocError, Global};
 use thiserror::Error;
 

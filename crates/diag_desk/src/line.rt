@@ -9,8 +9,8 @@ ghost use Rattle.diag_desk.specs.declared.line.Kind.{Kind as IsKind};
 
 use crate::table::upper_value;
 use diag_can::TickCount;
-use diag_setup::TesterId;
 use diag_pdu::Message;
+use diag_setup::TesterId;
 use memchr::memchr;
 
 /// What kind of line it is.

@@ -9,8 +9,8 @@ ghost use Rattle.diag_desk.specs.Replay.{DiffersAt, IsLegalFor};
 use crate::entry::{EntryRef, StepRef};
 use crate::journal::Journal;
 use diag_ecu::Ecu;
-use diag_setup::Setup;
 use diag_pdu::Message;
+use diag_setup::Setup;
 use std::alloc::{AllocError, Global};
 use thiserror::Error;
 

@@ -12,8 +12,8 @@ use crate::sixteen::{is_upper_of, upper_front};
 use crate::table::pair_value;
 use diag_can::{FrameBytes, TickCount, hex_digits};
 use diag_ecu::Lent;
-use diag_setup::TesterId;
 use diag_pdu::Message;
+use diag_setup::TesterId;
 use std::alloc::AllocError;
 
 /// What a line says first, and what follows that.

@@ -10,9 +10,9 @@ use crate::service::{Nrc, Service, ServiceRow};
 use crate::trouble_codes::setting_refusal;
 use crate::write_data::write_reply;
 use diag_can::FrameBytes;
+use diag_pdu::Message;
 use diag_setup::{ServerParameters, Setup, TesterId};
 use diag_store::{Dids, DtcMemory, Routines, Security};
-use diag_pdu::Message;
 use std::alloc::{AllocError, Global};
 
 /// The ECU: the sequential server of all testers, of whom one at most is in the extended session, the holder.

@@ -8,8 +8,8 @@ ghost use Rattle.diag_ecu.specs.Respond.{ids_in, knows, may_read, data_records, 
 use crate::bytes::{bytes_16, number_16};
 use crate::ecu::{Ecu, say};
 use crate::service::Nrc;
-use diag_setup::TesterId;
 use diag_pdu::Message;
+use diag_setup::TesterId;
 use std::alloc::AllocError;
 
 /// The reply to a request for one identifier: three bytes, and behind them the value where it stands.

@@ -7,9 +7,9 @@ ghost use Rattle.diag_ecu.specs.Bytes.{number_16};
 use crate::bytes::{bytes_16, number_16_at, sub_of};
 use crate::ecu::{Ecu, say};
 use crate::service::{Nrc, Service};
+use diag_pdu::Message;
 use diag_setup::TesterId;
 use diag_store::RoutineState;
-use diag_pdu::Message;
 use std::alloc::AllocError;
 
 impl Ecu {

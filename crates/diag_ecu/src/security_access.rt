@@ -7,9 +7,9 @@ ghost use Rattle.diag_ecu.specs.Respond.{own_outcome, security_checks, positive_
 use crate::bytes::sub_of;
 use crate::ecu::{Ecu, say};
 use crate::service::{Nrc, Service, SubFunctions};
+use diag_pdu::Message;
 use diag_setup::TesterId;
 use diag_store::{KeyAnswer, SeedAnswer};
-use diag_pdu::Message;
 use std::alloc::AllocError;
 
 impl Ecu {

@@ -6,8 +6,8 @@ ghost use Rattle.diag_ecu.specs.State.{session_of, session_ended};
 use crate::bytes::{bytes_16, sub_of};
 use crate::ecu::{Ecu, say};
 use crate::service::Service;
-use diag_setup::TesterId;
 use diag_pdu::Message;
+use diag_setup::TesterId;
 
 /// The session of a tester.
 #[derive(Clone, Copy, PartialEq, Eq, Debug, Drop)]

@@ -9,8 +9,8 @@ ghost use Rattle.diag_ecu.specs.Respond.{sub, clear_checks, setting_checks, repo
 use crate::bytes::{bytes_16, bytes_24, number_24, sub_of};
 use crate::ecu::{Ecu, say};
 use crate::service::Nrc;
-use diag_store::ALL_GROUPS;
 use diag_pdu::Message;
+use diag_store::ALL_GROUPS;
 use std::alloc::AllocError;
 
 impl Ecu {

@@ -8,8 +8,8 @@ ghost use Rattle.diag_ecu.specs.Respond.{write_checks};
 use crate::bytes::{bytes_16, number_16_at};
 use crate::ecu::{Ecu, say};
 use crate::service::Nrc;
-use diag_setup::TesterId;
 use diag_pdu::Message;
+use diag_setup::TesterId;
 
 impl Ecu {
     /// The code of the first check of a value to be written that holds.

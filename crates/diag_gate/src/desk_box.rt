@@ -6,8 +6,8 @@ ghost use Rattle.diag_desk.specs.Legal.{entered};
 ghost use Rattle.diag_gate.specs.Views.{IsLegal};
 
 use diag_desk::{Desk, StepFault};
-use diag_setup::TesterId;
 use diag_pdu::{Message, Step};
+use diag_setup::TesterId;
 use std::alloc::{AllocError, Global};
 use std::marker::Model;
 

@@ -6,8 +6,8 @@ ghost use Rattle.diag_gate.specs.Seats.{Answered, Refused, waited};
 
 use crate::gate::{Gate, Seat};
 use diag_desk::StepFault;
-use diag_setup::TesterId;
 use diag_pdu::{Message, Step};
+use diag_setup::TesterId;
 use std::marker::Model;
 use std::sync::Wait;
 

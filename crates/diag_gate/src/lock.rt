@@ -6,8 +6,8 @@ ghost use Rattle.diag_gate.specs.Views.{IsLawful};
 
 use crate::door::Door;
 use diag_desk::{Desk, Journal, StepFault};
-use diag_setup::TesterId;
 use diag_pdu::{Message, Step};
+use diag_setup::TesterId;
 use std::alloc::Global;
 use std::sync::{Mutex, Wait};
 

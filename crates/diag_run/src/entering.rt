@@ -5,8 +5,8 @@ ghost use Rattle.diag_run.specs.Playing.{Enters, version_of};
 
 use diag_can::Timing;
 use diag_desk::{JournalVersion, MOST_ENTRIES, StepFault, write_header};
-use diag_setup::TesterId;
 use diag_pdu::{Message, Step};
+use diag_setup::TesterId;
 use diag_world::{Keeper, enter_step};
 use std::alloc::{AllocError, Global};
 

@@ -6,8 +6,8 @@ ghost use Rattle.diag_desk.specs.declared.entry.Entry.{Entry as AnEntry};
 ghost use Rattle.diag_workers.specs.Work.{CanKeep};
 
 use diag_desk::Journal;
-use diag_setup::TesterId;
 use diag_pdu::{Message, Step};
+use diag_setup::TesterId;
 use std::alloc::{AllocError, Global};
 
 /// What a worker keeps of its entries: all of them, or nothing.

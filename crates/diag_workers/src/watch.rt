@@ -1,8 +1,8 @@
 //! Who is told of each step.
 use diag_desk::StepFault;
 use diag_gate::Door;
-use diag_setup::TesterId;
 use diag_pdu::{Message, Step};
+use diag_setup::TesterId;
 
 /// Is told of each step before its door is asked, while nothing is held.
 pub trait Watch {

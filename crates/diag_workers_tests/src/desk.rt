@@ -4,8 +4,8 @@ use crate::gate::given::{desk_of_two, tester};
 use crate::trouble::{Trouble, holds};
 use diag_can::{FrameBytes, TickCount};
 use diag_desk::{Desk, MOST_ENTRIES, StepFault};
-use diag_setup::TesterId;
 use diag_pdu::{Message, Step};
+use diag_setup::TesterId;
 
 /// Takes so many steps of one tick.
 fn fill(desk: &mut Desk, who: TesterId) -> Result<(), Trouble> {

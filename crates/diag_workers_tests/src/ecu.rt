@@ -3,10 +3,10 @@
 use crate::trouble::{Trouble, holds};
 use diag_can::TickCount;
 use diag_ecu::{Ecu, Session};
+use diag_pdu::Message;
 use diag_setup::TesterId;
 use diag_store::Security;
 use diag_stored::two_testers;
-use diag_pdu::Message;
 use std::alloc::Global;
 
 /// A physical request of a tester and its reply, empty for none; of an empty request 2000 ticks.

@@ -6,9 +6,9 @@ ghost use Rattle.diag_tp.specs.Link.{pending};
 
 use crate::trouble::{Trouble, holds};
 use diag_can::{Event, FrameBytes};
+use diag_pdu::{LinkSetup, Message, Pci, Request, frame_of};
 use diag_setup::Setup;
 use diag_stored::two_testers;
-use diag_pdu::{LinkSetup, Message, Pci, Request, frame_of};
 use diag_tp::Link;
 use std::alloc::Global;
 

@@ -8,8 +8,9 @@ use crate::link::opened as opened_link;
 use crate::trouble::{Trouble, holds};
 use diag_can::{Event, Frame, FrameBytes, TickCount};
 use diag_ecu::Ecu;
+use diag_pdu::{Message, Step};
 use diag_setup::TesterId;
-use diag_tp::{Link, Message, Step};
+use diag_tp::Link;
 use std::alloc::{AllocError, Global};
 
 /// What puts frames on the bus.

@@ -7,8 +7,8 @@ ghost use Rattle.diag_desk.specs.Text.{ended, entry_line, stamped_line, ticks_in
 ghost use Rattle.diag_world.specs.Server.{closing_time};
 
 use diag_desk::{EntryRef, JournalVersion, StepFault, StepRef, write_entry};
-use diag_setup::TesterId;
 use diag_pdu::{Message, Step};
+use diag_setup::TesterId;
 use std::alloc::AllocError;
 
 /// Keeps the entries of what a server takes, or passes them over.

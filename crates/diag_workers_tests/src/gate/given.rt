@@ -2,9 +2,9 @@
 
 use crate::trouble::Trouble;
 use diag_desk::Desk;
+use diag_pdu::{Message, Step};
 use diag_setup::TesterId;
 use diag_stored::two_testers;
-use diag_pdu::{Message, Step};
 use std::alloc::Global;
 
 /// Whether both hold; where not both came to an end, the first trouble.
