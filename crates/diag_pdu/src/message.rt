@@ -1,6 +1,6 @@
 //! Messages of the transport: requests and replies of a diagnostic service.
 
-ghost use Rattle.std.specs.Prelude.{◌≡◌, ◌<◌, ◌≤◌, ◌⊎◌, ◌↔◌, ◌-◌, ◌++◌, length, take, OnOk, IfOk, IfSome, Err};
+ghost use Rattle.std.specs.Prelude.{◌≡◌, ◌<◌, ◌≤◌, ◌⊎◌, ◌↔◌, ◌-◌, ◌++◌, length, take, OnOk, IfOk, IsOk, IfSome, IsSome, Err};
 ghost use Rattle.diag_pdu.specs.Message.{IsInRange};
 
 use diag_can::FrameBytes;
@@ -85,6 +85,7 @@ impl Message {
         ensures in_range { OnOk result (IsInRange bytes.now) }
         ensures length { result ≡ Err MessageFault.Length
             ↔ ((length bytes.now < 1) ⊎ (65535 < length bytes.now)) }
+        ensures memory { result ≡ Err MessageFault.Memory → 8 < length bytes.now }
     {
         if bytes.is_empty() || bytes.len() > Message::MAX {
             return Err(MessageFault::Length);
@@ -102,7 +103,8 @@ impl Message {
     pub fn of(alloc: Global, bytes: &[u8]) -> Result<Message, AllocError>
         requires some { 1 ≤ length bytes.now }
         requires fits { length bytes.now ≤ 65535 }
-        ensures { IfOk result (λ message. message ≡ bytes.now) }
+        ensures value { IfOk result (λ message. message ≡ bytes.now) }
+        ensures in_place { length bytes.now ≤ 8 → IsOk result }
     {
         if bytes.len() <= IN_PLACE {
             return Ok(Message::short(bytes));
@@ -145,10 +147,15 @@ impl Message {
 
     /// The bytes with their memory, where they have some.
     pub fn into_vec(self) -> Option<Vec<u8>>
-        ensures { IfSome result (λ bytes. bytes.items ≡ self) }
+        ensures bytes { IfSome result (λ bytes. bytes.items ≡ self) }
+        ensures found { 8 < length self → IsSome result }
     {
         match self.bytes {
-            Bytes::Short(_) => None,
+            Bytes::Short(short) => {
+                let size = short.bytes.len();
+                prove!(size <= IN_PLACE);
+                None
+            }
             Bytes::Long(bytes) => Some(bytes),
         }
     }
@@ -181,7 +188,8 @@ impl Message {
     /// # Errors
     /// `AllocError` where memory is refused.
     pub fn try_copy(&self) -> Result<Message, AllocError>
-        ensures { IfOk result (λ message. message ≡ self.now) }
+        ensures value { IfOk result (λ message. message ≡ self.now) }
+        ensures in_place { length self.now ≤ 8 → IsOk result }
     {
         match &self.bytes {
             Bytes::Short(short) => Ok(Message::short(short.bytes.as_slice())),

@@ -67,6 +67,7 @@ pub fn first_parts(frame: &FrameBytes, max: u16) -> Option<(u16, &[u8])>
     ensures is { IfSome result (λ f. kind frame.now max ≡ Pci.First f.0 f.1.now) }
     ensures read { IfSome result (λ f.
         (8 ≤ f.0) × (f.0 ≤ max) × (length f.1.now ≡ head_size f.0)) }
+    ensures short { IfSome result (λ f. f.0 ≤ 4095) }
     ensures none { IfNone result (is_short_first (kind frame.now max) ≡ false) }
 {
     match frame.as_slice() {

@@ -1,6 +1,6 @@
 //! The receiving side of a link: messages of one frame and of several (ISO 15765-2:2016, 9.2, 9.3, 9.6.4 and 9.8.3).
 
-ghost use Rattle.std.specs.Prelude.{◌≡◌, ◌≤◌, ◌<◌, ◌+◌, ◌%◌, ◌++◌, [], false, length, min, Some, None, take, vec_capacity, OnOk, IfOk, IfSome, option_and_then, option_copied, is_some, if◌then◌else◌, ◌&&◌, ◌==◌, nat_lt, IsTrue};
+ghost use Rattle.std.specs.Prelude.{◌≡◌, ◌≤◌, ◌<◌, ◌+◌, ◌%◌, ◌++◌, [], false, length, min, Some, None, take, vec_capacity, OnOk, IfOk, IfSome, IfNone, IsSome, option_and_then, option_copied, is_some, if◌then◌else◌, ◌&&◌, ◌==◌, nat_lt, IsTrue, IsFalse};
 ghost use Rattle.diag_pdu.specs.declared.pci.Pci.{Pci};
 ghost use Rattle.diag_pdu.specs.declared.setup.LinkSetup.{LinkSetup as ALinkSetup};
 ghost use Rattle.diag_sides.specs.Quiet.{reception_quiet, reception_later};
@@ -190,7 +190,8 @@ impl Partial {
 
     /// The memory of the message, which isn't wanted.
     fn into_memory(self) -> Option<Vec<u8>>
-        ensures { IfSome result (λ bytes. self.seen.len ≤ vec_capacity bytes) }
+        ensures room { IfSome result (λ bytes. self.seen.len ≤ vec_capacity bytes) }
+        ensures found { 8 < self.seen.len → IsSome result }
     {
         match self.held {
             Held::Growing(bytes) => Some(bytes),
@@ -246,6 +247,7 @@ impl Receiver {
         ensures ok { OnOk result (len ≤ self.new.room) }
         ensures kept { self.old.room ≤ self.new.room }
         ensures same { self.new.partial ≡ self.old.partial }
+        ensures staged { self.new.staged ≡ self.old.staged }
     {
         self.spare.reserve_exact(usize::from(len))
     }
@@ -256,6 +258,7 @@ impl Receiver {
         requires room { needed_for kind.now ≤ self.old.room }
         ensures partial { self.new.partial ≡ open_after self.old.partial kind.now }
         ensures grant { result ≡ granted_by setup.now self.old.partial kind.now }
+        ensures kept { needed_for kind.now ≡ 0 → self.old.room ≤ self.new.room }
     {
         match kind {
             Pci::Single(_) => {
@@ -286,6 +289,7 @@ impl Receiver {
             ≡ open_after self.old.partial kind.now }
         ensures grant { (s : ALinkSetup) → granted_by s self.new.partial kind.now
             ≡ granted_by s self.old.partial kind.now }
+        ensures same { IfNone result (self.new ≡ self.old) }
         ensures room { self.new.room ≡ self.old.room }
     {
         match kind {
@@ -346,6 +350,7 @@ impl Receiver {
             ≡ ask_of false (completed_by self.old.partial (Pci.Consecutive number part.now)) }
         ensures partial { self.new.partial ≡ self.old.partial }
         ensures room { self.new.room ≡ self.old.room }
+        ensures same { IsFalse result → self.new ≡ self.old }
     {
         let Some(partial) = &mut self.partial else {
             return false;
@@ -372,6 +377,7 @@ impl Receiver {
     pub fn end(&mut self)
         ensures partial { self.new.partial ≡ None }
         ensures room { self.old.room ≤ self.new.room }
+        ensures memory { IfSome self.old.partial (λ p. 8 < p.len → p.len ≤ self.new.room) }
     {
         if self.partial.is_some() {
             self.close();
@@ -383,6 +389,7 @@ impl Receiver {
     fn close(&mut self)
         ensures partial { self.new.partial ≡ None }
         ensures room { self.old.room ≤ self.new.room }
+        ensures memory { IfSome self.old.partial (λ p. 8 < p.len → p.len ≤ self.new.room) }
     {
         let Some(partial) = self.partial.take() else {
             return;
@@ -431,6 +438,7 @@ impl Receiver {
             ≡ open_after self.old.partial (Pci.Consecutive number part.now) }
         ensures grant { (if result then Some (go_on setup.now) else None)
             ≡ granted_by setup.now self.old.partial (Pci.Consecutive number part.now) }
+        ensures room { self.old.room ≤ self.new.room }
     {
         let Some(partial) = &mut self.partial else {
             return false;
