@@ -1,7 +1,7 @@
 //! Tests of the sequential server and of testers together, by public calls: what no run of the program shows of a link, a
 //! message, the ECU and the desk, a world to which a refused event is given again, the gate with its doors, and the
-//! workers. Callers that docs/EMBED.md shows are among them, as those of a server whose journal nobody keeps, and of a bus
-//! that is given its lines. (What a play or a capture writes is run by the built program: `runs/`, `tools/examples.py`, `tools/twin.py`.)
+//! workers. (What a play or a capture writes is run by the built program: `runs/`, `tools/examples.py`, `tools/twin.py`.)
+//! Some of the callers are those that docs/EMBED.md shows, and so are a server without a journal and a bus line by line.
 //!
 //! Where memory is refused, a test ends with that as its error: so each allocation can be refused in turn, and with
 //! memory enough such an answer fails the test.

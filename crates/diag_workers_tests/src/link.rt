@@ -1,8 +1,8 @@
 //! A link by the calls that no run of the program makes: what a frame asks, told before it comes and as it comes, ticks
 //! one by one, and how much waits.
 
-ghost use Rattle.std.specs.Prelude.{◌≡◌, IfOk};
-ghost use Rattle.diag_tp.specs.Link.{pending};
+ghost use Rattle.std.specs.Prelude.{◌≡◌, IfOk, IsTrue, OnOk};
+ghost use Rattle.diag_tp.specs.Link.{is_frame, pending};
 
 use crate::trouble::{Trouble, holds};
 use diag_can::{Event, FrameBytes};
@@ -45,49 +45,65 @@ fn is_read(asked: &Option<Request>) -> bool {
     }
 }
 
+/// Whether taking a frame would give the read.
+fn would_read(link: &Link, event: &Event) -> Result<bool, Trouble>
+    requires { IsTrue (is_frame event.now) }
+{
+    let asked = link.peek(event)?;
+    Ok(is_read(&asked))
+}
+
 /// Whether the read is told before its frame comes, and as it comes; then its reply is placed.
-fn reads(alloc: Global, link: &mut Link) -> Result<bool, Trouble> {
-    let event = Event::Physical(FrameBytes::from_slice(b"\x03\x22\xF1\x90"));
-    link.make_room(&event)?;
-    let told = is_read(&link.peek(&event)?);
-    if !link.is_drained() {
-        return Ok(false);
-    }
-    let asked = is_read(&link.feed(&event));
-    link.answer(Message::new(alloc, VALUE)?);
+fn reads(alloc: Global, link: &mut Link, event: &Event) -> Result<bool, Trouble>
+    requires frame { IsTrue (is_frame event.now) }
+    requires drained { pending link.old.state ≡ 0 }
+{
+    link.make_room(event)?;
+    let told = would_read(link, event)?;
+    let reply = Message::new(alloc, VALUE)?;
+    let asked = is_read(&link.feed(event));
+    link.answer(reply);
     Ok(told && asked)
 }
 
 /// Hands out the frames that are due.
-fn drain(link: &mut Link) {
-    for _ in 0..u32::MAX {
-        if link.next_frame().is_none() {
-            return;
-        }
-    }
+fn drain(link: &mut Link)
+    ensures { pending link.new.state ≡ 0 }
+{
+    while let Some(_frame) = link.next_frame() {}
+}
+
+/// The read, and the frames that are due then.
+fn reads_once(alloc: Global, link: &mut Link) -> Result<bool, Trouble>
+    requires { pending link.old.state ≡ 0 }
+    ensures { OnOk result (pending link.new.state ≡ 0) }
+{
+    let event = Event::Physical(FrameBytes::from_slice(b"\x03\x22\xF1\x90"));
+    let read = reads(alloc, link, &event)?;
+    drain(link);
+    Ok(read)
 }
 
 /// So many ticks, one by one, and the frames that fall due.
-fn wait(link: &mut Link, count: u16) -> Result<(), Trouble> {
+fn wait(link: &mut Link, count: u16)
+    requires { pending link.old.state ≡ 0 }
+{
     for _ in 0..count {
-        if !link.is_drained() {
-            return Err(Trouble::Wrong);
-        }
         link.tick();
         drain(link);
     }
-    Ok(())
 }
 
 /// Whether four replies have begun after a thousand reads, and three times N_Bs without flow control.
-fn four_begin(alloc: Global, link: &mut Link) -> Result<bool, Trouble> {
+fn four_begin(alloc: Global, link: &mut Link) -> Result<bool, Trouble>
+    requires { pending link.old.state ≡ 0 }
+{
     for _ in 0..1000u32 {
-        if !reads(alloc, link)? {
+        if !reads_once(alloc, link)? {
             return Ok(false);
         }
-        drain(link);
     }
-    wait(link, 3000)?;
+    wait(link, 3000);
     Ok(link.waiting() == 996 && link.backlog() == 2990 && link.now() == 3000)
 }
 

@@ -90,8 +90,9 @@ fn add_one_each<R: Wait>(
 
 /// Whether each step of a door over a lock adds one entry, and a step that was refused for want of memory none.
 fn refused_adds_none<R: Wait>(rt: &R, alloc: Global, desk: &Mutex<Desk>) -> Result<bool, Trouble> {
+    let who = tester(1)?;
     let step = request(alloc, &[0x3E, 0x00])?;
-    let mut door = LockDoor::new(rt, alloc, desk, tester(1)?);
+    let mut door = LockDoor::new(rt, alloc, desk, who);
     add_one_each(rt, desk, &mut door, &step)
 }
 

@@ -54,11 +54,9 @@ fn step_held(
     };
     let busy = is_busy(alloc, gate, other, &[0x10, 0x03]);
     let (seat, answer) = held.step(step);
-    if busy? {
-        Ok((seat, is_silent(answer)))
-    } else {
-        Err(Trouble::Wrong)
-    }
+    let silent = is_silent(answer);
+    holds(busy)?;
+    Ok((seat, silent))
 }
 
 /// Whether an answer has no reply.
