@@ -5,6 +5,7 @@ ghost use Rattle.diag_desk.specs.Entries.{entry, own};
 ghost use Rattle.diag_gate.specs.Views.{IsLegal, letting_go};
 ghost use Rattle.diag_gate.specs.Seats.{Finds, Answered, IsFull, Refused, NotMade, IsSeat, IsGuard, as_tried, seat_as, misses, waited};
 
+use super::{Gate, Guard, Place, Seat};
 use crate::desk_box::DeskBox;
 use crate::fault::TryFault;
 use crate::view::{Release, Take};
@@ -13,7 +14,6 @@ use diag_pdu::{Message, Step};
 use diag_setup::TesterId;
 use std::sync::Wait;
 use std::thread;
-use super::{Gate, Guard, Place, Seat};
 
 impl Gate {
     /// The desk, where the word was found to be 0.
