@@ -23,7 +23,7 @@ use diag_live::{Bench, Heard, live};
 use diag_run::{Job, Outcome, read_config, run_bus_and_tell, run_text};
 use diag_setup::Setup;
 use diag_stored::{CONFIG, LOG_A, LOG_B};
-use diag_text::{RunFault, fault_text, status, write_whole};
+use diag_text::{RunFault, write_whole};
 use source::Source;
 use standard::{PIECES, Record, StandardBench, read_all};
 use std::alloc::{AllocError, Global};
@@ -193,7 +193,7 @@ fn run_live<R: Print + Eprint + Files + Input + AllocGlobal + Clock + Wait>(
 fn setup_of<C: Read>(alloc: Global, config: &mut C) -> Result<Setup, Outcome> {
     match read_config(alloc, config) {
         Ok(setup) => Ok(setup),
-        Err(fault) => Err(stopped(alloc, &fault)),
+        Err(fault) => Err(Outcome::of(alloc, &fault)),
     }
 }
 
@@ -207,15 +207,7 @@ fn serve<B: Bench, W: Write, F: Write>(
 ) -> Outcome {
     match live(alloc, setup, bench, out, record) {
         Ok(()) => Outcome::Done,
-        Err(fault) => stopped(alloc, &fault),
-    }
-}
-
-/// How a run ends by a fault.
-fn stopped(alloc: Global, fault: &RunFault) -> Outcome {
-    Outcome::Fault {
-        told: fault_text(alloc, fault).ok(),
-        status: status(fault),
+        Err(fault) => Outcome::of(alloc, &fault),
     }
 }
 
@@ -238,7 +230,7 @@ fn refuse_record(rt: &(impl Print + Eprint), why: ErrorKind) -> ExitCode {
 fn refuse_clock(rt: &(impl Print + Eprint + AllocGlobal), why: ErrorKind) -> ExitCode {
     match why {
         ErrorKind::OutOfMemory => refuse(rt, &Refusal::Memory),
-        _ => tell(rt, &stopped(rt.alloc(), &RunFault::Read(1))),
+        _ => tell(rt, &Outcome::of(rt.alloc(), &RunFault::Read(1))),
     }
 }
 
@@ -300,7 +292,7 @@ fn text_of<T: Threads + Wait + Sync, S: Read>(
 {
     match run_text(rt, alloc, job, config, files) {
         Ok(parts) => Ok(parts),
-        Err(fault) => Err(stopped(alloc, &fault)),
+        Err(fault) => Err(Outcome::of(alloc, &fault)),
     }
 }
 
@@ -315,7 +307,7 @@ fn print_text(
     };
     match write_whole(&mut io::writer(rt), parts.as_slice()) {
         Ok(()) => ExitCode::SUCCESS,
-        Err(_) => tell(rt, &stopped(rt.alloc(), &RunFault::Write)),
+        Err(_) => tell(rt, &Outcome::of(rt.alloc(), &RunFault::Write)),
     }
 }
 
