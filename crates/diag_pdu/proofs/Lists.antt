@@ -1,6 +1,6 @@
 -- Lemmas on lists that the transport needs.
 use Rattle.std.proofs.Common.{◌≡◌, ℕ, zero, suc, ◌+◌, ◌<◌, List, [], ◌∷◌, length, drop, refl, ◌∙◌, ap, arith}
-use Rattle.std.specs.Prelude.{◌↔◌, Option, Some, slice_get, map}
+use Rattle.std.specs.Prelude.{Option, Some, slice_get, map}
 use Rattle.diag_pdu.specs.Cut.{counted_from}
 
 pub length-zero : {X : Type 0} (xs : List X) → length xs ≡ 0 → xs ≡ []
