@@ -86,8 +86,11 @@ const HEARD: [Heard; 5] = [
     (10, 0x7DF, b"\x03\x22\xF1\x90"),
 ];
 
-/// What is sent: when, with which identifier, and the bytes.
-const SENT: [(u64, u16, &[u8]); 6] = [
+/// A frame that is sent: when, its identifier and its bytes.
+type Drawn = (u64, u16, &'static [u8]);
+
+/// Each is answered, and the last one to both.
+const SENT: [Drawn; 6] = [
     (1, 0x7E8, b"\x06\x50\x03\x00\x32\x01\xF4\xCC"),
     (11, 0x7E9, b"\x03\x7F\x10\x21\xCC\xCC\xCC\xCC"),
     (21, 0x7E8, b"\x06\x50\x01\x00\x32\x01\xF4\xCC"),
@@ -134,10 +137,15 @@ fn hear_all(server: &mut Server, setup: &Setup, out: &mut Vec<Sent>) -> Result<(
     Ok(())
 }
 
+fn is_drawn(sent: &Sent, drawn: &Drawn) -> bool {
+    let (at, id, bytes) = *drawn;
+    sent.at == at && sent.frame.id.get() == id && sent.frame.bytes.as_slice() == bytes
+}
+
 /// Whether these frames were sent.
 fn are_sent(out: &[Sent]) -> bool {
-    for (sent, (at, id, bytes)) in out.iter().zip(&SENT) {
-        if sent.at != *at || sent.frame.id.get() != *id || sent.frame.bytes.as_slice() != *bytes {
+    for (sent, drawn) in out.iter().zip(&SENT) {
+        if !is_drawn(sent, drawn) {
             return false;
         }
     }

@@ -1,6 +1,5 @@
 //! What ends a test early.
 
-use diag_bus::BusFault;
 use diag_can::LogFault;
 use diag_desk::{JournalFault, ReplayFault, StepFault};
 use diag_gate::TryFault;
@@ -93,15 +92,6 @@ impl From<ServerFault> for Trouble {
         match fault {
             ServerFault::Memory => Trouble::Memory,
             ServerFault::JournalFull | ServerFault::Clock => Trouble::Wrong,
-        }
-    }
-}
-
-impl From<BusFault> for Trouble {
-    fn from(fault: BusFault) -> Trouble {
-        match fault {
-            BusFault::Memory => Trouble::Memory,
-            BusFault::Line(_) | BusFault::Late => Trouble::Wrong,
         }
     }
 }

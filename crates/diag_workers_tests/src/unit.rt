@@ -81,14 +81,14 @@ fn pass<D: Driver>(link: &mut Link, ecu: &mut Ecu, who: TesterId, count: TickCou
     send_due(link, driver);
 }
 
-/// The frames that were sent, where memory wasn't refused.
+/// Keeps the frames that are sent, unless memory is refused.
 #[derive(Drop)]
-struct Sent {
+struct Recorder {
     frames: Vec<Frame>,
     is_refused: bool,
 }
 
-impl Driver for Sent {
+impl Driver for Recorder {
     fn send(&mut self, frame: Frame) {
         if self.frames.push(frame).is_err() {
             self.is_refused = true;
@@ -96,19 +96,24 @@ impl Driver for Sent {
     }
 }
 
-impl Sent {
-    /// Whether these frames were sent, with the first tester's identifier.
-    fn is(&self, frames: &[&[u8]]) -> Result<bool, Trouble> {
+impl Recorder {
+    /// Whether just these frames were sent.
+    fn has_just(&self, frames: &[&[u8]]) -> Result<bool, Trouble> {
         if self.is_refused {
             return Err(Trouble::Memory);
         }
-        for (sent, bytes) in self.frames.iter().zip(frames) {
-            if sent.id.get() != 0x7E8 || sent.bytes.as_slice() != *bytes {
-                return Ok(false);
-            }
-        }
-        Ok(self.frames.len() == frames.len())
+        Ok(are_sent(self.frames.as_slice(), frames))
     }
+}
+
+/// Whether these frames were sent, with the first tester's identifier.
+fn are_sent(sent: &[Frame], frames: &[&[u8]]) -> bool {
+    for (sent, bytes) in sent.iter().zip(frames) {
+        if sent.id.get() != 0x7E8 || sent.bytes.as_slice() != *bytes {
+            return false;
+        }
+    }
+    sent.len() == frames.len()
 }
 
 /// The three frames of the reply with the value of F190.
@@ -119,7 +124,7 @@ const VALUE: [&[u8]; 3] = [
 ];
 
 /// Asks for the value, and wants 5 ms between the last two frames of the reply.
-fn ask(link: &mut Link, ecu: &mut Ecu, who: TesterId, sent: &mut Sent) -> Result<(), AllocError>
+fn ask(link: &mut Link, ecu: &mut Ecu, who: TesterId, sent: &mut Recorder) -> Result<(), AllocError>
     requires { pending link.old.state ≡ 0 }
     ensures { pending link.new.state ≡ 0 }
 {
@@ -130,7 +135,7 @@ fn ask(link: &mut Link, ecu: &mut Ecu, who: TesterId, sent: &mut Sent) -> Result
 }
 
 /// Lets so many milliseconds pass, where the link allows it in one move. Whether it does.
-fn passes(link: &mut Link, ecu: &mut Ecu, who: TesterId, count: u16, sent: &mut Sent) -> bool
+fn passes(link: &mut Link, ecu: &mut Ecu, who: TesterId, count: u16, sent: &mut Recorder) -> bool
     requires { pending link.old.state ≡ 0 }
     ensures { pending link.new.state ≡ 0 }
 {
@@ -149,20 +154,20 @@ fn is_answered(
     link: &mut Link,
     ecu: &mut Ecu,
     who: TesterId,
-    sent: &mut Sent,
+    sent: &mut Recorder,
 ) -> Result<bool, Trouble>
     requires { pending link.old.state ≡ 0 }
 {
     ask(link, ecu, who, sent)?;
-    let early = passes(link, ecu, who, 4, sent) && sent.is(&VALUE[..2])?;
-    Ok(early && passes(link, ecu, who, 1, sent) && sent.is(&VALUE)?)
+    let early = passes(link, ecu, who, 4, sent) && sent.has_just(&VALUE[..2])?;
+    Ok(early && passes(link, ecu, who, 1, sent) && sent.has_just(&VALUE)?)
 }
 
 fn answers(alloc: Global, link: &mut Link, ecu: &mut Ecu) -> Result<bool, Trouble>
     requires { pending link.old.state ≡ 0 }
 {
     let who = TesterId::new(1).ok_or(Trouble::Wrong)?;
-    let mut sent = Sent {
+    let mut sent = Recorder {
         frames: Vec::new(alloc),
         is_refused: false,
     };

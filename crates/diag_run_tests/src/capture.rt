@@ -1,9 +1,9 @@
 //! A capture of the whole bus, line by line.
 
-use crate::trouble::{Trouble, holds};
+use crate::ending::{Trouble, holds};
 use diag_bus::{Bus, BusFault, Output};
 use diag_stored::two_testers;
-use std::alloc::Global;
+use std::alloc::{AllocError, Global};
 
 /// Gives the bus the lines of a capture, and puts what they draw behind the text.
 fn take_lines(bus: &mut Bus, lines: &[&str], text: &mut Vec<u8>) -> Result<(), BusFault> {
@@ -30,15 +30,18 @@ const DRAWN: &[u8] = b"\
 ";
 
 /// Whether the lines of the capture draw these.
-fn draws(alloc: Global, bus: &mut Bus) -> Result<bool, Trouble> {
+fn draws(alloc: Global, bus: &mut Bus) -> Result<bool, AllocError> {
     let mut text = Vec::new(alloc);
-    take_lines(bus, &CAPTURE, &mut text)?;
-    Ok(text.as_slice() == DRAWN)
+    match take_lines(bus, &CAPTURE, &mut text) {
+        Ok(()) => Ok(text.as_slice() == DRAWN),
+        Err(BusFault::Memory) => Err(AllocError),
+        Err(BusFault::Line(_) | BusFault::Late) => Ok(false),
+    }
 }
 
-fn opened(alloc: Global) -> Result<Bus, Trouble> {
+fn opened(alloc: Global) -> Result<Bus, AllocError> {
     let setup = two_testers(alloc)?;
-    Ok(Bus::new(alloc, setup, Output::Replies)?)
+    Bus::new(alloc, setup, Output::Replies)
 }
 
 #[test]
