@@ -1,8 +1,6 @@
 -- What fits of the part of a Consecutive.
-use Rattle.std.proofs.Common.{◌≡◌, ℕ, ◌+◌, ◌-◌, ◌≤◌, List, [], ◌∷◌, ◌++◌, length, take, sym, ◌∙◌, ap, arith, length-append, ◌<◌}
-use Rattle.std.specs.Prelude.{◌&&◌, ◌==◌, if◌then◌else◌}
+use Rattle.std.proofs.Common.{◌≡◌, ℕ, ◌+◌, ◌-◌, ◌≤◌, List, ◌++◌, length, take, sym, ◌∙◌, ap, arith, length-append, ◌<◌}
 use Rattle.std.proofs.lemmas.List.{take_all, length-take-le}
-use Rattle.diag_pdu.specs.declared.pci.Pci.TheVariants.{Consecutive}
 use Rattle.diag_pdu.specs.Cut.{consecutive_count}
 use Rattle.diag_sides.specs.Receiver.{kept_bytes}
 use Rattle.std.proofs.Math.Seq.{take-append-add}
