@@ -1,4 +1,4 @@
-use Rattle.std.proofs.Common.{◌≡◌, [], ◌∷◌, ◌++◌, Option, Some, List, sym, ap, ◌∙◌, subst}
+use Rattle.std.proofs.Common.{◌≡◌, [], ◌∷◌, ◌++◌, Option, Some, List, rules, sym, ap, ◌∙◌, subst}
 use Rattle.atomic_table.specs.Table.{opening}
 use Rattle.diag_desk.specs.Legal.{Run}
 use Rattle.diag_gate.specs.Views.{starting}
@@ -12,3 +12,6 @@ new-requires-2 c =
     c.push_reserved.ensures.items ∙ ap (λ (l : List (Option Run)). l ++ Some c.in_ok-desk.desk ∷ []) c.in_ok-slots.ensures.items in
     subst (λ (x : List (Option Run) × Run). Kept (opening (0 ∷ []) x.0 (starting x.1))) (λ i. (sym items i, sym c.of-key.ensures i))
     (begins c.in_ok-desk.desk c.lawful.ensures.legal)
+
+pub returns-in-Ok : goal.returns-in-Ok
+returns-in-Ok c = search rules
