@@ -9,3 +9,6 @@ returns-in_ok-reserve-in-Ticks-clause-prepared c = record {
   replies = search rules;
   ticks = search rules;
 }
+
+pub returns-in_ok-taken-in-Physical-clause-prepared : goal.returns-in_ok-taken-in-Physical-clause-prepared
+returns-in_ok-taken-in-Physical-clause-prepared c = search rules
