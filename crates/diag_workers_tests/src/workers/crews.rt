@@ -1,7 +1,6 @@
 //! Crews of two workers, at doors to no desk.
 
 ghost use Rattle.std.specs.Prelude.{◌≡◌, ◌≤◌, length, map, vec_len, IfOk};
-ghost use Rattle.std.specs.List.{AllByRecursion};
 ghost use Rattle.diag_can.specs.Log.{most_events};
 ghost use Rattle.diag_pdu.specs.Cut.{counted_from};
 
@@ -97,32 +96,7 @@ fn two_ticks(alloc: Global) -> Result<Vec<Event>, Trouble>
     Ok(Vec::from_array(alloc, [Event::Ticks(count), Event::Ticks(count)])?)
 }
 
-/// The logs of the two testers, two ticks each.
-fn two_logs(alloc: Global) -> Result<[Vec<Event>; 2], Trouble>
-    ensures { IfOk result (λ logs. AllByRecursion (λ log. vec_len log ≤ most_events) logs) }
-{
-    let first = two_ticks(alloc)?;
-    let second = two_ticks(alloc)?;
-    Ok([first, second])
-}
-
-/// What refuses a crew that plays these logs, if anything does.
-fn refusal_of<R: Threads + Sync>(
-    rt: &R,
-    alloc: Global,
-    setup: &Setup,
-    logs: &[Vec<Event>; 2],
-    meeting: &Meeting,
-    left: [Answers; 2],
-) -> Result<Option<StepFault>, Trouble>
-    requires testers { length setup.now.testers ≡ 2 }
-    requires limits { AllByRecursion (λ log. vec_len log ≤ most_events) logs.now }
-{
-    let doors = lone_doors(alloc, meeting, left)?;
-    Ok(crew(rt, alloc, setup, logs, doors).err())
-}
-
-/// The same of two ticks each.
+/// What refuses a crew that plays two ticks each, if anything does.
 fn refusal<R: Threads + Sync>(
     rt: &R,
     alloc: Global,
@@ -132,8 +106,9 @@ fn refusal<R: Threads + Sync>(
 ) -> Result<Option<StepFault>, Trouble>
     requires { length setup.now.testers ≡ 2 }
 {
-    let logs = two_logs(alloc)?;
-    refusal_of(rt, alloc, setup, &logs, meeting, left)
+    let logs = [two_ticks(alloc)?, two_ticks(alloc)?];
+    let doors = lone_doors(alloc, meeting, left)?;
+    Ok(crew(rt, alloc, setup, &logs, doors).err())
 }
 
 fn refused<R: Threads + Sync>(
