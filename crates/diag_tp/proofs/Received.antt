@@ -1,6 +1,6 @@
 -- The frames of a message, received again.
-use Rattle.std.proofs.Common.{◌≡◌, ℕ, zero, suc, ◌+◌, ◌-◌, ◌*◌, ◌/◌, ◌%◌, ◌^◌, ◌<◌, ◌≤◌, true, false, List, [], ◌∷◌, ◌++◌, length, take, drop, refl, sym, ◌∙◌, ap, arith, append_assoc, length-append, length-drop, min, append-nil}
-use Rattle.std.specs.Prelude.{Option, Some, None, option_and_then, slice_get, map, flat_map, ◌==◌, nat_le, nat_lt, min, if◌then◌else◌}
+use Rattle.std.proofs.Common.{◌≡◌, ℕ, zero, suc, ◌+◌, ◌-◌, ◌*◌, ◌%◌, ◌<◌, ◌≤◌, true, false, List, [], ◌∷◌, ◌++◌, length, take, drop, refl, sym, ◌∙◌, ap, arith, append_assoc, length-append, length-drop, min, append-nil}
+use Rattle.std.specs.Prelude.{Option, Some, None, option_and_then, slice_get, map, flat_map, ◌==◌, nat_le, nat_lt, min}
 use Rattle.std.proofs.lemmas.List.{take_all, length-take-le, append-nil, take-append-drop, length-take}
 use Rattle.std.proofs.Math.Seq.{take-append-add, take-add}
 use Rattle.std.proofs.lemmas.Grind.{flat_map-append}
@@ -8,7 +8,7 @@ use Rattle.std.proofs.lemmas.Simd.{map-map}
 use Rattle.std.proofs.lemmas.Bool.Decides.{nat_tests}
 use Rattle.diag_can.specs.declared.frame.Event.{Event}
 use Rattle.diag_can.specs.declared.frame.Event.TheVariants.{Physical}
-use Rattle.diag_pdu.specs.declared.pci.Pci.TheVariants.{First, Consecutive}
+use Rattle.diag_pdu.specs.declared.pci.Pci.TheVariants.{First}
 use Rattle.diag_pdu.specs.declared.setup.LinkSetup.{LinkSetup}
 use Rattle.diag_pdu.specs.Kind.{kind}
 use Rattle.diag_pdu.specs.Cut.{counted_from, head_size, consecutive_count, filled, single_bytes, first_bytes, consecutive_bytes, part_of, cut}
