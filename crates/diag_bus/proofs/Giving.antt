@@ -8,7 +8,8 @@ use Rattle.std.specs.Vec.{with_item}
 use Rattle.diag_can.specs.declared.frame.Event.{Event}
 use Rattle.diag_tp.specs.declared.sent.Sent.{Sent}
 use Rattle.diag_desk.specs.declared.entry.Entry.{Entry}
-use Rattle.diag_world.specs.Server.{HasKept, IsClosed, ServerView, Settled, closing_time, server_of}
+use Rattle.diag_world.specs.Port.{HasKept}
+use Rattle.diag_world.specs.Server.{IsClosed, ServerView, Settled, closing_time, server_of}
 use Rattle.diag_bus.specs.Batch.{Gave, IsEarly, IsRest, Lasts, OneSentIn, SameShape, entry_added, lists_of}
 use Rattle.diag_bus.specs.Entering.{EntersLine}
 use Rattle.diag_bus.specs.Requests.{filled_at}

@@ -27,8 +27,8 @@ use Rattle.diag_desk.specs.Entry.{most_entries}
 use Rattle.diag_desk.specs.Legal.{after}
 use Rattle.diag_desk.specs.Text.{ended, entry_line, stamped_line, text_of, ticks_in}
 use Rattle.diag_desk.proofs.ReadLemmas.{text_one}
-use Rattle.diag_world.specs.Port.{Grew}
-use Rattle.diag_world.specs.Server.{HasKept, IsClosed, ServerState, ServerTook, ServerView, Serves, Settled, sent_to, server_of}
+use Rattle.diag_world.specs.Port.{Grew, HasKept}
+use Rattle.diag_world.specs.Server.{IsClosed, ServerState, ServerTook, ServerView, Serves, Settled, sent_to, server_of}
 use Rattle.diag_world.specs.World.{Stands, WorldState}
 use Rattle.diag_world.proofs.Worlds.{other_place, set_cases}
 use Rattle.diag_bus.specs.Batch.{IsBy}

@@ -1,16 +1,17 @@
 -- What one more event makes of a worker's record.
 use Rattle.std.proofs.Common.{◌≡◌, ◌≤◌, ℕ, Option, Some, None, length, length-append, arith, List, [], ◌∷◌, ◌++◌, take, drop, refl, ap, ap₂, subst, sym, ◌∙◌, append_assoc}
 use Rattle.std.specs.Option.{option_to_list}
-use Rattle.std.proofs.lemmas.List.{length-map, take-append-drop, map-append}
+use Rattle.std.proofs.lemmas.List.{append-nil, length-map, take-append-drop, map-append}
 use Rattle.diag_can.specs.declared.frame.Event.{Event}
 use Rattle.diag_pdu.specs.declared.setup.LinkSetup.{LinkSetup}
 use Rattle.diag_pdu.specs.declared.step.Step.{Step}
 use Rattle.diag_tp.specs.Gives.{gives, steps, steps_after}
 use Rattle.diag_desk.specs.declared.entry.Entry.{Entry}
 use Rattle.diag_desk.specs.Entries.{asked, asked_by}
-use Rattle.diag_world.specs.Channel.{ChannelState}
+use Rattle.diag_world.specs.Channel.{ChannelState, ChannelTook, GoesOn}
+use Rattle.diag_world.specs.Port.{HasKept}
 use Rattle.diag_world.specs.Weaving.{all_by}
-use Rattle.diag_workers.specs.Work.{AreBy, PlayedLog, WorkerStands, WorkerTook}
+use Rattle.diag_workers.specs.Work.{AreBy, HasAsked, PlayedLog, WorkerStands, WorkerTook}
 use Rattle.diag_world.proofs.Weaves.{steps_after-append}
 
 -- where the first k events ask what a record has, all events ask that and what the others give
@@ -90,3 +91,29 @@ worker_done s who channel E before given P w = record {
   sent = w.stands.all_sent;
   kept = w.kept;
 }
+
+-- ---- who asks a door, and keeps what it is asked
+
+abbrev Asks : {K D A : Type 0} → (K → List Entry → Type 0) → (D → List Entry) → (A → K) → (A → D) → A → ℕ → Entry → A → Type 0
+Asks keeps given entries door x now k y = HasAsked keeps (given (door x)) (given (door y)) (entries x) (entries y) k
+
+-- a worker took an event as its channel did, with who asks its door
+pub worker_took : {K D A : Type 0} (keeps : K → List Entry → Type 0) (given : D → List Entry) (entries : A → K) (door : A → D) (a b : A) (who t : ℕ)
+    (old new : ChannelState) (e : Event) → who ≡ t
+    → ChannelTook (Asks keeps given entries door) old new a b who e
+    → WorkerTook t old new e (given (door a)) (given (door b)) (keeps (entries a)) (keeps (entries b))
+worker_took keeps given entries door a b who t old new e is took = record {
+  entries = option_to_list took.asked;
+  given = gave took.asked took.kept;
+  goes_on = subst (λ t. GoesOn t old new e (option_to_list took.asked)) is took.goes_on;
+  kept = keeps_more took.asked took.kept;
+}
+  where
+    gave : (asked : Option Entry) → HasKept (Asks keeps given entries door) a b old.link.now asked → given (door b) ≡ given (door a) ++ option_to_list asked
+    gave None same = ap (λ x. given (door x)) same ∙ sym (append-nil _)
+    gave (Some k) h = h.0
+
+    keeps_more : (asked : Option Entry) → HasKept (Asks keeps given entries door) a b old.link.now asked
+        → (kept : List Entry) → keeps (entries a) kept → keeps (entries b) (kept ++ option_to_list asked)
+    keeps_more None same = λ kept h. rw (append-nil kept) (subst (λ x. keeps (entries x) kept) (sym same) h)
+    keeps_more (Some k) h = h.1

@@ -1,5 +1,5 @@
 -- What a worker does.
-use Rattle.std.specs.Prelude.{◌≡◌, ◌<◌, ◌≤◌, ℕ, List, ◌++◌, length}
+use Rattle.std.specs.Prelude.{◌≡◌, ◌<◌, ◌≤◌, ℕ, List, [], ◌∷◌, ◌++◌, length}
 use Rattle.diag_can.specs.declared.frame.Event.{Event}
 use Rattle.diag_tp.specs.declared.sent.Sent.{Sent}
 use Rattle.diag_pdu.specs.declared.setup.LinkSetup.{LinkSetup}
@@ -30,6 +30,12 @@ holds journal entries = journal.entries ≡ entries
 -- what is kept is that of fewer entries than a journal may have
 abbrev pub CanKeep : {K : Type 0} → (K → List Entry → Type 0) → K → Type 0
 CanKeep keeps kept = (entries : List Entry) × keeps kept entries × (length entries < most_entries)
+
+-- a door has given this entry more, and what is kept has it, too
+abbrev pub HasAsked : {K : Type 0} → (K → List Entry → Type 0) → List Entry → List Entry → K → K → Entry → Type 0
+HasAsked keeps before after kept kept' k =
+    (after ≡ before ++ k ∷ [])
+    × ((entries : List Entry) → keeps kept entries → keeps kept' (entries ++ k ∷ []))
 
 -- Between two events: the tester's channel took the events E, for which its door has given these entries more than
 -- before, and P holds of them

@@ -13,10 +13,10 @@ use crate::keeping::Keep;
 use diag_can::Event;
 use diag_desk::{Journal, StepFault};
 use diag_gate::Door;
-use diag_pdu::LinkSetup;
+use diag_pdu::{LinkSetup, Message, Step};
 use diag_setup::{Setup, TesterId};
 use diag_tp::Sent;
-use diag_world::Channel;
+use diag_world::{Channel, TakeSteps};
 use std::alloc::Global;
 
 /// What one worker did: what it keeps of what it asked, and the frames that it sent.
@@ -119,20 +119,55 @@ impl<K: Keep> Worker<K> {
         ensures tester { D.tester door.new ≡ D.tester door.old }
         ensures home { D.home door.new ≡ D.home door.old }
     {
-        let prepared = self.channel.prepare(event)?;
-        match self.channel.step(&prepared) {
-            Some(step) => {
-                self.entries.prepare(step)?;
-                let who = door.who();
-                let reply = door.step(step)?;
-                self.entries.enter(who, step, reply.as_ref());
-                self.channel.settle(event, &prepared, reply);
-                Ok(())
-            }
-            None => {
-                self.channel.settle(event, &prepared, None);
-                Ok(())
-            }
-        }
+        let who = door.who();
+        let mut asking = Asking {
+            entries: &mut self.entries,
+            door,
+        };
+        self.channel.take(who, event, &mut asking)
     }
+}
+
+/// A door, and what is kept of what it is asked.
+#[derive(Drop)]
+struct Asking<'w, K, D> {
+    entries: &'w mut K,
+    door: &'w mut D,
+}
+
+impl<'w, K: Keep, D: Door> TakeSteps for Asking<'w, K, D> {
+    ghost use Rattle.std.specs.Prelude.{◌≡◌, ⊤, refl};
+    ghost use Rattle.diag_workers.specs.Work.{CanKeep, HasAsked};
+
+    ghost allows = { λ asking who _.
+        (D.tester asking.door.now ≡ who) × CanKeep K.keeps asking.entries.now };
+
+    ghost takes = { λ old _ k new. HasAsked K.keeps (D.given old.door.now)
+        (D.given new.door.now) old.entries.now new.entries.now k };
+
+    ghost is_full = { λ _. ⊤ };
+
+    ghost refuses = { λ old new. D.given new.door.now ≡ D.given old.door.now };
+
+    ghost stays = { λ old new. (new.entries.ghost_name ≡ old.entries.ghost_name)
+        × (new.door.ghost_name ≡ old.door.ghost_name)
+        × (D.tester new.door.now ≡ D.tester old.door.now)
+        × (D.home new.door.now ≡ D.home old.door.now) };
+
+    fn take_step(
+        &mut self,
+        _before: u64,
+        who: TesterId,
+        step: &Step,
+        reply: &mut Option<Message>,
+    ) -> Result<(), StepFault> {
+        self.entries.prepare(step)?;
+        *reply = self.door.step(step)?;
+        self.entries.enter(who, step, reply.as_ref());
+        Ok(())
+    }
+
+    ghost refuses_none = { λ _. refl };
+
+    ghost stays_itself = { λ _. (refl, refl, refl, refl) };
 }

@@ -3,25 +3,25 @@ use Rattle.std.proofs.Common.{◌≡◌, ◌≤◌, ◌<◌, ℕ, zero, suc, ◌
 use Rattle.std.proofs.lemmas.List.{map-append, append-nil}
 use Rattle.std.proofs.lemmas.List.Elements.{All-append}
 use Rattle.std.proofs.lemmas.Bool.Decides.{nat_tests}
-use Rattle.std.specs.Prelude.{replicate, IsTrue, IsSome, ◌⊎◌, nat_lt}
-use Rattle.std.specs.Option.{option_to_list}
+use Rattle.std.specs.Prelude.{replicate, IfSome, IsTrue, IsSome, ◌⊎◌, nat_lt}
+use Rattle.std.specs.Option.{option_map, option_to_list}
 use Rattle.diag_can.specs.declared.frame.Event.{Event}
 use Rattle.diag_can.specs.declared.frame.Event.TheVariants.{Physical, Functional, Ticks}
 use Rattle.diag_pdu.specs.declared.setup.LinkSetup.{LinkSetup}
 use Rattle.diag_pdu.specs.declared.step.Step.{Step}
-use Rattle.diag_pdu.specs.declared.step.Step.TheVariants as step
 use Rattle.diag_tp.specs.Gives.{gives, steps}
-use Rattle.diag_tp.specs.Laws.{TimeLaw, GivesLaw}
-use Rattle.diag_tp.specs.Moments.{moments, last_moment, last_time}
+use Rattle.diag_tp.specs.Laws.{TimeLaw}
+use Rattle.diag_tp.specs.Moments.{is_tick, moments, last_moment, last_time}
 use Rattle.diag_tp.specs.Placing.{placed, placed_at, drawn}
-use Rattle.diag_tp.specs.Link.{StandsFor, is_frame, last_tick}
-use Rattle.diag_tp.specs.Wire.{wire}
+use Rattle.diag_tp.specs.Link.{EachHistory, StandsFor, is_frame, last_tick}
+use Rattle.diag_tp.specs.Wire.{Placed, wire}
+use Rattle.diag_tp.proofs.Moments.{last_time-frame}
 use Rattle.diag_tp.specs.State.{LinkState}
 use Rattle.diag_tp.specs.declared.sent.Sent.{Sent}
 use Rattle.diag_desk.specs.declared.entry.Entry.{Entry}
 use Rattle.diag_desk.specs.Entries.{asked_by, entry, replies}
-use Rattle.diag_world.specs.Channel.{ChannelStands, ChannelState, EachChannelRun, GoesOn}
-use Rattle.diag_world.specs.Port.{AreWithin, HandedOut, PortStands, PortTook, entries_of}
+use Rattle.diag_world.specs.Channel.{ChannelStands, ChannelState, GoesOn}
+use Rattle.diag_world.specs.Port.{AreWithin, HandedOut, PortStands, PortTook, entry_of, time_after}
 use Rattle.diag_world.specs.Weaving.{all_by}
 use Rattle.diag_world.proofs.Placing.{steps_push, placed_quiet, placed_push}
 
@@ -29,15 +29,6 @@ use Rattle.diag_world.proofs.Placing.{steps_push, placed_quiet, placed_push}
 pub no_ticks : TimeLaw → (E : List Event) (n : ℕ) → n ≡ 0 → moments E ≡ moments (E ++ Ticks n ∷ [])
 no_ticks law E n h =
     sym (append-nil (moments E)) ∙ (ap (λ k. moments E ++ (replicate k (Ticks 1) ++ [])) (sym h) ∙ sym (law.append E (Ticks n ∷ [])))
-
--- an event that gives nothing is a frame, and takes no time
-quiet_frame : (s : LinkSetup) (E : List Event) (e : Event) → GivesLaw s E → gives s E e ≡ None → IsTrue (is_frame e)
-quiet_frame s E (Physical bytes) law none = refl
-quiet_frame s E (Functional bytes) law none = refl
-quiet_frame s E (Ticks n) law none = absurd (clash (sym (law.ticks n) ∙ none))
-  where
-    clash : Some (step.Ticks n) ≡ None → ⊥
-    clash h = cc
 
 -- where an event gives nothing, the port goes on with the same entries
 goes_on_quiet : (s : LinkSetup) (who : ℕ) (E : List Event) (K : List Entry) (e : Event) (reply : Option (List ℕ)) (link link' : LinkState) (more : List Sent)
@@ -76,49 +67,95 @@ goes_on_step s E K e k link link' more h some sent =
     )
 
 -- the port goes on with the entry that the event makes
-pub goes_on : (s : LinkSetup) (who : ℕ) (E : List Event) (K : List Entry) (e : Event) (reply : Option (List ℕ)) (link link' : LinkState)
+goes_on : (s : LinkSetup) (who : ℕ) (E : List Event) (K : List Entry) (e : Event) (reply : Option (List ℕ)) (link link' : LinkState)
     (more : List Sent) (o : Option Step)
     → PortStands s link E K → gives s E e ≡ o → (o ≡ None → reply ≡ None)
     → HandedOut s link' (E ++ e ∷ []) (placed s E (replies K) ++ placed_at (last_moment (E ++ e ∷ [])) reply) (drawn s E (replies K) ++ more)
-    → PortStands s link' (E ++ e ∷ []) (K ++ entries_of who o reply)
-    × (drawn s (E ++ e ∷ []) (replies (K ++ entries_of who o reply)) ≡ drawn s E (replies K) ++ more)
+    → PortStands s link' (E ++ e ∷ []) (K ++ option_to_list (entry_of who o reply))
+    × (drawn s (E ++ e ∷ []) (replies (K ++ option_to_list (entry_of who o reply))) ≡ drawn s E (replies K) ++ more)
 goes_on s who E K e reply link link' more None h is quiet sent = goes_on_quiet s who E K e reply link link' more h is (quiet refl) sent
 goes_on s who E K e reply link link' more (Some step) h is quiet sent = goes_on_step s E K e (entry who step reply) link link' more h is sent
 
--- the port goes on
-pub port_took : (s : LinkSetup) (who : ℕ) (E : List Event) (K : List Entry) (e : Event) (reply : Option (List ℕ)) (link link' : LinkState) (more : List Sent)
-    → PortStands s link E K → (gives s E e ≡ None → reply ≡ None)
-    → HandedOut s link' (E ++ e ∷ []) (placed s E (replies K) ++ placed_at (last_moment (E ++ e ∷ [])) reply) (drawn s E (replies K) ++ more)
-    → PortTook s who E K e reply link' more
-port_took s who E K e reply link link' more h quiet sent =
-    let done = goes_on s who E K e reply link link' more (gives s E e) h refl quiet sent in
-    record { stands = done.0; grown = done.1 }
+entry_step : (who : ℕ) (o : Option Step) (reply : Option (List ℕ)) → option_map (λ k. k.step) (entry_of who o reply) ≡ o
+entry_step who None reply = refl
+entry_step who (Some x) reply = refl
 
--- the channel goes on with the entry of the step that the event gives, if any
-pub went_on : (who : ℕ) (old new : ChannelState) (e : Event) (o : Option Step) (reply : Option (List ℕ))
-    → EachChannelRun old (λ s E K. o ≡ gives s E e) → (o ≡ None → reply ≡ None)
-    → EachChannelRun old (λ s E K. length K ≤ 1000000 → (gives s E e ≡ None → reply ≡ None)
-    → ChannelStands s new (E ++ e ∷ []) (K ++ entries_of who (gives s E e) reply))
-    → GoesOn who old new e (entries_of who o reply)
-went_on who old new e o reply is none took = λ s E K h few.
-    let same = is s E K h in (
-      asks o ∙ ap (λ x. all_by who (option_to_list x)) same,
-      subst (λ x. ChannelStands s new (E ++ e ∷ []) (K ++ entries_of who x reply)) (sym same) (took s E K h few (λ n. none (same ∙ n))),
-    )
-  where
-    asks : (o : Option Step) → asked_by (entries_of who o reply) ≡ all_by who (option_to_list o)
-    asks None = refl
-    asks (Some x) = refl
+entry_by : (who : ℕ) (o : Option Step) (reply : Option (List ℕ)) → IfSome (entry_of who o reply) (λ k. k.who ≡ who)
+entry_by who None reply = tt
+entry_by who (Some x) reply = refl
+
+frame_is_no_tick : (e : Event) → IsTrue (is_frame e) → IsTrue (is_tick e) → ⊥
+frame_is_no_tick (Physical bytes) frame tick = cc
+frame_is_no_tick (Functional bytes) frame tick = cc
+frame_is_no_tick (Ticks n) frame tick = cc
+
+frame_time : (now : ℕ) (e : Event) → IsTrue (is_frame e) → time_after now e ≡ now
+frame_time now (Physical bytes) frame = refl
+frame_time now (Functional bytes) frame = refl
+frame_time now (Ticks n) frame = cc
+
+-- a frame that was read is taken with the reply to the step that it gives
+pub frame_took : (old new : LinkState) (who : ℕ) (e : Event) (o : Option Step) (reply : Option (List ℕ)) (more : List Sent)
+    → IsTrue (is_frame e) → EachHistory old (λ s E A Q. o ≡ gives s E e) → (o ≡ None → reply ≡ None)
+    → new.now ≡ old.now → AreWithin old.now new.now more
+    → ((s : LinkSetup) (E : List Event) (A : List Placed) (Q : List Sent) → StandsFor s old E A Q → last_time (E ++ e ∷ []) ≤ last_tick
+    → HandedOut s new (E ++ e ∷ []) (A ++ placed_at (last_moment (E ++ e ∷ [])) reply) (Q ++ more))
+    → PortTook old new who e (entry_of who o reply) more
+frame_took old new who e o reply more frame step quiet time within sent = record {
+  ticks = λ tick. absurd (frame_is_no_tick e frame tick);
+  step = λ s E A Q h. entry_step who o reply ∙ step s E A Q h;
+  by = entry_by who o reply;
+  time = time ∙ sym (frame_time old.now e frame);
+  most = omega (arith, time);
+  short = λ E. omega (arith, last_time-frame E e frame);
+  within = within;
+  stands = λ s E K h in_time.
+      goes_on s who E K e reply old new more o h (sym (step s E _ _ h.stands)) quiet (sent s E (placed s E (replies K)) (drawn s E (replies K)) h.stands in_time);
+}
+
+-- what the entry asks is what the event gives
+pub asked_gives : (who : ℕ) (o : Option Step) (asked : Option Entry) → option_map (λ k. k.step) asked ≡ o → IfSome asked (λ k. k.who ≡ who)
+    → asked_by (option_to_list asked) ≡ all_by who (option_to_list o)
+asked_gives who o None h same = ap (λ x. all_by who (option_to_list x)) h
+asked_gives who o (Some k) h same = ap (λ w. (w, k.step) ∷ []) same ∙ ap (λ x. all_by who (option_to_list x)) h
 
 -- time goes on with the entries: an event that gives no step is a frame, and one that gives a step takes at most 60000
-pub time_goes_on : (s : LinkSetup) (who : ℕ) (E : List Event) (K : List Entry) (e : Event) (reply : Option (List ℕ)) (o : Option Step)
-    → TimeLaw → GivesLaw s E → gives s E e ≡ o → last_time E ≤ 60000 * length K → last_time (E ++ e ∷ []) ≤ last_time E + 60000
-    → last_time (E ++ e ∷ []) ≤ 60000 * length (K ++ entries_of who o reply)
-time_goes_on s who E K e reply None law gives_law none time most =
-    let still = law.frame E e (quiet_frame s E e gives_law none) in
-    omega (arith, time, still, ap length (append-nil K))
-time_goes_on s who E K e reply (Some step) law gives_law some time most =
-    omega (arith, time, most, length-append K (entry who step reply ∷ []))
+time_goes_on : (E : List Event) (K : List Entry) (e : Event) (asked : Option Entry) → (IsTrue (is_tick e) → IsSome asked)
+    → last_time E ≤ 60000 * length K → last_time (E ++ e ∷ []) ≤ last_time E + 60000
+    → last_time (E ++ e ∷ []) ≤ 60000 * length (K ++ option_to_list asked)
+time_goes_on E K e (Some k) ticks time most = omega (arith, time, most, length-append K (k ∷ []))
+time_goes_on E K (Physical bytes) None ticks time most = omega (arith, time, last_time-frame E (Physical bytes) refl, ap length (append-nil K))
+time_goes_on E K (Functional bytes) None ticks time most = omega (arith, time, last_time-frame E (Functional bytes) refl, ap length (append-nil K))
+time_goes_on E K (Ticks n) None ticks time most = absurd (clash (ticks refl))
+  where
+    clash : IsSome {T = Entry} None → ⊥
+    clash h = cc
+
+pub port_of : (s : LinkSetup) (channel : ChannelState) (E : List Event) (K : List Entry) → ChannelStands s channel E K → PortStands s channel.link E K
+port_of s channel E K h = record {
+  stands =
+      subst (λ (Q : List Sent). StandsFor s channel.link E (placed s E (replies K)) Q) h.all_sent h.stands;
+  asks = h.asks;
+}
+
+-- a channel goes on as its link took the event
+pub channel_goes_on : (old new : ChannelState) (who : ℕ) (e : Event) (asked : Option Entry) (more : List Sent)
+    → PortTook old.link new.link who e asked more → new.sent ≡ old.sent ++ more
+    → GoesOn who old new e (option_to_list asked)
+channel_goes_on old new who e asked more took grown = λ s E K h few.
+    let E' = E ++ e ∷ [] in
+    let K' = K ++ option_to_list asked in
+    let in_time : last_time E' ≤ last_tick = omega (arith, h.time, few, took.short E) in
+    let done = took.stands s E K (port_of s old E K h) in_time in
+    let all = grown ∙ (ap (λ w. w ++ more) h.all_sent ∙ sym done.1) in (
+      asked_gives who (gives s E e) asked (took.step s E _ _ h.stands) took.by,
+      record {
+        stands = subst (λ (Q : List Sent). StandsFor s new.link E' (placed s E' (replies K')) Q) (sym all) done.0.stands;
+        all_sent = all;
+        asks = done.0.asks;
+        time = time_goes_on E K e asked took.ticks h.time (took.short E);
+      },
+    )
 
 pub none_of : {X : Type 0} (o : Option X) → ((x : X) → o ≡ Some x → ⊥) → o ≡ None
 none_of None h = refl

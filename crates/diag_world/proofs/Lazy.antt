@@ -17,7 +17,6 @@ use Rattle.diag_tp.specs.State.{LinkState, LinkView}
 use Rattle.diag_sides.specs.declared.sending.Phase.{Phase}
 use Rattle.diag_sides.specs.declared.sending.Phase.TheVariants.{AwaitsFlow, InBlock}
 use Rattle.diag_sides.specs.declared.sending.Sending.{Sending}
-use Rattle.diag_tp.proofs.Given.{gives_ticks}
 use Rattle.diag_tp.proofs.Silence.{current_none, due_later, quiet_drained, quiet_left, reception_none, reception_still, current_still, same_link, stands_ticks}
 use Rattle.diag_ecu.specs.Elapse.{elapse_each}
 use Rattle.diag_ecu.specs.State.{State}
@@ -25,10 +24,11 @@ use Rattle.diag_ecu.proofs.TickLemmas.{one_more}
 use Rattle.diag_world.specs.Lazy.{AreLazy, IsLazy, caught_up}
 use Rattle.diag_desk.specs.declared.entry.Entry.{Entry}
 use Rattle.diag_world.specs.Port.{time_after}
-use Rattle.diag_world.specs.Server.{AreEarly, LinkTook, TookNothing, ServerView, Waited, closing_time, entry_of_ticks, quiet_of, server_of, state_at}
+use Rattle.diag_world.specs.Port.{entry_of_ticks}
+use Rattle.diag_world.specs.Server.{AreEarly, LinkTook, TookNothing, ServerView, Waited, closing_time, quiet_of, server_of, state_at}
 use Rattle.diag_world.specs.declared.lazy_link.LazyLink.{LazyLink}
-use Rattle.diag_world.proofs.Serving.{server_settles}
-use Rattle.diag_world.proofs.Ticking.{passed_quiet, ticks_settled}
+use Rattle.diag_world.proofs.Serving.{server_went}
+use Rattle.diag_world.proofs.Ticking.{passed_quiet, ticks_took}
 use Rattle.diag_world.proofs.Waiting.{quiet_each, waited_more, waited_none}
 use Rattle.diag_world.proofs.Worlds.{map_cases, set_cases}
 
@@ -182,9 +182,13 @@ waited_first ecu count links some most h (suc n) within =
     let passed = passed_quiet link.state link'.state count (λ s E A Q stands. stands_later s link.state E A Q count some few none stands)
     (later_drained count link.state none) in
     let all = waited_more (state_at ecu links) (server_of before) (server_of next) n (suc n) count one (waited_first ecu count links some most h n (omega arith))
-    (server_settles before next (suc n) n (Ticks count) (Some (entry_of_ticks (suc n) count)) link link' [] one here (next_later count n links link found.1)
-    (sym (one_more ecu n (suc n) (suc n) count one one)) (λ tick. refl) (λ s E A Q h. sym (gives_ticks s E count)) refl refl
-    (ticks_settled link link' (suc n) count [] most (h.early n link.state at_first) (later_now count link.state) passed)) in
+    (server_went before next (suc n) n (Ticks count) (Some (entry_of_ticks (suc n) count)) link link' [] one here (next_later count n links link found.1)
+    (record {
+      early = h.early n link.state at_first;
+      answer = refl;
+      goes_on = sym (one_more ecu n (suc n) (suc n) count one one);
+      took = ticks_took link.state link'.state (suc n) count [] most (later_now count link.state) passed;
+    })) in
     subst (λ m. Waited (state_at ecu links) (server_of next) m count) (sym one) all
   where
     item_at : (xs : List LinkView) (i : ℕ) → i < length xs → (x : LinkView) × (slice_get xs i ≡ Some x)
@@ -264,16 +268,16 @@ told_on now (Physical bytes) told = omega arith
 told_on now (Functional bytes) told = omega arith
 
 -- its clock doesn't go back, and nothing is due at it
-pub told_after : {X U V : Type 0} (keeps : X → ℕ → Entry → X → Type 0) (unkept : X → X → Type 0) (ecu ecu' : State) (old new : LinkView) (keeper keeper' : X) (who : ℕ) (e : Event)
-    (out out' : List Sent) (r : Result U V) → old.state.now ≤ last_tick → pending old.state ≡ 0
+pub told_after : {X U V : Type 0} (keeps : X → ℕ → Entry → X → Type 0) (unkept : X → X → Type 0) (ecu ecu' : State) (old new : LinkState) (keeper keeper' : X) (who : ℕ) (e : Event)
+    (out out' : List Sent) (r : Result U V) → old.now ≤ last_tick → pending old ≡ 0
     → OnOk r (LinkTook keeps ecu ecu' old new keeper keeper' who e out out') → OnErr r (TookNothing unkept ecu ecu' old new keeper keeper' out out')
-    → (old.state.now ≤ new.state.now) × (new.state.now ≤ last_tick) × (pending new.state ≡ 0)
+    → (old.now ≤ new.now) × (new.now ≤ last_tick) × (pending new ≡ 0)
 told_after keeps unkept ecu ecu' old new keeper keeper' who e out out' (Ok x) told drained took err =
     let went = took.sent.holds in
-    let on = told_on old.state.now e told in
-    (omega (arith, on, went.settled.time), omega (arith, went.early, went.settled.most), took.drained)
+    let on = told_on old.now e told in
+    (omega (arith, on, went.took.time), omega (arith, went.early, went.took.most), took.drained)
 told_after keeps unkept ecu ecu' old new keeper keeper' who e out out' (Err y) told drained took err =
-    let same : new.state.now ≡ old.state.now = ap (λ (l : LinkState). l.now) err.0 in
+    let same : new.now ≡ old.now = ap (λ (l : LinkState). l.now) err.0 in
     (omega (arith, same), omega (arith, same, told), ap pending err.0 ∙ drained)
 
 -- what the server is seen to be then

@@ -8,14 +8,13 @@ use Rattle.diag_can.specs.declared.frame.Event.{Event}
 use Rattle.diag_can.specs.declared.frame.Event.TheVariants.{Physical, Functional, Ticks}
 use Rattle.diag_pdu.specs.declared.setup.LinkSetup.{LinkSetup}
 use Rattle.diag_tp.specs.declared.sent.Sent.{Sent}
-use Rattle.diag_pdu.specs.declared.step.Step.{Step}
 use Rattle.diag_tp.specs.Moments.{is_tick, last_time}
 use Rattle.diag_tp.specs.Wire.{stamped}
 use Rattle.diag_pdu.proofs.Lists.{length-zero}
 use Rattle.diag_tp.specs.Gives.{gives}
 use Rattle.diag_tp.specs.Placing.{drawn}
 use Rattle.diag_tp.specs.State.{LinkState, LinkView, due}
-use Rattle.diag_tp.specs.Link.{EachHistory, StandsFor, last_tick, pending}
+use Rattle.diag_tp.specs.Link.{StandsFor, last_tick, pending}
 use Rattle.diag_setup.specs.Setup.{link_of}
 use Rattle.diag_setup.specs.declared.raw.RawSetup.{RawSetup}
 use Rattle.diag_ecu.specs.State.{State, opening}
@@ -23,17 +22,12 @@ use Rattle.diag_desk.specs.declared.entry.Entry.{Entry}
 use Rattle.diag_desk.specs.Entries.{asked_by, own, replies}
 use Rattle.diag_desk.specs.Legal.{Legal, after, reply_to}
 use Rattle.diag_desk.proofs.Runs.{legal_more, after_more}
-use Rattle.diag_world.specs.Port.{AreWithin, PortStands, PortTook, entries_of, time_after}
-use Rattle.diag_world.specs.Server.{PortSettled, PortWent, ServerState, ServerView, answer_to, closing_time, entry_of, server_of, sent_to, went_to, Serves, Served, Settled}
+use Rattle.diag_world.specs.Port.{PortStands, time_after}
+use Rattle.diag_world.specs.Server.{PortWent, ServerState, ServerView, server_of, sent_to, Serves, Served, Settled}
 use Rattle.diag_world.specs.Weaving.{items_of, all_by}
+use Rattle.diag_world.proofs.Channels.{asked_gives}
 use Rattle.diag_world.proofs.Weaves.{steps_of_after-append}
 use Rattle.diag_world.proofs.Worlds.{set_cases, own-append, own_mine, own_none, items_mine, items_other, other_place}
-
--- what the entry asks is what the event gives
-pub asked_gives : (who : ℕ) (o : Option Step) (asked : Option Entry) → option_map (λ k. k.step) asked ≡ o → IfSome asked (λ k. k.who ≡ who)
-    → asked_by (option_to_list asked) ≡ all_by who (option_to_list o)
-asked_gives who o None h same = ap (λ x. all_by who (option_to_list x)) h
-asked_gives who o (Some k) h same = ap (λ w. (w, k.step) ∷ []) same ∙ ap (λ x. all_by who (option_to_list x)) h
 
 pub legal_asked : (s now : State) (K : List Entry) (asked : Option Entry) → Legal s K → now ≡ after s K
     → IfSome asked (λ k. k.reply ≡ reply_to now k.who k.step) → Legal s (K ++ option_to_list asked)
@@ -124,121 +118,33 @@ paced (Ticks n) None now next time most ticks = absurd (clash None refl (ticks r
     clash None is h = cc
     clash (Some k) is h = cc
 
--- a server settles an event as the link of the tester does
-pub server_settles : (old new : ServerView) (who i : ℕ) (e : Event) (asked : Option Entry) (link link' : LinkView) (more : List Sent)
-    → who ≡ i + 1 → slice_get old.links i ≡ Some link → new.links ≡ slice_set old.links i link' → new.ecu ≡ after old.ecu (option_to_list asked)
-    → (IsTrue (is_tick e) → IsSome asked) → EachHistory link.state (λ s E A Q. option_map (λ k. k.step) asked ≡ gives s E e)
-    → IfSome asked (λ k. k.who ≡ who) → IfSome asked (λ k. k.reply ≡ reply_to old.ecu k.who k.step)
-    → PortSettled link link' who e asked more
+-- a server settles an event as the link of the tester took it
+pub server_went : (old new : ServerView) (who i : ℕ) (e : Event) (asked : Option Entry) (link link' : LinkView) (more : List Sent)
+    → who ≡ i + 1 → slice_get old.links i ≡ Some link → new.links ≡ slice_set old.links i link'
+    → PortWent old.ecu new.ecu link.state link'.state who e asked more
     → Settled (server_of old) (server_of new) who e asked more
-server_settles old new who i e asked link link' more is found links ecu ticks step by reply took =
+server_went old new who i e asked link link' more is found links went =
+    let took = went.took in
     let state = λ (l : LinkView). l.state in
     let place : i ≡ who - 1 = omega (arith, is) in
     let written : (server_of new).links ≡ slice_set (server_of old).links i link'.state = ap (map state) links ∙ map-set state old.links i link' in
     record {
-      answer = reply;
-      ecu = ecu;
+      answer = went.answer;
+      ecu = went.goes_on;
       moved = record {
         before = link.state;
         after = link'.state;
         found = subst (λ k. slice_get (server_of old).links k ≡ Some link.state) place (slice_get-map state old.links i ∙ ap (option_map state) found);
         set = subst (λ k. (server_of new).links ≡ slice_set (server_of old).links k link'.state) place written;
         time = took.time;
-        pace = paced e asked link.state.now link'.state.now took.time took.most ticks;
+        pace = paced e asked link.state.now link'.state.now took.time took.most took.ticks;
         within = took.within;
       };
       served = λ setup M K h.
           let port = port_at setup old M K who i link h is found in
-          server_takes setup (server_of old) (server_of new) M K who e asked i link'.state more h is written ecu
-          (step (link_of setup who) (items_of M who) _ _ port.stands) by reply
-          (took.stands (link_of setup who) (items_of M who) (own K who) port);
+          let E = items_of M who in
+          let in_time : last_time (E ++ e ∷ []) ≤ last_tick = omega (arith, took.short E, port.stands.now, went.early) in
+          server_takes setup (server_of old) (server_of new) M K who e asked i link'.state more h is written went.goes_on
+          (took.step (link_of setup who) E _ _ port.stands) took.by went.answer
+          (took.stands (link_of setup who) E (own K who) port in_time);
     }
-
--- ---- what a link has read: its step, and the entry of that
-
-pub entry_step : (who : ℕ) (o : Option Step) (reply : Option (List ℕ)) → option_map (λ k. k.step) (entry_of who o reply) ≡ o
-entry_step who None reply = refl
-entry_step who (Some x) reply = refl
-
-entry_list : (who : ℕ) (o : Option Step) (reply : Option (List ℕ)) → entries_of who o reply ≡ option_to_list (entry_of who o reply)
-entry_list who None reply = refl
-entry_list who (Some x) reply = refl
-
-entry_by : (who : ℕ) (o : Option Step) (reply : Option (List ℕ)) → IfSome (entry_of who o reply) (λ k. k.who ≡ who)
-entry_by who None reply = tt
-entry_by who (Some x) reply = refl
-
-entry_answer : (ecu : State) (who : ℕ) (o : Option Step) (reply : Option (List ℕ)) → reply ≡ answer_to ecu who o
-    → IfSome (entry_of who o reply) (λ k. k.reply ≡ reply_to ecu k.who k.step)
-entry_answer ecu who None reply h = tt
-entry_answer ecu who (Some x) reply h = h
-
-entry_some : (who : ℕ) (o : Option Step) (reply : Option (List ℕ)) → IsSome o → IsSome (entry_of who o reply)
-entry_some who None reply h = cc
-entry_some who (Some x) reply h = refl
-
-entry_after : (ecu : State) (who : ℕ) (o : Option Step) (reply : Option (List ℕ)) → went_to ecu who o ≡ after ecu (option_to_list (entry_of who o reply))
-entry_after ecu who None reply = refl
-entry_after ecu who (Some x) reply = refl
-
-no_answer : (ecu : State) (who : ℕ) (o : Option Step) (reply : Option (List ℕ)) → reply ≡ answer_to ecu who o → o ≡ None → reply ≡ None
-no_answer ecu who o reply h none = h ∙ ap (answer_to ecu who) none
-
--- a link took an event that it had read, with the ECU's answer to its step
-pub port_went : (ecu ecu' : State) (old new : LinkView) (who : ℕ) (e : Event) (o : Option Step) (reply : Option (List ℕ)) (more : List Sent)
-    → EachHistory old.state (λ s E A Q. o ≡ gives s E e) → (IsTrue (is_tick e) → IsSome o) → old.state.now ≤ closing_time
-    → reply ≡ answer_to ecu who o → ecu' ≡ went_to ecu who o
-    → new.state.now ≡ time_after old.state.now e → new.state.now ≤ old.state.now + 60000 → AreWithin old.state.now new.state.now more
-    → ((E : List Event) → last_time (E ++ e ∷ []) ≤ last_time E + 60000)
-    → ((s : LinkSetup) (who : ℕ) (E : List Event) (K : List Entry) → PortStands s old.state E K → last_time (E ++ e ∷ []) ≤ last_tick
-    → (gives s E e ≡ None → reply ≡ None) → PortTook s who E K e reply new.state more)
-    → PortWent ecu ecu' old new who e (entry_of who o reply) more
-port_went ecu ecu' old new who e o reply more step ticks early answer went time most within short took = record {
-  early = early;
-  ticks = λ h. entry_some who o reply (ticks h);
-  step = λ s E A Q h. entry_step who o reply ∙ step s E A Q h;
-  by = entry_by who o reply;
-  answer = entry_answer ecu who o reply answer;
-  goes_on = went ∙ entry_after ecu who o reply;
-  settled = record {
-    time = time;
-    most = most;
-    within = within;
-    stands = λ s E K h.
-        let in_time : last_time (E ++ e ∷ []) ≤ last_tick = omega (arith, short E, h.stands.now, early) in
-        let same = step s E _ _ h.stands in
-        let done = took s who E K h in_time (λ none. no_answer ecu who o reply answer (same ∙ none)) in
-        let list : entries_of who (gives s E e) reply ≡ option_to_list (entry_of who o reply) =
-        ap (λ x. entries_of who x reply) (sym same) ∙ entry_list who o reply in
-        subst (λ L. PortStands s new.state (E ++ e ∷ []) (K ++ L) × (drawn s (E ++ e ∷ []) (replies (K ++ L)) ≡ drawn s E (replies K) ++ more)) list
-        (done.stands, done.grown);
-  };
-}
-
--- the same from a link that stands for the same, whatever room it has
-pub went_from : (ecu ecu' : State) (start old new : LinkView) (who : ℕ) (e : Event) (asked : Option Entry) (more : List Sent) → old.state ≡ start.state
-    → PortWent ecu ecu' old new who e asked more → PortWent ecu ecu' start new who e asked more
-went_from ecu ecu' start old new who e asked more same h = record {
-  early = subst (λ (S : LinkState). S.now ≤ closing_time) same h.early;
-  ticks = h.ticks;
-  step = subst (λ S. EachHistory S (λ s E A Q. option_map (λ k. k.step) asked ≡ gives s E e)) same h.step;
-  by = h.by;
-  answer = h.answer;
-  goes_on = h.goes_on;
-  settled = record {
-    time = subst (λ (S : LinkState). new.state.now ≡ time_after S.now e) same h.settled.time;
-    most = subst (λ (S : LinkState). new.state.now ≤ S.now + 60000) same h.settled.most;
-    within = subst (λ (S : LinkState). AreWithin S.now new.state.now more) same h.settled.within;
-    stands = subst (λ S. (s : LinkSetup) (E : List Event) (K : List Entry) → PortStands s S E K
-        → PortStands s new.state (E ++ e ∷ []) (K ++ option_to_list asked)
-        × (drawn s (E ++ e ∷ []) (replies (K ++ option_to_list asked)) ≡ drawn s E (replies K) ++ more)) same h.settled.stands;
-  };
-}
-
--- a server goes on as the link of the tester did
-pub server_went : (old new : ServerView) (who i : ℕ) (e : Event) (asked : Option Entry) (link link' : LinkView) (more : List Sent)
-    → who ≡ i + 1 → slice_get old.links i ≡ Some link → new.links ≡ slice_set old.links i link'
-    → PortWent old.ecu new.ecu link link' who e asked more
-    → Settled (server_of old) (server_of new) who e asked more
-server_went old new who i e asked link link' more is found links h =
-    server_settles old new who i e asked link link' more is found links h.goes_on h.ticks h.step h.by h.answer h.settled

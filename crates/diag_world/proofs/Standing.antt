@@ -1,32 +1,30 @@
 -- How a world goes on with one event more.
-use Rattle.std.proofs.Common.{◌≡◌, ◌≤◌, ◌<◌, ℕ, get_or, set, ◌+◌, ◌*◌, Bool, true, false, cond, Some, List, [], ◌∷◌, ◌++◌, length, map, refl, ap, ap₂, subst, sym, ◌∙◌, arith, inl, inr}
+use Rattle.std.proofs.Common.{◌≡◌, ◌≤◌, ◌<◌, ℕ, get_or, set, ◌+◌, ◌*◌, Bool, true, false, cond, Option, Some, None, List, [], ◌∷◌, ◌++◌, length, map, refl, ap, ap₂, subst, sym, ◌∙◌, arith, inl, inr}
 use Rattle.std.proofs.Math.Seq.{map-set_same}
-use Rattle.std.proofs.lemmas.List.{length-map, length-set, map-set}
+use Rattle.std.proofs.lemmas.List.{append-nil, length-map, length-set, map-set}
 use Rattle.std.proofs.lemmas.List.Filters.{length-filter_both}
 use Rattle.std.proofs.lemmas.Option.{slice_get-map, slice_get_read}
 use Rattle.std.specs.Prelude.{◌==◌, not, slice_get}
-use Rattle.std.specs.Option.{option_map}
+use Rattle.std.specs.Option.{option_map, option_to_list}
 use Rattle.diag_can.specs.declared.frame.Event.{Event}
 use Rattle.diag_tp.specs.declared.sent.Sent.{Sent}
-use Rattle.diag_pdu.specs.declared.setup.LinkSetup.{LinkSetup}
-use Rattle.diag_tp.specs.Link.{StandsFor}
-use Rattle.diag_tp.specs.Placing.{placed}
 use Rattle.diag_tp.specs.State.{LinkState}
 use Rattle.diag_setup.specs.declared.raw.RawSetup.{RawSetup}
 use Rattle.diag_setup.specs.Setup.{link_of}
 use Rattle.diag_ecu.specs.State.{opening}
 use Rattle.diag_desk.specs.declared.entry.Entry.{Entry}
-use Rattle.diag_desk.specs.Entries.{own, replies}
+use Rattle.diag_desk.specs.Entries.{own}
 use Rattle.diag_desk.specs.Entry.{AreEntries, IsJournal}
-use Rattle.diag_desk.specs.Legal.{Legal, Run, after}
+use Rattle.diag_desk.specs.Legal.{Legal, Run, after, entered}
 use Rattle.diag_desk.specs.Text.{ticks_in, ticks_of}
 use Rattle.diag_desk.proofs.ClockLemmas.{ticks_bound}
 use Rattle.diag_world.specs.declared.channel.Channel.{Channel}
-use Rattle.diag_world.specs.Channel.{ChannelStands, ChannelState, channel_of}
-use Rattle.diag_world.specs.Port.{PortStands}
+use Rattle.diag_world.specs.Channel.{ChannelStands, ChannelState, ChannelTook, channel_of}
+use Rattle.diag_world.specs.Port.{HasKept}
 use Rattle.diag_world.specs.Server.{sent_to}
 use Rattle.diag_world.specs.Weaving.{items_of}
 use Rattle.diag_world.specs.World.{Stands, Took, WorldState, world_of}
+use Rattle.diag_world.proofs.Channels.{port_of}
 use Rattle.diag_world.proofs.Serving.{own_more, sent_other, serves_more}
 use Rattle.diag_world.proofs.Times.{ticks_of_run}
 use Rattle.diag_world.proofs.Worlds.{items_mine, map_cases, other_place, set_cases}
@@ -46,13 +44,6 @@ link channel = channel.link
 abbrev sent : ChannelState → List Sent
 sent channel = channel.sent
 
-port_of : (s : LinkSetup) (channel : ChannelState) (E : List Event) (K : List Entry) → ChannelStands s channel E K → PortStands s channel.link E K
-port_of s channel E K h = record {
-  stands =
-      subst (λ (Q : List Sent). StandsFor s channel.link E (placed s E (replies K)) Q) h.all_sent h.stands;
-  asks = h.asks;
-}
-
 -- the world in which nothing has happened
 pub stands_begin : (setup : RawSetup) (channels : List ChannelState) → length channels ≡ length setup.testers
     → ((i : ℕ) (channel : ChannelState) → slice_get channels i ≡ Some channel → ChannelStands (link_of setup (i + 1)) channel [] [])
@@ -69,6 +60,22 @@ stands_begin setup channels many all = record {
   testers = length-map channels sent ∙ many;
   frames = λ i frames at. let c = map_cases sent channels i frames at in c.2 ∙ (all i c.0 c.1).all_sent;
 }
+
+-- a desk that took the step of a channel's event has its entry more
+pub desk_took : (old new : Run) (who : ℕ) (e : Event) (channel channel' : ChannelState)
+    → ChannelTook (λ (a : Run) now k b. b ≡ entered a k) channel channel' old new who e → Legal new.opening new.journal
+    → Took old new who e channel channel'
+desk_took old new who e channel channel' took legal = record {
+  entries = option_to_list took.asked;
+  grown = grown took.asked took.kept;
+  legal = legal;
+  goes_on = took.goes_on;
+}
+  where
+    grown : (asked : Option Entry) → HasKept (λ (a : Run) now k b. b ≡ entered a k) old new channel.link.now asked
+        → new ≡ record { opening = old.opening; journal = old.journal ++ option_to_list asked }
+    grown None same = same ∙ sym (ap (λ J. record { opening = old.opening; journal = J }) (append-nil old.journal))
+    grown (Some k) is = is
 
 -- a tester's channel, in a world
 module _ (desk : Run) (items : List Channel) (i : ℕ) {w : WorldState} {who : ℕ} {channel : Channel} (seen : world_of desk (map channel_of items) ≡ w)

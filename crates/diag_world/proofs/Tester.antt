@@ -13,8 +13,8 @@ use Rattle.diag_setup.specs.Setup.{link_of}
 use Rattle.diag_ecu.specs.State.{State}
 use Rattle.diag_desk.specs.declared.entry.Entry.{Entry}
 use Rattle.diag_desk.specs.Entries.{own}
-use Rattle.diag_world.specs.Port.{PortStands}
-use Rattle.diag_world.specs.Server.{EachRun, HasKept, IsClosed, LinkTook, PortWent, ServerState, ServerTook, ServerView, Settled, closing_time, server_of, state_at}
+use Rattle.diag_world.specs.Port.{HasKept, PortStands}
+use Rattle.diag_world.specs.Server.{EachRun, IsClosed, LinkTook, PortWent, ServerState, ServerTook, ServerView, Settled, closing_time, server_of, state_at}
 use Rattle.diag_world.specs.Weaving.{items_of}
 use Rattle.diag_world.proofs.Serving.{port_at, server_went}
 use Rattle.diag_world.specs.Lazy.{caught_up}
@@ -97,7 +97,7 @@ module _ {ecu : State} {links : List LinkView} {now : ServerView} {who i : ℕ} 
       ap₂ (λ ecu (ls : List LinkState). (let s : ServerState = record { ecu = ecu; links = ls } in s)) still kept ∙ ap server_of here.seen
 
   -- the server settled an event as the link took it
-  settled_here : (ecu' : State) (link' : LinkView) (e : Event) (asked : Option Entry) (more : List Sent) → PortWent ecu ecu' link link' who e asked more
+  settled_here : (ecu' : State) (link' : LinkView) (e : Event) (asked : Option Entry) (more : List Sent) → PortWent ecu ecu' link.state link'.state who e asked more
       → Settled (server_of now) (state_at ecu' (slice_set links i link')) who e asked more
   settled_here ecu' link' e asked more went =
       let next = view_of ecu' (slice_set links i link') in
@@ -106,7 +106,7 @@ module _ {ecu : State} {links : List LinkView} {now : ServerView} {who i : ℕ} 
 
   -- and took it for a keeper
   pub took_here : {X : Type 0} (keeps : X → ℕ → Entry → X → Type 0) (keeper keeper' : X) (ecu' : State) (link' : LinkView) (e : Event) (out out' : List Sent)
-      → LinkTook keeps ecu ecu' link link' keeper keeper' who e out out'
+      → LinkTook keeps ecu ecu' link.state link'.state keeper keeper' who e out out'
       → ServerTook keeps (server_of now) (state_at ecu' (slice_set links i link')) keeper keeper' who e out out'
   took_here keeps keeper keeper' ecu' link' e out out' took =
       let went = took.sent.holds in
@@ -114,7 +114,7 @@ module _ {ecu : State} {links : List LinkView} {now : ServerView} {who i : ℕ} 
       let before : link.state ≡ settled.moved.before = same_item link.state settled.moved.before _ state_there settled.moved.found in
       record {
         asked = took.asked;
-        by = went.by;
+        by = went.took.by;
         sent = record { more = took.sent.more; grown = took.sent.grown; holds = settled };
         early = subst (λ (S : LinkState). S.now ≤ closing_time) before went.early;
         kept = subst (λ (S : LinkState). HasKept keeps keeper keeper' S.now took.asked) before took.kept;

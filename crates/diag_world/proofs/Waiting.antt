@@ -10,7 +10,8 @@ use Rattle.diag_pdu.specs.Cut.{counted_from}
 use Rattle.diag_tp.specs.State.{LinkState}
 use Rattle.diag_setup.specs.declared.raw.RawSetup.{RawSetup}
 use Rattle.diag_desk.specs.declared.entry.Entry.{Entry}
-use Rattle.diag_world.specs.Server.{ServerState, Serves, Settled, Waited, each_of, entry_of_ticks, quiet_of, sent_to}
+use Rattle.diag_world.specs.Port.{entry_of_ticks}
+use Rattle.diag_world.specs.Server.{ServerState, Serves, Settled, Waited, each_of, quiet_of, sent_to}
 use Rattle.diag_world.proofs.Worlds.{set_cases}
 
 -- ---- counting on

@@ -1,20 +1,18 @@
 -- One tester's channel: its link, and the frames that it was sent.
-use Rattle.std.specs.Prelude.{◌≡◌, ℕ, ◌*◌, ◌≤◌, List, [], ◌∷◌, ◌++◌, length, Option, Some, slice_get, vec_len, vec_capacity}
+use Rattle.std.specs.Prelude.{◌≡◌, ℕ, ◌*◌, ◌≤◌, List, [], ◌∷◌, ◌++◌, length, Option, Some, slice_get}
 use Rattle.std.specs.Option.{option_to_list}
 use Rattle.diag_can.specs.declared.frame.Event.{Event}
 use Rattle.diag_pdu.specs.declared.setup.LinkSetup.{LinkSetup}
 use Rattle.diag_tp.specs.declared.sent.Sent.{Sent}
-use Rattle.diag_pdu.specs.declared.step.Step.{Step}
-use Rattle.diag_world.specs.declared.port.Prepared.{Prepared}
 use Rattle.diag_tp.specs.Gives.{gives, steps}
 use Rattle.diag_tp.specs.Moments.{last_time}
 use Rattle.diag_tp.specs.Placing.{placed, drawn}
 use Rattle.diag_tp.specs.State.{LinkState}
-use Rattle.diag_tp.specs.Link.{StandsFor, pending, waiting_count}
+use Rattle.diag_tp.specs.Link.{StandsFor, pending}
 use Rattle.diag_desk.specs.declared.entry.Entry.{Entry}
 use Rattle.diag_desk.specs.Entry.{most_entries}
 use Rattle.diag_desk.specs.Entries.{asked, asked_by, replies}
-use Rattle.diag_world.specs.Port.{HasRoomFor, step_in}
+use Rattle.diag_world.specs.Port.{HasKept}
 use Rattle.diag_world.specs.Weaving.{all_by}
 use Rattle.diag_world.specs.declared.channel.Channel.{Channel}
 
@@ -29,19 +27,6 @@ channel_of channel = record { link = channel.link.state; sent = channel.sent.ite
 -- how many frames are due now
 abbrev pub due : ChannelState → ℕ
 due channel = pending channel.link
-
--- how many replies wait
-abbrev pub waiting : ChannelState → ℕ
-waiting channel = waiting_count channel.link
-
--- room was made for the event: in the link, and for the frames that may fall due
-abbrev pub HasRoom : Channel → Event → Prepared → Type 0
-HasRoom channel e prepared =
-    HasRoomFor channel.link e prepared (vec_len channel.sent) (vec_capacity channel.sent)
-
--- the step that an event gives that was read
-abbrev pub step_of : Channel → Prepared → Option Step
-step_of channel prepared = step_in channel.link prepared
 
 -- The channel took the events E, to which the journal has the entries K: the link stands for both, all frames went out,
 -- and K asks what E gives.
@@ -65,6 +50,14 @@ GoesOn who old new e entries = EachChannelRun old (λ s E K.
     length K ≤ most_entries
     → (asked_by entries ≡ all_by who (option_to_list (gives s E e)))
     × ChannelStands s new (E ++ e ∷ []) (K ++ entries))
+
+-- A channel took a tester's event, and who takes the steps has the one that it gives; with its entry the channel went
+-- on.
+pub record ChannelTook {X : Type 0} (takes : X → ℕ → Entry → X → Type 0) (old new : ChannelState)
+    (taker taker' : X) (who : ℕ) (e : Event) : Type 0 where
+  pub asked : Option Entry
+  pub kept : HasKept takes taker taker' old.link.now asked
+  pub goes_on : GoesOn who old new e (option_to_list asked)
 
 -- no channel has a frame that is due
 abbrev pub NoneDue : List ChannelState → Type 0

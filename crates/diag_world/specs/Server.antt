@@ -1,26 +1,21 @@
 -- What a server stands for: an interleaving of the testers' events, and the journal of its run. It keeps neither.
-use Rattle.std.specs.Prelude.{◌≡◌, ◌<◌, ◌≤◌, ◌-◌, ◌^◌, ℕ, ◌+◌, ◌*◌, ◌==◌, false, min, List, [], ◌∷◌, ◌++◌, length, map, Option, Some, None, IfSome, IsSome, IsTrue, slice_get, slice_set}
-use Rattle.std.specs.Option.{option_map, option_to_list}
+use Rattle.std.specs.Prelude.{◌≡◌, ◌<◌, ◌≤◌, ◌-◌, ◌^◌, ℕ, ◌+◌, ◌*◌, ◌==◌, false, min, List, [], ◌∷◌, ◌++◌, length, map, Option, Some, IfSome, slice_get, slice_set}
+use Rattle.std.specs.Option.{option_to_list}
 use Rattle.diag_can.specs.declared.frame.Event.{Event}
 use Rattle.diag_can.specs.declared.frame.Event.TheVariants.{Ticks}
-use Rattle.diag_pdu.specs.declared.setup.LinkSetup.{LinkSetup}
 use Rattle.diag_tp.specs.declared.sent.Sent.{Sent}
-use Rattle.diag_pdu.specs.declared.step.Step.TheVariants as step
-use Rattle.diag_pdu.specs.declared.step.Step.{Step}
-use Rattle.diag_tp.specs.Gives.{gives}
 use Rattle.diag_pdu.specs.Cut.{counted_from}
-use Rattle.diag_tp.specs.Moments.{is_tick}
 use Rattle.diag_tp.specs.Placing.{drawn}
 use Rattle.diag_tp.specs.State.{LinkState, LinkView}
-use Rattle.diag_tp.specs.Link.{EachHistory, pending, quiet}
+use Rattle.diag_tp.specs.Link.{pending, quiet}
 use Rattle.diag_sides.specs.Quiet.{always}
 use Rattle.diag_setup.specs.declared.raw.RawSetup.{RawSetup}
 use Rattle.diag_setup.specs.Setup.{link_of}
 use Rattle.diag_ecu.specs.State.{State, opening}
 use Rattle.diag_desk.specs.declared.entry.Entry.{Entry}
-use Rattle.diag_desk.specs.Entries.{asked_by, entry, own, replies}
+use Rattle.diag_desk.specs.Entries.{asked_by, own, replies}
 use Rattle.diag_desk.specs.Legal.{Legal, after, after_step, reply_to}
-use Rattle.diag_world.specs.Port.{AreWithin, Grew, PortStands, time_after}
+use Rattle.diag_world.specs.Port.{AreWithin, Grew, HasKept, PortStands, PortTook, time_after}
 use Rattle.diag_world.specs.Weaving.{items_of, steps_of}
 
 -- what a contract sees of a server: the ECU, and the testers' links in order, with the room that was made in them
@@ -73,70 +68,36 @@ pub record Served (setup : RawSetup) (server : ServerState) (M : List (ℕ × Ev
 abbrev pub closing_time : ℕ
 closing_time = 2 ^ 63
 
--- the entry of a step, where there is one
-abbrev pub entry_of : ℕ → Option Step → Option (List ℕ) → Option Entry
-entry_of who None reply = None
-entry_of who (Some step) reply = Some (entry who step reply)
-
--- what the ECU answers to a step, and the state after it, where there is one
-abbrev pub answer_to : State → ℕ → Option Step → Option (List ℕ)
-answer_to ecu who None = None
-answer_to ecu who (Some step) = reply_to ecu who step
-
-abbrev pub went_to : State → ℕ → Option Step → State
-went_to ecu who None = ecu
-went_to ecu who (Some step) = after_step ecu who step
-
--- the entry of so many ticks, which have no reply
-abbrev pub entry_of_ticks : ℕ → ℕ → Entry
-entry_of_ticks who count = entry who (step.Ticks count) None
-
--- a link took an event with its entry, by which it moved on in time, and sent these frames
-pub record PortSettled (old new : LinkView) (who : ℕ) (e : Event) (asked : Option Entry)
-    (more : List Sent) : Type 0 where
-  pub time : new.state.now ≡ time_after old.state.now e
-  pub most : new.state.now ≤ old.state.now + 60000
-  pub within : AreWithin old.state.now new.state.now more
-  pub stands : (s : LinkSetup) (E : List Event) (K : List Entry) → PortStands s old.state E K
-      → PortStands s new.state (E ++ e ∷ []) (K ++ option_to_list asked)
-      × (drawn s (E ++ e ∷ []) (replies (K ++ option_to_list asked))
-      ≡ drawn s E (replies K) ++ more)
+-- the ECU answered a step, whose entry a keeper has, before which its tester's clock told this, and went on
+abbrev pub Answered : {X : Type 0} → (X → ℕ → Entry → X → Type 0) → State → State → X → X → ℕ → Entry → Type 0
+Answered keeps ecu ecu' keeper keeper' before k =
+    keeps keeper before k keeper'
+    × (k.reply ≡ reply_to ecu k.who k.step)
+    × (ecu' ≡ after_step ecu k.who k.step)
 
 -- a link took a tester's event with this entry, which it gives, and the ECU answered it
-pub record PortWent (ecu ecu' : State) (old new : LinkView) (who : ℕ) (e : Event)
+pub record PortWent (ecu ecu' : State) (old new : LinkState) (who : ℕ) (e : Event)
     (asked : Option Entry) (more : List Sent) : Type 0 where
-  pub early : old.state.now ≤ closing_time
-  pub ticks : IsTrue (is_tick e) → IsSome asked
-  pub step : EachHistory old.state (λ s E A Q. option_map (λ k. k.step) asked ≡ gives s E e)
-  pub by : IfSome asked (λ k. k.who ≡ who)
+  pub early : old.now ≤ closing_time
   pub answer : IfSome asked (λ k. k.reply ≡ reply_to ecu k.who k.step)
   pub goes_on : ecu' ≡ after ecu (option_to_list asked)
-  pub settled : PortSettled old new who e asked more
-
--- a keeper has the entry of an event more, where the event asks one, before which its tester's clock told this
-abbrev pub HasKept : {X : Type 0} → (X → ℕ → Entry → X → Type 0) → X → X → ℕ → Option Entry → Type 0
-HasKept keeps old new before None = new ≡ old
-HasKept keeps old new before (Some k) = keeps old before k new
+  pub took : PortTook old new who e asked more
 
 -- a link took a tester's event, whose entry a keeper has, and these frames were handed out behind those before: all
 -- that are due
 pub record LinkTook {X : Type 0} (keeps : X → ℕ → Entry → X → Type 0) (ecu ecu' : State)
-    (old new : LinkView) (keeper keeper' : X) (who : ℕ) (e : Event) (out out' : List Sent)
+    (old new : LinkState) (keeper keeper' : X) (who : ℕ) (e : Event) (out out' : List Sent)
     : Type 0 where
   pub asked : Option Entry
-  pub kept : HasKept keeps keeper keeper' old.state.now asked
+  pub kept : HasKept keeps keeper keeper' old.now asked
   pub sent : Grew out out' (λ more. PortWent ecu ecu' old new who e asked more)
-  pub drained : pending new.state ≡ 0
-
--- whatever a link stands for, the event gives a step
-abbrev pub GivesStep : LinkState → Event → Type 0
-GivesStep link e = EachHistory link (λ s E A Q. IsSome (gives s E e))
+  pub drained : pending new ≡ 0
 
 -- a link, the ECU and the frames that were handed out are as before, and a keeper is as a refused keep leaves it
-abbrev pub TookNothing : {X : Type 0} → (X → X → Type 0) → State → State → LinkView → LinkView → X → X
+abbrev pub TookNothing : {X : Type 0} → (X → X → Type 0) → State → State → LinkState → LinkState → X → X
     → List Sent → List Sent → Type 0
 TookNothing unkept ecu ecu' old new keeper keeper' out out' =
-    (new.state ≡ old.state) × (ecu' ≡ ecu) × (out' ≡ out) × unkept keeper keeper'
+    (new ≡ old) × (ecu' ≡ ecu) × (out' ≡ out) × unkept keeper keeper'
 
 -- The link at this place took the event, by which it moved on in time, and sent these frames; the others are as before.
 -- A clock goes on by at most 60000 with an entry, and without one not at all: ticks always ask an entry.

@@ -9,14 +9,15 @@ mod passing;
 mod port;
 mod serial_play;
 mod server;
+mod stepping;
 mod taking;
 mod world;
 
 pub use channel::Channel;
 pub use keeper::{Keeper, NoJournal, enter_step};
 pub use laws::{interleaving_law, turns_law, weaving_law};
-pub use port::Prepared;
 pub use serial_play::{Played, serial};
 pub use server::{CLOSING_TIME, Server, ServerFault};
+pub use stepping::TakeSteps;
 pub use taking::{TakeEvents, take_turns};
 pub use world::World;

@@ -1,36 +1,35 @@
-//! One event at a link: what it asks, and then what the reply makes of it.
+//! One event at a link: the step that it gives is taken, and the frames that are due are handed out.
 
 ghost use Rattle.std.specs.Prelude.{
   ◌≡◌,
   ◌+◌,
   ◌≤◌,
-  ◌<◌,
   ◌↔◌,
-  ℕ,
-  List,
-  [],
-  ◌∷◌,
-  ◌++◌,
+  Err,
   IfOk,
   IsTrue,
   IsSome,
   None,
-  option_copied,
+  OnErr,
+  OnOk,
+  Some,
   vec_len,
   vec_capacity,
+  ℕ,
 };
 ghost use Rattle.diag_can.specs.declared.frame.Event.{Event as AnEvent};
-ghost use Rattle.diag_pdu.specs.declared.setup.LinkSetup.{LinkSetup as ALinkSetup};
 ghost use Rattle.diag_tp.specs.Gives.{gives};
-ghost use Rattle.diag_tp.specs.Moments.{last_time};
-ghost use Rattle.diag_tp.specs.Link.{EachHistory, is_frame, last_tick, pending, waiting_count};
-ghost use Rattle.diag_desk.specs.declared.entry.Entry.{Entry as AnEntry};
-ghost use Rattle.diag_world.specs.Port.{AreWithin, Grew, HasRoomFor, IsPrepared, PortStands, PortTook, step_in, time_after};
+ghost use Rattle.diag_tp.specs.Link.{EachHistory, is_frame, pending};
+ghost use Rattle.diag_tp.specs.Taken.{asked_in};
+ghost use Rattle.diag_world.specs.Port.{GivesStep, Grew, IsPrepared, PortTook, RefusedEvent, TookEvent};
 
 use crate::passing::{pass, receive};
-use diag_can::Event;
-use diag_pdu::{Message, Step};
-use diag_tp::{Link, Sent, Taken, gives_law, time_law};
+use crate::stepping::TakeSteps;
+use diag_can::{Event, TickCount};
+use diag_desk::StepFault;
+use diag_pdu::Step;
+use diag_setup::TesterId;
+use diag_tp::{Link, Sent, Taken, gives_law};
 use std::alloc::AllocError;
 
 /// Whether the event gives a step.
@@ -45,90 +44,153 @@ pub(crate) fn gives_step(link: &Link, event: &Event) -> bool
     }
 }
 
-/// An event that was read and has room. The step that it gives is lent.
-#[derive(Drop)]
-pub enum Prepared {
-    /// A frame, as its link read it.
-    Frame(Taken),
-    /// Ticks, which its link has noted as the step that they are.
-    Ticks,
+/// Takes an event of a tester at its link: has the step that it gives taken, and hands out what is due. All growths here
+/// come before the step. Refused, link and frames are as before.
+#[inline(always)]
+pub(crate) fn take<T: TakeSteps>(
+    link: &mut Link,
+    who: TesterId,
+    event: &Event,
+    taker: &mut T,
+    out: &mut Vec<Sent>,
+) -> Result<(), StepFault>
+    requires drained { pending link.old.state ≡ 0 }
+    requires allows { T.allows taker.old who link.old.state.now }
+    ensures took { OnOk result (TookEvent T.takes link.old.state link.new.state taker.old taker.new
+        who event.now out.old.items out.new.items) }
+    ensures refused { OnErr result (RefusedEvent T.refuses link.old.state link.new.state
+        taker.old taker.new out.old.items out.new.items) }
+    ensures full { result ≡ Err StepFault.JournalFull
+        → T.is_full taker.old × GivesStep link.old.state event.now }
+    ensures stays { T.stays taker.old taker.new }
+{
+    if let Event::Ticks(count) = event {
+        return take_ticks(link, who, *count, taker, out);
+    }
+    let taken = prepare(link, event, out)?;
+    match &taken {
+        Taken::Functional | Taken::Single => take_single(link, who, event, &taken, taker, out),
+        Taken::Ignored | Taken::Read(_) => {
+            take_silent(link, event, &taken, out);
+            Ok(())
+        }
+        Taken::Last => take_last(link, who, event, &taken, taker, out),
+    }
 }
 
-/// Reads the event and makes room for it; `step` lends the step that it gives. Nothing else changes, whatever the answer.
+/// Takes ticks, which give a step that has no reply.
 #[inline(always)]
-pub(crate) fn prepare(
+fn take_ticks<T: TakeSteps>(
     link: &mut Link,
-    event: &Event,
+    who: TesterId,
+    count: TickCount,
+    taker: &mut T,
     out: &mut Vec<Sent>,
-) -> Result<Prepared, AllocError>
+) -> Result<(), StepFault>
     requires drained { pending link.old.state ≡ 0 }
+    requires allows { T.allows taker.old who link.old.state.now }
+    ensures took { OnOk result (TookEvent T.takes link.old.state link.new.state taker.old taker.new
+        who (AnEvent.Ticks count) out.old.items out.new.items) }
+    ensures refused { OnErr result (RefusedEvent T.refuses link.old.state link.new.state
+        taker.old taker.new out.old.items out.new.items) }
+    ensures full { result ≡ Err StepFault.JournalFull → T.is_full taker.old }
+    ensures stays { T.stays taker.old taker.new }
+{
+    out.reserve(link.backlog() as usize)?;
+    let mut reply = None;
+    taker.take_step(link.now(), who, &Step::Ticks(count), &mut reply)?;
+    pass(link, count, out);
+    Ok(())
+}
+
+/// Reads a frame, and makes room for it and for what it may draw. Nothing else changes, whatever the answer.
+#[inline(always)]
+fn prepare(link: &mut Link, event: &Event, out: &mut Vec<Sent>) -> Result<Taken, AllocError>
+    requires drained { pending link.old.state ≡ 0 }
+    requires frame { IsTrue (is_frame event.now) }
     ensures same { link.new.state ≡ link.old.state }
     ensures out { out.new.items ≡ out.old.items }
-    ensures prepared { IfOk result (λ p.
-        IsPrepared link.new event.now p (vec_len out.new) (vec_capacity out.new)) }
+    ensures prepared { IfOk result (λ taken.
+        IsPrepared link.new event.now taken (vec_len out.new) (vec_capacity out.new)) }
 {
-    gives_law();
-    match event {
-        Event::Ticks(count) => {
-            out.reserve(link.backlog() as usize)?;
-            link.note_ticks(*count);
-            Ok(Prepared::Ticks)
-        }
-        Event::Physical(_) | Event::Functional(_) => {
-            let most = link.backlog().saturating_add(2) as usize;
-            out.reserve(most)?;
-            let taken = link.begin(event)?;
-            Ok(Prepared::Frame(taken))
-        }
-    }
+    let most = link.backlog().saturating_add(2) as usize;
+    out.reserve(most)?;
+    link.begin(event)
 }
 
-/// The step that an event gives, if any, after it was read; it is lent.
+/// Takes a SingleFrame that was read and has room. (What isn't one goes a way of its own, so that here the request stays
+/// in registers.)
 #[inline(always)]
-pub(crate) fn step<'a>(link: &'a Link, prepared: &'a Prepared) -> Option<&'a Step>
-    ensures { option_copied result ≡ step_in link.now prepared.now }
-{
-    match prepared {
-        Prepared::Frame(taken) => link.request(taken),
-        Prepared::Ticks => Some(link.noted()),
-    }
-}
-
-/// Takes an event that was read and has room, with the reply to the step that it gives, and hands out what is due.
-/// A reply that has to wait is taken out of its place.
-#[inline(always)]
-pub(crate) fn settle(
+fn take_single<T: TakeSteps>(
     link: &mut Link,
+    who: TesterId,
     event: &Event,
-    prepared: &Prepared,
-    reply: &mut Option<Message>,
+    taken: &Taken,
+    taker: &mut T,
     out: &mut Vec<Sent>,
-)
-    requires drained { pending link.old.state ≡ 0 }
-    requires room { HasRoomFor
-        link.old event.now prepared.now (vec_len out.old) (vec_capacity out.old) }
-    requires frame { IsSome reply.old → IsTrue (is_frame event.now) }
-    ensures took { Grew out.old.items out.new.items (λ more.
-        AreWithin link.old.state.now link.new.state.now more
-        × ((s : ALinkSetup) (who : ℕ) (E : List AnEvent) (K : List AnEntry)
-        → PortStands s link.old.state E K
-        → last_time (E ++ event.now ∷ []) ≤ last_tick
-        → (gives s E event.now ≡ None → reply.old ≡ None)
-        → PortTook s who E K event.now reply.old link.new.state more)) }
-    ensures short { (E : List AnEvent)
-        → last_time (E ++ event.now ∷ []) ≤ last_time E + 60000 }
-    ensures drained { pending link.new.state ≡ 0 }
-    ensures waiting { waiting_count link.new.state ≤ waiting_count link.old.state + 1 }
-    ensures none_waits { reply.old ≡ None
-        → waiting_count link.new.state ≤ waiting_count link.old.state }
-    ensures time { link.new.state.now ≡ time_after link.old.state.now event.now }
-    ensures most { link.new.state.now ≤ link.old.state.now + 60000 }
+) -> Result<(), StepFault>
+    requires prepared { IsPrepared
+        link.old event.now taken.now (vec_len out.old) (vec_capacity out.old) }
+    requires single { asked_in link.old taken.now ≡ Some link.old.noted }
+    requires allows { T.allows taker.old who link.old.state.now }
+    ensures took { OnOk result (TookEvent T.takes link.old.state link.new.state taker.old taker.new
+        who event.now out.old.items out.new.items) }
+    ensures refused { OnErr result (RefusedEvent T.refuses link.old.state link.new.state
+        taker.old taker.new out.old.items out.new.items) }
+    ensures full { result ≡ Err StepFault.JournalFull
+        → T.is_full taker.old × GivesStep link.old.state event.now }
+    ensures stays { T.stays taker.old taker.new }
 {
-    gives_law();
-    time_law();
-    match (prepared, event) {
-        (Prepared::Frame(taken), _) => receive(link, event, taken, reply, out),
-        (Prepared::Ticks, Event::Ticks(count)) => pass(link, *count, out),
-        (Prepared::Ticks, _) => unreachable!(),
+    let mut reply = None;
+    taker.take_step(link.now(), who, link.noted(), &mut reply)?;
+    receive(link, event, taken, &mut reply, out);
+    Ok(())
+}
+
+/// The same of a frame that asks nothing.
+#[cold]
+#[inline(never)]
+fn take_silent(link: &mut Link, event: &Event, taken: &Taken, out: &mut Vec<Sent>)
+    requires prepared { IsPrepared
+        link.old event.now taken.now (vec_len out.old) (vec_capacity out.old) }
+    requires silent { asked_in link.old taken.now ≡ None }
+    ensures took { (who : ℕ) → Grew out.old.items out.new.items (λ more.
+        PortTook link.old.state link.new.state who event.now None more) }
+    ensures drained { pending link.new.state ≡ 0 }
+{
+    receive(link, event, taken, &mut None, out);
+}
+
+/// The same of the last frame of a message. (Called cold, so that the compiler takes a SingleFrame for the usual one, and
+/// inlines what answers it.)
+#[cold]
+#[inline(never)]
+fn take_last<T: TakeSteps>(
+    link: &mut Link,
+    who: TesterId,
+    event: &Event,
+    taken: &Taken,
+    taker: &mut T,
+    out: &mut Vec<Sent>,
+) -> Result<(), StepFault>
+    requires prepared { IsPrepared
+        link.old event.now taken.now (vec_len out.old) (vec_capacity out.old) }
+    requires allows { T.allows taker.old who link.old.state.now }
+    ensures took { OnOk result (TookEvent T.takes link.old.state link.new.state taker.old taker.new
+        who event.now out.old.items out.new.items) }
+    ensures refused { OnErr result (RefusedEvent T.refuses link.old.state link.new.state
+        taker.old taker.new out.old.items out.new.items) }
+    ensures full { result ≡ Err StepFault.JournalFull
+        → T.is_full taker.old × GivesStep link.old.state event.now }
+    ensures stays { T.stays taker.old taker.new }
+{
+    match link.request(taken) {
+        Some(step) => {
+            let mut reply = None;
+            taker.take_step(link.now(), who, step, &mut reply)?;
+            receive(link, event, taken, &mut reply, out);
+        }
+        None => take_silent(link, event, taken, out),
     }
+    Ok(())
 }

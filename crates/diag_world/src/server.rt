@@ -23,26 +23,24 @@ ghost use Rattle.std.specs.Prelude.{
   slice_get,
   IsSome,
 };
-ghost use Rattle.diag_can.specs.declared.frame.Event.{Event as AnEvent};
 ghost use Rattle.diag_tp.specs.Gives.{gives};
 ghost use Rattle.diag_tp.specs.Link.{pending, quiet};
 ghost use Rattle.diag_tp.specs.Moments.{last_time};
 ghost use Rattle.diag_setup.specs.Setup.{link_of};
-ghost use Rattle.diag_ecu.specs.State.{State};
 ghost use Rattle.diag_world.specs.Weaving.{items_of};
-ghost use Rattle.diag_world.specs.Port.{Grew, IsPrepared, step_in};
-ghost use Rattle.diag_world.specs.Server.{answer_to, closing_time, entry_of, quiet_of, server_of, went_to, AreEarly, EachRun, GivesStep, HasKept, IsClosed, LinkTook, PortWent, Serves, ServerTook, TookNothing, Waited};
+ghost use Rattle.diag_world.specs.Port.{GivesStep};
+ghost use Rattle.diag_world.specs.Server.{closing_time, quiet_of, server_of, AreEarly, EachRun, IsClosed, LinkTook, Serves, ServerTook, TookNothing, Waited};
 
 use crate::keeper::Keeper;
 use crate::lazy_link::LazyLink;
-use crate::passing::pass;
-use crate::port::{Prepared, prepare, settle, step};
+use crate::port;
+use crate::stepping::TakeSteps;
 use diag_can::{Event, TickCount};
 use diag_desk::{StepFault, put_reply, settle_answered};
 use diag_ecu::Ecu;
 use diag_pdu::{Message, Step};
 use diag_setup::{Setup, TesterId};
-use diag_tp::{Link, Sent, Taken};
+use diag_tp::{Link, Sent};
 use std::alloc::{AllocError, Global};
 use std::marker::Model;
 use thiserror::Error;
@@ -213,6 +211,50 @@ impl Server {
     }
 }
 
+/// A server's ECU, and who keeps the journal of what it answers.
+#[derive(Drop)]
+struct Answering<'a, K> {
+    ecu: &'a mut Ecu,
+    keeper: &'a mut K,
+}
+
+impl<'a, K: Keeper> TakeSteps for Answering<'a, K> {
+    ghost use Rattle.std.specs.Prelude.{◌≡◌, ◌≤◌, refl};
+    ghost use Rattle.diag_world.specs.Server.{Answered, closing_time};
+
+    ghost allows = { λ _ _ before. before ≤ closing_time };
+
+    ghost takes = { λ old before k new.
+        Answered K.keeps old.ecu.now new.ecu.now old.keeper.now new.keeper.now before k };
+
+    ghost is_full = { λ answering. K.is_full answering.keeper.now };
+
+    ghost refuses = { λ old new.
+        (new.ecu.now ≡ old.ecu.now) × K.unkept old.keeper.now new.keeper.now };
+
+    ghost stays = { λ old new. (new.ecu.ghost_name ≡ old.ecu.ghost_name)
+        × (new.keeper.ghost_name ≡ old.keeper.ghost_name)
+        × (K.place new.keeper.now ≡ K.place old.keeper.now) };
+
+    #[inline(always)]
+    fn take_step(
+        &mut self,
+        before: u64,
+        who: TesterId,
+        step: &Step,
+        reply: &mut Option<Message>,
+    ) -> Result<(), StepFault> {
+        put_reply(self.ecu, who, step, reply)?;
+        self.keeper.keep(before, who, step, reply.as_ref())?;
+        settle_answered(self.ecu, who, step, reply.as_ref());
+        Ok(())
+    }
+
+    ghost refuses_none = { λ answering. (refl, K.unkept_same answering.keeper.now) };
+
+    ghost stays_itself = { λ _. (refl, refl, refl) };
+}
+
 /// Takes an event at a link, and has its entry kept. Refused, link, ECU and frames are as before.
 #[inline(always)]
 fn take_at<K: Keeper>(
@@ -224,11 +266,11 @@ fn take_at<K: Keeper>(
     out: &mut Vec<Sent>,
 ) -> Result<(), ServerFault>
     requires drained { pending link.old.state ≡ 0 }
-    ensures took { OnOk result (LinkTook K.keeps ecu.old ecu.new link.old link.new keeper.old keeper.new
-        who event.now out.old.items out.new.items) }
+    ensures took { OnOk result (LinkTook K.keeps ecu.old ecu.new link.old.state link.new.state
+        keeper.old keeper.new who event.now out.old.items out.new.items) }
     ensures place { K.place keeper.new ≡ K.place keeper.old }
     ensures err { OnErr result
-        (TookNothing K.unkept ecu.old ecu.new link.old link.new keeper.old keeper.new
+        (TookNothing K.unkept ecu.old ecu.new link.old.state link.new.state keeper.old keeper.new
         out.old.items out.new.items) }
     ensures full { result ≡ Err ServerFault.JournalFull
         → K.is_full keeper.old × GivesStep link.old.state event.now }
@@ -256,189 +298,15 @@ fn take_early<K: Keeper>(
 ) -> Result<(), StepFault>
     requires drained { pending link.old.state ≡ 0 }
     requires early { link.old.state.now ≤ closing_time }
-    ensures took { OnOk result (LinkTook K.keeps ecu.old ecu.new link.old link.new keeper.old keeper.new
-        who event.now out.old.items out.new.items) }
+    ensures took { OnOk result (LinkTook K.keeps ecu.old ecu.new link.old.state link.new.state
+        keeper.old keeper.new who event.now out.old.items out.new.items) }
     ensures place { K.place keeper.new ≡ K.place keeper.old }
     ensures err { OnErr result
-        (TookNothing K.unkept ecu.old ecu.new link.old link.new keeper.old keeper.new
+        (TookNothing K.unkept ecu.old ecu.new link.old.state link.new.state keeper.old keeper.new
         out.old.items out.new.items) }
     ensures full { result ≡ Err StepFault.JournalFull
         → K.is_full keeper.old × GivesStep link.old.state event.now }
 {
-    if let Event::Ticks(count) = event {
-        return pass_at(link, ecu, who, *count, keeper, out);
-    }
-    let prepared = prepare(link, event, out)?;
-    match &prepared {
-        Prepared::Frame(Taken::Functional | Taken::Single) => {
-            take_single(link, ecu, who, event, &prepared, keeper, out)
-        }
-        Prepared::Frame(Taken::Ignored | Taken::Read(_)) => {
-            take_silent(link, event, &prepared, out);
-            Ok(())
-        }
-        _ => take_other(link, ecu, who, event, &prepared, keeper, out),
-    }
-}
-
-/// Takes a SingleFrame that was read and has room, and has its entry kept. (What isn't one goes a way of its own, so that here
-/// the request stays in registers.)
-#[inline(always)]
-fn take_single<K: Keeper>(
-    link: &mut Link,
-    ecu: &mut Ecu,
-    who: TesterId,
-    event: &Event,
-    prepared: &Prepared,
-    keeper: &mut K,
-    out: &mut Vec<Sent>,
-) -> Result<(), StepFault>
-    requires early { link.old.state.now ≤ closing_time }
-    requires prepared { IsPrepared
-        link.old event.now prepared.now (vec_len out.old) (vec_capacity out.old) }
-    requires single { step_in link.old prepared.now ≡ Some link.old.noted }
-    ensures took { OnOk result (LinkTook K.keeps ecu.old ecu.new link.old link.new keeper.old keeper.new
-        who event.now out.old.items out.new.items) }
-    ensures place { K.place keeper.new ≡ K.place keeper.old }
-    ensures err { OnErr result
-        (TookNothing K.unkept ecu.old ecu.new link.old link.new keeper.old keeper.new
-        out.old.items out.new.items) }
-    ensures full { result ≡ Err StepFault.JournalFull
-        → K.is_full keeper.old × GivesStep link.old.state event.now }
-{
-    let mut reply = None;
-    answer_noted(link, ecu, who, keeper, &mut reply)?;
-    settle(link, event, prepared, &mut reply, out);
-    Ok(())
-}
-
-/// The same of a frame that asks nothing.
-#[cold]
-#[inline(never)]
-fn take_silent(link: &mut Link, event: &Event, prepared: &Prepared, out: &mut Vec<Sent>)
-    requires early { link.old.state.now ≤ closing_time }
-    requires prepared { IsPrepared
-        link.old event.now prepared.now (vec_len out.old) (vec_capacity out.old) }
-    requires silent { step_in link.old prepared.now ≡ None }
-    ensures took { (ecu : State) (who : ℕ) → Grew out.old.items out.new.items (λ more.
-        PortWent ecu ecu link.old link.new who event.now None more) }
-    ensures drained { pending link.new.state ≡ 0 }
-{
-    let mut reply = None;
-    settle(link, event, prepared, &mut reply, out);
-}
-
-/// The same of any other frame that was read and has room. (Called cold, so that the compiler takes a SingleFrame for the usual
-/// one, and inlines what answers it.)
-#[cold]
-#[inline(never)]
-fn take_other<K: Keeper>(
-    link: &mut Link,
-    ecu: &mut Ecu,
-    who: TesterId,
-    event: &Event,
-    prepared: &Prepared,
-    keeper: &mut K,
-    out: &mut Vec<Sent>,
-) -> Result<(), StepFault>
-    requires early { link.old.state.now ≤ closing_time }
-    requires prepared { IsPrepared
-        link.old event.now prepared.now (vec_len out.old) (vec_capacity out.old) }
-    ensures took { OnOk result (LinkTook K.keeps ecu.old ecu.new link.old link.new keeper.old keeper.new
-        who event.now out.old.items out.new.items) }
-    ensures place { K.place keeper.new ≡ K.place keeper.old }
-    ensures err { OnErr result
-        (TookNothing K.unkept ecu.old ecu.new link.old link.new keeper.old keeper.new
-        out.old.items out.new.items) }
-    ensures full { result ≡ Err StepFault.JournalFull
-        → K.is_full keeper.old × GivesStep link.old.state event.now }
-{
-    let mut reply = None;
-    answer_at(link, ecu, who, prepared, keeper, &mut reply)?;
-    settle(link, event, prepared, &mut reply, out);
-    Ok(())
-}
-
-/// The same of ticks, whose entry has no reply.
-#[inline(always)]
-fn pass_at<K: Keeper>(
-    link: &mut Link,
-    ecu: &mut Ecu,
-    who: TesterId,
-    count: TickCount,
-    keeper: &mut K,
-    out: &mut Vec<Sent>,
-) -> Result<(), StepFault>
-    requires drained { pending link.old.state ≡ 0 }
-    requires early { link.old.state.now ≤ closing_time }
-    ensures took { OnOk result (LinkTook K.keeps ecu.old ecu.new link.old link.new keeper.old keeper.new
-        who (AnEvent.Ticks count) out.old.items out.new.items) }
-    ensures place { K.place keeper.new ≡ K.place keeper.old }
-    ensures err { OnErr result
-        (TookNothing K.unkept ecu.old ecu.new link.old link.new keeper.old keeper.new
-        out.old.items out.new.items) }
-    ensures full { result ≡ Err StepFault.JournalFull → K.is_full keeper.old }
-{
-    out.reserve(link.backlog() as usize)?;
-    keeper.keep(link.now(), who, &Step::Ticks(count), None)?;
-    pass(link, count, out);
-    ecu.ticks(who, count);
-    Ok(())
-}
-
-/// Puts what the ECU answers to the step that an event gives in its place, where nothing stands, once the entry is kept; the
-/// ECU goes on to the state after it.
-#[inline(always)]
-fn answer_at<K: Keeper>(
-    link: &Link,
-    ecu: &mut Ecu,
-    who: TesterId,
-    prepared: &Prepared,
-    keeper: &mut K,
-    reply: &mut Option<Message>,
-) -> Result<(), StepFault>
-    requires early { link.now.state.now ≤ closing_time }
-    requires none { reply.old ≡ None }
-    ensures reply { OnOk result
-        (reply.new ≡ answer_to ecu.old who (step_in link.now prepared.now)) }
-    ensures kept { OnOk result (HasKept K.keeps keeper.old keeper.new link.now.state.now
-        (entry_of who (step_in link.now prepared.now) reply.new)) }
-    ensures ecu { OnOk result (ecu.new ≡ went_to ecu.old who (step_in link.now prepared.now)) }
-    ensures place { K.place keeper.new ≡ K.place keeper.old }
-    ensures err { OnErr result ((ecu.new ≡ ecu.old) × K.unkept keeper.old keeper.new) }
-    ensures full { result ≡ Err StepFault.JournalFull
-        → K.is_full keeper.old × IsSome (step_in link.now prepared.now) }
-{
-    let Some(step) = step(link, prepared) else {
-        return Ok(());
-    };
-    put_reply(ecu, who, step, reply)?;
-    keeper.keep(link.now(), who, step, reply.as_ref())?;
-    settle_answered(ecu, who, step, reply.as_ref());
-    Ok(())
-}
-
-/// The same of the request of one frame, which its link has noted.
-#[inline(always)]
-fn answer_noted<K: Keeper>(
-    link: &Link,
-    ecu: &mut Ecu,
-    who: TesterId,
-    keeper: &mut K,
-    reply: &mut Option<Message>,
-) -> Result<(), StepFault>
-    requires early { link.now.state.now ≤ closing_time }
-    requires none { reply.old ≡ None }
-    ensures reply { OnOk result (reply.new ≡ answer_to ecu.old who (Some link.now.noted)) }
-    ensures kept { OnOk result (HasKept K.keeps keeper.old keeper.new link.now.state.now
-        (entry_of who (Some link.now.noted) reply.new)) }
-    ensures ecu { OnOk result (ecu.new ≡ went_to ecu.old who (Some link.now.noted)) }
-    ensures place { K.place keeper.new ≡ K.place keeper.old }
-    ensures err { OnErr result ((ecu.new ≡ ecu.old) × K.unkept keeper.old keeper.new) }
-    ensures full { result ≡ Err StepFault.JournalFull → K.is_full keeper.old }
-{
-    put_reply(ecu, who, link.noted(), reply)?;
-    keeper.keep(link.now(), who, link.noted(), reply.as_ref())?;
-    settle_answered(ecu, who, link.noted(), reply.as_ref());
-    Ok(())
+    let mut answering = Answering { ecu, keeper };
+    port::take(link, who, event, &mut answering, out)
 }

@@ -191,18 +191,8 @@ fn take(
     if desk.journal().is_full() && channel.gives_step(event) {
         return Err(StepFault::JournalFull);
     }
-    let prepared = channel.prepare(event)?;
-    match channel.step(&prepared) {
-        Some(step) => {
-            let reply = desk.step(who, step)?;
-            // (for its contract: a desk's journal is legal)
-            let _journal = desk.journal();
-            channel.settle(event, &prepared, reply);
-            Ok(())
-        }
-        None => {
-            channel.settle(event, &prepared, None);
-            Ok(())
-        }
-    }
+    channel.take(who, event, desk)?;
+    // (for its contract: a desk's journal is legal)
+    let _journal = desk.journal();
+    Ok(())
 }

@@ -34,7 +34,7 @@ module _ (g : Over) (c : After-take_at g) where
 
   -- its clock didn't go back, and nothing is due at it
   told : (c.catch_up.new.self.link.state.now ≤ next.link.state.now) × (next.link.state.now ≤ last_tick) × (pending next.link.state ≡ 0)
-  told = told_after g.K.Keeper.keeps g.K.Keeper.unkept c.self.inside.ecu c.take_at.new.ecu c.catch_up.new.self.link c.take_at.new.link
+  told = told_after g.K.Keeper.keeps g.K.Keeper.unkept c.self.inside.ecu c.take_at.new.ecu c.catch_up.new.self.link.state c.take_at.new.link.state
       c.args.keeper.now c.take_at.new.keeper c.args.who c.args.event.now c.args.out.now.items c.take_at.new.out.items c.take_at.result
       (caught_told c.self.inside.passed _ c.catch_up.new.self.link c.catch_up.ensures.link) c.catch_up.ensures.lazy.drained
       c.take_at.ensures.took c.take_at.ensures.err

@@ -1,0 +1,25 @@
+use Rattle.std.proofs.Common.{◌++◌, Option, Some, ap, subst, ◌∙◌}
+use Rattle.std.specs.Prelude.{ℕ, List}
+use Rattle.diag_desk.specs.Entries.{entry}
+use Rattle.diag_pdu.specs.declared.step.Step.TheVariants as step
+use Rattle.diag_world.specs.Port.{entry_of_ticks}
+use Rattle.diag_world.proofs.Ticking.{ticks_took}
+use Rattle.diag_world.proofs.port.take_ticks.Goals as goal
+
+pub returns-clause-took : goal.returns-clause-took
+returns-clause-took g c =
+    let who = c.args.who in
+    let n = c.args.count in
+    let passed = c.pass.ensures.passed in
+    let takes = λ (now : ℕ) (reply : Option (List ℕ)). g.T.TakeSteps.takes c.args.taker.now now (entry who (step.Ticks n) reply) c.take_step.new.self in
+    record {
+      asked = Some (entry_of_ticks who n);
+      kept = subst (takes c.args.link.now.state.now) c.in_ok-take_step.ensures.ticks_unanswered
+          (subst (λ now. takes now c.take_step.new.reply) c.now.ensures.state c.in_ok-take_step.ensures.took);
+      sent = record {
+        more = passed.more;
+        grown = passed.grown ∙ ap (λ w. w ++ passed.more) c.reserve.ensures.items;
+        holds = ticks_took c.args.link.now.state c.pass.new.link.state who n passed.more c.pass.ensures.most c.pass.ensures.time passed.holds;
+      };
+      drained = c.pass.ensures.drained;
+    }

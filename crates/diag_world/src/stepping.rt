@@ -1,0 +1,87 @@
+//! Who takes the steps that events give.
+
+ghost use Rattle.std.specs.Prelude.{◌≡◌, Err, None, OnErr, OnOk};
+ghost use Rattle.diag_desk.specs.Entries.{entry};
+ghost use Rattle.diag_desk.specs.Entry.{HasNoReply};
+
+use diag_desk::{Desk, StepFault};
+use diag_pdu::{Message, Step};
+use diag_setup::TesterId;
+
+/// Takes the testers' steps and answers them: a desk, a server's ECU with who keeps its journal, or whoever asks a door.
+pub trait TakeSteps {
+    ghost use Rattle.std.specs.Prelude.{ℕ};
+    ghost use Rattle.diag_desk.specs.declared.entry.Entry.{Entry};
+
+    /// It takes the steps of this tester while its clock tells this time.
+    ghost allows: { Self → ℕ → ℕ → Type 0 };
+
+    /// What it is with this entry more, before which its tester's clock told this time.
+    ghost takes: { Self → ℕ → Entry → Self → Type 0 };
+
+    /// It has no room for an entry more.
+    ghost is_full: { Self → Type 0 };
+
+    /// What a step that is refused leaves.
+    ghost refuses: { Self → Self → Type 0 };
+
+    /// What no step changes, as the names of what it borrows.
+    ghost stays: { Self → Self → Type 0 };
+
+    /// Takes a step of a tester, whose clock told `before` before it, and puts the reply in its place, where nothing
+    /// stands. Ticks have no reply.
+    ///
+    /// # Errors
+    /// `JournalFull` where there is no room for an entry more, `Memory` where memory is refused. The step isn't taken then.
+    fn take_step(
+        &mut self,
+        before: u64,
+        who: TesterId,
+        step: &Step,
+        reply: &mut Option<Message>,
+    ) -> Result<(), StepFault>
+        requires allows { allows self.old who before }
+        requires none { reply.old ≡ None }
+        ensures took { OnOk result (takes self.old before (entry who step.now reply.new) self.new) }
+        ensures ticks_unanswered { OnOk result (HasNoReply step.now reply.new) }
+        ensures full { result ≡ Err StepFault.JournalFull → is_full self.old }
+        ensures refused { OnErr result (refuses self.old self.new) }
+        ensures stays { stays self.old self.new };
+
+    /// One that was asked nothing is as one that refused.
+    ghost refuses_none: { (taker : Self) → refuses taker taker };
+
+    /// And nothing of it has changed.
+    ghost stays_itself: { (taker : Self) → stays taker taker };
+}
+
+impl TakeSteps for Desk {
+    ghost use Rattle.std.specs.Prelude.{◌≡◌, ⊤, length, refl};
+    ghost use Rattle.diag_desk.specs.Entry.{most_entries};
+    ghost use Rattle.diag_desk.specs.Legal.{entered};
+
+    ghost allows = { λ _ _ _. ⊤ };
+
+    ghost takes = { λ old _ k new. new ≡ entered old k };
+
+    ghost is_full = { λ desk. length desk.journal ≡ most_entries };
+
+    ghost refuses = { λ old new. new ≡ old };
+
+    ghost stays = { λ _ _. ⊤ };
+
+    fn take_step(
+        &mut self,
+        _before: u64,
+        who: TesterId,
+        step: &Step,
+        reply: &mut Option<Message>,
+    ) -> Result<(), StepFault> {
+        *reply = self.step(who, step)?;
+        Ok(())
+    }
+
+    ghost refuses_none = { λ _. refl };
+
+    ghost stays_itself = { λ _. tt };
+}
