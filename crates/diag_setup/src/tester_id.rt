@@ -44,6 +44,7 @@ impl TesterId {
     /// The place in a table of all testers, from 0.
     pub fn index(&self) -> usize
         ensures same { result ≡ self.now - 1 }
+        ensures from_one { self.now ≡ result + 1 }
         ensures fits { result < 8 }
     {
         usize::from(self.place) - 1

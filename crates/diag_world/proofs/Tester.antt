@@ -32,26 +32,23 @@ pub record IsAt (ecu : State) (links : List LinkView) (now : ServerView) (who i 
   pub found : slice_get links i ≡ Some link
 
 -- the tester's link stands where it was read, and as it is once it has caught up
-module _ {ecu : State} (links : List LazyLink) {now : ServerView} (passed : ℕ) {who place at : ℕ} {lazy : LazyLink} (seen : view_of ecu (seen_links passed links) ≡ now)
-    (in_setup : who ≤ length now.links) (same : place ≡ who) (fits : (1 ≤ place) × (place ≤ 8)) (index : at ≡ place)
-    (read : lazy ≡ get_or links (at - 1) lazy) where
-  pub lazy_at : slice_get links (at - 1) ≡ Some lazy
+module _ {ecu : State} (links : List LazyLink) {now : ServerView} (passed : ℕ) {who at : ℕ} {lazy : LazyLink} (seen : view_of ecu (seen_links passed links) ≡ now)
+    (in_setup : who ≤ length now.links) (place : who ≡ at + 1) (read : lazy ≡ get_or links at lazy) where
+  pub lazy_at : slice_get links at ≡ Some lazy
   lazy_at =
-      let within : at - 1 < length links = omega (
+      let within : at < length links = omega (
         arith,
         in_setup,
         ap (λ (v : ServerView). length v.links) seen,
         length-map links (λ l. caught_up passed l),
-        same,
-        fits.0,
-        index,
+        place,
       ) in
-      slice_get_read links (length links) (at - 1) lazy refl within read
+      slice_get_read links (length links) at lazy refl within read
 
-  pub link_at : (link : LinkView) → link ≡ caught_up passed lazy → IsAt ecu (seen_links passed links) now who (at - 1) link
+  pub link_at : (link : LinkView) → link ≡ caught_up passed lazy → IsAt ecu (seen_links passed links) now who at link
   link_at link is = record {
     seen = seen;
-    is = omega (arith, same, fits.0, index);
+    is = place;
     found = slice_get-map (λ l. caught_up passed l) links (at - 1) ∙ (ap (option_map (λ l. caught_up passed l)) lazy_at ∙ ap Some (sym is));
   }
 

@@ -150,7 +150,7 @@ impl Server {
         ensures closed { result ≡ Err ServerFault.Clock
             → IsClosed (server_of self.old).links (who - 1) }
     {
-        let index = usize::from(who.place()) - 1;
+        let index = who.index();
         let lazy = &mut self.links[index];
         lazy.catch_up(self.passed);
         take_at(&mut lazy.link, &mut self.ecu, who, event, keeper, out)
@@ -175,7 +175,7 @@ impl Server {
         requires in_setup { who ≤ length self.now.links }
         ensures { IfSome (slice_get self.now.links (who - 1)) (λ link. result ≡ link.state.now) }
     {
-        let index = usize::from(who.place()) - 1;
+        let index = who.index();
         self.links[index].now(self.passed)
     }
 
@@ -199,7 +199,7 @@ impl Server {
         ensures is { IfSome (slice_get self.now.links (who - 1)) (λ link. result ≡ quiet link.state) }
         ensures some { 1 ≤ result }
     {
-        let index = usize::from(who.place()) - 1;
+        let index = who.index();
         self.links[index].quiet(self.passed)
     }
 

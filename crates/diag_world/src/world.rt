@@ -89,7 +89,7 @@ impl World {
             IsSome (gives (link_of setup who) (items_of M who) event.now)
             → result ≡ Err StepFault.JournalFull) }
     {
-        let index = index_of(who);
+        let index = who.index();
         take(&mut self.desk, &mut self.channels[index], who, event)
     }
 
@@ -117,7 +117,7 @@ impl World {
         ensures { EachInterleaving self.now (λ setup M. result.now ≡ drawn
             (link_of setup who) (items_of M who) (replies (own self.now.desk.journal who))) }
     {
-        let index = index_of(who);
+        let index = who.index();
         self.channels[index].sent()
     }
 
@@ -145,13 +145,6 @@ impl TakeEvents for World {
     fn take_event(&mut self, who: TesterId, event: &Event) -> Result<(), StepFault> {
         self.event(who, event)
     }
-}
-
-/// A tester's place, counted from 0.
-fn index_of(who: TesterId) -> usize
-    ensures { who ≡ result + 1 }
-{
-    who.index()
 }
 
 /// The frames of each channel, in order.

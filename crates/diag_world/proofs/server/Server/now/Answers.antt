@@ -9,11 +9,11 @@ pub now-requires : goal.now-requires
 now-requires c =
     record {
       lazy = c.self.invariant _ _ (lazy_at c.self.inside.links.items c.self.inside.passed c.self.view_is c.requires.in_setup
-          c.place.ensures.same c.place.ensures.fits c.from-index.ensures c.index.ensures);
+          c.index-index.ensures.from_one c.index.ensures);
     }
 
 pub returns : goal.returns
 returns c =
-    let here = link_at c.self.inside.links.items c.self.inside.passed c.self.view_is c.requires.in_setup c.place.ensures.same c.place.ensures.fits c.from-index.ensures
+    let here = link_at c.self.inside.links.items c.self.inside.passed c.self.view_is c.requires.in_setup c.index-index.ensures.from_one
     c.index.ensures (caught_up c.self.inside.passed c.index.result.now) refl in
     subst (λ o. IfSome o (λ (link : LinkView). c.now.result ≡ link.state.now)) (sym (seen_there here)) c.now.ensures

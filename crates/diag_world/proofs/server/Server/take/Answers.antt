@@ -15,7 +15,7 @@ use Rattle.diag_world.proofs.server.Server.take.Goals.{After-take_at}
 pub catch_up-requires : goal.catch_up-requires
 catch_up-requires g c =
     record {
-      lazy = c.self.invariant _ _ (lazy_at c.self.inside.links.items c.self.inside.passed c.self.view_is c.requires.in_setup c.place.ensures.same c.place.ensures.fits c.from-index.ensures
+      lazy = c.self.invariant _ _ (lazy_at c.self.inside.links.items c.self.inside.passed c.self.view_is c.requires.in_setup c.index-index.ensures.from_one
           c.index_mut-lazy.ensures.value);
     }
 
@@ -24,9 +24,8 @@ take_at-requires g c = record { drained = c.catch_up.ensures.lazy.drained }
 
 module _ (g : Over) (c : After-take_at g) where
   -- the tester's link, where the contract sees it
-  here : IsAt c.self.inside.ecu (seen_links c.self.inside.passed c.self.inside.links.items) c.args.self.now c.args.who (c.from-index.result - 1) c.catch_up.new.self.link
-  here = link_at c.self.inside.links.items c.self.inside.passed c.self.view_is c.requires.in_setup c.place.ensures.same c.place.ensures.fits
-      c.from-index.ensures c.index_mut-lazy.ensures.value c.catch_up.new.self.link c.catch_up.ensures.link
+  here : IsAt c.self.inside.ecu (seen_links c.self.inside.passed c.self.inside.links.items) c.args.self.now c.args.who c.index-index.result c.catch_up.new.self.link
+  here = link_at c.self.inside.links.items c.self.inside.passed c.self.view_is c.requires.in_setup c.index-index.ensures.from_one c.index_mut-lazy.ensures.value c.catch_up.new.self.link c.catch_up.ensures.link
 
   -- the link as it is after the call
   abbrev next : LazyLink
@@ -40,15 +39,15 @@ module _ (g : Over) (c : After-take_at g) where
       c.take_at.ensures.took c.take_at.ensures.err
 
   -- and what the server is seen to be
-  seen : state_at c.take_at.new.ecu (seen_links c.self.inside.passed (slice_set c.self.inside.links.items (c.from-index.result - 1) next))
-      ≡ state_at c.take_at.new.ecu (slice_set (seen_links c.self.inside.passed c.self.inside.links.items) (c.from-index.result - 1) next.link)
-  seen = seen_after c.self.inside.passed (c.from-index.result - 1) c.self.inside.links.items next c.catch_up.ensures.taken told.1 c.take_at.new.ecu
+  seen : state_at c.take_at.new.ecu (seen_links c.self.inside.passed (slice_set c.self.inside.links.items c.index-index.result next))
+      ≡ state_at c.take_at.new.ecu (slice_set (seen_links c.self.inside.passed c.self.inside.links.items) c.index-index.result next.link)
+  seen = seen_after c.self.inside.passed c.index-index.result c.self.inside.links.items next c.catch_up.ensures.taken told.1 c.take_at.new.ecu
 
 pub invariant_of-self : goal.invariant_of-self
 invariant_of-self g c =
     let after = (goal.at.invariant_of-self g c).After-take_at in
     let told = told g after in
-    set_lazy c.self.inside.passed (c.from-index.result - 1) c.self.inside.links.items (next g after) c.self.invariant
+    set_lazy c.self.inside.passed c.index-index.result c.self.inside.links.items (next g after) c.self.invariant
     (caught_still c.self.inside.passed (next g after) c.catch_up.ensures.taken told.2
     (omega (arith, told.0, c.catch_up.ensures.lazy.told, c.catch_up.ensures.taken)) told.1)
 

@@ -8,15 +8,15 @@ use Rattle.diag_world.proofs.world.World.event.Goals as goal
 
 pub take-requires : goal.take-requires
 take-requires c = record {
-  drained = c.self.invariant _ _ (found c.self.inside.desk c.self.inside.channels.items c.index_of-index.result c.self.view_is c.requires.in_setup
-      c.index_of-index.ensures
+  drained = c.self.invariant _ _ (found c.self.inside.desk c.self.inside.channels.items c.index-index.result c.self.view_is c.requires.in_setup
+      c.index-index.ensures.from_one
       c.index_mut.ensures.value);
 }
 
 pub invariant_of-self : goal.invariant_of-self
 invariant_of-self c =
     let items = c.self.inside.channels.items in
-    let i = c.index_of-index.result in
+    let i = c.index-index.result in
     λ j channel at. elim (set_cases (map channel_of items) i j (channel_of c.take.new.channel) channel
     (rw (map-set channel_of items i c.take.new.channel) at at)) [
       | inl p ↦ rw p.1 c.take.ensures.drained
@@ -25,13 +25,13 @@ invariant_of-self c =
 
 pub returns-clause-ok : goal.returns-clause-ok
 returns-clause-ok c = on_ok_weaker c.take.result (λ took setup M h.
-    world_takes c.self.inside.desk c.self.inside.channels.items c.index_of-index.result c.self.view_is c.requires.in_setup c.index_of-index.ensures
+    world_takes c.self.inside.desk c.self.inside.channels.items c.index-index.result c.self.view_is c.requires.in_setup c.index-index.ensures.from_one
     c.index_mut.ensures.value setup M c.args.event.now
     c.take.new.desk c.take.new.channel c.take.ensures.journal took h) c.take.ensures.ok
 
 pub returns-clause-err : goal.returns-clause-err
 returns-clause-err c = on_err_weaker c.take.result (λ same.
-    world_same c.self.inside.desk c.self.inside.channels.items c.index_of-index.result c.self.view_is c.requires.in_setup c.index_of-index.ensures
+    world_same c.self.inside.desk c.self.inside.channels.items c.index-index.result c.self.view_is c.requires.in_setup c.index-index.ensures.from_one
     c.index_mut.ensures.value
     c.take.new.desk c.take.new.channel same.0 same.1) c.take.ensures.err
 
@@ -39,8 +39,8 @@ pub returns-clause-full : goal.returns-clause-full
 returns-clause-full c is =
     let full = c.take.ensures.full is in (
       ap (λ w. length w.desk.journal) (sym c.self.view_is) ∙ full.0,
-      λ setup M h. full.1 _ _ _ (channel_stands c.self.inside.desk c.self.inside.channels.items c.index_of-index.result c.self.view_is
-          c.requires.in_setup c.index_of-index.ensures
+      λ setup M h. full.1 _ _ _ (channel_stands c.self.inside.desk c.self.inside.channels.items c.index-index.result c.self.view_is
+          c.requires.in_setup c.index-index.ensures.from_one
           c.index_mut.ensures.value setup M
           c.take.ensures.journal h),
     )
@@ -48,6 +48,6 @@ returns-clause-full c is =
 pub returns-clause-first : goal.returns-clause-first
 returns-clause-first c full setup M h =
     c.take.ensures.first (ap (λ w. length w.desk.journal) c.self.view_is ∙ full) _ _ _
-    (channel_stands c.self.inside.desk c.self.inside.channels.items c.index_of-index.result c.self.view_is c.requires.in_setup c.index_of-index.ensures
+    (channel_stands c.self.inside.desk c.self.inside.channels.items c.index-index.result c.self.view_is c.requires.in_setup c.index-index.ensures.from_one
     c.index_mut.ensures.value setup M
     c.take.ensures.journal h)
