@@ -6,8 +6,8 @@ use Rattle.std.proofs.lemmas.Bool.{cases_Bool, eqb-true}
 use Rattle.std.proofs.lemmas.Bool.Decides.{nat_tests}
 use Rattle.std.proofs.lemmas.List.Elements.{All-append, All-cons, All-nil}
 use Rattle.std.proofs.lemmas.List.Sums.{AllPass-from_list_all, list_all-from_AllPass, prefix_len-le-length}
-use Rattle.diag_can.specs.Bus.{HasNoFeed, bus_line, line_says}
-use Rattle.diag_can.specs.Line.{is_decimal, tick_count, ticks_of}
+use Rattle.diag_can.specs.Bus.{HasNoFeed, bus_line}
+use Rattle.diag_can.specs.Line.{is_decimal, line_says, tick_count, ticks_of}
 use Rattle.diag_can.specs.Log.{is_feed, without_return}
 use Rattle.diag_can.specs.Seen.{IsFront}
 use Rattle.diag_can.specs.Stamp.{behind, decimal_value, is_digit}

@@ -1,5 +1,5 @@
 -- Lines of the usual form.
-use Rattle.std.proofs.Common.{◌≡◌, ℕ, ◌+◌, ◌-◌, ◌%◌, ◌<◌, ◌≤◌, ◌==◌, ◌&&◌, ◌||◌, nat_le, nat_lt, Bool, true, false, List, [], ◌∷◌, length, take, drop, get_or, Some, None, Ok, refl, sym, ap, ◌∙◌, arith, add-one, length-drop, drop-drop, drop-cons, inl, inr}
+use Rattle.std.proofs.Common.{◌≡◌, ℕ, ◌+◌, ◌-◌, ◌%◌, ◌<◌, ◌≤◌, ◌==◌, ◌&&◌, ◌||◌, nat_le, nat_lt, Bool, true, false, List, [], ◌∷◌, length, take, drop, get_or, Option, Some, None, Ok, refl, sym, ap, ◌∙◌, arith, add-one, length-drop, drop-drop, drop-cons, inl, inr}
 use Rattle.std.specs.Prelude.{IsOk}
 use Rattle.std.specs.List.{AllPass, prefix_len}
 use Rattle.std.proofs.lemmas.Bool.{eq-eqb, ne_eqb, not-true, not-false, eqb-true, cases_eq}
@@ -10,13 +10,13 @@ use Rattle.std.proofs.lemmas.List.Elements.{All-from_get_or}
 use Rattle.hex.specs.Hex.{is_hex_digit, decode_of}
 use Rattle.hex.proofs.HexLemmas.{decode_of-digits}
 use Rattle.diag_can.specs.Stamp.{is_digit, is_space, is_no_space, behind, behind_run, digits_of, moment_of}
-use Rattle.diag_can.proofs.Pairs.{is_ok-value}
 use Rattle.diag_can.specs.declared.bus.BusLine.TheVariants.{Stamped}
-use Rattle.diag_can.specs.Line.{line_event, frame_moment, event_moment, stamped_frame, is_time, is_passed_over, frame_data, frame_event, event_of, id_of}
-use Rattle.diag_can.specs.Bus.{bus_line, line_says, text_frame, frame_of}
+use Rattle.diag_can.specs.Line.{line_event, line_says, frame_moment, stamped_frame, is_time, is_passed_over, frame_data, frame_of, text_frame, id_of}
+use Rattle.diag_can.specs.Bus.{bus_line}
 use Rattle.diag_can.specs.Lanes.{IsRunIn}
 use Rattle.diag_can.specs.Log.{without_return}
 use Rattle.diag_can.specs.Usual.{IsFramed, IsUsual, bytes_or_none, usual_bytes, usual_moment, usual_said}
+use Rattle.diag_can.specs.declared.frame.Frame.{Frame}
 use Rattle.diag_can.specs.declared.frame.Ids.{Ids}
 
 -- ---- parts of a line, by the bytes that stand there
@@ -123,14 +123,17 @@ three_of text le = let three = length-take-le 3 text (omega arith) in rw three r
 module _ (text rest : List ℕ) (id : ℕ) (run : prefix_len is_hex_digit text ≡ 3) (long : 4 ≤ length text) (is : id_of (take 3 text) ≡ Some id)
     (hash : behind 35 (drop 3 text) ≡ Some rest)
     (all : AllPass is_hex_digit rest) where
-  frame_event-is : (ids : Ids) → frame_event ids text ≡ event_of ids id (frame_data rest)
-  frame_event-is ids = let short = three_of text long in let data_only = not_passed rest all in rw (run, hash, short, is, data_only) refl
-
   text_frame-is : text_frame text ≡ frame_of id (frame_data rest)
   text_frame-is = let short = three_of text long in let data_only = not_passed rest all in rw (run, hash, short, is, data_only) refl
 
 is_ok-from : (rest bytes : List ℕ) → decode_of rest ≡ Ok bytes → IsOk (decode_of rest)
 is_ok-from rest bytes is = rw is refl
+
+-- what a line says whose stamp and frame were read
+stamped_says : (line text : List ℕ) (moment : ℕ) (frame : Option Frame) → 28 ≤ length line → is_time line ≡ false → stamped_frame line ≡ Some (moment, text)
+    → text_frame text ≡ Ok frame → line_says line ≡ Ok (Stamped moment frame)
+stamped_says [] text moment frame long plain stamp is = absurd (omega arith)
+stamped_says (c ∷ line) text moment frame long plain stamp is = rw (plain, stamp, is) refl
 
 pub usual : (line : List ℕ) (place id at : ℕ) → IsFramed line place → at ≡ place + 4 → at ≤ length line → prefix_len is_hex_digit (drop place line) ≡ 3
     → id_of (take 3 (drop place line)) ≡ Some id → behind 35 (drop 3 (drop place line)) ≡ Some (drop at line)
@@ -143,15 +146,17 @@ usual line place id at framed four inside run is hash few even digits =
     (λ k below. ap is_hex_digit (get_or-drop at line k 0) ∙ digits (at + k) (omega arith) (omega arith)) in
     let long : 4 ≤ length text = omega (arith, length-drop place line) in
     let value = decode_of-digits rest (ap (λ (n : ℕ). n % 2) count ∙ even) all in
+    let bytes : Ok value.0 ≡ Ok (usual_bytes line at) = ap (λ (b : List ℕ). Ok b) (sym (ap bytes_or_none value.1)) in
+    let read = data_from_digits rest value.0 all (omega arith) (ap (λ (n : ℕ). n % 2) count ∙ even) value.1 ∙ bytes in
     record {
-      place = place;
-      framed = framed;
-      event = frame_event-is text rest id run long is hash all;
-      frame = text_frame-is text rest id run long is hash all;
+      long = framed.long;
+      seconds = framed.seconds;
+      fraction = framed.fraction;
       inside = inside;
       few = omega arith;
       hex = is_ok-from rest value.0 value.1;
-      decoded = λ bytes was. data_from_digits rest bytes all (omega arith) (ap (λ (n : ℕ). n % 2) count ∙ even) was;
+      says = stamped_says line text (usual_moment line) _ framed.long framed.is_frame framed.stamped
+          (text_frame-is text rest id run long is hash all ∙ ap (frame_of id) read);
     }
 
 -- the same, from the parts that were read
@@ -171,45 +176,14 @@ usual_parts line place id text framed cut run is hash long few even digits =
 
 -- ---- what such a line says
 
-module _ (line : List ℕ) (id at : ℕ) (u : IsUsual line id at) where
-  says-event : (ids : Ids) → line_event line ids ≡ event_of ids id (frame_data (drop at line))
-  says-event ids = go line u.framed.long u.framed.is_frame u.framed.stamped ∙ u.event ids
-    where
-      go : (xs : List ℕ) → 28 ≤ length xs → is_time xs ≡ false → stamped_frame xs ≡ Some (usual_moment line, drop u.place line)
-          → line_event xs ids ≡ frame_event ids (drop u.place line)
-      go [] long plain is = absurd (omega arith)
-      go (c ∷ xs) long plain is = rw (plain, is) refl
+-- to a tester that its identifier isn't for
+pub is-foreign : (line : List ℕ) (id at : ℕ) → IsUsual line id at → (ids : Ids) → (id == ids.request) ≡ false → (id == ids.functional) ≡ false
+    → (line_event line ids ≡ Ok None) × (frame_moment ids line ≡ None)
+is-foreign line id at usual ids other another = let says = usual.says in (rw (says, other, another) refl, rw (says, other, another) refl)
 
-  moment-event : (ids : Ids) → frame_moment ids line ≡ event_moment (usual_moment line) (event_of ids id (frame_data (drop at line)))
-  moment-event ids = let plain = u.framed.is_frame in let is = u.framed.stamped in let event = u.event ids in rw (plain, is, event) refl
-
-  -- of what stands behind the `#`
-  pub is-foreign : (ids : Ids) → (id == ids.request) ≡ false → (id == ids.functional) ≡ false
-      → (line_event line ids ≡ Ok None) × (None ≡ frame_moment ids line)
-  is-foreign ids other another =
-      let value = is_ok-value (decode_of (drop at line)) u.hex in
-      let all = u.decoded value.0 value.1 in
-      (says-event ids ∙ rw (all, other, another) refl, sym (moment-event ids ∙ rw (all, other, another) refl))
-
-  pub says-frame : (bytes : List ℕ) → decode_of (drop at line) ≡ Ok bytes
-      → line_says line ≡ Ok (Stamped (usual_moment line) (Some (record { id = id; bytes = bytes })))
-  says-frame bytes is =
-      let all = u.decoded bytes is in
-      go line u.framed.long u.framed.is_frame u.framed.stamped (u.frame ∙ ap (frame_of id) all)
-    where
-      go : (xs : List ℕ) → 28 ≤ length xs → is_time xs ≡ false → stamped_frame xs ≡ Some (usual_moment line, drop u.place line)
-          → text_frame (drop u.place line) ≡ Ok (Some (record { id = id; bytes = bytes }))
-          → line_says xs ≡ Ok (Stamped (usual_moment line) (Some (record { id = id; bytes = bytes })))
-      go [] long plain stamp frame = absurd (omega arith)
-      go (c ∷ xs) long plain stamp frame = rw (plain, stamp, frame) refl
-
--- ---- a whole line of a capture
-
+-- as a whole line of a capture
 pub says-usual : (piece line : List ℕ) (id at : ℕ) → IsUsual line id at → length piece ≤ 4096 → line ≡ without_return piece
     → bus_line piece ≡ Ok (usual_said line id at)
-says-usual piece line id at u short same =
+says-usual piece line id at usual short same =
     let not_long : nat_lt 4096 (length piece) ≡ false = grind (arith, nat_tests) in
-    let read = is_ok-value (decode_of (drop at line)) u.hex in
-    let bytes : read.0 ≡ usual_bytes line at = sym (ap bytes_or_none read.1) in
-    let says = says-frame line id at u read.0 read.1 in
-    rw not_long (ap line_says (sym same) ∙ (says ∙ ap (λ (b : List ℕ). Ok (Stamped (usual_moment line) (Some (record { id = id; bytes = b })))) bytes))
+    rw not_long (ap line_says (sym same) ∙ usual.says)

@@ -2,13 +2,12 @@
 use Rattle.std.specs.Prelude.{◌≡◌, ℕ, ◌+◌, ◌*◌, ◌≤◌, ◌<◌, IfSome, IsOk, List, [], ◌∷◌, ◌++◌, length, take, drop, slice_index, Option, Some, Result, Ok, Err, false}
 use Rattle.hex.specs.Hex.{decode_of}
 use Rattle.diag_can.specs.Stamp.{is_digit, moment_of}
-use Rattle.diag_can.specs.Line.{event_of, frame_data, frame_event, is_time, stamped_frame}
-use Rattle.diag_can.specs.Bus.{HasNoFeed, bus_line, frame_of, text_frame}
+use Rattle.diag_can.specs.Line.{is_time, line_says, stamped_frame}
+use Rattle.diag_can.specs.Bus.{HasNoFeed, bus_line}
 use Rattle.diag_can.specs.Log.{without_return}
 use Rattle.diag_can.specs.Lanes.{IsRunIn}
 use Rattle.diag_can.specs.declared.bus.BusLine.{BusLine}
 use Rattle.diag_can.specs.declared.bus.BusLine.TheVariants.{Stamped}
-use Rattle.diag_can.specs.declared.frame.Ids.{Ids}
 
 -- the moment of a stamp of that form
 abbrev pub usual_moment : List ℕ → ℕ
@@ -35,17 +34,6 @@ pub record BeginsFramed (text : List ℕ) (place : ℕ) : Type 0 where
   pub plain : HasNoFeed (take place text)
   pub framed : (n : ℕ) → 28 ≤ n → n ≤ length text → IsFramed (take n text) place
 
--- its identifier is this, and there its data begin, which are hex digits alone
-pub record IsUsual (line : List ℕ) (id at : ℕ) : Type 0 where
-  pub place : ℕ
-  pub framed : IsFramed line place
-  pub event : (ids : Ids) → frame_event ids (drop place line) ≡ event_of ids id (frame_data (drop at line))
-  pub frame : text_frame (drop place line) ≡ frame_of id (frame_data (drop at line))
-  pub inside : at ≤ length line
-  pub few : length (drop at line) ≤ 16
-  pub hex : IsOk (decode_of (drop at line))
-  pub decoded : (bytes : List ℕ) → decode_of (drop at line) ≡ Ok bytes → frame_data (drop at line) ≡ Ok bytes
-
 -- the bytes that were read, if any
 abbrev pub bytes_or_none : {E : Type 0} → Result (List ℕ) E → List ℕ
 bytes_or_none (Ok bytes) = bytes
@@ -58,6 +46,16 @@ usual_bytes line at = bytes_or_none (decode_of (drop at line))
 -- what the line says
 abbrev pub usual_said : List ℕ → ℕ → ℕ → BusLine
 usual_said line id at = Stamped (usual_moment line) (Some (record { id = id; bytes = usual_bytes line at }))
+
+-- its identifier is this, and there its data begin, which are hex digits alone
+pub record IsUsual (line : List ℕ) (id at : ℕ) : Type 0 where
+  pub long : 28 ≤ length line
+  pub seconds : IsRunIn is_digit line 1 16 10
+  pub fraction : IsRunIn is_digit line 12 8 6
+  pub inside : at ≤ length line
+  pub few : length (drop at line) ≤ 16
+  pub hex : IsOk (decode_of (drop at line))
+  pub says : line_says line ≡ Ok (usual_said line id at)
 
 -- the first line of a text without its line feed, the same without its return, what follows, and what is seen of it
 pub record IsFirstLine (text whole line after : List ℕ) (seen : Option (ℕ × ℕ)) : Type 0 where

@@ -1,20 +1,19 @@
 //! The lines of a capture of a whole bus.
 
 ghost use Rattle.std.specs.Prelude.{◌≡◌, ◌≤◌, length, take, IfSome, MatchOption, Ok, Some};
-ghost use Rattle.diag_can.specs.Bus.{HasNoFeed, SameForms, bus_line, data_frame, line_says, text_frame};
+ghost use Rattle.diag_can.specs.Bus.{HasNoFeed, bus_line};
 ghost use Rattle.diag_can.specs.Line.{tick_count};
 ghost use Rattle.diag_can.specs.Seen.{IsFront, seen_usual};
 ghost use Rattle.diag_can.specs.Usual.{IsUsual, usual_said};
 
 use crate::fault::LineFault;
 use crate::frame::{CanId, Frame, TickCount};
-use crate::line::{frame_data, hex_run, id_of, is_passed_over, short_id};
 use crate::log::{other_front, without_return};
-use crate::read::{stamped_frame, tick_count, ticks_of};
+use crate::read::{said_by, ticks_of};
 use crate::stamp::{behind, number_run};
-use crate::usual::{behind_end, bytes_at, usual_frame, usual_front, usual_moment};
+use crate::usual::{behind_end, usual_frame, usual_front};
 
-/// What a line of a capture says.
+/// What a line of a log or of a capture says, whoever it is meant for.
 #[derive(Debug, Drop)]
 pub enum BusLine {
     /// Nothing.
@@ -27,78 +26,6 @@ pub enum BusLine {
 
 /// The most bytes of a line of a capture, its LF not counted.
 pub const LONGEST_LINE: usize = 4096;
-
-/// The data frame of this identifier, from what stands behind the `#`, or that it is passed over.
-fn data_frame(id: CanId, rest: &[u8]) -> Result<Option<Frame>, LineFault>
-    ensures { result ≡ data_frame id rest.now }
-{
-    if is_passed_over(rest) {
-        return Ok(None);
-    }
-    let bytes = frame_data(rest)?;
-    Ok(Some(Frame { id, bytes }))
-}
-
-/// The data frame with an 11-bit identifier that a text is, or that it is passed over.
-fn text_frame(text: &[u8]) -> Result<Option<Frame>, LineFault>
-    ensures { result ≡ text_frame text.now }
-{
-    match short_id(text) {
-        Some(id) => data_frame(id, &text[4..]),
-        None => other_frame(text),
-    }
-}
-
-/// The same, whatever the identifier is.
-fn other_frame(text: &[u8]) -> Result<Option<Frame>, LineFault>
-    ensures { result ≡ text_frame text.now }
-{
-    let (digits, rest) = text.split_at(hex_run(text));
-    match behind(b'#', rest) {
-        None => Err(LineFault::BadLine),
-        Some(_) if digits.len() == 8 => Ok(None),
-        Some(rest) => match id_of(digits) {
-            None => Err(LineFault::BadLine),
-            Some(id) => data_frame(id, rest),
-        },
-    }
-}
-
-/// What a line of the usual form says; None of another line.
-#[inline(always)]
-fn usual_says(line: &[u8]) -> Option<BusLine>
-    ensures { IfSome result (λ said. line_says line.now ≡ Ok said) }
-{
-    let (id, at) = usual_frame(line)?;
-    let bytes = bytes_at(line, at);
-    Some(BusLine::Stamped {
-        moment: usual_moment(line),
-        frame: Some(Frame { id, bytes }),
-    })
-}
-
-/// What a line without its end says, whatever its form is.
-#[inline(never)]
-fn line_says(line: &[u8]) -> Result<BusLine, LineFault>
-    ensures { result ≡ line_says line.now }
-{
-    if line.is_empty() {
-        return Ok(BusLine::Empty);
-    }
-    if line.starts_with(b"tick") {
-        return match tick_count(&line[4..]) {
-            None => Err(LineFault::BadTick),
-            Some(count) => Ok(BusLine::Ticks(count)),
-        };
-    }
-    match stamped_frame(line) {
-        None => Err(LineFault::BadLine),
-        Some((moment, text)) => {
-            let frame = text_frame(text)?;
-            Ok(BusLine::Stamped { moment, frame })
-        }
-    }
-}
 
 /// A whole line of a capture in the usual form, without its CR, the identifier of its frame, and where its data begin: its
 /// moment and its bytes can be read from it. None of another line, whatever it says.
@@ -123,11 +50,7 @@ pub fn read_bus_line(piece: &[u8]) -> Result<BusLine, LineFault>
     if piece.len() > LONGEST_LINE {
         return Err(LineFault::BadLine);
     }
-    let line = without_return(piece);
-    match usual_says(line) {
-        Some(said) => Ok(said),
-        None => line_says(line),
-    }
+    said_by(without_return(piece))
 }
 
 /// What is seen of a line of a capture by one look at it and at its end.
@@ -238,8 +161,3 @@ fn other_bus_line(text: &[u8]) -> Option<BusFront<'_>>
         },
     }
 }
-
-/// A line of a capture says of each tester what a log's line does.
-pub fn same_forms_law()
-    ensures { SameForms }
-{}

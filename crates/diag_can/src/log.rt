@@ -1,19 +1,20 @@
 //! What the lines of a log give, one after the other.
 
-ghost use Rattle.std.specs.Prelude.{◌≡◌, ◌≢◌, ◌<◌, ◌≤◌, ◌⊎◌, [], ◌∷◌, ◌++◌, length, Some, MatchOption, IfErr, IsTrue, OnOk};
+ghost use Rattle.std.specs.Prelude.{◌≡◌, ◌≢◌, ◌<◌, ◌≤◌, ◌⊎◌, [], ◌∷◌, ◌++◌, length, Ok, Some, MatchOption, IfErr, IsTrue, OnOk};
 ghost use Rattle.memchr.specs.Find.{IsFirstByte};
 ghost use Rattle.diag_can.specs.Bus.{HasNoFeed};
 ghost use Rattle.diag_can.specs.Lanes.{IsRunIn};
-ghost use Rattle.diag_can.specs.Line.{is_time};
-ghost use Rattle.diag_can.specs.Log.{is_feed, without_return, waited, most_events};
+ghost use Rattle.diag_can.specs.Line.{event_for, is_time, moment_for};
+ghost use Rattle.diag_can.specs.Log.{event_list, is_feed, without_return, waited, most_events};
 ghost use Rattle.diag_can.specs.Reading.{fault_with, given_at};
 ghost use Rattle.diag_can.specs.Stamp.{is_digit};
 ghost use Rattle.diag_can.specs.Usual.{IsFirstLine, IsUsual, usual_moment};
 
+use crate::bus::BusLine;
 use crate::fault::{LineFault, LogFault};
 use crate::frame::{CanId, Event, Ids, TickCount};
 use crate::lanes::line_run;
-use crate::read::{other_line_event, tick_count};
+use crate::read::{frame_for, line_says, tick_count};
 use crate::usual::{FirstLine, bytes_at, usual_front, usual_moment};
 use memchr::memchr;
 
@@ -198,18 +199,18 @@ impl Reading {
         }
     }
 
-    /// The same up to a moment, where there is one.
-    fn pass_on(&mut self, timing: Timing, moment: Option<u64>) -> Result<(), LogFault>
+    /// The same up to a moment.
+    fn pass_on(&mut self, timing: Timing, moment: u64) -> Result<(), LogFault>
         requires { length self.old.events.items ≤ most_events }
-        ensures ok { OnOk result (Grown timing self.old self.new moment []) }
+        ensures ok { OnOk result (Grown timing self.old self.new (Some moment) []) }
         ensures err { IfErr result (λ fault.
             ((fault ≡ LogFault.TooManyEvents) × (most_events < length (self.old.events.items
-            ++ given_at timing self.old.reference moment [])))
+            ++ given_at timing self.old.reference (Some moment) [])))
             ⊎ (fault ≡ LogFault.Memory)) }
     {
-        match (timing, moment) {
-            (Timing::Stamps, Some(moment)) => self.pass_to(moment),
-            _ => Ok(()),
+        match timing {
+            Timing::Lines => Ok(()),
+            Timing::Stamps => self.pass_to(moment),
         }
     }
 
@@ -246,14 +247,32 @@ impl Reading {
         if line.starts_with(b"tick") {
             return self.take_ticks(timing, ids, number, line);
         }
-        let timed = match other_line_event(line, ids) {
-            Ok(timed) => timed,
-            Err(fault) => return Err(LogFault::Line(number, fault)),
-        };
-        self.pass_on(timing, timed.moment)?;
-        match timed.event {
-            None => Ok(()),
-            Some(event) => push_event(&mut self.events, event),
+        match line_says(line) {
+            Ok(said) => self.take_said(timing, ids, said),
+            Err(fault) => Err(LogFault::Line(number, fault)),
+        }
+    }
+
+    /// Takes what a line says.
+    fn take_said(&mut self, timing: Timing, ids: &Ids, said: BusLine) -> Result<(), LogFault>
+        requires { length self.old.events.items ≤ most_events }
+        ensures took { OnOk result (Grown timing self.old self.new (moment_for ids.now (Ok said))
+            (event_list (Ok (event_for ids.now said)))) }
+        ensures err { IfErr result (λ fault.
+            ((fault ≡ LogFault.TooManyEvents) × (most_events < length (self.old.events.items
+            ++ given_at timing self.old.reference (moment_for ids.now (Ok said)) (event_list (Ok (event_for ids.now said))))))
+            ⊎ (fault ≡ LogFault.Memory)) }
+    {
+        match said {
+            BusLine::Empty => Ok(()),
+            BusLine::Ticks(count) => push_event(&mut self.events, Event::Ticks(count)),
+            BusLine::Stamped { moment, frame } => match frame_for(frame, ids) {
+                None => Ok(()),
+                Some(event) => {
+                    self.pass_on(timing, moment)?;
+                    push_event(&mut self.events, event)
+                }
+            },
         }
     }
 

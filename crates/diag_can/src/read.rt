@@ -1,14 +1,14 @@
-//! What a line of a log is to a tester.
+//! What a line says, and what it is to a tester.
 
-ghost use Rattle.std.specs.Prelude.{◌≡◌, option_map, IfOk, IfSome, Ok};
+ghost use Rattle.std.specs.Prelude.{◌≡◌, option_map, IfSome, Ok};
 ghost use Rattle.std.specs.List.{list_all};
 ghost use Rattle.diag_can.specs.Stamp.{is_digit};
-ghost use Rattle.diag_can.specs.Line.{is_decimal, ticks_of, tick_count, stamped_frame, line_event, frame_moment};
-ghost use Rattle.diag_can.specs.LineView.{IsGiven};
+ghost use Rattle.diag_can.specs.Line.{is_decimal, ticks_of, tick_count, stamped_frame, line_says, frame_for, event_for, line_event};
 
+use crate::bus::BusLine;
 use crate::fault::LineFault;
-use crate::frame::{Event, Ids, TickCount};
-use crate::line::frame_event;
+use crate::frame::{Event, Frame, Ids, TickCount};
+use crate::line::text_frame;
 use crate::stamp::{behind_name, decimal_value, is_digit, stamp_of};
 use crate::usual::{bytes_at, usual_frame, usual_moment};
 
@@ -54,7 +54,7 @@ pub fn tick_count(text: &[u8]) -> Option<TickCount>
 }
 
 /// A frame's moment and text, from a whole line.
-pub fn stamped_frame(line: &[u8]) -> Option<(u64, &[u8])>
+fn stamped_frame(line: &[u8]) -> Option<(u64, &[u8])>
     ensures { option_map (λ r. (r.0, r.1.now)) result ≡ stamped_frame line.now }
 {
     let (moment, text) = stamp_of(line)?;
@@ -62,80 +62,75 @@ pub fn stamped_frame(line: &[u8]) -> Option<(u64, &[u8])>
     Some((moment, text))
 }
 
-/// What a line is to the tester, and the moment of its stamp where it gives a frame.
-#[derive(Drop)]
-pub struct Timed {
-    /// What the line gives the tester's link.
-    pub event: Option<Event>,
-    /// The moment of its stamp in milliseconds.
-    pub moment: Option<u64>,
-}
-
-impl Timed {
-    fn without_moment(event: Option<Event>) -> Timed
-        ensures { result ≡ record { event = event; moment = None } }
-    {
-        Timed {
-            event,
-            moment: None,
-        }
-    }
-}
-
-/// What a line of the usual form is to the tester, with its moment; None of another line.
+/// What a line of the usual form says; None of another line.
 #[inline(always)]
-fn usual_event(line: &[u8], ids: &Ids) -> Option<Timed>
-    ensures event { IfSome result (λ timed. line_event line.now ids.now ≡ Ok timed.event) }
-    ensures moment { IfSome result (λ timed. timed.moment ≡ frame_moment ids.now line.now) }
+fn usual_says(line: &[u8]) -> Option<BusLine>
+    ensures { IfSome result (λ said. line_says line.now ≡ Ok said) }
 {
     let (id, at) = usual_frame(line)?;
-    let event = if id == ids.request {
-        Event::Physical(bytes_at(line, at))
-    } else if id == ids.functional {
-        Event::Functional(bytes_at(line, at))
-    } else {
-        return Some(Timed::without_moment(None));
-    };
-    Some(Timed {
-        event: Some(event),
-        moment: Some(usual_moment(line)),
+    let bytes = bytes_at(line, at);
+    Some(BusLine::Stamped {
+        moment: usual_moment(line),
+        frame: Some(Frame { id, bytes }),
     })
 }
 
-/// What a whole line is to the tester, with its moment.
-#[inline(always)]
-pub fn timed_event(line: &[u8], ids: &Ids) -> Result<Timed, LineFault>
-    ensures event { IsGiven result (line_event line.now ids.now) }
-    ensures moment { IfOk result (λ timed. timed.moment ≡ frame_moment ids.now line.now) }
-{
-    match usual_event(line, ids) {
-        Some(timed) => Ok(timed),
-        None => other_line_event(line, ids),
-    }
-}
-
-/// The same, whatever the form of the line is.
+/// What a line without its end says, whatever its form is.
 #[inline(never)]
-pub fn other_line_event(line: &[u8], ids: &Ids) -> Result<Timed, LineFault>
-    ensures event { IsGiven result (line_event line.now ids.now) }
-    ensures moment { IfOk result (λ timed. timed.moment ≡ frame_moment ids.now line.now) }
+pub fn line_says(line: &[u8]) -> Result<BusLine, LineFault>
+    ensures { result ≡ line_says line.now }
 {
     if line.is_empty() {
-        return Ok(Timed::without_moment(None));
+        return Ok(BusLine::Empty);
     }
     if line.starts_with(b"tick") {
         return match tick_count(&line[4..]) {
             None => Err(LineFault::BadTick),
-            Some(count) => Ok(Timed::without_moment(Some(Event::Ticks(count)))),
+            Some(count) => Ok(BusLine::Ticks(count)),
         };
     }
     match stamped_frame(line) {
         None => Err(LineFault::BadLine),
         Some((moment, text)) => {
-            let event = frame_event(text, ids)?;
-            let moment = if event.is_some() { Some(moment) } else { None };
-            Ok(Timed { event, moment })
+            let frame = text_frame(text)?;
+            Ok(BusLine::Stamped { moment, frame })
         }
+    }
+}
+
+/// The same; most lines are of the usual form.
+#[inline(always)]
+pub fn said_by(line: &[u8]) -> Result<BusLine, LineFault>
+    ensures { result ≡ line_says line.now }
+{
+    match usual_says(line) {
+        Some(said) => Ok(said),
+        None => line_says(line),
+    }
+}
+
+/// What a frame is to the tester of these identifiers.
+pub fn frame_for(frame: Option<Frame>, ids: &Ids) -> Option<Event>
+    ensures { result ≡ frame_for ids.now frame }
+{
+    let Frame { id, bytes } = frame?;
+    if id == ids.request {
+        Some(Event::Physical(bytes))
+    } else if id == ids.functional {
+        Some(Event::Functional(bytes))
+    } else {
+        None
+    }
+}
+
+/// What a line is to the tester of these identifiers, by what it says.
+fn event_for(said: BusLine, ids: &Ids) -> Option<Event>
+    ensures { result ≡ event_for ids.now said }
+{
+    match said {
+        BusLine::Empty => None,
+        BusLine::Ticks(count) => Some(Event::Ticks(count)),
+        BusLine::Stamped { moment: _, frame } => frame_for(frame, ids),
     }
 }
 
@@ -150,8 +145,6 @@ pub fn other_line_event(line: &[u8], ids: &Ids) -> Result<Timed, LineFault>
 pub fn read_line(line: &[u8], ids: &Ids) -> Result<Option<Event>, LineFault>
     ensures { result ≡ line_event line.now ids.now }
 {
-    match timed_event(line, ids) {
-        Ok(timed) => Ok(timed.event),
-        Err(fault) => Err(fault),
-    }
+    let said = said_by(line)?;
+    Ok(event_for(said, ids))
 }

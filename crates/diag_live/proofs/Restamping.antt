@@ -9,9 +9,9 @@ use Rattle.std.proofs.lemmas.Option.{same_Some}
 use Rattle.std.proofs.lemmas.List.Folds.{length-prefix_len}
 use lib.Pointwise.{pointwise}
 use Rattle.diag_can.specs.Stamp.{behind_name, digits_of, is_digit, stamp_of, ◌>>=◌}
-use Rattle.diag_can.specs.Line.{is_time, stamped_frame, tick_count}
+use Rattle.diag_can.specs.Line.{is_decimal, is_time, line_says, stamped, stamped_frame, stamped_line, text_frame, tick_count, tick_line as tick_said}
 use Rattle.diag_can.specs.Log.{without_return}
-use Rattle.diag_can.specs.Bus.{bus_line, line_says, stamped, stamped_line, text_frame, tick_line as tick_said}
+use Rattle.diag_can.specs.Bus.{bus_line}
 use Rattle.diag_can.specs.declared.bus.BusLine.{BusLine}
 use Rattle.diag_can.specs.declared.bus.BusLine.TheVariants.{Ticks}
 use Rattle.diag_can.specs.declared.fault.LineFault.{LineFault}
@@ -22,7 +22,6 @@ use Rattle.std.specs.Int.{IsInRange}
 use Rattle.std.proofs.lemmas.Str.Parse.{FoldsDigits, IsDigitsTest, numerals_by_fold}
 use Rattle.std.proofs.lemmas.Fmt.{digits_decimal, digits_value-decimal, first_decimal, length-decimal-le}
 use Rattle.diag_can.specs.Stamp.{decimal_value}
-use Rattle.diag_can.specs.Line.{is_decimal}
 use Rattle.diag_can.proofs.TickFronts.{begins}
 use Rattle.diag_bus.proofs.Stamps.{bind_some}
 use Rattle.diag_live.specs.Live.{but_for_moment, is_close, null_stamp, restamped, tick_line}
