@@ -21,7 +21,7 @@ use crate::mid_line::MidLine;
 use crate::request_ids::RequestIds;
 use crate::verdict::Verdict;
 use crate::writing::{Writing, writers_of};
-use diag_can::{BusLine, CanId, Seen, TickCount, read_bus_line, usual_line};
+use diag_can::{BusLine, Seen, TickCount, UsualFrame, read_bus_line, usual_line};
 use diag_desk::{JournalVersion, write_header};
 use diag_ecu::Ecu;
 use diag_setup::{Setup, TesterId};
@@ -160,7 +160,7 @@ impl Bus {
         ensures output { self.new.output ≡ self.old.output }
     {
         match usual_line(line) {
-            Some((usual, id, at)) => self.take_usual(line, usual, id, at, text),
+            Some((usual, frame)) => self.take_usual(line, usual, &frame, text),
             None => self.take_read(line, text),
         }
     }
@@ -182,7 +182,7 @@ impl Bus {
         ensures { AnswersLine self.old self.new line.now text.old.items text.new.items result }
     {
         match seen {
-            Seen::Usual(id, at) => self.take_usual(line, usual, id, at, text),
+            Seen::Usual(frame) => self.take_usual(line, usual, &frame, text),
             Seen::Ticks(count) => self.take_ticks(line, count, text),
             Seen::Nothing => self.take_line(line, text),
         }
@@ -194,23 +194,22 @@ impl Bus {
         &mut self,
         line: &[u8],
         usual: &[u8],
-        id: CanId,
-        at: usize,
+        frame: &UsualFrame,
         text: &mut Vec<u8>,
     ) -> Result<(), BusFault>
-        requires usual { IsUsual usual.now id at }
-        requires says { bus_line line.now ≡ Ok (usual_said usual.now id at) }
+        requires usual { IsUsual usual.now frame.now }
+        requires says { bus_line line.now ≡ Ok (usual_said usual.now frame.now) }
         ensures { AnswersLine self.old self.new line.now text.old.items text.new.items result }
     {
         if self.line.output.is_verdict() {
             return self.take_read(line, text);
         }
-        let (moment, time) = next_usual(&self.clock, line, usual, id, at)?;
+        let (moment, time) = next_usual(&self.clock, line, usual, frame)?;
         let span = silence(self.clock.reference, moment);
         self.clock.go_on_at(moment, time);
         self.line.begin();
         self.line
-            .take_usual(&self.setup, &self.ids, span, usual, id, at)?;
+            .take_usual(&self.setup, &self.ids, span, usual, frame)?;
         self.line
             .write(&self.setup, &self.clock, &mut self.writing, text)?;
         Ok(())

@@ -13,7 +13,7 @@ ghost use Rattle.diag_can.specs.declared.frame.Frame.{Frame as AFrame};
 ghost use Rattle.diag_can.specs.declared.log.Timing.TheVariants.{Stamps};
 
 use crate::fault::BusFault;
-use diag_can::{BusLine, CanId, TickCount, usual_moment};
+use diag_can::{BusLine, TickCount, UsualFrame, usual_moment};
 use diag_world::CLOSING_TIME;
 
 /// Where the bus's time begins.
@@ -198,11 +198,10 @@ pub(crate) fn next_usual(
     clock: &Clock,
     line: &[u8],
     usual: &[u8],
-    id: CanId,
-    at: usize,
+    frame: &UsualFrame,
 ) -> Result<(u64, u64), BusFault>
-    requires usual { IsUsual usual.now id at }
-    requires says { bus_line line.now ≡ Ok (usual_said usual.now id at) }
+    requires usual { IsUsual usual.now frame.now }
+    requires says { bus_line line.now ≡ Ok (usual_said usual.now frame.now) }
     ensures moment { IfOk result (λ r. r.0 ≡ usual_moment usual.now) }
     ensures time { IfOk result (λ r.
         r.1 ≡ clock.now.time + silence Stamps clock.now.reference (Some r.0)) }
@@ -214,8 +213,7 @@ pub(crate) fn next_usual(
 {
     // (for its contract: what the line says)
     let _ = line;
-    let _ = id;
-    let _ = at;
+    let _ = frame;
     let moment = usual_moment(usual);
     let time = later_time(clock, silence(clock.reference, moment))?;
     Ok((moment, time))

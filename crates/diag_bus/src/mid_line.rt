@@ -19,7 +19,7 @@ use crate::entering::LineEntries;
 use crate::filled::Filled;
 use crate::request_ids::{Owner, RequestIds};
 use crate::writing::{Writing, is_in_order, write_drawn, write_own};
-use diag_can::{BusLine, CanId, Event, FrameBytes, TickCount, usual_bytes};
+use diag_can::{BusLine, Event, FrameBytes, TickCount, UsualFrame, usual_bytes};
 use diag_setup::{Setup, TesterId};
 use diag_tp::Sent;
 use diag_world::{Server, ServerFault};
@@ -266,8 +266,7 @@ impl MidLine {
         Ok(())
     }
 
-    /// Gives the server what a line of the usual form says: so many milliseconds, and a frame of this identifier, whose data
-    /// begin there.
+    /// Gives the server what a line of the usual form says: so many milliseconds, and this frame.
     #[inline(always)]
     pub fn take_usual(
         &mut self,
@@ -275,20 +274,19 @@ impl MidLine {
         ids: &RequestIds,
         ms: u64,
         line: &[u8],
-        id: CanId,
-        at: usize,
+        frame: &UsualFrame,
     ) -> Result<(), AllocError>
         requires ready { IsReady self.old (length setup.now.testers) ms }
         requires ids { AreRequestsOf setup.now ids.now }
-        requires usual { IsUsual line.now id at }
+        requires usual { IsUsual line.now frame.now }
         ensures { Passed self.old self.new ms (flat_map (each_of (length setup.now.testers)) (waited ms)
-            ++ flat_map (frame_to setup.now (Some (record { id = id; bytes = usual_bytes line.now at })))
+            ++ flat_map (frame_to setup.now (Some (record { id = frame.now.id; bytes = usual_bytes line.now frame.now.at })))
             (counted_from 1 (length setup.now.testers))) result }
     {
         self.pass(setup, ms)?;
-        match ids.owner(id) {
+        match ids.owner(frame.id) {
             Owner::Nobody => Ok(()),
-            owner => self.give_frame(setup, owner, usual_bytes(line, at)),
+            owner => self.give_frame(setup, owner, usual_bytes(line, frame.at)),
         }
     }
 

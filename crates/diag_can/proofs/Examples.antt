@@ -3,6 +3,7 @@ use Rattle.std.proofs.Common.{◌≡◌, ℕ, List, [], ◌∷◌, ◌++◌, cod
 use Rattle.std.specs.Fmt.{digits}
 use Rattle.std.specs.Prelude.{Option, Some, None, Result, Ok, Err}
 use Rattle.hex.proofs.OnLiterals.{hex_on_literals}
+use Rattle.diag_can.specs.declared.bus.BusLine.TheVariants.{Stamped}
 use Rattle.diag_can.specs.declared.fault.LineFault.{LineFault}
 use Rattle.diag_can.specs.declared.fault.LineFault.TheVariants.{BadLine, BadTick, TooManyBytes}
 use Rattle.diag_can.specs.declared.fault.LogFault.TheVariants.{Line}
@@ -10,7 +11,7 @@ use Rattle.diag_can.specs.declared.frame.Ids.{Ids}
 use Rattle.diag_can.specs.declared.frame.Event.{Event}
 use Rattle.diag_can.specs.declared.frame.Event.TheVariants.{Physical, Functional, Ticks}
 use Rattle.diag_can.specs.declared.log.Timing.TheVariants.{Lines, Stamps}
-use Rattle.diag_can.specs.Line.{line_event}
+use Rattle.diag_can.specs.Line.{line_event, line_says}
 use Rattle.diag_can.specs.Log.{events}
 use Rattle.diag_can.specs.Reply.{reply_line}
 
@@ -128,6 +129,15 @@ trailing_space = refl
 
 other_word : of_line (codes "tickle") ≡ Err BadTick
 other_word = refl
+
+-- ---- what is said to no tester
+
+foreign_frame : line_says (codes "(1.500000) can0 123#DEAD") ≡ Ok (Stamped 1500 (Some (record { id = 0x123; bytes = 0xDE ∷ 0xAD ∷ [] })))
+unfolding hex_on_literals
+foreign_frame = refl
+
+wide_frame : line_says (codes "(1.500000) can0 18DB33F1#02") ≡ Ok (Stamped 1500 None)
+wide_frame = refl
 
 -- ---- logs
 

@@ -15,6 +15,7 @@ use Rattle.diag_can.specs.Line.{id_of}
 use Rattle.diag_can.specs.Log.{is_feed, without_return}
 use Rattle.diag_can.specs.Stamp.{behind, is_mark, is_no_space}
 use Rattle.diag_can.specs.Usual.{BeginsFramed, IsFirstLine, IsUsual}
+use Rattle.diag_can.specs.declared.usual.UsualFrame.{UsualFrame}
 use Rattle.diag_can.proofs.UsualLines.{says-usual, usual_parts}
 use Rattle.diag_can.proofs.Windows.{back_least, back_most, framed_within, front_least, front_most}
 
@@ -115,6 +116,10 @@ module _ (text : List ℕ) (place count : ℕ) (f : BeginsFramed text place) (ru
   abbrev line : List ℕ
   line = take end text
 
+  -- its frame, of this identifier
+  abbrev seen : ℕ → UsualFrame
+  seen id = record { id = id; at = place + 4 }
+
   long : length line ≡ end
   long = length-take-le end text (omega arith)
 
@@ -166,7 +171,7 @@ module _ (text : List ℕ) (place count : ℕ) (f : BeginsFramed text place) (ru
         let inside : k < end = omega (arith, long, lt) in
         ap is_feed (get_or-take end text k d inside ∙ get_or_default_zero text k d (omega (arith, fits, inside))) ∙ no_feed_to k inside
 
-    is_usual : (number : ℕ) → id_of (take 3 part) ≡ Some number → rest ≡ drop 4 part → 4 ≤ length part → count % 2 ≡ 0 → IsUsual line number (place + 4)
+    is_usual : (number : ℕ) → id_of (take 3 part) ≡ Some number → rest ≡ drop 4 part → 4 ≤ length part → count % 2 ≡ 0 → IsUsual line (seen number)
     is_usual number is behind_is four even =
         let size : length line - (place + 4) ≡ count = omega (arith, long) in
         usual_parts line place number part (f.framed end (omega (arith, f.after)) (omega (arith, fits))) cut id is (hash ∙ ap (λ (t : List ℕ). Some t) behind_is) four
@@ -175,21 +180,21 @@ module _ (text : List ℕ) (place count : ℕ) (f : BeginsFramed text place) (ru
 
     -- it is the first line, whatever stands in front of its LF
     is_first : (number : ℕ) (whole after : List ℕ) → text ≡ whole ++ 10 ∷ after → HasNoFeed whole → length whole ≤ end + 1 → line ≡ without_return whole
-        → IsUsual line number (place + 4) → IsFirstLine text (take (length text - length after - 1) text) line after (Some (number, place + 4))
+        → IsUsual line (seen number) → IsFirstLine text (take (length text - length after - 1) text) line after (Some (seen number))
     is_first number whole after is none short same usual =
         let fits : length whole ≤ 4096 = omega (arith, short, f.before, run.in_range) in
-        subst (λ (w : List ℕ). IsFirstLine text w line after (Some (number, place + 4))) (sym (front_is text whole after is)) (record {
+        subst (λ (w : List ℕ). IsFirstLine text w line after (Some (seen number))) (sym (front_is text whole after is)) (record {
           is = is;
           plain = none;
           line_is = same;
           usual = usual;
-          says = says-usual whole line number (place + 4) usual fits same;
+          says = says-usual whole line (seen number) usual fits same;
         })
 
     -- with an LF behind it, or a CR and an LF
     pub front_line : (number : ℕ) (after : List ℕ) → (drop end text ≡ 10 ∷ after) ⊎ (drop end text ≡ 13 ∷ 10 ∷ after)
         → id_of (take 3 part) ≡ Some number → rest ≡ drop 4 part → 4 ≤ length part → count % 2 ≡ 0
-        → IsFirstLine text (take (length text - length after - 1) text) line after (Some (number, place + 4))
+        → IsFirstLine text (take (length text - length after - 1) text) line after (Some (seen number))
     front_line number after (inl feed) is behind_is four even =
         is_first number line after (sym (take-append-drop end text) ∙ ap (λ (t : List ℕ). line ++ t) feed) line_plain (omega (arith, long)) (sym without_cr)
         (is_usual number is behind_is four even)

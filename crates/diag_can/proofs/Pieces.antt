@@ -10,6 +10,7 @@ use Rattle.diag_can.specs.declared.fault.LogFault.{LogFault}
 use Rattle.diag_can.specs.declared.frame.Ids.{Ids}
 use Rattle.diag_can.specs.declared.log.Timing.{Timing}
 use Rattle.diag_can.specs.declared.log_reader.LogReader.{LogReader}
+use Rattle.diag_can.specs.declared.usual.UsualFrame.{UsualFrame}
 use Rattle.diag_can.proofs.Lines.{lines_of-first}
 use Rattle.diag_can.proofs.Reading.{fault_next, one_more}
 
@@ -40,7 +41,7 @@ none_read ids timing r text = record {
 
 module _ {ids : Ids} {timing : Timing} {old mid : LogReader} {text rest : List ℕ} (f : FrontRead ids timing old mid text rest) where
   -- a line more, which a line feed ends
-  pub line_more : {first : List ℕ} (line after : List ℕ) {usual : Option (ℕ × ℕ)} (l : IsFirstLine rest first line after usual) (new : LogReader)
+  pub line_more : {first : List ℕ} (line after : List ℕ) {usual : Option UsualFrame} (l : IsFirstLine rest first line after usual) (new : LogReader)
       → ((past : List (List ℕ)) → AreRead ids timing mid past → AreRead ids timing new (past ++ line ∷ [])) → FrontRead ids timing old new text after
   line_more {first} line after l new took = record {
     front = f.front ++ (first ++ 10 ∷ []);
@@ -54,7 +55,7 @@ module _ {ids : Ids} {timing : Timing} {old mid : LogReader} {text rest : List �
   }
 
   -- the line that comes next is at fault
-  pub line_fault : {first : List ℕ} (line after : List ℕ) {usual : Option (ℕ × ℕ)} (l : IsFirstLine rest first line after usual) (fault : LogFault)
+  pub line_fault : {first : List ℕ} (line after : List ℕ) {usual : Option UsualFrame} (l : IsFirstLine rest first line after usual) (fault : LogFault)
       → ((past : List (List ℕ)) → AreRead ids timing mid past → fault_after timing ids past line ≡ Some fault)
       → (seen more : List ℕ) → HasLines ids timing old seen → events (seen ++ (text ++ more)) ids timing ≡ Err fault
   line_fault {first} line after l fault at seen more h =

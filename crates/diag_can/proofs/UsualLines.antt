@@ -18,6 +18,7 @@ use Rattle.diag_can.specs.Log.{without_return}
 use Rattle.diag_can.specs.Usual.{IsFramed, IsUsual, bytes_or_none, usual_bytes, usual_moment, usual_said}
 use Rattle.diag_can.specs.declared.frame.Frame.{Frame}
 use Rattle.diag_can.specs.declared.frame.Ids.{Ids}
+use Rattle.diag_can.specs.declared.usual.UsualFrame.{UsualFrame}
 
 -- ---- parts of a line, by the bytes that stand there
 
@@ -137,7 +138,8 @@ stamped_says (c ∷ line) text moment frame long plain stamp is = rw (plain, sta
 
 pub usual : (line : List ℕ) (place id at : ℕ) → IsFramed line place → at ≡ place + 4 → at ≤ length line → prefix_len is_hex_digit (drop place line) ≡ 3
     → id_of (take 3 (drop place line)) ≡ Some id → behind 35 (drop 3 (drop place line)) ≡ Some (drop at line)
-    → length line ≤ at + 16 → (length line - at) % 2 ≡ 0 → ((k : ℕ) → at ≤ k → k < length line → is_hex_digit (get_or line k 0) ≡ true) → IsUsual line id at
+    → length line ≤ at + 16 → (length line - at) % 2 ≡ 0 → ((k : ℕ) → at ≤ k → k < length line → is_hex_digit (get_or line k 0) ≡ true)
+    → IsUsual line (record { id = id; at = at })
 usual line place id at framed four inside run is hash few even digits =
     let rest : List ℕ = drop at line in
     let text : List ℕ = drop place line in
@@ -164,7 +166,7 @@ pub usual_parts : (line : List ℕ) (place id : ℕ) (text : List ℕ) → IsFra
     → prefix_len is_hex_digit text ≡ 3 → id_of (take 3 text) ≡ Some id → behind 35 (drop 3 text) ≡ Some (drop 4 text) → 4 ≤ length text
     → length line - (place + 4) ≤ 16 → (length line - (place + 4)) % 2 ≡ 0
     → ((k : ℕ) → length line - (length line - (place + 4)) ≤ k → k < length line → is_hex_digit (get_or line k 0) ≡ true)
-    → IsUsual line id (place + 4)
+    → IsUsual line (record { id = id; at = place + 4 })
 usual_parts line place id text framed cut run is hash long few even digits =
     let whole : text ≡ drop place line = cut ∙ take_all (length line - place) (drop place line) (omega (arith, length-drop place line)) in
     let behind_hash : drop 4 text ≡ drop (place + 4) line = ap (drop 4) whole ∙ drop-drop 4 place line in
@@ -177,13 +179,13 @@ usual_parts line place id text framed cut run is hash long few even digits =
 -- ---- what such a line says
 
 -- to a tester that its identifier isn't for
-pub is-foreign : (line : List ℕ) (id at : ℕ) → IsUsual line id at → (ids : Ids) → (id == ids.request) ≡ false → (id == ids.functional) ≡ false
-    → (line_event line ids ≡ Ok None) × (frame_moment ids line ≡ None)
-is-foreign line id at usual ids other another = let says = usual.says in (rw (says, other, another) refl, rw (says, other, another) refl)
+pub is-foreign : (line : List ℕ) (frame : UsualFrame) → IsUsual line frame → (ids : Ids) → (frame.id == ids.request) ≡ false
+    → (frame.id == ids.functional) ≡ false → (line_event line ids ≡ Ok None) × (frame_moment ids line ≡ None)
+is-foreign line frame usual ids other another = let says = usual.says in (rw (says, other, another) refl, rw (says, other, another) refl)
 
 -- as a whole line of a capture
-pub says-usual : (piece line : List ℕ) (id at : ℕ) → IsUsual line id at → length piece ≤ 4096 → line ≡ without_return piece
-    → bus_line piece ≡ Ok (usual_said line id at)
-says-usual piece line id at usual short same =
+pub says-usual : (piece line : List ℕ) (frame : UsualFrame) → IsUsual line frame → length piece ≤ 4096 → line ≡ without_return piece
+    → bus_line piece ≡ Ok (usual_said line frame)
+says-usual piece line frame usual short same =
     let not_long : nat_lt 4096 (length piece) ≡ false = grind (arith, nat_tests) in
     rw not_long (ap line_says (sym same) ∙ usual.says)

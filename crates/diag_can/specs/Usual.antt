@@ -8,6 +8,7 @@ use Rattle.diag_can.specs.Log.{without_return}
 use Rattle.diag_can.specs.Lanes.{IsRunIn}
 use Rattle.diag_can.specs.declared.bus.BusLine.{BusLine}
 use Rattle.diag_can.specs.declared.bus.BusLine.TheVariants.{Stamped}
+use Rattle.diag_can.specs.declared.usual.UsualFrame.{UsualFrame}
 
 -- the moment of a stamp of that form
 abbrev pub usual_moment : List ℕ → ℕ
@@ -44,23 +45,23 @@ abbrev pub usual_bytes : List ℕ → ℕ → List ℕ
 usual_bytes line at = bytes_or_none (decode_of (drop at line))
 
 -- what the line says
-abbrev pub usual_said : List ℕ → ℕ → ℕ → BusLine
-usual_said line id at = Stamped (usual_moment line) (Some (record { id = id; bytes = usual_bytes line at }))
+abbrev pub usual_said : List ℕ → UsualFrame → BusLine
+usual_said line frame = Stamped (usual_moment line) (Some (record { id = frame.id; bytes = usual_bytes line frame.at }))
 
--- its identifier is this, and there its data begin, which are hex digits alone
-pub record IsUsual (line : List ℕ) (id at : ℕ) : Type 0 where
+-- its frame has this identifier, and there its data begin, which are hex digits alone
+pub record IsUsual (line : List ℕ) (frame : UsualFrame) : Type 0 where
   pub long : 28 ≤ length line
   pub seconds : IsRunIn is_digit line 1 16 10
   pub fraction : IsRunIn is_digit line 12 8 6
-  pub inside : at ≤ length line
-  pub few : length (drop at line) ≤ 16
-  pub hex : IsOk (decode_of (drop at line))
-  pub says : line_says line ≡ Ok (usual_said line id at)
+  pub inside : frame.at ≤ length line
+  pub few : length (drop frame.at line) ≤ 16
+  pub hex : IsOk (decode_of (drop frame.at line))
+  pub says : line_says line ≡ Ok (usual_said line frame)
 
 -- the first line of a text without its line feed, the same without its return, what follows, and what is seen of it
-pub record IsFirstLine (text whole line after : List ℕ) (seen : Option (ℕ × ℕ)) : Type 0 where
+pub record IsFirstLine (text whole line after : List ℕ) (seen : Option UsualFrame) : Type 0 where
   pub is : text ≡ whole ++ 10 ∷ after
   pub plain : HasNoFeed whole
   pub line_is : line ≡ without_return whole
-  pub usual : IfSome seen (λ u. IsUsual line u.0 u.1)
-  pub says : IfSome seen (λ u. bus_line whole ≡ Ok (usual_said line u.0 u.1))
+  pub usual : IfSome seen (λ frame. IsUsual line frame)
+  pub says : IfSome seen (λ frame. bus_line whole ≡ Ok (usual_said line frame))

@@ -7,11 +7,11 @@ ghost use Rattle.diag_can.specs.Seen.{IsFront, seen_usual};
 ghost use Rattle.diag_can.specs.Usual.{IsUsual, usual_said};
 
 use crate::fault::LineFault;
-use crate::frame::{CanId, Frame, TickCount};
+use crate::frame::{Frame, TickCount};
 use crate::log::{other_front, without_return};
 use crate::read::{said_by, ticks_of};
 use crate::stamp::{behind, number_run};
-use crate::usual::{behind_end, usual_frame, usual_front};
+use crate::usual::{UsualFrame, behind_end, usual_frame, usual_front};
 
 /// What a line of a log or of a capture says, whoever it is meant for.
 #[derive(Debug, Drop)]
@@ -27,19 +27,19 @@ pub enum BusLine {
 /// The most bytes of a line of a capture, its LF not counted.
 pub const LONGEST_LINE: usize = 4096;
 
-/// A whole line of a capture in the usual form, without its CR, the identifier of its frame, and where its data begin: its
-/// moment and its bytes can be read from it. None of another line, whatever it says.
+/// A whole line of a capture in the usual form, without its CR, and its frame there: its moment and its bytes can be read
+/// from it. None of another line, whatever it says.
 #[inline(always)]
-pub fn usual_line(piece: &[u8]) -> Option<(&[u8], CanId, usize)>
-    ensures is { IfSome result (λ r. IsUsual r.0.now r.1 r.2) }
-    ensures says { IfSome result (λ r. bus_line piece.now ≡ Ok (usual_said r.0.now r.1 r.2)) }
+pub fn usual_line(piece: &[u8]) -> Option<(&[u8], UsualFrame)>
+    ensures is { IfSome result (λ r. IsUsual r.0.now r.1) }
+    ensures says { IfSome result (λ r. bus_line piece.now ≡ Ok (usual_said r.0.now r.1)) }
 {
     if piece.len() > LONGEST_LINE {
         return None;
     }
     let line = without_return(piece);
-    let (id, at) = usual_frame(line)?;
-    Some((line, id, at))
+    let frame = usual_frame(line)?;
+    Some((line, frame))
 }
 
 /// What a whole line of a capture says, from its bytes without LF, or how it is at fault: too long, or in none of the
@@ -56,8 +56,8 @@ pub fn read_bus_line(piece: &[u8]) -> Result<BusLine, LineFault>
 /// What is seen of a line of a capture by one look at it and at its end.
 #[derive(Clone, Copy)]
 pub enum Seen {
-    /// It is of the usual form, has a frame of this identifier, whose data begin there in the line without its CR.
-    Usual(CanId, usize),
+    /// It is of the usual form, and has this frame in the line without its CR.
+    Usual(UsualFrame),
     /// It gives that many milliseconds.
     Ticks(TickCount),
     /// Nothing: it may say anything.
@@ -79,11 +79,11 @@ pub struct BusFront<'a> {
 
 /// What is seen of a line of which this is seen as of a log's.
 #[inline(always)]
-fn seen_usual(usual: Option<(CanId, usize)>) -> Seen
+fn seen_usual(usual: Option<UsualFrame>) -> Seen
     ensures { result ≡ seen_usual usual }
 {
     match usual {
-        Some((id, at)) => Seen::Usual(id, at),
+        Some(frame) => Seen::Usual(frame),
         None => Seen::Nothing,
     }
 }

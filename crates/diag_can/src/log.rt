@@ -12,10 +12,10 @@ ghost use Rattle.diag_can.specs.Usual.{IsFirstLine, IsUsual, usual_moment};
 
 use crate::bus::BusLine;
 use crate::fault::{LineFault, LogFault};
-use crate::frame::{CanId, Event, Ids, TickCount};
+use crate::frame::{Event, Ids, TickCount};
 use crate::lanes::line_run;
 use crate::read::{frame_for, line_says, tick_count};
-use crate::usual::{FirstLine, bytes_at, usual_front, usual_moment};
+use crate::usual::{FirstLine, UsualFrame, bytes_at, usual_front, usual_moment};
 use memchr::memchr;
 
 /// Whether the stamps of a log carry time.
@@ -140,11 +140,10 @@ impl Reading {
         ids: &Ids,
         number: u32,
         line: &[u8],
-        id: CanId,
-        at: usize,
+        frame: UsualFrame,
     ) -> Result<(), LogFault>
         requires few { length self.old.events.items ≤ most_events }
-        requires usual { IsUsual line.now id at }
+        requires usual { IsUsual line.now frame }
         ensures took { OnOk result (Took timing ids.now self.old self.new line.now) }
         ensures fault { IfErr result (λ fault. fault ≢ LogFault.Memory
             → fault_with timing ids.now self.old.events.items self.old.reference number line.now
@@ -152,6 +151,7 @@ impl Reading {
     {
         // (for its contract: such a line is never at fault by itself)
         let _ = number;
+        let UsualFrame { id, at } = frame;
         if id == ids.request {
             self.take_frame(timing, line, Event::Physical(bytes_at(line, at)))
         } else if id == ids.functional {

@@ -9,8 +9,9 @@ ghost use Rattle.diag_can.specs.Usual.{IsUsual};
 ghost use Rattle.diag_can.specs.declared.log.Timing.{Timing};
 
 use crate::fault::LogFault;
-use crate::frame::{CanId, Event, Ids};
+use crate::frame::{Event, Ids};
 use crate::log::{MAX_EVENTS, Reading, Timing, first_line, without_return};
+use crate::usual::UsualFrame;
 use std::alloc::{AllocError, Global};
 
 /// The most lines of a log.
@@ -113,10 +114,10 @@ impl LogReader {
         ids: &Ids,
         timing: Timing,
         line: &[u8],
-        usual: Option<(CanId, usize)>,
+        usual: Option<UsualFrame>,
     ) -> Result<(), LogFault>
         requires read { (past : List (List ℕ)) × AreRead ids.now timing self.old past }
-        requires usual { IfSome usual (λ u. IsUsual line.now u.0 u.1) }
+        requires usual { IfSome usual (λ frame. IsUsual line.now frame) }
         ensures took { OnOk result ((past : List (List ℕ))
             → AreRead ids.now timing self.old past
             → AreRead ids.now timing self.new (past ++ line.now ∷ [])) }
@@ -131,7 +132,7 @@ impl LogReader {
         self.lines += 1;
         let number = self.lines;
         match usual {
-            Some((id, at)) => self.reading.take_usual(timing, ids, number, line, id, at),
+            Some(frame) => self.reading.take_usual(timing, ids, number, line, frame),
             None => self.reading.take_other(timing, ids, number, line),
         }
     }

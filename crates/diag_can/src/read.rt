@@ -10,7 +10,7 @@ use crate::fault::LineFault;
 use crate::frame::{Event, Frame, Ids, TickCount};
 use crate::line::text_frame;
 use crate::stamp::{behind_name, decimal_value, is_digit, stamp_of};
-use crate::usual::{bytes_at, usual_frame, usual_moment};
+use crate::usual::{UsualFrame, bytes_at, usual_frame, usual_moment};
 
 /// Whether each byte is a decimal digit.
 fn is_all_digits(text: &[u8]) -> bool
@@ -67,7 +67,7 @@ fn stamped_frame(line: &[u8]) -> Option<(u64, &[u8])>
 fn usual_says(line: &[u8]) -> Option<BusLine>
     ensures { IfSome result (λ said. line_says line.now ≡ Ok said) }
 {
-    let (id, at) = usual_frame(line)?;
+    let UsualFrame { id, at } = usual_frame(line)?;
     let bytes = bytes_at(line, at);
     Some(BusLine::Stamped {
         moment: usual_moment(line),

@@ -36,10 +36,19 @@ fn text_place(line: &[u8]) -> Option<usize>
     Some(21 + word)
 }
 
-/// The identifier, and where the data begin.
+/// The frame of a line of the usual form, as it is seen in the line: its bytes aren't read yet.
+#[derive(Clone, Copy)]
+pub struct UsualFrame {
+    /// Its identifier.
+    pub id: CanId,
+    /// Where its data begin in the line.
+    pub at: usize,
+}
+
+/// The frame of a line of the usual form; None of another line.
 #[inline(always)]
-pub fn usual_frame(line: &[u8]) -> Option<(CanId, usize)>
-    ensures { IfSome result (λ r. IsUsual line.now r.0 r.1) }
+pub fn usual_frame(line: &[u8]) -> Option<UsualFrame>
+    ensures { IfSome result (λ frame. IsUsual line.now frame) }
 {
     let place = text_place(line)?;
     let id = short_id(&line[place..])?;
@@ -48,7 +57,7 @@ pub fn usual_frame(line: &[u8]) -> Option<(CanId, usize)>
     if count > 16 || count % 2 != 0 || !ends_in_hex(line, count) {
         return None;
     }
-    Some((id, at))
+    Some(UsualFrame { id, at })
 }
 
 /// The first line of a text, which an LF ends.
@@ -60,8 +69,8 @@ pub struct FirstLine<'a> {
     pub line: &'a [u8],
     /// What follows the LF.
     pub after: &'a [u8],
-    /// The identifier of its frame, and where its data begin in `line`, where it was seen to be of the usual form.
-    pub usual: Option<(CanId, usize)>,
+    /// Its frame in `line`, where it was seen to be of the usual form.
+    pub usual: Option<UsualFrame>,
 }
 
 /// What follows an LF, or a CR and an LF, at the front of a text.
@@ -101,7 +110,7 @@ pub fn usual_front(text: &[u8]) -> Option<FirstLine<'_>>
         whole: &text[..text.len() - after.len() - 1],
         line,
         after,
-        usual: Some((id, at)),
+        usual: Some(UsualFrame { id, at }),
     })
 }
 

@@ -16,9 +16,9 @@ returns c =
     let clock' = c.go_on_at.new.self in
     let read = c.in_ok-moment.ensures in
     took_line c.args.self.now inside.setup c.args.line.now inside.compared inside.compared c.self.view_is c.self.invariant.0
-    c.requires.says read.well (usual_on inside.clock clock' usual c.args.id c.args.at c.in_ok-moment.moment read.moment c.go_on_at.ensures.on)
+    c.requires.says read.well (usual_on inside.clock clock' usual c.args.frame.now c.in_ok-moment.moment read.moment c.go_on_at.ensures.on)
     c.begin.ensures.empty c.begin.ensures.text c.begin.ensures.server c.begin.ensures.shape
-    (usual_gave inside.setup inside.clock c.begin.new.self taken usual c.args.id c.args.at c.in_ok-moment.moment c.silence-span.result read.moment
+    (usual_gave inside.setup inside.clock c.begin.new.self taken usual c.args.frame.now c.in_ok-moment.moment c.silence-span.result read.moment
     c.silence-span.ensures c.in_ok-take_usual.ensures.ok)
     c.take_usual.ensures.shape
     (λ judged. absurd (judged_not c.is_verdict.result c.if-is_verdict.false (c.is_verdict.ensures.1 judged)))
@@ -33,7 +33,7 @@ take_usual-requires-clause-ready c = is_ready c.self.inside.setup c.self.inside.
 
 -- what holds of the bus's parts behind it
 sound : (c : After-take_usual) → AreSound c.self.inside.setup c.take_usual.new.self c.self.inside.compared c.go_on_at.new.self
-sound c = sound_usual c.self.inside.setup c.args.line.now c.args.usual.now c.args.id c.args.at c.silence-span.result c.self.inside.compared
+sound c = sound_usual c.self.inside.setup c.args.line.now c.args.usual.now c.args.frame.now c.silence-span.result c.self.inside.compared
     c.self.invariant.0 c.requires.says c.in_ok-moment.ensures.moment c.silence-span.ensures c.go_on_at.ensures.on c.go_on_at.ensures.start
     c.begin.ensures.server c.begin.ensures.shape c.take_usual.ensures.shape c.take_usual.ensures.pace
 
@@ -62,7 +62,7 @@ pub write-requires-clause-start : goal.write-requires-clause-start
 write-requires-clause-start c =
     let usual = c.args.usual.now in
     let low : c.in_ok-moment.moment < moment_end =
-    subst (λ m. m < moment_end) (sym c.in_ok-moment.ensures.moment) (bus_line_low c.args.line.now (usual_said usual c.args.id c.args.at) c.requires.says) in
+    subst (λ m. m < moment_end) (sym c.in_ok-moment.ensures.moment) (bus_line_low c.args.line.now (usual_said usual c.args.frame.now) c.requires.says) in
     c.go_on_at.ensures.start moment_end c.self.invariant.0.4 low
 
 pub write-requires-clause-sent : goal.write-requires-clause-sent

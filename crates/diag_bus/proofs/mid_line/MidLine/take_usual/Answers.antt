@@ -9,7 +9,7 @@ use Rattle.diag_bus.proofs.Passing.{passed_as, passed_none, passed_then}
 use Rattle.diag_bus.proofs.mid_line.MidLine.take_usual.Goals as goal
 
 pub give_frame-requires-clause-owner : goal.give_frame-requires-clause-owner
-give_frame-requires-clause-owner c = (c.args.id, c.owner.ensures c.args.setup.now c.requires.ids)
+give_frame-requires-clause-owner c = (c.args.frame.now.id, c.owner.ensures c.args.setup.now c.requires.ids)
 
 pub give_frame-requires-clause-early : goal.give_frame-requires-clause-early
 give_frame-requires-clause-early c =
@@ -19,15 +19,15 @@ pub returns-in-Nobody : goal.returns-in-Nobody
 returns-in-Nobody c =
     let setup = c.args.setup.now in
     let n = length setup.testers in
-    let bytes = usual_bytes c.args.line.now c.args.at in
-    let none : flat_map (frame_to setup (Some (record { id = c.args.id; bytes = bytes }))) (counted_from 1 n) ≡ [] =
+    let bytes = usual_bytes c.args.line.now c.args.frame.now.at in
+    let none : flat_map (frame_to setup (Some (record { id = c.args.frame.now.id; bytes = bytes }))) (counted_from 1 n) ≡ [] =
     (c.owner.ensures setup c.requires.ids).gives bytes ∙ ap (λ o. given n o bytes) c.in-Nobody.is in
     passed_then c.args.ms (omega arith) c.in_ok-pass.ensures (passed_as refl (sym none) (passed_none c.pass.new.self 0))
 
 pub returns-in_default : goal.returns-in_default
 returns-in_default c =
     let setup = c.args.setup.now in
-    let bytes = usual_bytes c.args.line.now c.args.at in
+    let bytes = usual_bytes c.args.line.now c.args.frame.now.at in
     let read : c.bytes_at.result ≡ bytes = sym (ap bytes_or_none c.bytes_at.ensures) in
     passed_then c.args.ms (omega arith) c.in_ok-pass.ensures (passed_as refl
     (ap (given (length setup.testers) c.owner.result) read ∙ sym ((c.owner.ensures setup c.requires.ids).gives bytes)) c.give_frame.ensures)
