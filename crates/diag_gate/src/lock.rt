@@ -13,19 +13,18 @@ use std::sync::{Mutex, Wait};
 
 /// A door to a desk under a lock. It keeps what it has answered.
 #[derive(Drop)]
-pub struct LockDoor<'a, R: Wait> {
+pub struct LockDoor<'a, R> {
     rt: &'a R,
     desk: &'a Mutex<Desk>,
     who: TesterId,
     given: Journal,
 }
 
-impl<'a, R: Wait> LockDoor<'a, R> {
+impl<'a, R> LockDoor<'a, R> {
     /// A tester's door, which has answered nothing.
     pub fn new(rt: &'a R, alloc: Global, desk: &'a Mutex<Desk>, who: TesterId) -> LockDoor<'a, R>
-        ensures given { ⟦<LockDoor<'a, R> as Door>⟧.given result ≡ [] }
-        ensures who { ⟦<LockDoor<'a, R> as Door>⟧.tester result ≡ who }
-        ensures home { ⟦<LockDoor<'a, R> as Door>⟧.home result ≡ None }
+        ensures given { result.given.entries ≡ [] }
+        ensures who { result.who ≡ who }
     {
         LockDoor {
             rt,

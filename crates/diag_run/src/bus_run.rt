@@ -27,8 +27,9 @@ const LINES_BEFORE_A_READ: u64 = u64::MAX - 65_537;
 ///
 /// # Errors
 /// The first fault in this order: the config, the capture in the order of its bytes, and last, where a verdict is wanted,
-/// that the unit answered otherwise. After a fault of the config nothing was written, nor before `Otherwise`. Before a fault of a line, and after a read that failed, what the lines before write was
-/// written; after `Memory` and `Write` a front of it. `Read(0)` is the config, `Read(1)` the capture.
+/// that the unit answered otherwise. After a fault of the config nothing was written, nor before `Otherwise`. Before a
+/// fault of a line, and after a read that failed, what the lines before write was written; after `Memory` and `Write` a
+/// front of it. `Read(0)` is the config, `Read(1)` the capture.
 pub fn run_bus<R: Read, W: Write>(
     alloc: Global,
     output: Output,

@@ -44,16 +44,6 @@ impl LazyLink {
         self.taken = passed;
     }
 
-    /// What its clock tells after so many ticks that have passed.
-    #[tactic(auto, using(crate::proofs::Lazy::later_now))]
-    #[inline(always)]
-    pub(crate) fn now(&self, passed: u64) -> u64
-        requires lazy { IsLazy passed self.now }
-        ensures { result ≡ (caught_up passed self.now).state.now }
-    {
-        self.link.now().saturating_add(passed - self.taken)
-    }
-
     /// For how many ticks more it does nothing before the last of them; at least 1.
     #[inline(always)]
     pub(crate) fn quiet(&self, passed: u64) -> u64

@@ -170,15 +170,6 @@ impl Server {
         self.ecu.ticks_each(setup, count);
     }
 
-    /// What a tester's clock tells, in ticks of its link.
-    pub fn now(&self, who: TesterId) -> u64
-        requires in_setup { who ≤ length self.now.links }
-        ensures { IfSome (slice_get self.now.links (who - 1)) (λ link. result ≡ link.state.now) }
-    {
-        let index = who.index();
-        self.links[index].now(self.passed)
-    }
-
     /// For how many ticks of every tester no frame falls due and no reception or wait ends, before the last of them: the
     /// least of the links; at least 1, and 2^64 - 1 where nothing is waited for.
     pub fn quiet(&self) -> u64
