@@ -1,6 +1,7 @@
 -- The frames that are due are of messages, but for flow control.
-use Rattle.std.proofs.Common.{◌≡◌, ℕ, zero, suc, ◌+◌, ◌≤◌, ◌/◌, ◌%◌, Bool, true, false, cond, List, [], ◌∷◌, ◌++◌, length, take, drop, refl, sym, ◌∙◌, ap, arith}
-use Rattle.std.specs.Prelude.{Option, Some, None, map, sum_by, nat_le, ◌==◌, if◌then◌else◌, option_to_list, not}
+use Rattle.std.proofs.lemmas.Bool.{cases_Bool}
+use Rattle.std.proofs.Common.{inl, inr, ◌≡◌, ℕ, zero, suc, ◌+◌, ◌≤◌, ◌/◌, ◌%◌, false, cond, List, [], ◌∷◌, ◌++◌, length, take, drop, refl, ◌∙◌, ap, arith}
+use Rattle.std.specs.Prelude.{Option, Some, None, map, sum_by, nat_le, ◌==◌, option_to_list, not}
 use Rattle.std.proofs.lemmas.List.Sums.{sum_by-cons}
 use Rattle.std.proofs.Math.Seq.{drop-append_seam}
 use Rattle.std.proofs.lemmas.Bool.Decides.{nat_tests}
@@ -8,14 +9,14 @@ use Rattle.diag_can.specs.declared.frame.Event.{Event}
 use Rattle.diag_pdu.specs.declared.setup.LinkSetup.{LinkSetup}
 use Rattle.diag_sides.specs.declared.sending.Sending.{Sending}
 use Rattle.diag_tp.specs.declared.sent.Sent.{Sent}
-use Rattle.diag_pdu.specs.Cut.{counted_from, head_size, consecutive_count, filled, single_bytes, first_bytes, consecutive_bytes, part_of, cut, frames_of}
+use Rattle.diag_pdu.specs.Cut.{counted_from, head_size, consecutive_count, filled, first_bytes, consecutive_bytes, part_of, cut, frames_of}
 use Rattle.diag_tp.specs.Moments.{last_time}
 use Rattle.diag_tp.specs.Wire.{Placed, stamped, wire}
 use Rattle.diag_tp.specs.State.{LinkState, due}
-use Rattle.diag_sides.specs.Sender.{SenderState, Settled, frame_count, fields_left, current_left, one_on, once_gone, begun_sending, started, settled_in, settled}
+use Rattle.diag_sides.specs.Sender.{SenderState, Settled, frame_count, fields_left, one_on, once_gone, begun_sending, started, settled_in, settled}
 use Rattle.diag_tp.specs.Link.{StandsFor, is_flow, IsFlow, message_frames, frames_left}
 use Rattle.diag_pdu.proofs.CutFrames.{filled-cons, frames-count}
-use Rattle.diag_tp.proofs.Numbers.{left, settled-total}
+use Rattle.diag_tp.proofs.Numbers.{left, settled-counts}
 use Rattle.diag_tp.proofs.History.{frames-left}
 
 -- P holds of each of these
@@ -40,35 +41,24 @@ cut-rest P pad a (suc n) =
     let other : ((32 + a % 16) / 16 == 3) ≡ false = let two : (32 + a % 16) / 16 ≡ 2 = omega arith in rw two refl in
     (by_control pad (32 + a % 16) (part_of P a) other, cut-rest P pad (suc a) n)
 
+first-message : (len : ℕ) (head : List ℕ) (pad : Option ℕ) → IsOfMessage (filled pad (first_bytes len head))
+first-message len head pad = grind (arith, nat_tests, by_control)
+
 cut-message : (P : List ℕ) (pad : Option ℕ) → Each IsOfMessage (cut P pad)
 unfolding cut
-cut-message P pad =
-    elim (nat_le (length P) 7) as (λ b. nat_le (length P) 7 ≡ b
-    → Each IsOfMessage (if b then filled pad (single_bytes P) ∷ [] else filled pad (first_bytes (length P) (take (head_size (length P)) P))
-    ∷ map (λ i. filled pad (consecutive_bytes i (part_of P i))) (counted_from 1 (consecutive_count (length P))))) [
-      | true ↦ λ t.
-          let short : length P ≤ 7 = grind (arith, nat_tests) in
-          let none : length P / 16 ≡ 0 = omega arith in
-          (by_control pad (length P) P (rw none refl), tt)
-      | false ↦ λ f. (first (length P) (take (head_size (length P)) P), cut-rest P pad 1 (consecutive_count (length P)))
-    ] refl
-  where
-    first : (len : ℕ) (head : List ℕ) → IsOfMessage (filled pad (first_bytes len head))
-    first len head =
-        elim (nat_le len 4095) as (λ b. nat_le len 4095 ≡ b → IsOfMessage (filled pad (first_bytes len head))) [
-          | true ↦ λ t.
-              let few : len ≤ 4095 = grind (arith, nat_tests) in
-              let one : (16 + len / 256) / 16 ≡ 1 = omega arith in
-              rw t (by_control pad (16 + len / 256) ((len % 256) ∷ head) (rw one refl))
-          | false ↦ λ f. rw f (by_control pad 16 _ refl)
-        ] refl
+cut-message P pad = elim (cases_Bool (nat_le (length P) 7)) [
+  | inl t ↦
+      let short : length P ≤ 7 = grind (arith, nat_tests) in
+      let none : length P / 16 ≡ 0 = omega arith in
+      rw t (by_control pad (length P) P (rw none refl), tt)
+  | inr f ↦ rw f (first-message (length P) (take (head_size (length P)) P) pad, cut-rest P pad 1 (consecutive_count (length P)))
+]
 
 gone-message : (k : ℕ) (frames : List (List ℕ)) (c : Sending) (W : List (List ℕ)) (next : Settled) → Each IsOfMessage frames → Each IsOfMessage next.due
     → Each IsOfMessage (once_gone k frames c W next).due
-gone-message zero frames c W next h n = tt
-gone-message (suc k) [] c W next h n = tt
 gone-message (suc k) (f ∷ []) c W next h n = (h.0, n)
 gone-message (suc k) (f ∷ g ∷ frames) c W next h n = (h.0, gone-message k (g ∷ frames) (one_on c) W next h.1 n)
+gone-message k frames c W next h n = tt
 
 started-message : (s : LinkSetup) (W : List (List ℕ)) → Each IsOfMessage (started s W).due
 started-message s [] = tt
@@ -89,28 +79,21 @@ message-count s t [] h = refl
 message-count s t (bytes ∷ frames) h =
     let rest = message-count s t frames h.1 in
     let all = sum_by-cons (λ (f : Sent). cond (not (is_flow f.frame.bytes)) 1 0) (stamped s t bytes) (map (stamped s t) frames) in
-    let one : cond {A = ℕ} (not (is_flow (stamped s t bytes).frame.bytes)) 1 0 ≡ 1 = ap (λ (b : Bool). cond {A = ℕ} (not b) 1 0) h.0 in
-    omega arith
+    let one = h.0 in
+    grind (arith, rest, all, one)
 
 due-count : (s : LinkSetup) (t : ℕ) (g : Option (List ℕ)) (frames : List (List ℕ)) → IsFlow g → Each IsOfMessage frames
     → message_frames (map (stamped s t) (option_to_list g ++ frames)) ≡ length frames
-due-count s t None frames g h = message-count s t frames h
-due-count s t (Some bytes) frames g h =
-    let rest = message-count s t frames h in
-    let all = sum_by-cons (λ (f : Sent). cond (not (is_flow f.frame.bytes)) 1 0) (stamped s t bytes) (map (stamped s t) frames) in
-    let none : cond {A = ℕ} (not (is_flow (stamped s t bytes).frame.bytes)) 1 0 ≡ 0 = ap (λ (b : Bool). cond {A = ℕ} (not b) 1 0) g in
-    omega arith
+due-count s t g frames h is = grind (arith, message-count, sum_by-cons {X = Sent})
 
 -- what a link has left, by the definitions
 pub left_all : (s : LinkSetup) (link : LinkState) (E : List Event) (A : List Placed) (Q : List Sent) → IsFlow link.grant → StandsFor s link E A Q →
     left link.setup link.sender ≡ frames_left s E A Q
 left_all s link E A Q g h =
-    let rest : drop (length Q) (wire s E A) ≡ map (stamped s (last_time E)) (due link) =
-    ap (λ l. drop (length Q) l) (sym h.out) ∙ drop-append_seam Q (map (stamped s (last_time E)) (due link)) in
-    let same = ap (λ t. length (settled t link.sender).due) h.set in
+    let rest : drop (length Q) (wire s E A) ≡ map (stamped s (last_time E)) (due link) = rw (← h.out) (drop-append_seam Q _) in
     let count = ap message_frames rest ∙ due-count s (last_time E) link.grant _ g (settled-message link.setup link.sender) in
     let others = frames-left s link E A Q h in
-    let all = settled-total link.setup link.sender in
+    let all = settled-counts link.setup link.sender in
     let same = ap (λ t. left t (settled link.setup link.sender).left) h.set in
     omega arith
 
@@ -124,8 +107,4 @@ frames-same s (P ∷ W) =
     let rest = frames-same s W in omega arith
 
 pub fields_are_left : (s : LinkSetup) (r : SenderState) → fields_left r.current + sum_by frames_of r.waiting ≡ left s r
-fields_are_left s r = go r.current
-  where
-    go : (cur : Option Sending) → fields_left cur + sum_by frames_of r.waiting ≡ current_left s cur + sum_by (frame_count s) r.waiting
-    go None = let same = frames-same s r.waiting in omega arith
-    go (Some c) = let same = frames-same s r.waiting in let one = frames-count c.message s.pad in omega arith
+fields_are_left s r = grind (arith, frames-same, frames-count)

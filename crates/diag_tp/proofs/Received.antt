@@ -1,6 +1,7 @@
 -- The frames of a message, received again.
-use Rattle.std.proofs.Common.{◌≡◌, ℕ, zero, suc, ◌+◌, ◌-◌, ◌*◌, ◌%◌, ◌<◌, ◌≤◌, true, false, List, [], ◌∷◌, ◌++◌, length, take, drop, refl, sym, ◌∙◌, ap, arith, append_assoc, length-append, length-drop, min, append-nil}
-use Rattle.std.specs.Prelude.{Option, Some, None, option_and_then, slice_get, map, flat_map, ◌==◌, nat_le, nat_lt, min}
+use Rattle.std.proofs.lemmas.Bool.{cases_lt}
+use Rattle.std.proofs.Common.{inl, inr, ◌≡◌, ℕ, zero, suc, ◌+◌, ◌-◌, ◌*◌, ◌<◌, ◌≤◌, true, false, List, [], ◌∷◌, ◌++◌, length, take, drop, refl, sym, ◌∙◌, ap, arith, append_assoc, length-append, length-drop, min, append-nil}
+use Rattle.std.specs.Prelude.{Option, Some, None, option_and_then, slice_get, map, flat_map, ◌==◌, nat_le, min}
 use Rattle.std.proofs.lemmas.List.{take_all, length-take-le, append-nil, take-append-drop, length-take}
 use Rattle.std.proofs.Math.Seq.{take-append-add, take-add}
 use Rattle.std.proofs.lemmas.Grind.{flat_map-append}
@@ -45,9 +46,7 @@ received P pad k = record { len = length P; head = take (head_size (length P)) P
 
 length-rests : (P : List ℕ) (pad : Option ℕ) (k : ℕ) → length (rests P pad k) ≡ k
 length-rests P pad zero = refl
-length-rests P pad (suc k) =
-    let before = length-rests P pad k in
-    let more = length-append (rests P pad k) (rest_of pad (part_of P (suc k)) ∷ []) in omega arith
+length-rests P pad (suc k) = length-append (rests P pad k) _ ∙ rw (length-rests P pad k) (omega arith)
 
 -- a message that takes a First, and is received
 abbrev IsLong : LinkSetup → List ℕ → Type 0
@@ -61,22 +60,16 @@ first-read_as s P pad h =
     (length-take-le (head_size (length P)) P (let hb = head-bounds (length P) in omega arith))
 
 length-part : (P : List ℕ) (k : ℕ) → min 7 (length P - head_size (length P) - 7 * k) ≤ length (part_of P (suc k))
-length-part P k =
-    let left = length-drop (head_size (length P) + 7 * (suc k - 1)) P in
-    let taken = length-take 7 (drop (head_size (length P) + 7 * (suc k - 1)) P) in
-    grind (arith, left, taken)
+length-part P k = grind (arith, length-drop {A = ℕ}, length-take {A = ℕ})
 
 -- a Consecutive more
 one-more : (s : LinkSetup) (P : List ℕ) (pad : Option ℕ) (k : ℕ) (past : List Event) → now past ≡ 0 → open_at s past ≡ Some (received P pad k)
     → k < consecutive_count (length P) → open_at s (part_event P pad (suc k) ∷ past) ≡ Some (received P pad (suc k))
 unfolding open_at
 one-more s P pad k past at opened few =
-    let counted = length-rests P pad k in
-    let room : nat_lt k (consecutive_count (length P)) ≡ true = grind (arith, nat_tests) in
-    let same : (suc k % 16 == (k + 1) % 16) ≡ true = let next : suc k ≡ k + 1 = omega arith in rw next (grind (arith, nat_tests)) in
-    let enough : nat_le (min 7 (length P - head_size (length P) - 7 * k)) (length (rest_of pad (part_of P (suc k)))) ≡ true =
-    let l = length-rest pad (part_of P (suc k)) in let m = length-part P k in grind (arith, nat_tests) in
-    rw (at, opened, kind-consecutive pad (suc k) s.max_request (part_of P (suc k)), counted, room, same, enough) refl
+    let part = part_of P (suc k) in
+    rw (at, opened, kind-consecutive pad (suc k) s.max_request part)
+    (let counted = length-rests P pad k in let l = length-rest pad part in let m = length-part P k in grind (arith, nat_tests, counted, l, m))
 
 some-more : (s : LinkSetup) (P : List ℕ) (pad : Option ℕ) (n k : ℕ) (past : List Event) → now past ≡ 0 → open_at s past ≡ Some (received P pad k)
     → k + n ≤ consecutive_count (length P) → let whole = after past (map (part_event P pad) (counted_from (suc k) n)) in
@@ -113,11 +106,7 @@ given s P pad n (suc k) h e few =
 joined : (P : List ℕ) (pad : Option ℕ) (k : ℕ) (part : List ℕ) → rest_of pad (part_of P (suc k)) ≡ part →
     take (head_size (length P)) P ++ flat_map (λ part. part) (rests P pad (suc k))
     ≡ (take (head_size (length P)) P ++ flat_map (λ part. part) (rests P pad k)) ++ part
-joined P pad k part e =
-    let head = take (head_size (length P)) P in
-    let before = flat_map (λ part. part) (rests P pad k) in
-    ap (λ l. head ++ l) (flat_map-append (λ part. part) (rests P pad k) (rest_of pad (part_of P (suc k)) ∷ [])
-    ∙ ap (λ l. before ++ l) (append-nil (rest_of pad (part_of P (suc k))) ∙ e)) ∙ sym (append_assoc head before part)
+joined P pad k part e = simp (flat_map-append, append-nil, e, append_assoc)
 
 -- parts that are full
 all-full : (P : List ℕ) (pad : Option ℕ) (k : ℕ) → head_size (length P) + 7 * k ≤ length P →
@@ -163,16 +152,11 @@ gives-short s P pad h k = rw (kind-single pad s.max_request P h k) refl
 pub cut_law :
     (s : LinkSetup) (P : List ℕ) (pad : Option ℕ) → 0 < s.n_cr → 1 ≤ length P → length P ≤ 65535 → length P ≤ s.max_request → CutLaw s P pad
 cut_law s P pad h a b c =
-    elim (nat_le (length P) 7) as (λ v. nat_le (length P) 7 ≡ v → CutLaw s P pad) [
-      | true ↦ λ t.
-          let short : length P ≤ 7 = grind (arith, nat_tests) in
+    elim (cases_lt 7 (length P)) [
+      | inr short ↦
           let one = cut-short P pad short in
-          record {
-            before = λ e i. absurd (let n = ap length one in omega arith);
-            last = rw one (gives-short s P pad a short);
-          }
-      | false ↦ λ f.
-          let long : 8 ≤ length P = grind (arith, nat_tests) in
+          record { before = λ e i. absurd (let n = ap length one in omega arith); last = rw one (gives-short s P pad a short) }
+      | inl long ↦
           let n = consecutive_count (length P) in
           let all = cut-long P pad long in
           let size = length-cut-long P pad long in
@@ -186,4 +170,4 @@ cut_law s P pad h a b c =
                 rw (all, end) (given s P pad n n (long, (b, c)) refl (omega arith)
                 ∙ rw (length-rests P pad n, full, whole-message P pad long) refl);
           }
-    ] refl
+    ]

@@ -1,6 +1,6 @@
 -- Ticks before which nothing falls due and nothing ends.
-use Rattle.std.proofs.Common.{◌≡◌, ℕ, zero, suc, ◌+◌, ◌-◌, ◌<◌, ◌≤◌, true, false, List, [], ◌∷◌, ◌++◌, length, drop, refl, sym, ◌∙◌, ap, arith, min}
-use Rattle.std.specs.Prelude.{Option, Some, None, max, nat_le, nat_lt, option_and_then, option_to_list}
+use Rattle.std.proofs.Common.{◌≡◌, ℕ, zero, suc, ◌+◌, ◌<◌, ◌≤◌, List, [], ◌∷◌, ◌++◌, length, drop, refl, sym, ◌∙◌, ap, arith, min}
+use Rattle.std.specs.Prelude.{Option, Some, None, max, option_and_then, option_to_list}
 use Rattle.std.proofs.lemmas.Bool.Decides.{nat_tests}
 use Rattle.std.proofs.lemmas.List.{nil_from_length}
 use Rattle.diag_can.specs.declared.frame.Event.{Event}
@@ -8,7 +8,6 @@ use Rattle.diag_can.specs.declared.frame.Event.TheVariants.{Ticks}
 use Rattle.diag_pdu.specs.declared.setup.LinkSetup.{LinkSetup}
 use Rattle.diag_tp.specs.declared.sent.Sent.{Sent}
 use Rattle.diag_sides.specs.declared.sending.Phase.{Phase}
-use Rattle.diag_sides.specs.declared.sending.Phase.TheVariants.{AwaitsFlow, InBlock}
 use Rattle.diag_tp.specs.Moments.{moments}
 use Rattle.diag_tp.specs.Wire.{Placed}
 use Rattle.diag_sides.specs.Receiver.{Partial, one_tick_later, ticks_later}
@@ -24,23 +23,17 @@ use Rattle.diag_tp.proofs.History.{drained_parts, stands_more, stands_moments}
 
 -- ticks before the end of a reception, and one tick more
 pub reception_still : (n_cr n : ℕ) (o : Option Partial) → n < reception_quiet n_cr o → option_and_then (ticks_later n_cr n) o ≡ reception_later n o
-reception_still n_cr n None few = refl
-reception_still n_cr n (Some p) few = let on : nat_lt (p.silence + n) n_cr ≡ true = grind (arith, nat_tests) in rw on refl
+reception_still n_cr n o few = grind (arith, nat_tests)
 
 reception-more : (n_cr n : ℕ) (o : Option Partial)
     → option_and_then (ticks_later n_cr (suc n)) o ≡ option_and_then (one_tick_later n_cr) (reception_later n o)
-reception-more n_cr n None = refl
-reception-more n_cr n (Some p) = let e : p.silence + suc n ≡ p.silence + n + 1 = omega arith in rw e refl
-
-some-left : (ticks n : ℕ) → n < ticks → (nat_le ticks n ≡ false) × (nat_le ticks (suc n) ≡ nat_le (ticks - n) 1) × (ticks - suc n ≡ ticks - n - 1)
-some-left ticks n few = (grind (arith, nat_tests), grind (arith, nat_tests), omega arith)
+reception-more n_cr n o = grind arith
 
 -- ticks in which nothing happens to a message, and one tick more
 phase-still : (s : LinkSetup) (n : ℕ) (c : Current) (p : Phase) → n < phase_quiet p
     → (tick_fields s n c p ≡ Some (in_phase c (phase_later n p)))
     × (tick_fields s (suc n) c p ≡ tick_fields s 1 (in_phase c (phase_later n p)) (phase_later n p))
-phase-still s n c (AwaitsFlow ticks) few = let l = some-left ticks n few in rw (l.0, l.1, l.2) (refl, refl)
-phase-still s n c (InBlock rest gap ticks) few = let l = some-left ticks n few in rw (l.0, l.1, l.2) (refl, refl)
+phase-still s n c p few = grind (arith, nat_tests)
 
 pub current_still : (s : LinkSetup) (n : ℕ) (o : Option Current) → n < sender_quiet o
     → (ticked_fields s n o ≡ current_later n o) × (ticked_fields s (suc n) o ≡ ticked_fields s 1 (current_later n o))
@@ -72,16 +65,10 @@ quiet_drained link none = rw none refl
 
 -- no ticks
 pub reception_none : (o : Option Partial) → reception_later 0 o ≡ o
-reception_none None = refl
-reception_none (Some p) = let e : p.silence + 0 ≡ p.silence = omega arith in rw e refl
-
-phase-none : (p : Phase) → phase_later 0 p ≡ p
-phase-none (AwaitsFlow ticks) = ap AwaitsFlow (omega arith)
-phase-none (InBlock rest gap ticks) = ap (InBlock rest gap) (omega arith)
+reception_none o = grind arith
 
 pub current_none : (o : Option Current) → current_later 0 o ≡ o
-current_none None = refl
-current_none (Some c) = ap (λ p. Some (in_phase c p)) (phase-none c.phase)
+current_none o = grind arith
 
 pub quiet_now : (link : LinkState) → pending link ≡ 0
     → quiet link ≡ max (min (reception_quiet link.setup.n_cr (reception_later 0 link.partial)) (sender_quiet (current_later 0 link.sender.current))) 1
@@ -145,16 +132,10 @@ abbrev IsLeft : ℕ → ℕ → ℕ → Type 0
 IsLeft n q q' = (q ≤ q' + n) × ((m : ℕ) → n + m < always → m < q' → n + m < q)
 
 reception-left : (n_cr n : ℕ) (o : Option Partial) → IsLeft n (reception_quiet n_cr o) (reception_quiet n_cr (reception_later n o))
-reception-left n_cr n None = (omega arith, λ m least few. least)
-reception-left n_cr n (Some p) = (omega arith, λ m least few. omega (arith, few))
-
-phase-left : (n : ℕ) (p : Phase) → IsLeft n (phase_quiet p) (phase_quiet (phase_later n p))
-phase-left n (AwaitsFlow ticks) = (omega arith, λ m least few. omega (arith, few))
-phase-left n (InBlock rest gap ticks) = (omega arith, λ m least few. omega (arith, few))
+reception-left n_cr n o = grind arith
 
 current-left : (n : ℕ) (o : Option Current) → IsLeft n (sender_quiet o) (sender_quiet (current_later n o))
-current-left n None = (omega arith, λ m least few. least)
-current-left n (Some c) = phase-left n c.phase
+current-left n o = grind arith
 
 pub quiet_left : (n : ℕ) (link : LinkState) → pending link ≡ 0
     → (quiet link ≤ quiet (quiet_later n link) + n)

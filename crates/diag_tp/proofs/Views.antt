@@ -1,6 +1,6 @@
 -- What the words of a link's contract say of its fields.
-use Rattle.std.proofs.Common.{◌≡◌, ℕ, ◌+◌, ◌<◌, ◌≤◌, Bool, true, List, ◌∷◌, length, ◌∙◌, ap, arith, length-append}
-use Rattle.std.specs.Prelude.{◌↔◌, Option, Some, None, IfSome, IsTrue, option_to_list, nat_le, nat_lt}
+use Rattle.std.proofs.Common.{◌≡◌, ℕ, ◌+◌, ◌<◌, ◌≤◌, Bool, List, ◌∷◌, length, ap, arith, length-append}
+use Rattle.std.specs.Prelude.{◌↔◌, Option, IfSome, IsTrue, option_to_list}
 use Rattle.std.proofs.lemmas.List.{nil_from_length}
 use Rattle.std.proofs.lemmas.Bool.Decides.{nat_tests}
 use Rattle.diag_can.specs.declared.frame.Event.{Event}
@@ -10,46 +10,41 @@ use Rattle.diag_sides.specs.Sender.{SenderState, settled, settled_in, replied, I
 use Rattle.diag_sides.specs.declared.sending.Sending.{Sending}
 use Rattle.diag_tp.specs.Kept.{sender_event, sender_ticks}
 use Rattle.diag_tp.specs.Link.{pending, unsent, waiting_count, has_room, has_reply_room, KeepsRoom, KeepsReplyRoom, needed}
-use Rattle.diag_tp.proofs.Numbers.{left, IsWithin, settled-total, settled-fewer, event_within, sender_ticks_within, replied-numbers}
+use Rattle.diag_tp.proofs.Numbers.{left, IsWithin, settled-counts, event_within, sender_ticks_within, replied-numbers}
 use Rattle.diag_sides.proofs.Settled.{none-due, IsDrained, drained_fields, fields_drained}
 use Rattle.diag_tp.proofs.History.{drained_parts}
 
 pub room : (v : LinkView) (x : Event) → IsTrue (has_room v x) → needed v.state.setup x ≤ v.room
 unfolding has_room
-room v x h = let t : nat_le (needed v.state.setup x) v.room ≡ true = h in grind (arith, nat_tests)
+room v x h = grind (arith, nat_tests)
 
 pub room_made : (v : LinkView) (x : Event) → needed v.state.setup x ≤ v.room → IsTrue (has_room v x)
 unfolding has_room
-room_made v x h = let t : nat_le (needed v.state.setup x) v.room ≡ true = grind (arith, nat_tests) in t
+room_made v x h = grind (arith, nat_tests)
 
 pub reply_room : (v : LinkView) → IsTrue (has_reply_room v) → 0 < v.reply_room
 unfolding has_reply_room
-reply_room v h = let t : nat_lt 0 v.reply_room ≡ true = h in grind (arith, nat_tests)
+reply_room v h = grind (arith, nat_tests)
 
 pub reply_room_made : (v : LinkView) → 0 < v.reply_room → IsTrue (has_reply_room v)
 unfolding has_reply_room
-reply_room_made v h = let t : nat_lt 0 v.reply_room ≡ true = grind (arith, nat_tests) in t
+reply_room_made v h = grind (arith, nat_tests)
 
 -- at the same settings no room is lost where it doesn't get less
 pub keeps_room : (old new : LinkView) → new.state.setup ≡ old.state.setup → old.room ≤ new.room → KeepsRoom old new
-keeps_room old new same more x h =
-    let had = room old x h in
-    let needs = ap (λ s. needed s x) same in
-    room_made new x (omega arith)
+keeps_room old new same more = grind (arith, room, room_made)
 
 pub keeps_reply_room : (old new : LinkView) → old.reply_room ≤ new.reply_room → KeepsReplyRoom old new
-keeps_reply_room old new more h = let had = reply_room old h in reply_room_made new (omega arith)
+keeps_reply_room old new more = grind (arith, reply_room, reply_room_made)
 
 -- what is due, and what is left then
 pub unsent-due : (link : LinkState) → unsent link ≡ length (due link) + left link.setup (settled link.setup link.sender).left
 unfolding unsent
-unsent-due link =
-    let sum = length-append (option_to_list link.grant) (settled link.setup link.sender).due in
-    let all = settled-total link.setup link.sender in omega arith
+unsent-due link = grind (arith, length-append {A = List ℕ}, settled-counts)
 
 pub pending_unsent : (link : LinkState) → pending link ≤ unsent link
 unfolding pending
-pending_unsent link = let all = unsent-due link in omega arith
+pending_unsent link = grind (arith, unsent-due)
 
 -- a move of the sender within what it had, and at most so many grants
 pub record Numbers (link link' : LinkState) (grants : ℕ) : Type 0 where
@@ -62,26 +57,18 @@ pub waits_fewer : (link link' : LinkState) → pending link ≡ 0 → length lin
     → waiting_count link' ≤ waiting_count link
 unfolding pending waiting_count
 waits_fewer link link' drained h =
-    let still = none-due link.setup link.sender (drained_parts link.grant (settled link.setup link.sender).due drained).1 in
-    let had_waiting = ap (λ q. length q.left.waiting) still in
-    let fewer = settled-fewer link'.setup link'.sender in omega arith
+    let none = drained_parts link.grant (settled link.setup link.sender).due drained in
+    let fewer = settled-counts link'.setup link'.sender in
+    grind (arith, none-due, fewer)
 
 pub within_numbers :
     (link link' : LinkState) (r : SenderState) (grants : ℕ) → pending link ≡ 0 → length (option_to_list link'.grant) ≤ grants → link'.setup ≡ link.setup
     → link'.sender ≡ r → IsWithin link.setup r (left link.setup link.sender) (length link.sender.waiting) → Numbers link link' grants
 unfolding unsent
-within_numbers link link' r grants drained few same sender h =
-    let moved : left link'.setup link'.sender ≡ left link.setup r = ap (λ t. left t link'.sender) same ∙ ap (λ q. left link.setup q) sender in
-    let frames = h.frames in
-    record {
-      frames = omega arith;
-      now = pending_unsent link';
-      replies = waits_fewer link link' drained (let n = ap (λ q. length q.waiting) sender in let replies = h.replies in omega arith);
-    }
+within_numbers link link' r grants drained few same sender h = grind (arith, pending_unsent, waits_fewer)
 
 pub grant_few : (g : Option (List ℕ)) → length (option_to_list g) ≤ 1
-grant_few None = omega arith
-grant_few (Some g) = omega arith
+grant_few g = grind arith
 
 -- a frame, and ticks
 pub fed_unsent : (link link' : LinkState) (x : Event) → pending link ≡ 0 → link'.setup ≡ link.setup
@@ -92,44 +79,26 @@ fed_unsent link link' x drained same sender =
 pub passed_unsent : (link link' : LinkState) (n : ℕ) → pending link ≡ 0 → link'.grant ≡ link.grant → link'.setup ≡ link.setup
     → link'.sender ≡ sender_ticks link.setup n link.sender.current link.sender.waiting → unsent link' ≤ unsent link
 unfolding pending
-passed_unsent link link' n drained grant same sender =
-    let few = ap (λ g. length (option_to_list g)) (grant ∙ (drained_parts link.grant _ drained).0) in
-    let fewer = (within_numbers link link' _ 0 drained (omega arith) same sender
-    (sender_ticks_within link.setup n link.sender.current link.sender.waiting)).frames in omega arith
+passed_unsent link link' n drained grant same sender = grind (arith, drained_parts, within_numbers, sender_ticks_within)
 
 -- a reply
 pub answered_numbers : (link link' : LinkState) (P : List ℕ) → link'.grant ≡ link.grant
     → settled link'.setup link'.sender ≡ replied link.setup P (settled link.setup link.sender)
     → (pending link' ≤ pending link + 1) × (waiting_count link' ≤ waiting_count link + 1)
 unfolding pending waiting_count
-answered_numbers link link' P grant sender =
-    let r = settled link.setup link.sender in
-    let more = replied-numbers link.setup P r in
-    let due = more.0 in
-    let waiting = more.1 in
-    let old = length-append (option_to_list link.grant) r.due in
-    let new = length-append (option_to_list link'.grant) (settled link'.setup link'.sender).due in
-    let granted = ap (λ g. length (option_to_list g)) grant in
-    let now_due = ap (λ q. length q.due) sender in
-    let now_waiting = ap (λ q. length q.left.waiting) sender in
-    (omega arith, omega arith)
+answered_numbers link link' P grant sender = grind (arith, replied-numbers, length-append {A = List ℕ})
 
 -- a frame that is handed out
 pub handed_numbers : (link link' : LinkState) (bytes : List ℕ) → due link ≡ bytes ∷ due link'
     → (settled link'.setup link'.sender).left ≡ (settled link.setup link.sender).left → link'.setup ≡ link.setup →
     (pending link ≡ pending link' + 1) × (unsent link ≡ unsent link' + 1)
 unfolding pending
-handed_numbers link link' bytes less kept same =
-    let due_less = ap length less in
-    let old = unsent-due link in
-    let new = unsent-due link' in
-    let rest = ap (λ r. left link'.setup r) kept ∙ ap (λ t. left t (settled link.setup link.sender).left) same in
-    (omega arith, omega arith)
+handed_numbers link link' bytes less kept same = grind (arith, unsent-due)
 
 pub waiting_same : (link link' : LinkState) → (settled link'.setup link'.sender).left ≡ (settled link.setup link.sender).left
     → waiting_count link' ≤ waiting_count link
 unfolding waiting_count
-waiting_same link link' e = let same = ap (λ r. length r.waiting) e in omega arith
+waiting_same link link' e = grind arith
 
 pub iff_then : {P Q R : Type 0} → P ↔ Q → Q ↔ R → P ↔ R
 iff_then f g = (λ p. g.0 (f.0 p), λ r. f.1 (g.1 r))
