@@ -1,6 +1,7 @@
 -- The frames of a message, each read as what it was made of.
-use Rattle.std.proofs.Common.{◌≡◌, ℕ, zero, suc, ◌+◌, ◌-◌, ◌*◌, ◌/◌, ◌%◌, ◌^◌, ◌<◌, ◌≤◌, true, false, cond, List, [], ◌∷◌, ◌++◌, length, take, drop, refl, sym, ◌∙◌, ap, arith, length-append, length-drop, replicate, min, append-nil, drop-drop}
-use Rattle.std.specs.Prelude.{Option, Some, None, slice_get, ◌==◌, nat_le, nat_lt, min, slice_set, if◌then◌else◌}
+use Rattle.std.proofs.lemmas.Bool.{cases_Bool}
+use Rattle.std.proofs.Common.{inl, inr, ◌≡◌, ℕ, zero, suc, ◌+◌, ◌-◌, ◌*◌, ◌/◌, ◌%◌, ◌^◌, ◌<◌, ◌≤◌, true, false, List, [], ◌∷◌, ◌++◌, length, take, drop, refl, ◌∙◌, ap, arith, length-append, length-drop, replicate, min, append-nil, drop-drop}
+use Rattle.std.specs.Prelude.{Option, Some, None, slice_get, nat_le, min, slice_set}
 use Rattle.std.proofs.lemmas.List.{take_all, length-take-le, append-nil, length-map, drop-take, set_split, take_rest}
 use Rattle.std.proofs.Math.Seq.{take-append_seam}
 use Rattle.std.proofs.lemmas.Bool.Decides.{nat_tests}
@@ -12,8 +13,7 @@ use Rattle.std.specs.Array.{IsFirstChunk}
 use Rattle.std.proofs.lemmas.Option.{slice_get_past}
 
 pub head-bounds : (len : ℕ) → (2 ≤ head_size len) × (head_size len ≤ 6)
-head-bounds len = elim (nat_le len 4095) as (λ b. (2 ≤ cond b 6 2) × (cond b 6 2 ≤ 6))
-    [ true ↦ (omega arith, omega arith) | false ↦ (omega arith, omega arith) ]
+head-bounds len = grind arith
 
 -- a part with what fills its frame
 abbrev pub rest_of : Option ℕ → List ℕ → List ℕ
@@ -21,46 +21,32 @@ rest_of None part = part
 rest_of (Some byte) part = part ++ replicate (8 - suc (length part)) byte
 
 pub filled-cons : (pad : Option ℕ) (c : ℕ) (part : List ℕ) → filled pad (c ∷ part) ≡ c ∷ rest_of pad part
-filled-cons None c part = refl
-filled-cons (Some byte) c part = refl
+filled-cons pad c part = grind arith
 
 pub length-rest : (pad : Option ℕ) (part : List ℕ) → length part ≤ length (rest_of pad part)
-length-rest None part = omega arith
-length-rest (Some byte) part = let all = length-append part (replicate (8 - suc (length part)) byte) in omega arith
+length-rest pad part = grind (arith, length-append {A = ℕ})
 
 pub take-rest : (pad : Option ℕ) (part : List ℕ) → take (length part) (rest_of pad part) ≡ part
-take-rest None part = take_all (length part) part (omega arith)
-take-rest (Some byte) part = take-append_seam part (replicate (8 - suc (length part)) byte)
+take-rest pad part = grind (arith, take_all {A = ℕ}, take-append_seam {A = ℕ})
 
 pub rest-full : (pad : Option ℕ) (part : List ℕ) → length part ≡ 7 → rest_of pad part ≡ part
-rest-full None part h = refl
-rest-full (Some byte) part h = rw h (append-nil part)
+rest-full pad part h = grind (arith, append-nil {A = ℕ})
 
 -- a Consecutive is read as what it was made of
 pub kind-consecutive : (pad : Option ℕ) (i max : ℕ) (part : List ℕ) → kind (filled pad (consecutive_bytes i part)) max ≡ Consecutive (i % 16) (rest_of pad part)
 unfolding kind
-kind-consecutive pad i max part =
-    let high : (32 + i % 16) / 16 ≡ 2 = omega arith in
-    let low : (32 + i % 16) % 16 ≡ i % 16 = omega arith in
-    rw (filled-cons pad (32 + i % 16) part, high, low) refl
+kind-consecutive pad i max part = grind (arith, nat_tests, filled-cons)
 
 pub kind-flow : (max status block gap : ℕ) → status < 16 → kind (flow_bytes status block gap) max ≡ FlowControl status block gap
 unfolding kind
-kind-flow max status block gap h =
-    let high : (48 + status) / 16 ≡ 3 = omega arith in
-    let low : (48 + status) % 16 ≡ status = omega arith in
-    rw (high, low) refl
+kind-flow max status block gap h = grind (arith, nat_tests)
 
 pub kind-single : (pad : Option ℕ) (max : ℕ) (P : List ℕ) → 1 ≤ length P → length P ≤ 7 → kind (filled pad (single_bytes P)) max ≡ Single P
 unfolding kind
 kind-single pad max P h k =
-    let high : length P / 16 ≡ 0 = omega arith in
     let low : length P % 16 ≡ length P = omega arith in
-    let one : nat_le 1 (length P) ≡ true = grind (arith, nat_tests) in
-    let few : nat_le (length P) 7 ≡ true = grind (arith, nat_tests) in
-    let room : nat_lt (length P) (suc (length (rest_of pad P))) ≡ true = let l = length-rest pad P in grind (arith, nat_tests) in
-    let all : take (length P) (rest_of pad P) ≡ P = take-rest pad P in
-    rw (filled-cons pad (length P) P, high, low, one, few, room, all) refl
+    let all = take-rest pad P in
+    rw (filled-cons pad (length P) P, low) (grind (arith, nat_tests, length-rest, all))
 
 -- a First, whose length has 12 bits or four bytes
 pub kind-first :
@@ -68,40 +54,34 @@ pub kind-first :
     kind (filled pad (first_bytes len head)) max ≡ First len head
 unfolding kind
 kind-first pad max len head h k m l =
-    let fits : nat_lt max len ≡ false = grind (arith, nat_tests) in
-    elim (nat_le len 4095) as (λ b. nat_le len 4095 ≡ b → length head ≡ cond b 6 2
-    → kind (filled pad (cond b ((16 + len / 256) ∷ (len % 256) ∷ head) (16 ∷ 0 ∷ long_length len ++ head))) max ≡ First len head) [
-      | true ↦ λ t e.
+    elim (cases_Bool (nat_le len 4095)) [
+      | inl t ↦
           let few : len ≤ 4095 = grind (arith, nat_tests) in
+          let size : length head ≡ 6 = rw t at l in
           let high : (16 + len / 256) / 16 ≡ 1 = omega arith in
           let low : (16 + len / 256) % 16 ≡ len / 256 = omega arith in
           let same : len / 256 * 256 + len % 256 ≡ len = omega arith in
-          let none : (len == 0) ≡ false = grind (arith, nat_tests) in
-          let short : nat_lt len 8 ≡ false = grind (arith, nat_tests) in
           let whole : rest_of pad ((len % 256) ∷ head) ≡ (len % 256) ∷ head = rest-full pad ((len % 256) ∷ head) (omega arith) in
-          let eight : nat_lt (suc (suc (length head))) 8 ≡ false = grind (arith, nat_tests) in
           let all : take 6 head ≡ head = take_all 6 head (omega arith) in
-          rw (filled-cons pad (16 + len / 256) ((len % 256) ∷ head), whole, high, low, same, eight, none, short, fits, all) refl
-      | false ↦ λ f e.
+          rw (t, filled-cons pad (16 + len / 256) ((len % 256) ∷ head), whole, high, low, same) (grind (arith, nat_tests, all))
+      | inr f ↦
+          let size : length head ≡ 2 = rw f at l in
           let rest : List ℕ = 0 ∷ long_length len ++ head in
           let same : len / 2 ^ 24 * 2 ^ 24 + len / 2 ^ 16 % 256 * 2 ^ 16 + len / 2 ^ 8 % 256 * 2 ^ 8 + len % 256 ≡ len = omega arith in
           let whole : rest_of pad rest ≡ rest = rest-full pad rest (omega arith) in
-          let eight : nat_lt (suc (suc (suc (suc (suc (suc (length head))))))) 8 ≡ false = grind (arith, nat_tests) in
           let all : take 2 head ≡ head = take_all 2 head (omega arith) in
-          rw (filled-cons pad 16 rest, whole, eight, same, f, fits, all) refl
-    ] refl l
+          rw (f, filled-cons pad 16 rest, whole, same, f) (grind (arith, nat_tests, all))
+    ]
 
 pub length-counted : (a n : ℕ) → length (counted_from a n) ≡ n
 length-counted a zero = refl
-length-counted a (suc n) = let l = length-counted (suc a) n in omega arith
+length-counted a (suc n) = ap suc (length-counted (suc a) n)
 
 pub length-cut-long : (P : List ℕ) (pad : Option ℕ) → 8 ≤ length P → length (cut P pad) ≡ suc (consecutive_count (length P))
 unfolding cut
 length-cut-long P pad h =
     let long : nat_le (length P) 7 ≡ false = grind (arith, nat_tests) in
-    let mapped = length-map (counted_from 1 (consecutive_count (length P))) (λ (i : ℕ). filled pad (consecutive_bytes i (part_of P i))) in
-    let counted = length-counted 1 (consecutive_count (length P)) in
-    rw long (ap (λ n. suc n) (mapped ∙ counted))
+    rw (long, length-map, length-counted) refl
 
 pub cut-short : (P : List ℕ) (pad : Option ℕ) → length P ≤ 7 → cut P pad ≡ filled pad (single_bytes P) ∷ []
 unfolding cut
@@ -109,41 +89,32 @@ cut-short P pad h = let short : nat_le (length P) 7 ≡ true = grind (arith, nat
 
 -- what is written is read as what it was made of
 pub single_read : (frame P : List ℕ) (max : ℕ) → frame ≡ single_bytes P → 1 ≤ length P → length P ≤ 7 → kind frame max ≡ Single P
-single_read frame P max e h k = ap (λ f. kind f max) e ∙ kind-single None max P h k
+single_read frame P max e h k = rw e (kind-single None max P h k)
 
-pub first-read : (frame head : List ℕ) (len max : ℕ) → frame ≡ first_bytes len head → 8 ≤ len → len ≤ 65535 → len ≤ max → length head ≡ head_size len
+pub first_read : (frame head : List ℕ) (len max : ℕ) → frame ≡ first_bytes len head → 8 ≤ len → len ≤ 65535 → len ≤ max → length head ≡ head_size len
     → kind frame max ≡ First len head
-first-read frame head len max e h k m l = ap (λ f. kind f max) e ∙ kind-first None max len head h k m l
+first_read frame head len max e h k m l = rw e (kind-first None max len head h k m l)
 
 pub consecutive_read : (frame part : List ℕ) (number max : ℕ) → frame ≡ consecutive_bytes number part → number < 16 → kind frame max ≡ Consecutive number part
 consecutive_read frame part number max e h =
     let small : number % 16 ≡ number = omega arith in
-    ap (λ f. kind f max) e ∙ (kind-consecutive None number max part ∙ ap (λ (n : ℕ). Consecutive n part) small)
+    rw e (kind-consecutive None number max part ∙ ap (λ (n : ℕ). Consecutive n part) small)
 
 pub flow_read : (frame : List ℕ) (status block gap max : ℕ) → frame ≡ flow_bytes status block gap → status < 16 → kind frame max ≡ FlowControl status block gap
-flow_read frame status block gap max e h = ap (λ f. kind f max) e ∙ kind-flow max status block gap h
+flow_read frame status block gap max e h = rw e (kind-flow max status block gap h)
 
-pub cut-single_at : (P : List ℕ) (pad : Option ℕ) (k : ℕ) → length P ≤ 7 → k < frames_of P → slice_get (cut P pad) k ≡ Some (filled pad (single_bytes P))
-cut-single_at P pad k h m =
-    let short : nat_le (length P) 7 ≡ true = grind (arith, nat_tests) in
-    let one : frames_of P ≡ 1 = ap (λ b. if b then 1 else consecutive_count (length P) + 1) short in
-    let first : k ≡ 0 = omega arith in
-    rw (first, cut-short P pad h) refl
+pub cut_single_at : (P : List ℕ) (pad : Option ℕ) (k : ℕ) → length P ≤ 7 → k < frames_of P → slice_get (cut P pad) k ≡ Some (filled pad (single_bytes P))
+cut_single_at P pad k h m = grind (arith, nat_tests, cut-short)
 
-pub cut-first_at : (P : List ℕ) (pad : Option ℕ) → 7 < length P
+pub cut_first_at : (P : List ℕ) (pad : Option ℕ) → 7 < length P
     → slice_get (cut P pad) 0 ≡ Some (filled pad (first_bytes (length P) (take (head_size (length P)) P)))
 unfolding cut
-cut-first_at P pad h = let long : nat_le (length P) 7 ≡ false = grind (arith, nat_tests) in rw long refl
+cut_first_at P pad h = grind (arith, nat_tests)
 
-pub cut-part_at : (P : List ℕ) (pad : Option ℕ) (k : ℕ) → 7 < length P → 0 < k → k < frames_of P
+pub cut_part_at : (P : List ℕ) (pad : Option ℕ) (k : ℕ) → 7 < length P → 0 < k → k < frames_of P
     → slice_get (cut P pad) k ≡ Some (filled pad (consecutive_bytes k (part_of P k)))
 unfolding cut
-cut-part_at P pad zero h l m = absurd (omega arith)
-cut-part_at P pad (suc k) h l m =
-    let long : nat_le (length P) 7 ≡ false = grind (arith, nat_tests) in
-    let more : frames_of P ≡ consecutive_count (length P) + 1 = ap (λ b. if b then 1 else consecutive_count (length P) + 1) long in
-    rw long (map-at (λ (i : ℕ). filled pad (consecutive_bytes i (part_of P i))) 1 (consecutive_count (length P)) k (omega arith)
-    ∙ ap (λ (i : ℕ). let o : Option (List ℕ) = Some (filled pad (consecutive_bytes i (part_of P i))) in o) (omega arith))
+cut_part_at P pad k h l m = grind (arith, nat_tests, map-at)
 
 -- the bytes from one before a part of 7 on, with the first byte of its frame in that one's place
 pub eight_at : (P : List ℕ) (pad : Option ℕ) (i from : ℕ) (eight : List ℕ) → from ≡ min (head_size (length P) + 7 * (i - 1) - 1) (length P)
@@ -152,26 +123,20 @@ eight_at P pad i from eight e chunk =
     let rest : take (length P - from) (drop from P) ≡ drop from P = take_rest P from in
     let left = length-drop from P in
     let enough : 8 ≤ length (drop from P) = rw (← rest) chunk.enough in
-    let head = head-bounds (length P) in
-    let at : from + 1 ≡ head_size (length P) + 7 * (i - 1) = omega (arith, enough, left, head, e) in
+    let at : from + 1 ≡ head_size (length P) + 7 * (i - 1) = omega (arith, enough, left, e, head-bounds (length P)) in
     let whole : eight ≡ take 8 (drop from P) = chunk.same ∙ ap (take 8) rest in
     let size : length eight ≡ 8 = ap length whole ∙ length-take-le 8 (drop from P) enough in
-    let part : drop 1 eight ≡ part_of P i =
-    ap (drop 1) whole ∙ (drop-take 1 7 (drop from P) ∙ ap (take 7) (drop-drop 1 from P ∙ ap (λ (n : ℕ). drop n P) at)) in
-    let seven : length (part_of P i) ≡ 7 = ap length (sym part) ∙ (length-drop 1 eight ∙ ap (λ (n : ℕ). n - 1) size) in
-    set_split eight 0 (32 + i % 16) (omega arith) ∙ (ap (λ (t : List ℕ). (32 + i % 16) ∷ t) (part ∙ sym (rest-full pad (part_of P i) seven)) ∙ sym (filled-cons pad (32 + i % 16) (part_of P i)))
+    let part : drop 1 eight ≡ part_of P i = rw (whole, drop-take 1 7 (drop from P), drop-drop 1 from P, at) refl in
+    let seven : length (part_of P i) ≡ 7 = rw (← part, length-drop 1 eight, size) refl in
+    rw (set_split eight 0 (32 + i % 16) (omega arith), part, filled-cons pad (32 + i % 16) (part_of P i), rest-full pad (part_of P i) seven) refl
 
 pub few_frames : (P : List ℕ) → length P ≤ 65535 → frames_of P < 10000
-few_frames P h = elim (nat_le (length P) 7) as (λ b. (if b then 1 else consecutive_count (length P) + 1) < 10000) [ true ↦ omega arith | false ↦ omega arith ]
+few_frames P h = grind arith
 
 -- how many frames a message has
 pub frames-count : (P : List ℕ) (pad : Option ℕ) → length (cut P pad) ≡ frames_of P
-frames-count P pad =
-    elim (nat_le (length P) 7) as (λ b. nat_le (length P) 7 ≡ b → length (cut P pad) ≡ (if b then 1 else consecutive_count (length P) + 1)) [
-      | true ↦ λ t. let short : length P ≤ 7 = grind (arith, nat_tests) in ap length (cut-short P pad short)
-      | false ↦ λ f. let long : 8 ≤ length P = grind (arith, nat_tests) in length-cut-long P pad long ∙ omega arith
-    ] refl
+frames-count P pad = grind (arith, nat_tests, cut-short, length-cut-long)
 
 -- no frame past the last
 pub frame_past : (P : List ℕ) (pad : Option ℕ) (k : ℕ) → frames_of P ≤ k → slice_get (cut P pad) k ≡ None
-frame_past P pad k h = slice_get_past (cut P pad) k (let n = frames-count P pad in omega arith)
+frame_past P pad k h = grind (arith, slice_get_past {X = List ℕ}, frames-count)

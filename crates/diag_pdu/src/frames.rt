@@ -24,6 +24,7 @@ pub fn single_frame(payload: &[u8]) -> FrameBytes
 
 /// The FirstFrame (9.6.3) of a message of `len` bytes, from 8 on, the first 6 of which are `head`; for a length above
 /// 4095, which is written in four bytes after a length of 0, the first 2.
+#[tactic(auto, using(crate::proofs::CutFrames::first_read))]
 pub fn first_frame(len: u16, head: &[u8]) -> FrameBytes
     requires long { 8 ≤ len }
     requires whole { length head.now ≡ head_size len }
@@ -130,6 +131,7 @@ fn nth_consecutive(message: &[u8], i: u16, pad: Option<u8>) -> FrameBytes
 }
 
 /// The `k`-th frame of the message, from 0, filled to 8 bytes with the pad byte, if any. The message has one.
+#[tactic(auto, using(crate::proofs::CutFrames::cut_single_at, crate::proofs::CutFrames::cut_first_at, crate::proofs::CutFrames::cut_part_at))]
 pub fn frame_at(message: &Message, k: u16, pad: Option<u8>) -> FrameBytes
     requires { k < frames_of message.now }
     ensures { slice_get (cut message.now pad) k ≡ Some result }
