@@ -19,4 +19,4 @@ pub set-next : (len count : ℕ) (bytes part : List ℕ) → length bytes ≡ ke
     → bytes ++ take 7 part ≡ take len (bytes ++ part)
 set-next len count bytes part kept more few =
     let size = length-append bytes part in
-    ap (λ (t : List ℕ). bytes ++ t) (take_all 7 part few) ∙ sym (take_all len (bytes ++ part) (omega arith))
+    rw (take_all 7 part few) (sym (take_all len (bytes ++ part) (omega arith)))
