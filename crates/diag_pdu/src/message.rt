@@ -107,21 +107,10 @@ impl Message {
         ensures in_place { length bytes.now ≤ 8 → IsOk result }
     {
         if bytes.len() <= IN_PLACE {
-            return Ok(Message::short(bytes));
+            return Ok(Message::in_place(FrameBytes::from_slice(bytes)));
         }
         let bytes = Vec::from_slice(alloc, bytes)?;
         Ok(Message::from_vec(bytes))
-    }
-
-    /// The message of bytes that a frame can carry, which takes no memory.
-    fn short(bytes: &[u8]) -> Message
-        requires some { 1 ≤ length bytes.now }
-        requires fits { length bytes.now ≤ 8 }
-        ensures { result ≡ bytes.now }
-    {
-        Message {
-            bytes: Bytes::Short(in_place(FrameBytes::from_slice(bytes))),
-        }
     }
 
     /// The message that these bytes of a frame are, which are handed over. It takes no memory.
@@ -192,7 +181,7 @@ impl Message {
         ensures in_place { length self.now ≤ 8 → IsOk result }
     {
         match &self.bytes {
-            Bytes::Short(short) => Ok(Message::short(short.bytes.as_slice())),
+            Bytes::Short(short) => Ok(Message::in_place(short.bytes.copy())),
             Bytes::Long(bytes) => Message::of(*bytes.allocator(), bytes.as_slice()),
         }
     }

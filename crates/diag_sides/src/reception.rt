@@ -168,16 +168,6 @@ impl Partial {
         Ok(whole(bytes, self.len, part))
     }
 
-    /// The request that is staged.
-    fn staged(&self) -> Option<&Step>
-        ensures { option_copied result ≡ self.now.staged }
-    {
-        match &self.held {
-            Held::Growing(_) => None,
-            Held::Staged(step) => Some(step),
-        }
-    }
-
     /// The message of the request that is staged.
     fn into_message(self) -> Option<Message>
         ensures { ask_of false result ≡ self.staged }
@@ -367,8 +357,13 @@ impl Receiver {
         ensures { option_copied result ≡ self.now.staged }
     {
         match &self.partial {
-            Some(partial) => partial.staged(),
-            None => None,
+            Some(
+                Partial {
+                    held: Held::Staged(step),
+                    ..
+                },
+            ) => Some(step),
+            _ => None,
         }
     }
 

@@ -179,7 +179,9 @@ impl Sender {
         ensures found { IfSome result (λ _. IsSome self.old.current) }
         ensures room { self.new.room ≡ self.old.room }
     {
-        let sending = self.current.as_mut()?;
+        let Some(sending) = self.current.as_mut() else {
+            return None;
+        };
         if sending.due == 0 {
             return None;
         }

@@ -70,14 +70,13 @@ reception_none o = grind arith
 pub current_none : (o : Option Current) → current_later 0 o ≡ o
 current_none o = grind arith
 
-pub quiet_now : (link : LinkState) → pending link ≡ 0
-    → quiet link ≡ max (min (reception_quiet link.setup.n_cr (reception_later 0 link.partial)) (sender_quiet (current_later 0 link.sender.current))) 1
-quiet_now link none = rw (reception_none link.partial, current_none link.sender.current) (quiet_drained link none)
-
 pub quiet_once : (n : ℕ) (link : LinkState) → pending link ≡ 0
     → quiet (quiet_later n link) ≡ max (min (reception_quiet link.setup.n_cr (reception_later n link.partial)) (sender_quiet (current_later n link.sender.current))) 1
 unfolding pending quiet_later
 quiet_once n link none = quiet_drained (quiet_later n link) (ap length (due_later n link) ∙ none)
+
+pub quiet_now : (link : LinkState) → pending link ≡ 0 → quiet (quiet_later 0 link) ≡ quiet link
+quiet_now link none = rw (quiet_once 0 link none, quiet_drained link none, reception_none link.partial, current_none link.sender.current) refl
 
 -- a link by its fields
 link_with : LinkSetup → ℕ → Option Partial → Option (List ℕ) → SenderState → LinkState

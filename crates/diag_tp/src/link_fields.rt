@@ -109,8 +109,7 @@ impl Link {
     pub(crate) fn take_up(&mut self, event: &Event) -> Result<Taken, AllocError>
         requires frame { IsTrue (is_frame event.now) }
         ensures same { self.new.state ≡ self.old.state }
-        ensures room { OnOk result ((needed self.new.state.setup event.now ≤ self.new.room)
-            × (0 < self.new.reply_room)) }
+        ensures room { OnOk result (0 < self.new.reply_room) }
         ensures request { IfOk result (λ taken. asked_in self.new taken
             ≡ step_after self.old.state.setup self.old.state.partial event.now) }
         ensures taken { IfOk result (λ taken. IsTaken self.old.state event.now taken) }
@@ -138,8 +137,6 @@ impl Link {
     #[inline(always)]
     fn take_up_own(&mut self, bytes: &FrameBytes) -> Result<Taken, AllocError>
         ensures same { self.new.state ≡ self.old.state }
-        ensures room { OnOk result
-            (needed self.new.state.setup (AnEvent.Physical bytes.now) ≤ self.new.room) }
         ensures request { IfOk result (λ taken. asked_in self.new taken
             ≡ step_after self.old.state.setup self.old.state.partial (AnEvent.Physical bytes.now)) }
         ensures taken { IfOk result (λ taken.
@@ -327,17 +324,6 @@ impl Link {
         self.ticks = self.ticks.saturating_add(u64::from(count));
         self.receiver.pass(self.setup.n_cr.get(), count);
         self.sender.pass(&self.setup, count);
-    }
-
-    /// For how many ticks nothing falls due and nothing ends, once so many have passed, from the fields.
-    #[inline(always)]
-    pub(crate) fn quiet_ticks(&self, passed: u64) -> u64
-        ensures { result ≡ max (min (reception_quiet self.now.state.setup.n_cr
-            (reception_later passed self.now.state.partial))
-            (sender_quiet (current_later passed self.now.state.sender.current))) 1 }
-    {
-        let reception = self.receiver.quiet(self.setup.n_cr.get(), passed);
-        reception.min(self.sender.quiet(passed)).max(1)
     }
 }
 
