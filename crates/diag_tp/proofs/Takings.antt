@@ -17,7 +17,7 @@ use Rattle.diag_sides.specs.Sender.{frame_count, current_left}
 use Rattle.diag_tp.specs.State.{LinkState}
 use Rattle.diag_tp.specs.Wire.{Placed}
 use Rattle.diag_tp.specs.Link.{is_frame, partial_after, grant_after, IsReadHere, pending, StandsFor}
-use Rattle.diag_tp.specs.Taken.{IsTaken, left_of_kind, taken_of, reception_after, granted_after, sender_after}
+use Rattle.diag_tp.specs.Taken.{IsTaken, left_of_kind, taken_of, reception_after, granted_after, sender_after, once_settled}
 use Rattle.diag_tp.proofs.Numbers.{IsWithin}
 use Rattle.diag_tp.proofs.History.{stands_fed}
 use Rattle.diag_tp.proofs.Views.{Numbers, within_numbers, grant_few}
@@ -56,27 +56,21 @@ does s o (Functional bytes) current W h = functional-does s o bytes (is_some (co
 does s o (Ticks n) current W h = cc
 
 -- what is left leads to where the frame does
-pub settles :
-    (s : LinkSetup) (link link' : LinkState) (E : List Event) (A : List Placed) (Q : List Sent) (e : Event) (taken : Taken) →
-    IsTaken link e taken → pending link ≡ 0 → link'.grant ≡ granted_after link.setup link.partial taken →
-    link'.partial ≡ reception_after link.setup link.partial taken → link'.setup ≡ link.setup → link'.now ≡ link.now →
-    link'.sender ≡ sender_after link.setup taken link.sender.current link.sender.waiting →
-    StandsFor s link E A Q → StandsFor s link' (E ++ e ∷ []) A Q
-settles s link link' E A Q e taken here drained grant partial same now sender h =
+pub settles : (s : LinkSetup) (link : LinkState) (E : List Event) (A : List Placed) (Q : List Sent) (e : Event) (taken : Taken) → IsTaken link e taken
+    → pending link ≡ 0 → StandsFor s link E A Q → StandsFor s (once_settled taken link) (E ++ e ∷ []) A Q
+settles s link E A Q e taken here drained h =
     let did = does link.setup link.partial e link.sender.current link.sender.waiting here.frame in
-    stands_fed s link link' E A Q e here.frame here.read drained
-    (λ none. grant ∙ (ap (granted_after link.setup link.partial) here.is ∙ did.granted))
-    (partial ∙ (ap (reception_after link.setup link.partial) here.is ∙ did.reception))
-    same now
-    (sender ∙ (ap (λ t. sender_after link.setup t link.sender.current link.sender.waiting) here.is ∙ did.sender))
+    stands_fed s link (once_settled taken link) E A Q e here.frame here.read drained
+    (λ none. ap (granted_after link.setup link.partial) here.is ∙ did.granted)
+    (ap (reception_after link.setup link.partial) here.is ∙ did.reception)
+    refl refl
+    (ap (λ t. sender_after link.setup t link.sender.current link.sender.waiting) here.is ∙ did.sender)
     h
 
 within-taken : (s : LinkSetup) (taken : Taken) (current : Option Sending) (W : List (List ℕ)) →
     IsWithin s (sender_after s taken current W) (current_left s current + sum_by (frame_count s) W) (length W)
 within-taken s taken current W = grind arith
 
-pub settled-numbers : (link link' : LinkState) (taken : Taken) → pending link ≡ 0 → link'.setup ≡ link.setup →
-    link'.sender ≡ sender_after link.setup taken link.sender.current link.sender.waiting → Numbers link link' 1
-settled-numbers link link' taken drained same sender =
-    within_numbers link link' (sender_after link.setup taken link.sender.current link.sender.waiting) 1 drained (grant_few link'.grant) same sender
-    (within-taken link.setup taken link.sender.current link.sender.waiting)
+pub settled-numbers : (link : LinkState) (taken : Taken) → pending link ≡ 0 → Numbers link (once_settled taken link) 1
+settled-numbers link taken drained =
+    within_numbers link (once_settled taken link) _ 1 drained (grant_few _) refl refl (within-taken link.setup taken link.sender.current link.sender.waiting)

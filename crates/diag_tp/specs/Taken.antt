@@ -79,3 +79,14 @@ sender_after s left.Ignored current W = no_flow current W
 sender_after s left.Single current W = no_flow current W
 sender_after s left.Last current W = no_flow current W
 sender_after s (left.Read bytes) current W = sender_event s (Physical bytes) current W
+
+-- the link once what is left of a frame was taken
+abbrev pub once_settled : Taken → LinkState → LinkState
+once_settled taken link =
+    record {
+      setup = link.setup;
+      now = link.now;
+      partial = reception_after link.setup link.partial taken;
+      grant = granted_after link.setup link.partial taken;
+      sender = sender_after link.setup taken link.sender.current link.sender.waiting;
+    }

@@ -10,7 +10,7 @@ ghost use Rattle.diag_sides.specs.Sender.{settled};
 ghost use Rattle.diag_tp.specs.Kept.{sender_event, sender_frame, sender_ticks};
 ghost use Rattle.diag_sides.specs.Receiver.{open_after, completed_by, granted_by, ticks_later, ask_of};
 ghost use Rattle.diag_tp.specs.State.{due};
-ghost use Rattle.diag_tp.specs.Taken.{IsTaken, FitsIn, asked_in, reception_after, granted_after, sender_after};
+ghost use Rattle.diag_tp.specs.Taken.{IsTaken, FitsIn, asked_in, once_settled};
 ghost use Rattle.diag_sides.specs.Quiet.{reception_quiet, sender_quiet, reception_later, current_later};
 ghost use Rattle.diag_tp.specs.Link.{is_frame, last_tick, needed, asked_of, partial_after, grant_after, step_after, IsReadHere, IsIdle};
 
@@ -204,15 +204,8 @@ impl Link {
     #[inline(always)]
     pub(crate) fn finish(&mut self, taken: &Taken)
         requires fits { FitsIn self.old taken.now }
-        ensures partial { self.new.state.partial
-            ≡ reception_after self.old.state.setup self.old.state.partial taken.now }
-        ensures grant { self.new.state.grant
-            ≡ granted_after self.old.state.setup self.old.state.partial taken.now }
+        ensures state { self.new.state ≡ once_settled taken.now self.old.state }
         ensures reply_room { self.new.reply_room ≡ self.old.reply_room }
-        ensures setup { self.new.state.setup ≡ self.old.state.setup }
-        ensures now { self.new.state.now ≡ self.old.state.now }
-        ensures sender { self.new.state.sender ≡ sender_after self.old.state.setup
-            taken.now self.old.state.sender.current self.old.state.sender.waiting }
     {
         match taken {
             Taken::Functional | Taken::Ignored => self.grant = None,
