@@ -3,7 +3,7 @@
 use diag_can::FrameBytes;
 
 /// A frame that a link has read and made room for: where its request stands, and what the link has still to do with it.
-#[derive(Drop)]
+#[derive(Debug, Drop)]
 pub enum Taken {
     /// A functional SingleFrame, whose request its link has noted. Nothing is left to do.
     Functional,
