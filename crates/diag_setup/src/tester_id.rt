@@ -1,6 +1,6 @@
 //! The testers by their places.
 
-ghost use Rattle.std.specs.Prelude.{◌≡◌, ◌-◌, ◌<◌, ◌↔◌, ◌≤◌, ℕ, IsSome, IfSome};
+ghost use Rattle.std.specs.Prelude.{◌≡◌, ◌-◌, ◌+◌, ◌<◌, ◌↔◌, ◌≤◌, ℕ, IsSome, IfSome};
 
 use std::marker::Model;
 

@@ -32,7 +32,7 @@ pub record IsAt (ecu : State) (links : List LinkView) (now : ServerView) (who i 
   pub found : slice_get links i ≡ Some link
 
 -- the tester's link stands where it was read, and as it is once it has caught up
-module _ {ecu : State} (links : List LazyLink) {now : ServerView} (passed : ℕ) {who at : ℕ} {lazy : LazyLink} (seen : view_of ecu (seen_links passed links) ≡ now)
+module _ {ecu : State} (links : List LazyLink) {now : ServerView} (passed at : ℕ) {who : ℕ} {lazy : LazyLink} (seen : view_of ecu (seen_links passed links) ≡ now)
     (in_setup : who ≤ length now.links) (place : who ≡ at + 1) (read : lazy ≡ get_or links at lazy) where
   pub lazy_at : slice_get links at ≡ Some lazy
   lazy_at =
@@ -49,7 +49,7 @@ module _ {ecu : State} (links : List LazyLink) {now : ServerView} (passed : ℕ)
   link_at link is = record {
     seen = seen;
     is = place;
-    found = slice_get-map (λ l. caught_up passed l) links (at - 1) ∙ (ap (option_map (λ l. caught_up passed l)) lazy_at ∙ ap Some (sym is));
+    found = slice_get-map (λ l. caught_up passed l) links at ∙ (ap (option_map (λ l. caught_up passed l)) lazy_at ∙ ap Some (sym is));
   }
 
 -- what stands at one place is one

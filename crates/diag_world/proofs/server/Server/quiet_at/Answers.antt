@@ -9,12 +9,12 @@ use Rattle.diag_world.proofs.server.Server.quiet_at.Goals as goal
 pub quiet-requires : goal.quiet-requires
 quiet-requires c =
     record {
-      lazy = c.self.invariant _ _ (lazy_at c.self.inside.links.items c.self.inside.passed c.self.view_is c.requires.in_setup
+      lazy = c.self.invariant _ _ (lazy_at c.self.inside.links.items c.self.inside.passed _ c.self.view_is c.requires.in_setup
           c.index-index.ensures.from_one c.index.ensures);
     }
 
 pub returns-clause-is : goal.returns-clause-is
 returns-clause-is c =
-    let here = link_at c.self.inside.links.items c.self.inside.passed c.self.view_is c.requires.in_setup c.index-index.ensures.from_one
+    let here = link_at c.self.inside.links.items c.self.inside.passed _ c.self.view_is c.requires.in_setup c.index-index.ensures.from_one
     c.index.ensures (caught_up c.self.inside.passed c.index.result.now) refl in
     subst (λ o. IfSome o (λ (link : LinkView). c.quiet.result ≡ quiet link.state)) (sym (seen_there here)) c.quiet.ensures.is

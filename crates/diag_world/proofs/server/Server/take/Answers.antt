@@ -15,7 +15,7 @@ use Rattle.diag_world.proofs.server.Server.take.Goals.{After-take_at}
 pub catch_up-requires : goal.catch_up-requires
 catch_up-requires g c =
     record {
-      lazy = c.self.invariant _ _ (lazy_at c.self.inside.links.items c.self.inside.passed c.self.view_is c.requires.in_setup c.index-index.ensures.from_one
+      lazy = c.self.invariant _ _ (lazy_at c.self.inside.links.items c.self.inside.passed _ c.self.view_is c.requires.in_setup c.index-index.ensures.from_one
           c.index_mut-lazy.ensures.value);
     }
 
@@ -25,7 +25,7 @@ take_at-requires g c = record { drained = c.catch_up.ensures.lazy.drained }
 module _ (g : Over) (c : After-take_at g) where
   -- the tester's link, where the contract sees it
   here : IsAt c.self.inside.ecu (seen_links c.self.inside.passed c.self.inside.links.items) c.args.self.now c.args.who c.index-index.result c.catch_up.new.self.link
-  here = link_at c.self.inside.links.items c.self.inside.passed c.self.view_is c.requires.in_setup c.index-index.ensures.from_one c.index_mut-lazy.ensures.value c.catch_up.new.self.link c.catch_up.ensures.link
+  here = link_at c.self.inside.links.items c.self.inside.passed _ c.self.view_is c.requires.in_setup c.index-index.ensures.from_one c.index_mut-lazy.ensures.value c.catch_up.new.self.link c.catch_up.ensures.link
 
   -- the link as it is after the call
   abbrev next : LazyLink
