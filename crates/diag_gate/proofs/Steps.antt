@@ -1,6 +1,6 @@
 -- What a seat's steps leave of it.
 use Rattle.std.proofs.Common.{◌<◌, ◌≤◌, ◌≡◌, ◌≢◌, ◌↔◌, arith, ℕ, List, [], ◌∷◌, ◌++◌, length, refl, sym, ap, ◌∙◌, subst, append_assoc, Option, Some, None, Result, Ok, Err, MatchResult, IfOk, OnErr}
-use Rattle.atomic_table.specs.Table.{Me, rest}
+use Rattle.atomic_table.specs.Table.{rest}
 use Rattle.atomic_table.specs.Seated.{TableId}
 use Rattle.diag_ecu.specs.State.{State}
 use Rattle.diag_desk.specs.Entries.{BeginsWith, entry}
