@@ -27,7 +27,6 @@ use crate::passing::{pass, receive};
 use crate::stepping::TakeSteps;
 use diag_can::{Event, TickCount};
 use diag_desk::StepFault;
-use diag_pdu::Step;
 use diag_setup::TesterId;
 use diag_tp::{Link, Sent, Taken, gives_law};
 use std::alloc::AllocError;
@@ -97,8 +96,7 @@ fn take_ticks<T: TakeSteps>(
     ensures stays { T.stays taker.old taker.new }
 {
     out.reserve(link.backlog() as usize)?;
-    let mut reply = None;
-    taker.take_step(link.now(), who, &Step::Ticks(count), &mut reply)?;
+    taker.take_ticks(link.now(), who, count)?;
     pass(link, count, out);
     Ok(())
 }

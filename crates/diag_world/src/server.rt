@@ -241,6 +241,18 @@ impl<'a, K: Keeper> TakeSteps for Answering<'a, K> {
         Ok(())
     }
 
+    #[inline(always)]
+    fn take_ticks(
+        &mut self,
+        before: u64,
+        who: TesterId,
+        count: TickCount,
+    ) -> Result<(), StepFault> {
+        self.keeper.keep(before, who, &Step::Ticks(count), None)?;
+        self.ecu.ticks(who, count);
+        Ok(())
+    }
+
     ghost refuses_none = { λ answering. (refl, K.unkept_same answering.keeper.now) };
 
     ghost stays_itself = { λ _. (refl, refl, refl) };

@@ -3,7 +3,9 @@
 ghost use Rattle.std.specs.Prelude.{◌≡◌, Err, None, OnErr, OnOk};
 ghost use Rattle.diag_desk.specs.Entries.{entry};
 ghost use Rattle.diag_desk.specs.Entry.{HasNoReply};
+ghost use Rattle.diag_world.specs.Port.{entry_of_ticks};
 
+use diag_can::TickCount;
 use diag_desk::{Desk, StepFault};
 use diag_pdu::{Message, Step};
 use diag_setup::TesterId;
@@ -47,6 +49,21 @@ pub trait TakeSteps {
         ensures full { result ≡ Err StepFault.JournalFull → is_full self.old }
         ensures refused { OnErr result (refuses self.old self.new) }
         ensures stays { stays self.old self.new };
+
+    /// Takes so many ticks of a tester, as the step that they are. They have no reply.
+    ///
+    /// # Errors
+    /// As `take_step`.
+    fn take_ticks(&mut self, before: u64, who: TesterId, count: TickCount) -> Result<(), StepFault>
+        requires allows { allows self.old who before }
+        ensures took { OnOk result (takes self.old before (entry_of_ticks who count) self.new) }
+        ensures full { result ≡ Err StepFault.JournalFull → is_full self.old }
+        ensures refused { OnErr result (refuses self.old self.new) }
+        ensures stays { stays self.old self.new }
+    {
+        let mut reply = None;
+        self.take_step(before, who, &Step::Ticks(count), &mut reply)
+    }
 
     /// One that was asked nothing is as one that refused.
     ghost refuses_none: { (taker : Self) → refuses taker taker };

@@ -1,7 +1,4 @@
-use Rattle.std.proofs.Common.{◌++◌, Option, Some, ap, subst, ◌∙◌}
-use Rattle.std.specs.Prelude.{ℕ, List}
-use Rattle.diag_desk.specs.Entries.{entry}
-use Rattle.diag_pdu.specs.declared.step.Step.TheVariants as step
+use Rattle.std.proofs.Common.{◌++◌, Some, ap, subst, ◌∙◌}
 use Rattle.diag_world.specs.Port.{entry_of_ticks}
 use Rattle.diag_world.proofs.Ticking.{ticks_took}
 use Rattle.diag_world.proofs.port.take_ticks.Goals as goal
@@ -11,11 +8,10 @@ returns-clause-took g c =
     let who = c.args.who in
     let n = c.args.count in
     let passed = c.pass.ensures.passed in
-    let takes = λ (now : ℕ) (reply : Option (List ℕ)). g.T.TakeSteps.takes c.args.taker.now now (entry who (step.Ticks n) reply) c.take_step.new.self in
     record {
       asked = Some (entry_of_ticks who n);
-      kept = subst (takes c.args.link.now.state.now) c.in_ok-take_step.ensures.ticks_unanswered
-          (subst (λ now. takes now c.take_step.new.reply) c.now.ensures.state c.in_ok-take_step.ensures.took);
+      kept = subst (λ now. g.T.TakeSteps.takes c.args.taker.now now (entry_of_ticks who n) c.take_ticks.new.self) c.now.ensures.state
+          c.in_ok-take_ticks.ensures.took;
       sent = record {
         more = passed.more;
         grown = passed.grown ∙ ap (λ w. w ++ passed.more) c.reserve.ensures.items;
