@@ -68,12 +68,13 @@ pub(crate) fn take<T: TakeSteps>(
     }
     let taken = prepare(link, event, out)?;
     match &taken {
-        Taken::Functional | Taken::Single => take_single(link, who, event, &taken, taker, out),
         Taken::Ignored | Taken::Read(_) => {
             take_silent(link, event, &taken, out);
             Ok(())
         }
-        Taken::Last => take_last(link, who, event, &taken, taker, out),
+        Taken::Functional | Taken::Single | Taken::Last => {
+            take_request(link, who, event, &taken, taker, out)
+        }
     }
 }
 
@@ -116,36 +117,7 @@ fn prepare(link: &mut Link, event: &Event, out: &mut Vec<Sent>) -> Result<Taken,
     link.begin(event)
 }
 
-/// Takes a SingleFrame that was read and has room. (What isn't one goes a way of its own, so that here the request stays
-/// in registers.)
-#[inline(always)]
-fn take_single<T: TakeSteps>(
-    link: &mut Link,
-    who: TesterId,
-    event: &Event,
-    taken: &Taken,
-    taker: &mut T,
-    out: &mut Vec<Sent>,
-) -> Result<(), StepFault>
-    requires prepared { IsPrepared
-        link.old event.now taken.now (vec_len out.old) (vec_capacity out.old) }
-    requires single { asked_in link.old taken.now ≡ Some link.old.noted }
-    requires allows { T.allows taker.old who link.old.state.now }
-    ensures took { OnOk result (TookEvent T.takes link.old.state link.new.state taker.old taker.new
-        who event.now out.old.items out.new.items) }
-    ensures refused { OnErr result (RefusedEvent T.refuses link.old.state link.new.state
-        taker.old taker.new out.old.items out.new.items) }
-    ensures full { result ≡ Err StepFault.JournalFull
-        → T.is_full taker.old × GivesStep link.old.state event.now }
-    ensures stays { T.stays taker.old taker.new }
-{
-    let mut reply = None;
-    taker.take_step(link.now(), who, link.noted(), &mut reply)?;
-    receive(link, event, taken, &mut reply, out);
-    Ok(())
-}
-
-/// The same of a frame that asks nothing.
+/// Takes a frame that was read and has room, and asks nothing.
 #[cold]
 #[inline(never)]
 fn take_silent(link: &mut Link, event: &Event, taken: &Taken, out: &mut Vec<Sent>)
@@ -159,11 +131,9 @@ fn take_silent(link: &mut Link, event: &Event, taken: &Taken, out: &mut Vec<Sent
     receive(link, event, taken, &mut None, out);
 }
 
-/// The same of the last frame of a message. (Called cold, so that the compiler takes a SingleFrame for the usual one, and
-/// inlines what answers it.)
-#[cold]
-#[inline(never)]
-fn take_last<T: TakeSteps>(
+/// The same of a frame that completes a request.
+#[inline(always)]
+fn take_request<T: TakeSteps>(
     link: &mut Link,
     who: TesterId,
     event: &Event,

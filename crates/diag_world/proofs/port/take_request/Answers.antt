@@ -3,7 +3,7 @@ use Rattle.std.proofs.lemmas.Option.{none-some}
 use Rattle.std.specs.Prelude.{option_copied}
 use Rattle.diag_desk.specs.Entries.{entry}
 use Rattle.diag_world.proofs.Channels.{frame_took}
-use Rattle.diag_world.proofs.port.take_last.Goals as goal
+use Rattle.diag_world.proofs.port.take_request.Goals as goal
 
 pub returns-in_ok-take_step-in-Some-clause-took : goal.returns-in_ok-take_step-in-Some-clause-took
 returns-in_ok-take_step-in-Some-clause-took g c =
