@@ -40,15 +40,9 @@ pub record IsListAt (old : MidLine) (who i : ℕ) (list : Vec Sent Global) : Typ
   pub read : list ≡ get_or old.drawn.items i list
 
 -- the tester's list stands where it was read
-module _ (old : MidLine) {who place at : ℕ} {list : Vec Sent Global} (in_setup : who ≤ length old.server.links)
-    (lists : length old.drawn.items ≡ length old.server.links) (same : place ≡ who) (fits : (1 ≤ place) × (place ≤ 8)) (index : at ≡ place)
-    (read : list ≡ get_or old.drawn.items (at - 1) list) where
-  pub list_at : IsListAt old who (at - 1) list
-  list_at = record {
-    is = omega (arith, same, fits.0, index);
-    within = omega (arith, in_setup, lists, same, fits.0, index);
-    read = read;
-  }
+pub list_at : (old : MidLine) {who i : ℕ} {list : Vec Sent Global} → who ≤ length old.server.links → length old.drawn.items ≡ length old.server.links
+    → who ≡ i + 1 → list ≡ get_or old.drawn.items i list → IsListAt old who i list
+list_at old in_setup lists is read = record { is = is; within = omega (arith, in_setup, lists, is); read = read }
 
 -- what is entered for an event, with or without an entry
 pub entered_asked : (old new : LineEntries) (now : ℕ) (asked : Option Entry) → HasKept EntersLine old new now asked

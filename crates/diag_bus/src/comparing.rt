@@ -168,7 +168,7 @@ impl Comparisons {
         ensures { (setup : RawSetup) (lines : List (List ℕ)) → ComparesLines setup self.now lines
             → who ≤ length setup.testers → result ≡ length (recorded setup lines who) }
     {
-        let index = usize::from(who.place()) - 1;
+        let index = who.index();
         match self.testers.get(index) {
             Some(own) => own.count,
             None => 0,

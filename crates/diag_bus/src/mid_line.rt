@@ -127,7 +127,7 @@ impl MidLine {
         ensures sent { OnOk result ((span : ℕ) → Lasts event.now span
             → OneSentIn self.old self.new (who - 1) span) }
     {
-        let index = usize::from(who.place()) - 1;
+        let index = who.index();
         let out = &mut self.drawn[index];
         let mut entries = LineEntries {
             output: self.output,

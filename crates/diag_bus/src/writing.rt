@@ -219,7 +219,7 @@ fn write_batch(
     sort_batch(batch)?;
     let len = text.len();
     for drawn in batch.as_slice() {
-        let place = usize::from(drawn.who.place()) - 1;
+        let place = drawn.who.index();
         if let Err(refused) = write_one(setup, clock, writers, place, &drawn.sent, text) {
             text.truncate(len);
             return Err(refused);

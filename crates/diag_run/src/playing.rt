@@ -84,7 +84,7 @@ impl Playing {
         if self.out.is_empty() {
             return Ok(());
         }
-        let index = usize::from(who.place()) - 1;
+        let index = who.index();
         add_at(&mut self.lines, index, self.out.as_slice())?;
         self.out.clear();
         Ok(())

@@ -179,9 +179,7 @@ impl Sender {
         ensures found { IfSome result (λ _. IsSome self.old.current) }
         ensures room { self.new.room ≡ self.old.room }
     {
-        let Some(sending) = self.current.as_mut() else {
-            return None;
-        };
+        let sending = self.current.as_mut()?;
         if sending.due == 0 {
             return None;
         }

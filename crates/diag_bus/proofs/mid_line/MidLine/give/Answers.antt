@@ -7,8 +7,7 @@ use Rattle.diag_bus.proofs.mid_line.MidLine.give.Goals as goal
 
 pub returns-in-Ok-clause-ok : goal.returns-in-Ok-clause-ok
 returns-in-Ok-clause-ok c =
-    let here = list_at c.args.self.now c.requires.in_setup c.requires.lists c.place.ensures.same c.place.ensures.fits c.from-index.ensures
-    c.index_mut-out.ensures.value in
+    let here = list_at c.args.self.now c.requires.in_setup c.requires.lists c.index-index.ensures.from_one c.index_mut-out.ensures.value in
     let took = c.in-Ok.ensures.took in
     gave_one here c.take.new.self c.take.new.out c.after-self.result c.take.new.keeper.text.now c.min-self.result took.sent.holds
     took.sent.grown took.early took.by (entered_asked _ c.take.new.keeper took.sent.holds.moved.before.now took.asked took.kept)
@@ -29,8 +28,7 @@ unreachable-requires c =
 
 pub returns-in-Ok-clause-sent : goal.returns-in-Ok-clause-sent
 returns-in-Ok-clause-sent c = λ span lasts.
-    let here = list_at c.args.self.now c.requires.in_setup c.requires.lists c.place.ensures.same c.place.ensures.fits c.from-index.ensures
-    c.index_mut-out.ensures.value in
+    let here = list_at c.args.self.now c.requires.in_setup c.requires.lists c.index-index.ensures.from_one c.index_mut-out.ensures.value in
     let took = c.in-Ok.ensures.took in
     sent_in_one here c.take.new.self c.take.new.out c.after-self.result c.take.new.keeper.text.now c.min-self.result took.sent.holds
     took.sent.grown span lasts
@@ -40,8 +38,7 @@ returns-in-Ok-clause-sent c = λ span lasts.
 pub returns-in-Ok-clause-shape : goal.returns-in-Ok-clause-shape
 returns-in-Ok-clause-shape c =
     let old = c.args.self.now in
-    let here = list_at c.args.self.now c.requires.in_setup c.requires.lists c.place.ensures.same c.place.ensures.fits c.from-index.ensures
-    c.index_mut-out.ensures.value in
+    let here = list_at c.args.self.now c.requires.in_setup c.requires.lists c.index-index.ensures.from_one c.index_mut-out.ensures.value in
     let took = c.in-Ok.ensures.took in
     shape_one here c.take.new.self c.take.new.out c.after-self.result c.take.new.keeper.text.now c.min-self.result took.sent.holds c.is_empty.result
     c.after-self.ensures c.is_empty.ensures
@@ -50,6 +47,5 @@ returns-in-Ok-clause-shape c =
 
 pub returns-in-Err-Memory-clause-shape : goal.returns-in-Err-Memory-clause-shape
 returns-in-Err-Memory-clause-shape c =
-    let here = list_at c.args.self.now c.requires.in_setup c.requires.lists c.place.ensures.same c.place.ensures.fits c.from-index.ensures
-    c.index_mut-out.ensures.value in
+    let here = list_at c.args.self.now c.requires.in_setup c.requires.lists c.index-index.ensures.from_one c.index_mut-out.ensures.value in
     shape_refused here c.take.new.self c.take.new.out c.take.new.keeper.text.now c.in-Err-Memory.ensures.err.0 c.in-Err-Memory.ensures.err.1
