@@ -1,0 +1,5 @@
+use Rattle.std.proofs.Common.{rules}
+use Rattle.diag_world.proofs.server.AnsweringTakeSteps.take_ticks.Goals as goal
+
+pub returns-clause-took : goal.returns-clause-took
+returns-clause-took g c = search rules
