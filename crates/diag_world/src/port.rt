@@ -131,7 +131,8 @@ fn take_silent(link: &mut Link, event: &Event, taken: &Taken, out: &mut Vec<Sent
     receive(link, event, taken, &mut None, out);
 }
 
-/// The same of a frame that completes a request.
+/// The same of a frame that completes a request. (The step is taken at this one call, whatever frame it was: so the body of
+/// whoever takes it is put here.)
 #[inline(always)]
 fn take_request<T: TakeSteps>(
     link: &mut Link,
