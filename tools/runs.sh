@@ -105,11 +105,6 @@ ran . serial --stamps demo/setup.toml demo/workshop.log demo/end_of_line.log
 if [ "$status" = 0 ] && cmp -s "$room/out" demo/output.txt; then good "the demo"; else bad "the demo: status $status"; fi
 ran . bus demo/setup.toml demo/bus.log
 if [ "$status" = 0 ] && cmp -s "$room/out" demo/bus_output.txt; then good "the demo's bus"; else bad "the demo's bus: status $status"; fi
-ran . verify demo/setup.toml demo/bus.log
-printf 'workshop 11 frames agree\nend_of_line 9 frames agree\n' > "$room/want"
-if [ "$status" = 0 ] && cmp -s "$room/out" "$room/want"; then good "the demo's unit"; else bad "the demo's unit: status $status"; fi
-ran . verify demo/setup.toml demo/other_unit.log
-ends "the demo's other unit" 8 'line 42: workshop sent 0154CCCCCCCCCCCC, expected 037F1421CCCCCCCC'
 ran . bus --end demo/setup.toml '<' demo/bus.log
 if [ "$status" = 0 ] && sed -n '/^session/,$p' demo/output.txt | cmp -s - "$room/out"; then good "the end of the demo's bus"; else bad "the end of the demo's bus: status $status"; fi
 
