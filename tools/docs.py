@@ -247,7 +247,7 @@ def words_of(text):
 def known_names():
     """All words of the sources, the proofs, the edits and the tools, and of the names of their files."""
     found = set()
-    for part in ("crates/*/src", "crates/*/specs", "crates/*/proofs", "crates/*/must-fail", "tools", "runs", "bench"):
+    for part in (*(f"crates/*/{it}" for it in ("src", "specs", "proofs", "must-fail", "edits")), "tools", "runs", "bench", "demo"):
         for path in glob.glob(f"{TOP}/{part}/**/*", recursive=True):
             if path.endswith((".rt", ".antt", ".py", ".sh")):
                 found |= words_of(whole(path))
