@@ -2,3 +2,4 @@ pub mod Message
 pub mod Bytes
 pub mod Cut
 pub mod Kind
+pub mod Request

@@ -1,9 +1,11 @@
 //! Requests, and the steps of the server that events give.
+ghost use Rattle.std.specs.Prelude.{◌≡◌, IfOk};
 
 use crate::message::Message;
 use diag_can::TickCount;
+use std::alloc::AllocError;
 
-/// What a link gives: a message, and whether it came by a functional frame.
+/// A complete request: a message, and whether it came on the functional identifier.
 #[derive(Drop)]
 pub struct Request {
     /// Whether it came on the functional identifier.
@@ -12,11 +14,23 @@ pub struct Request {
     pub message: Message,
 }
 
+impl Request {
+    /// Another request that is the same, where memory isn't refused.
+    pub fn try_copy(&self) -> Result<Request, AllocError>
+        ensures { IfOk result (λ copy. copy ≡ self.now) }
+    {
+        Ok(Request {
+            functional: self.functional,
+            message: self.message.try_copy()?,
+        })
+    }
+}
+
 /// One step of the server: a request, or that many ticks.
 #[derive(Drop)]
 pub enum Step {
-    /// A complete request, and whether it came on the functional identifier.
-    Request { functional: bool, message: Message },
+    /// A complete request.
+    Request(Request),
     /// So many milliseconds passed for the tester.
     Ticks(TickCount),
 }

@@ -3,8 +3,8 @@ use Rattle.std.specs.Prelude.{ℕ, ◌+◌, ◌-◌, ◌*◌, ◌%◌, ◌==◌,
 use Rattle.diag_pdu.specs.declared.pci.Pci.{Pci}
 use Rattle.diag_pdu.specs.declared.pci.Pci.TheVariants.{Single, First, Overflow, Consecutive, FlowControl, Ignored}
 use Rattle.diag_pdu.specs.declared.setup.LinkSetup.{LinkSetup}
-use Rattle.diag_pdu.specs.declared.step.Step.{Step}
-use Rattle.diag_pdu.specs.declared.step.Step.TheVariants as step
+use Rattle.diag_pdu.specs.declared.step.Request.{Request}
+use Rattle.diag_pdu.specs.Request.{request_of}
 use Rattle.diag_pdu.specs.Cut.{head_size, consecutive_count, filled, flow_bytes}
 
 -- a message received in part: its length, how many Consecutives came, the bytes so far, the ticks since the last frame
@@ -17,7 +17,7 @@ pub record Partial : Type 0 where
 -- a reception as it is kept: what of it the next frames need, and the request that is staged with its last part
 pub record PartialView : Type 0 where
   pub seen : Partial
-  pub staged : Option Step
+  pub staged : Option Request
 
 -- how many bytes came with the First and so many Consecutives
 abbrev pub kept_bytes : ℕ → ℕ → ℕ
@@ -110,8 +110,8 @@ pub record ReceiverState : Type 0 where
   -- the bytes for which it has room
   pub room : ℕ
   -- the request that is staged, to be lent
-  pub staged : Option Step
+  pub staged : Option Request
 
-abbrev pub ask_of : Bool → Option (List ℕ) → Option Step
+abbrev pub ask_of : Bool → Option (List ℕ) → Option Request
 ask_of functional None = None
-ask_of functional (Some message) = Some (step.Request functional message)
+ask_of functional (Some message) = Some (request_of functional message)

@@ -5,14 +5,16 @@ ghost use Rattle.diag_pdu.specs.declared.pci.Pci.{Pci};
 ghost use Rattle.diag_pdu.specs.declared.setup.LinkSetup.{LinkSetup as ALinkSetup};
 ghost use Rattle.diag_sides.specs.Quiet.{reception_quiet, reception_later};
 ghost use Rattle.diag_pdu.specs.Cut.{head_size, consecutive_count};
-ghost use Rattle.diag_sides.specs.Held.{step_bytes, IsHeld};
+ghost use Rattle.diag_sides.specs.Held.{IsHeld};
 ghost use Rattle.diag_sides.specs.declared.reception.Held.{Held};
 ghost use Rattle.diag_sides.specs.Receiver.{ask_of, kept_bytes, begun_partial, expects, with_bytes, ends_block, ticks_later, open_after, completed_by, granted_by, go_on};
-ghost use Rattle.diag_pdu.specs.declared.step.Step.{Step as AStep};
+ghost use Rattle.diag_pdu.specs.Request.{request_of};
 ghost use Rattle.diag_pdu.specs.Kind.{IsRead, needed_for};
 
 use diag_can::FrameBytes;
-use diag_pdu::{LinkSetup, Message, Pci, Step, consecutive_count, flow_frame, head_size, padded};
+use diag_pdu::{
+    LinkSetup, Message, Pci, Request, consecutive_count, flow_frame, head_size, padded,
+};
 use std::alloc::{AllocError, Global};
 use std::marker::Model;
 use std::mem;
@@ -23,7 +25,7 @@ enum Held {
     /// Those that came, with room for the whole message.
     Growing(Vec<u8>),
     /// The whole message, staged as the request that it is: with the last Consecutive, which wasn't taken yet.
-    Staged(Step),
+    Staged(Request),
 }
 
 /// A message of `len` bytes of which the First and `count` of `total` Consecutives came, `silence` ticks after the last of
@@ -104,17 +106,17 @@ impl Partial {
         requires fits { self.old.seen.len ≤ length self.old.seen.bytes + length part.now }
         ensures seen { self.new.seen ≡ self.old.seen }
         ensures staged { self.new.staged
-            ≡ Some (AStep.Request false (with_bytes self.old.seen part.now).bytes) }
+            ≡ Some (request_of false (with_bytes self.old.seen part.now).bytes) }
     {
         match &mut self.held {
             Held::Growing(bytes) => {
                 let begun = mem::replace(bytes, Vec::new(*bytes.allocator()));
-                self.held = Held::Staged(Step::Request {
+                self.held = Held::Staged(Request {
                     functional: false,
                     message: whole(begun, self.len, part),
                 });
             }
-            Held::Staged(step) => set_last(step, self.len, self.count, part),
+            Held::Staged(request) => set_last(request, self.len, self.count, part),
         }
     }
 
@@ -155,7 +157,7 @@ impl Partial {
     {
         match &self.held {
             Held::Growing(bytes) => bytes.as_slice(),
-            Held::Staged(step) => &bytes_of(step)[..kept_bytes(self.len, self.count)],
+            Held::Staged(request) => &request.message.bytes()[..kept_bytes(self.len, self.count)],
         }
     }
 
@@ -173,8 +175,8 @@ impl Partial {
         ensures { ask_of false result ≡ self.staged }
     {
         match self.held {
-            Held::Staged(Step::Request { message, .. }) => Some(message),
-            _ => None,
+            Held::Growing(_) => None,
+            Held::Staged(request) => Some(request.message),
         }
     }
 
@@ -185,8 +187,7 @@ impl Partial {
     {
         match self.held {
             Held::Growing(bytes) => Some(bytes),
-            Held::Staged(Step::Request { message, .. }) => message.into_vec(),
-            Held::Staged(Step::Ticks(_)) => None,
+            Held::Staged(request) => request.message.into_vec(),
         }
     }
 }
@@ -353,16 +354,16 @@ impl Receiver {
     }
 
     /// The request that is staged.
-    pub fn staged(&self) -> Option<&Step>
+    pub fn staged(&self) -> Option<&Request>
         ensures { option_copied result ≡ self.now.staged }
     {
         match &self.partial {
             Some(
                 Partial {
-                    held: Held::Staged(step),
+                    held: Held::Staged(request),
                     ..
                 },
-            ) => Some(step),
+            ) => Some(request),
             _ => None,
         }
     }
@@ -517,16 +518,6 @@ fn kept_bytes(len: u16, count: u16) -> usize
     usize::from(len).min(usize::from(head_size(len)) + 7 * usize::from(count))
 }
 
-/// The bytes of a step.
-fn bytes_of(step: &Step) -> &[u8]
-    ensures { result.now ≡ step_bytes step.now }
-{
-    match step {
-        Step::Request { message, .. } => message.bytes(),
-        Step::Ticks(_) => &[],
-    }
-}
-
 /// The message of this length that begins with these bytes and ends with a part; what goes past it is padding.
 fn whole(mut bytes: Vec<u8>, len: u16, part: &[u8]) -> Message
     requires some { 1 ≤ length bytes.items }
@@ -543,16 +534,13 @@ fn whole(mut bytes: Vec<u8>, len: u16, part: &[u8]) -> Message
 }
 
 /// Puts another last part into a request that is staged.
-fn set_last(step: &mut Step, len: u16, count: u16, part: &[u8])
-    requires whole { IsHeld len count (Held.Staged step.old) }
+fn set_last(request: &mut Request, len: u16, count: u16, part: &[u8])
+    requires whole { IsHeld len count (Held.Staged request.old) }
     requires fits { len ≤ kept_bytes len count + length part.now }
-    ensures whole { IsHeld len count (Held.Staged step.new) }
-    ensures staged { step.new ≡ AStep.Request false
-        (take len (take (kept_bytes len count) (step_bytes step.old) ++ part.now)) }
+    ensures whole { IsHeld len count (Held.Staged request.new) }
+    ensures staged { request.new ≡ request_of false
+        (take len (take (kept_bytes len count) request.old.message ++ part.now)) }
 {
     let left = usize::from(len) - kept_bytes(len, count);
-    match step {
-        Step::Request { message, .. } => message.set_end(&part[..left]),
-        Step::Ticks(_) => unreachable!(),
-    }
+    request.message.set_end(&part[..left]);
 }

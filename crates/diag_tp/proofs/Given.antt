@@ -6,7 +6,7 @@ use Rattle.diag_can.specs.declared.frame.Event.TheVariants.{Physical, Functional
 use Rattle.diag_pdu.specs.declared.setup.LinkSetup.{LinkSetup}
 use Rattle.diag_pdu.specs.declared.step.Step.TheVariants as step
 use Rattle.diag_tp.specs.Gives.{gives, is_request}
-use Rattle.diag_tp.specs.Link.{is_frame}
+use Rattle.diag_tp.specs.Link.{is_frame, asked_of}
 use Rattle.diag_sides.specs.Receiver.{ask_of}
 use Rattle.diag_tp.proofs.Partials.{gives-more}
 
@@ -14,7 +14,7 @@ pub gives_ticks : (s : LinkSetup) (E : List Event) (n : ℕ) → gives s E (Tick
 unfolding gives
 gives_ticks s E n = refl
 
-asked : (functional : Bool) (o : Option (List ℕ)) → IsSome (ask_of functional o) → IsTrue (is_request (ask_of functional o))
+asked : (functional : Bool) (o : Option (List ℕ)) → IsSome (asked_of (ask_of functional o)) → IsTrue (is_request (asked_of (ask_of functional o)))
 asked functional None some = cc
 asked functional (Some message) some = refl
 

@@ -16,6 +16,7 @@ use Rattle.diag_pdu.specs.Cut.{counted_from, head_size, consecutive_count, fille
 use Rattle.diag_tp.specs.Moments.{after, history, now}
 use Rattle.diag_tp.specs.Reception.{Reception, open_at, with_frame, message_of}
 use Rattle.diag_pdu.specs.declared.step.Step.TheVariants as step
+use Rattle.diag_pdu.specs.Request.{request_of}
 use Rattle.diag_tp.specs.Gives.{completed, physical_step, gives, gives_at}
 use Rattle.diag_tp.specs.Laws.{CutLaw}
 use Rattle.diag_pdu.proofs.Lists.{map-at}
@@ -145,7 +146,7 @@ cut-long P pad h =
     (map-map (λ bytes. Physical bytes) (λ i. filled pad (consecutive_bytes i (part_of P i))) (counted_from 1 (consecutive_count (length P)))))
 
 gives-short : (s : LinkSetup) (P : List ℕ) (pad : Option ℕ) → 1 ≤ length P → length P ≤ 7
-    → gives_at s (Physical (filled pad (single_bytes P)) ∷ []) 0 ≡ Some (step.Request false P)
+    → gives_at s (Physical (filled pad (single_bytes P)) ∷ []) 0 ≡ Some (step.Request (request_of false P))
 unfolding gives
 gives-short s P pad h k = rw (kind-single pad s.max_request P h k) refl
 

@@ -4,6 +4,7 @@ use Rattle.diag_can.specs.declared.frame.Event.{Event}
 use Rattle.diag_can.specs.declared.frame.Event.TheVariants.{Physical, Ticks}
 use Rattle.diag_pdu.specs.declared.setup.LinkSetup.{LinkSetup}
 use Rattle.diag_pdu.specs.declared.step.Step.TheVariants as step
+use Rattle.diag_pdu.specs.Request.{request_of}
 use Rattle.diag_pdu.specs.Cut.{cut}
 use Rattle.diag_tp.specs.Moments.{moments, last_time}
 use Rattle.diag_tp.specs.Gives.{gives, gives_at, is_request}
@@ -36,4 +37,4 @@ pub record CutLaw (s : LinkSetup) (P : List ℕ) (pad : Option ℕ) : Type 0 whe
       → suc e < length (cut P pad)
       → gives_at s (map (λ bytes. Physical bytes) (cut P pad)) e ≡ None
   pub last : gives_at s (map (λ bytes. Physical bytes) (cut P pad)) (length (cut P pad) - 1)
-      ≡ Some (step.Request false P)
+      ≡ Some (step.Request (request_of false P))

@@ -5,7 +5,7 @@ use Rattle.diag_can.specs.declared.frame.Event.TheVariants.{Physical, Functional
 use Rattle.diag_pdu.specs.declared.pci.Pci.{Pci}
 use Rattle.diag_pdu.specs.declared.pci.Pci.TheVariants.{Single, First, Overflow, Consecutive, FlowControl, Ignored}
 use Rattle.diag_pdu.specs.declared.setup.LinkSetup.{LinkSetup}
-use Rattle.diag_pdu.specs.declared.step.Step.{Step}
+use Rattle.diag_pdu.specs.declared.step.Request.{Request}
 use Rattle.diag_tp.specs.declared.taken.Taken.{Taken}
 use Rattle.diag_tp.specs.declared.taken.Taken.TheVariants as left
 use Rattle.diag_sides.specs.declared.sending.Sending.{Sending}
@@ -51,7 +51,7 @@ FitsIn view left.Last = Unit {0}
 FitsIn view (left.Read bytes) = needed view.state.setup (Physical bytes) ≤ view.room
 
 -- the request that the frame completes: noted by the link, or staged
-abbrev pub asked_in : LinkView → Taken → Option Step
+abbrev pub asked_in : LinkView → Taken → Option Request
 asked_in view left.Functional = Some view.noted
 asked_in view left.Ignored = None
 asked_in view left.Single = Some view.noted

@@ -2,7 +2,7 @@
 
 ghost use Rattle.std.specs.Prelude.{◌≡◌, ◌↔◌, ◌≤◌, ◌+◌, [], ◌∷◌, length, if◌then◌else◌, is_some, Some, min, max, None, option_and_then, IfSome, IsNone, IsSome, IfNone, IfOk, OnOk, IsTrue, ◌<◌, true, false};
 ghost use Rattle.diag_can.specs.declared.frame.Event.{Event as AnEvent};
-ghost use Rattle.diag_pdu.specs.declared.step.Step.{Step as AStep};
+ghost use Rattle.diag_pdu.specs.Request.{request_of};
 ghost use Rattle.diag_pdu.specs.Cut.{cut};
 ghost use Rattle.diag_pdu.specs.Kind.{kind, IsRead, single_only, needed_for};
 ghost use Rattle.diag_tp.specs.Gives.{is_request};
@@ -18,8 +18,8 @@ use crate::link::Link;
 use crate::taken::Taken;
 use diag_can::{Event, FrameBytes};
 use diag_pdu::{
-    Message, Pci, Request, Step, consecutive_part, first_parts, first_size, flow_parts,
-    is_of_no_kind, lone_frame, single_size,
+    Message, Pci, Request, consecutive_part, first_parts, first_size, flow_parts, is_of_no_kind,
+    lone_frame, single_size,
 };
 use diag_sides::go_on;
 use std::alloc::AllocError;
@@ -110,7 +110,7 @@ impl Link {
         requires frame { IsTrue (is_frame event.now) }
         ensures same { self.new.state ≡ self.old.state }
         ensures room { OnOk result (0 < self.new.reply_room) }
-        ensures request { IfOk result (λ taken. asked_in self.new taken
+        ensures request { IfOk result (λ taken. asked_of (asked_in self.new taken)
             ≡ step_after self.old.state.setup self.old.state.partial event.now) }
         ensures taken { IfOk result (λ taken. IsTaken self.old.state event.now taken) }
         ensures fits { IfOk result (λ taken. FitsIn self.new taken) }
@@ -137,7 +137,7 @@ impl Link {
     #[inline(always)]
     fn take_up_own(&mut self, bytes: &FrameBytes) -> Result<Taken, AllocError>
         ensures same { self.new.state ≡ self.old.state }
-        ensures request { IfOk result (λ taken. asked_in self.new taken
+        ensures request { IfOk result (λ taken. asked_of (asked_in self.new taken)
             ≡ step_after self.old.state.setup self.old.state.partial (AnEvent.Physical bytes.now)) }
         ensures taken { IfOk result (λ taken.
             IsTaken self.old.state (AnEvent.Physical bytes.now) taken) }
@@ -178,26 +178,13 @@ impl Link {
     #[inline(always)]
     fn note(&mut self, functional: bool, payload: FrameBytes)
         requires { 1 ≤ length payload }
-        ensures noted { self.new.noted ≡ AStep.Request functional payload }
+        ensures noted { self.new.noted ≡ request_of functional payload }
         ensures same { self.new.state ≡ self.old.state }
         ensures room { self.new.room ≡ self.old.room }
         ensures reply_room { self.new.reply_room ≡ self.old.reply_room }
     {
-        match &mut self.noted {
-            Step::Request {
-                functional: way,
-                message,
-            } => {
-                *way = functional;
-                message.set_in_place(payload);
-            }
-            Step::Ticks(_) => {
-                self.noted = Step::Request {
-                    functional,
-                    message: Message::in_place(payload),
-                };
-            }
-        }
+        self.noted.functional = functional;
+        self.noted.message.set_in_place(payload);
     }
 
     /// Takes what is left of a frame, field by field.
@@ -333,13 +320,10 @@ fn single_of(kind: Pci) -> Option<Message>
 
 /// The request of this message, if there is one.
 fn asked(functional: bool, message: Option<Message>) -> Option<Request>
-    ensures { asked_of result ≡ ask_of functional message }
+    ensures { result ≡ ask_of functional message }
 {
-    match message {
-        Some(message) => Some(Request {
-            functional,
-            message,
-        }),
-        None => None,
-    }
+    Some(Request {
+        functional,
+        message: message?,
+    })
 }
