@@ -6,7 +6,10 @@ use Rattle.diag_store.specs.declared.routines.RoutineState.TheVariants.{Idle}
 use Rattle.diag_store.specs.declared.security.SecurityState.{SecurityState}
 use Rattle.diag_ecu.specs.State.{State}
 use Rattle.diag_ecu.specs.Elapse.{elapse}
-use Rattle.diag_ecu.specs.Respond.{reply, after_request}
+use Rattle.diag_ecu.specs.declared.effect.Effect.{Effect}
+use Rattle.diag_ecu.specs.declared.effect.Effect.TheVariants.{Nothing, Serve, CountWrongKey}
+use Rattle.diag_ecu.specs.declared.service.Service.TheVariants.{DiagnosticSessionControl, SecurityAccess}
+use Rattle.diag_ecu.specs.Respond.{reply, outcome, after_request}
 
 -- the ECU of the examples, as it opens
 abbrev vin : DidRow
@@ -64,15 +67,15 @@ data Move : Type 0 where
 
 abbrev state_after : State → List Move → State
 state_after s [] = s
-state_after s (asks who p ∷ moves) = state_after (after_request s who false p) moves
-state_after s (broadcasts who p ∷ moves) = state_after (after_request s who true p) moves
+state_after s (asks who p ∷ moves) = state_after (after_request s who p) moves
+state_after s (broadcasts who p ∷ moves) = state_after (after_request s who p) moves
 state_after s (waits who n ∷ moves) = state_after (elapse s who n) moves
 
 -- the replies to the requests
 abbrev replies : State → List Move → List (Option (List ℕ))
 replies s [] = []
-replies s (asks who p ∷ moves) = reply s who false p ∷ replies (after_request s who false p) moves
-replies s (broadcasts who p ∷ moves) = reply s who true p ∷ replies (after_request s who true p) moves
+replies s (asks who p ∷ moves) = reply s who false p ∷ replies (after_request s who p) moves
+replies s (broadcasts who p ∷ moves) = reply s who true p ∷ replies (after_request s who p) moves
 replies s (waits who n ∷ moves) = replies (elapse s who n) moves
 
 -- a suppressed reply, with its effect
@@ -81,6 +84,23 @@ suppressed = refl
 
 suppressed_effect : (state_after opened (asks 1 (0x10 ∷ 0x83 ∷ []) ∷ [])).holder ≡ Some 1
 suppressed_effect = refl
+
+-- what requests do: one that passes serves its service, also where no reply is sent, and a read and a refused one nothing
+abbrev effects : State → List Move → List Effect
+effects s [] = []
+effects s (asks who p ∷ moves) = (outcome s who p).effect ∷ effects (after_request s who p) moves
+effects s (broadcasts who p ∷ moves) = (outcome s who p).effect ∷ effects (after_request s who p) moves
+effects s (waits who n ∷ moves) = effects (elapse s who n) moves
+
+session_is_served : effects opened (asks 1 (0x10 ∷ 0x83 ∷ []) ∷ asks 2 (0x10 ∷ 0x03 ∷ []) ∷ asks 2 (0x22 ∷ 0xF1 ∷ 0x90 ∷ []) ∷ broadcasts 1 (0x23 ∷ []) ∷ [])
+    ≡ Serve DiagnosticSessionControl ∷ Nothing ∷ Nothing ∷ Nothing ∷ []
+session_is_served = refl
+
+-- a wrong key counts, once: the seed isn't outstanding any more
+wrong_key_counts : effects opened (asks 1 (0x10 ∷ 0x03 ∷ []) ∷ asks 1 (0x27 ∷ 0x01 ∷ []) ∷ asks 1 (0x27 ∷ 0x02 ∷ 0x00 ∷ 0x00 ∷ 0x00 ∷ 0x00 ∷ [])
+    ∷ asks 1 (0x27 ∷ 0x02 ∷ 0x00 ∷ 0x00 ∷ 0x00 ∷ 0x00 ∷ []) ∷ [])
+    ≡ Serve DiagnosticSessionControl ∷ Serve SecurityAccess ∷ CountWrongKey ∷ Nothing ∷ []
+wrong_key_counts = refl
 
 -- the reply that reads the value of F190 as it opens
 reading : replies opened (asks 2 (0x22 ∷ 0xF1 ∷ 0x90 ∷ []) ∷ []) ≡ Some (0x62 ∷ 0xF1 ∷ 0x90 ∷ codes "TESTVIN0123456789") ∷ []

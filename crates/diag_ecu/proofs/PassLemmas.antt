@@ -1,16 +1,17 @@
 -- Which check of a request is the first that holds, and which codes are those of a wrong key.
-use Rattle.std.proofs.Common.{◌≡◌, ℕ, Bool, true, false, not, cond, ◌&&◌, List, [], ◌∷◌, ◌++◌, Option, Some, None, ◌⊎◌, inl, inr, refl, sym, ap, ◌∙◌, arith}
+use Rattle.std.proofs.Common.{◌≡◌, ℕ, Bool, true, false, not, cond, ◌&&◌, List, [], ◌∷◌, ◌++◌, Option, Some, None, ◌⊎◌, inl, inr, refl, sym, ap, ◌∙◌}
 use Rattle.std.proofs.lemmas.Bool.{and_parts}
 use Rattle.std.proofs.lemmas.Option.{same_Some}
 use Rattle.diag_setup.specs.Setup.{first_holding}
+use Rattle.diag_store.specs.Security.{is_delayed}
 use Rattle.diag_store.specs.declared.routines.Routine.{Routine}
 use Rattle.diag_ecu.specs.declared.service.Service.{Service}
 use Rattle.diag_ecu.specs.declared.service.Service.TheVariants.{SecurityAccess, RoutineControl}
-use Rattle.diag_ecu.specs.declared.service.SubFunctions.TheVariants.{OfLevels}
 use Rattle.diag_ecu.specs.declared.service.Nrc.{Nrc}
+use Rattle.diag_ecu.specs.declared.service.Nrc.TheVariants.{RequiredTimeDelayNotExpired}
 use Rattle.diag_ecu.specs.Service.{row, is_of_wrong_key}
 use Rattle.diag_ecu.specs.State.{State}
-use Rattle.diag_ecu.specs.Respond.{Check, sub, is_sub_function, common_checks, own_checks, checks, routine_checks_of, routine_of, served, own_outcome, outcome_of}
+use Rattle.diag_ecu.specs.Respond.{Check, sub, common_checks, own_checks, checks, routine_checks_of, routine_of}
 
 pub first_of_more : (xs ys : List Check) (nrc : Nrc) → first_holding xs ≡ Some nrc → first_holding (xs ++ ys) ≡ Some nrc
 first_of_more [] ys nrc h = cc
@@ -78,20 +79,27 @@ of_a_key s who service p nrc wrong found =
           ]
     ] refl
 
--- so its sub-function is one of a level
-pub key_passes : (s : State) (who : ℕ) (service : Service) (p : List ℕ) (nrc : Nrc) → is_of_wrong_key nrc ≡ true
-    → first_holding (checks s who service p) ≡ Some nrc
-    → is_sub_function s OfLevels (sub p) ≡ true
-key_passes s who service p nrc wrong found =
-    let of = of_a_key s who service p nrc wrong found in
-    let passes : first_holding (common_checks s who (row SecurityAccess) p) ≡ None = rw of.0 at of.1 in
-    grind (arith, passes)
+-- and isn't delayed
+delayed_first : (delayed : Bool) (rest : Option Nrc) (nrc : Nrc) → is_of_wrong_key nrc ≡ true
+    → cond delayed (Some RequiredTimeDelayNotExpired) rest ≡ Some nrc → delayed ≡ false
+delayed_first true rest nrc wrong found = cc (sym wrong ∙ ap is_of_wrong_key (sym (same_Some RequiredTimeDelayNotExpired nrc found)))
+delayed_first false rest nrc wrong found = refl
 
--- and it leads where its own checks say
-pub key_served : (s : State) (who : ℕ) (service : Service) (p : List ℕ) (nrc : Nrc) → is_of_wrong_key nrc ≡ true
-    → first_holding (checks s who service p) ≡ Some nrc
-    → (own_outcome s who SecurityAccess p).state ≡ (served s who (Some service) p).state
-key_served s who service p nrc wrong found =
+pub key_not_delayed : (s : State) (who : ℕ) (service : Service) (p : List ℕ) (nrc : Nrc) → is_of_wrong_key nrc ≡ true
+    → first_holding (checks s who service p) ≡ Some nrc → is_delayed s.security who ≡ false
+key_not_delayed s who service p nrc wrong found =
     let of = of_a_key s who service p nrc wrong found in
-    let own = ap (λ o. (outcome_of s who service p o).state) (sym (first_of_rest (common_checks s who (row service) p) (own_checks s who service p) of.1)) in
-    ap (λ x. (own_outcome s who x p).state) (sym of.0) ∙ own
+    let own = sym (first_of_rest (common_checks s who (row service) p) (own_checks s who service p) of.1) ∙ found in
+    let of_security : first_holding (own_checks s who SecurityAccess p) ≡ Some nrc = ap (λ x. first_holding (own_checks s who x p)) (sym of.0) ∙ own in
+    delayed_first (is_delayed s.security who) _ nrc wrong of_security
+
+-- two lists of checks of which none holds
+pub none_of_first : (xs ys : List Check) → first_holding (xs ++ ys) ≡ None → first_holding xs ≡ None
+none_of_first xs ys h =
+    elim (first_holding xs) as (λ o. first_holding xs ≡ o → o ≡ None) [
+      | None ↦ λ e. refl
+      | Some nrc ↦ λ e. cc (sym h ∙ first_of_more xs ys nrc e)
+    ] refl
+
+pub none_of_second : (xs ys : List Check) → first_holding (xs ++ ys) ≡ None → first_holding ys ≡ None
+none_of_second xs ys h = sym (first_of_rest xs ys (none_of_first xs ys h)) ∙ h

@@ -1,52 +1,13 @@
 -- What single services and ticks do, told by the tables.
-use Rattle.std.proofs.Common.{◌≡◌, append_assoc, add-one, ℕ, zero, suc, ◌+◌, true, false, not, cond, List, [], ◌∷◌, ◌++◌, drop, Option, Some, None, is_none, refl, ap, slice_get, bit_and, ◌==◌, if◌then◌else◌}
+use Rattle.std.proofs.Common.{◌≡◌, append_assoc, add-one, ℕ, zero, suc, ◌+◌, true, false, not, cond, List, [], ◌∷◌, ◌++◌, drop, Option, Some, None, refl, ap, slice_get, bit_and, ◌==◌, if◌then◌else◌}
 use Rattle.std.specs.Prelude.{flat_map, option_map}
 use Rattle.diag_store.specs.Routines as routines
-use Rattle.diag_store.specs.Security as security
 use Rattle.diag_store.specs.Dtcs.{row_pair, matching}
 use Rattle.diag_store.specs.declared.dtcs.Dtc.{Dtc}
 use Rattle.diag_store.specs.declared.routines.Routine.{Routine}
 use Rattle.diag_store.specs.declared.routines.RoutineState.TheVariants.{Done}
-use Rattle.diag_ecu.specs.declared.service.Service.TheVariants.{SecurityAccess}
-use Rattle.diag_ecu.specs.State.{State}
 use Rattle.diag_ecu.specs.Bytes.{bytes_24}
-use Rattle.diag_ecu.specs.Respond.{own_outcome, is_seed_request, key_level, routine_results, report}
-
--- a key that is right, wrong or not looked at changes what the table of levels says
-pub key_state : (s : State) (who : ℕ) (p : List ℕ) → is_seed_request s p ≡ false
-    → (own_outcome s who SecurityAccess p).state ≡ record s { security = security.after_key s.security who (key_level p) (drop 2 p) }
-key_state s who p no_seed =
-    let k = key_level p in
-    let key = drop 2 p in
-    elim (is_seed_request s p) as (λ q. is_seed_request s p ≡ q → q ≡ false
-    → (own_outcome s who SecurityAccess p).state ≡ record s { security = security.after_key s.security who k key }) [
-      | true ↦ λ is no. cc
-      | false ↦ λ is no.
-          elim (security.is_delayed s.security who)
-          as (λ d. security.is_delayed s.security who ≡ d
-          → (own_outcome s who SecurityAccess p).state ≡ record s { security = security.after_key s.security who k key }) [
-            | true ↦ λ delayed. rw (delayed) refl
-            | false ↦ λ delayed.
-                elim (is_none (security.outstanding_row s.security.outstanding k))
-                as (λ n. is_none (security.outstanding_row s.security.outstanding k) ≡ n
-                → (own_outcome s who SecurityAccess p).state ≡ record s { security = security.after_key s.security who k key }) [
-                  | true ↦ λ none. rw (delayed, is, none) refl
-                  | false ↦ λ none.
-                      elim (security.is_right_key s.security k key)
-                      as (λ r. security.is_right_key s.security k key ≡ r
-                      → (own_outcome s who SecurityAccess p).state ≡ record s { security = security.after_key s.security who k key }) [
-                        | true ↦ λ right. rw (delayed, is, none, right, is, delayed, none, right) refl
-                        | false ↦ λ right.
-                            elim (security.is_last_attempt s.security who)
-                            as (λ l. security.is_last_attempt s.security who ≡ l
-                            → (own_outcome s who SecurityAccess p).state ≡ record s { security = security.after_key s.security who k key }) [
-                              | true ↦ λ last. rw (delayed, is, none, right, last) refl
-                              | false ↦ λ last. rw (delayed, is, none, right, last) refl
-                            ] refl
-                      ] refl
-                ] refl
-          ] refl
-    ] refl no_seed
+use Rattle.diag_ecu.specs.Respond.{routine_results, report}
 
 pub done_result : (rows : List Routine) (id : ℕ) (result : List ℕ) → routines.state_of rows id ≡ Some Done → routines.result_of rows id ≡ Some result
     → routine_results (routines.routine_of rows id) ≡ 0x00 ∷ result

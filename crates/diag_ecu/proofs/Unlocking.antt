@@ -8,6 +8,7 @@ use Rattle.diag_store.specs.Routines as routines
 use Rattle.diag_store.specs.Security as security
 use Rattle.diag_store.specs.declared.dids.DidRow.{DidRow}
 use Rattle.diag_store.specs.declared.security.SecurityState.{SecurityState}
+use Rattle.diag_ecu.specs.declared.effect.Effect.TheVariants.{Nothing, CountWrongKey}
 use Rattle.diag_ecu.specs.declared.service.Service.{Service}
 use Rattle.diag_ecu.specs.declared.service.Service.TheVariants.{DiagnosticSessionControl, EcuReset, ReadDtcInformation, SecurityAccess, WriteDataByIdentifier, RoutineControl}
 use Rattle.diag_ecu.specs.declared.service.Nrc.{Nrc}
@@ -72,8 +73,14 @@ elapse_keeps s who (suc n) = keeps_then s (ticked s who) (elapse (ticked s who) 
 
 -- ---- requests
 
-refused_keeps : (s : State) (who : ℕ) (nrc : Nrc) → Keeps s (ecu.refused s who nrc)
-refused_keeps s who nrc = either s _ s (is_of_wrong_key nrc) (inl (refl, refl)) (inl (refl, refl))
+refused_keeps : (s : State) (who : ℕ) (p : List ℕ) (nrc : Nrc) → Keeps s (ecu.done s who p (ecu.refused_effect nrc))
+refused_keeps s who p nrc =
+    elim (is_of_wrong_key nrc) as (λ b. Keeps s (ecu.done s who p (cond b CountWrongKey Nothing))) [ true ↦ inl (refl, refl) | false ↦ inl (refl, refl) ]
+
+-- what is told of a service that passes all checks is its effect
+own_done : (s : State) (who : ℕ) (service : Service) (p : List ℕ) → ecu.done s who p (ecu.own_effect service) ≡ ecu.effect s who service p
+own_done s who EcuReset p = refl
+own_done s who service p = refl
 
 session_keeps : (s : State) (who n : ℕ) → Keeps s (ecu.session_effect s who n)
 session_keeps s who n =
@@ -219,22 +226,23 @@ security_access_id : (n : ℕ) → service_of n ≡ Some SecurityAccess → n �
 security_access_id n e = grind arith
 
 -- what is unlocked after a request was so before, or its key unlocked it
-pub request_unlocks : (s : State) (who : ℕ) (functional : Bool) (p : List ℕ) (holder level : ℕ)
-    → HasUnlocked (ecu.after_request s who functional p) holder level
+pub request_unlocks : (s : State) (who : ℕ) (p : List ℕ) (holder level : ℕ)
+    → HasUnlocked (ecu.after_request s who p) holder level
     → HasUnlocked s holder level ⊎ ((who ≡ holder) × IsKey s p level)
-request_unlocks s who functional p holder level h =
-    let served = unlocked_before (ecu.outcome s who p).state (ecu.after_request s who functional p) holder level
-    (alive_keeps (ecu.outcome s who p).state who) h in
-    elim (service_of (ecu.sid p)) as (λ service. service_of (ecu.sid p) ≡ service → HasUnlocked (ecu.served s who service p).state holder level
+request_unlocks s who p holder level h =
+    let done = ecu.done s who p (ecu.outcome s who p).effect in
+    let unlocked = unlocked_before done (ecu.after_request s who p) holder level (alive_keeps done who) h in
+    elim (service_of (ecu.sid p)) as (λ service. service_of (ecu.sid p) ≡ service
+    → HasUnlocked (ecu.done s who p (ecu.served s who service p).effect) holder level
     → HasUnlocked s holder level ⊎ ((who ≡ holder) × IsKey s p level)) [
       | None ↦ λ is u. inl u
       | Some service ↦ λ is u.
           elim (first_holding (ecu.checks s who service p)) as (λ first. first_holding (ecu.checks s who service p) ≡ first
-          → HasUnlocked (ecu.outcome_of s who service p first).state holder level
+          → HasUnlocked (ecu.done s who p (ecu.outcome_of s service p first).effect) holder level
           → HasUnlocked s holder level ⊎ ((who ≡ holder) × IsKey s p level)) [
-            | Some nrc ↦ λ refusal v. inl (unlocked_before s (ecu.refused s who nrc) holder level (refused_keeps s who nrc) v)
+            | Some nrc ↦ λ refusal v. inl (unlocked_before s (ecu.done s who p (ecu.refused_effect nrc)) holder level (refused_keeps s who p nrc) v)
             | None ↦ λ passes v.
-                elim (effect_unlocks s who service p holder level passes v) [
+                elim (effect_unlocks s who service p holder level passes (rw (own_done s who service p) at v)) [
                   | inl before ↦ inl before
                   | inr key ↦ inr (
                     key.1.0,
@@ -248,7 +256,7 @@ request_unlocks s who functional p holder level h =
                   )
                 ]
           ] refl u
-    ] refl served
+    ] refl unlocked
 
 -- ---- rules stay
 
@@ -288,9 +296,9 @@ pub elapse_rules : (s : State) (who n : ℕ) → SameRules s (elapse s who n)
 elapse_rules s who zero = λ id. refl
 elapse_rules s who (suc n) = rules_then s (ticked s who) (elapse (ticked s who) who n) (tick_rules s who) (elapse_rules (ticked s who) who n)
 
-refused_rules : (s : State) (who : ℕ) (nrc : Nrc) → SameRules s (ecu.refused s who nrc)
-refused_rules s who nrc =
-    either_rules s (record s { security = security.after_wrong_key s.security who }) s (is_of_wrong_key nrc) (λ id. refl) (λ id. refl)
+refused_rules : (s : State) (who : ℕ) (p : List ℕ) (nrc : Nrc) → SameRules s (ecu.done s who p (ecu.refused_effect nrc))
+refused_rules s who p nrc =
+    elim (is_of_wrong_key nrc) as (λ b. SameRules s (ecu.done s who p (cond b CountWrongKey Nothing))) [ true ↦ λ id. refl | false ↦ λ id. refl ]
 
 effect_rules : (s : State) (who : ℕ) (service : Service) (p : List ℕ) → SameRules s (ecu.effect s who service p)
 effect_rules s who DiagnosticSessionControl p =
@@ -306,19 +314,20 @@ effect_rules s who RoutineControl p =
     (either_rules s (record s { routines = routines.stopped s.routines (number_16 p 2) }) s (ecu.sub p == 0x02) (λ id. refl) (λ id. refl))
 effect_rules s who service p = λ id. refl
 
-outcome_rules : (s : State) (who : ℕ) (service : Service) (p : List ℕ) (first : Option Nrc) → SameRules s (ecu.outcome_of s who service p first).state
-outcome_rules s who service p None = effect_rules s who service p
-outcome_rules s who service p (Some nrc) = refused_rules s who nrc
+outcome_rules : (s : State) (who : ℕ) (service : Service) (p : List ℕ) (first : Option Nrc)
+    → SameRules s (ecu.done s who p (ecu.outcome_of s service p first).effect)
+outcome_rules s who service p None = rw (own_done s who service p) (effect_rules s who service p)
+outcome_rules s who service p (Some nrc) = refused_rules s who p nrc
 
-served_rules : (s : State) (who : ℕ) (service : Option Service) (p : List ℕ) → SameRules s (ecu.served s who service p).state
+served_rules : (s : State) (who : ℕ) (service : Option Service) (p : List ℕ) → SameRules s (ecu.done s who p (ecu.served s who service p).effect)
 served_rules s who None p = λ id. refl
 served_rules s who (Some service) p = outcome_rules s who service p (first_holding (ecu.checks s who service p))
 
-pub request_rules : (s : State) (who : ℕ) (functional : Bool) (p : List ℕ) → SameRules s (ecu.after_request s who functional p)
-request_rules s who functional p =
-    let served = (ecu.outcome s who p).state in
-    rules_then s served (ecu.kept_alive served who) (served_rules s who (service_of (ecu.sid p)) p)
-    (either_rules served (s3_filled served) served (is_holder served who) (λ id. refl) (λ id. refl))
+pub request_rules : (s : State) (who : ℕ) (p : List ℕ) → SameRules s (ecu.after_request s who p)
+request_rules s who p =
+    let done = ecu.done s who p (ecu.outcome s who p).effect in
+    rules_then s done (ecu.kept_alive done who) (served_rules s who (service_of (ecu.sid p)) p)
+    (either_rules done (s3_filled done) done (is_holder done who) (λ id. refl) (λ id. refl))
 
 -- ---- a written value
 
@@ -404,7 +413,7 @@ reply_open s who id functional p e above =
       | None ↦ λ r. absurd (negative_differs functional p _ ServiceNotSupported r)
       | Some service ↦ λ r.
           elim (first_holding (ecu.checks s who service p)) as (λ first. first_holding (ecu.checks s who service p) ≡ first
-          → ecu.sent functional p (ecu.outcome_of s who service p first).answer ≡ Some (0x6E ∷ bytes_16 id) → HasUnlocked s who (write_level_of s id)) [
+          → ecu.sent functional p (ecu.outcome_of s service p first).answer ≡ Some (0x6E ∷ bytes_16 id) → HasUnlocked s who (write_level_of s id)) [
             | Some nrc ↦ λ refusal q. absurd (negative_differs functional p _ nrc q)
             | None ↦ λ passes q.
                 let reply = positive_sent functional p (ecu.positive_reply s service p) _ q in

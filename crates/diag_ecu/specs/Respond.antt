@@ -15,6 +15,8 @@ use Rattle.diag_store.specs.declared.security.SeedAnswer.{SeedAnswer}
 use Rattle.diag_store.specs.declared.security.SeedAnswer.TheVariants.{Delayed, Seed}
 use Rattle.diag_store.specs.declared.security.KeyAnswer.{KeyAnswer}
 use Rattle.diag_store.specs.declared.security.KeyAnswer.TheVariants.{Delayed as KeyDelayed, NoSeed, Right, Wrong, TooMany}
+use Rattle.diag_ecu.specs.declared.effect.Effect.{Effect}
+use Rattle.diag_ecu.specs.declared.effect.Effect.TheVariants.{Nothing, Serve, CountWrongKey}
 use Rattle.diag_ecu.specs.declared.service.Service.{Service}
 use Rattle.diag_ecu.specs.declared.service.Service.TheVariants.{DiagnosticSessionControl, EcuReset, ClearDiagnosticInformation, ReadDtcInformation, ReadDataByIdentifier, SecurityAccess, WriteDataByIdentifier, RoutineControl, TesterPresent, ControlDtcSetting}
 use Rattle.diag_ecu.specs.declared.service.ServiceRow.{ServiceRow}
@@ -309,33 +311,35 @@ effect s who ReadDtcInformation p = s
 effect s who ReadDataByIdentifier p = s
 effect s who TesterPresent p = s
 
--- a refused request changes nothing, but for a wrong key
-abbrev pub refused : State → ℕ → Nrc → State
-refused s who nrc =
-    if is_of_wrong_key nrc
-    then record s { security = security.after_wrong_key s.security who }
-    else s
+-- the effect that is told of a request that passes all checks: none of a service that changes nothing
+abbrev pub own_effect : Service → Effect
+own_effect service = if (row service).changes then Serve service else Nothing
+
+-- and of one that is refused: none, but for a wrong key
+abbrev pub refused_effect : Nrc → Effect
+refused_effect nrc = if is_of_wrong_key nrc then CountWrongKey else Nothing
+
+-- the state after it
+abbrev pub done : State → ℕ → List ℕ → Effect → State
+done s who p Nothing = s
+done s who p (Serve service) = effect s who service p
+done s who p CountWrongKey = record s { security = security.after_wrong_key s.security who }
 
 -- ---- the response
 
--- the answer to a request: the positive reply or a negative response code, and the state after it
+-- what a request does, and the answer to it: the positive reply or a negative response code
 pub record Outcome : Type 0 where
-  pub state : State
+  pub effect : Effect
   pub answer : Result (List ℕ) Nrc
 
-abbrev pub outcome_of : State → ℕ → Service → List ℕ → Option Nrc → Outcome
-outcome_of s who service p (Some nrc) = record { state = refused s who nrc; answer = Err nrc }
-outcome_of s who service p None =
-    record { state = effect s who service p; answer = Ok (positive_reply s service p) }
-
--- the outcome where the checks of every service have passed
-abbrev pub own_outcome : State → ℕ → Service → List ℕ → Outcome
-own_outcome s who service p =
-    outcome_of s who service p (first_holding (own_checks s who service p))
+abbrev pub outcome_of : State → Service → List ℕ → Option Nrc → Outcome
+outcome_of s service p (Some nrc) = record { effect = refused_effect nrc; answer = Err nrc }
+outcome_of s service p None =
+    record { effect = own_effect service; answer = Ok (positive_reply s service p) }
 
 abbrev pub served : State → ℕ → Option Service → List ℕ → Outcome
-served s who None p = record { state = s; answer = Err ServiceNotSupported }
-served s who (Some service) p = outcome_of s who service p (first_holding (checks s who service p))
+served s who None p = record { effect = Nothing; answer = Err ServiceNotSupported }
+served s who (Some service) p = outcome_of s service p (first_holding (checks s who service p))
 
 -- whether the request asks that no positive reply be sent
 abbrev pub asks_for_silence : ServiceRow → List ℕ → Bool
@@ -350,12 +354,10 @@ abbrev pub sent_negative : Bool → ℕ → Nrc → Option (List ℕ)
 sent_negative functional sid nrc =
     if functional && is_silent nrc then None else Some (0x7F ∷ sid ∷ nrc_code nrc ∷ [])
 
--- whether a reply is a negative response, and whether such a one has the code of a wrong key
-abbrev pub is_negative : List ℕ → Bool
-is_negative reply = slice_index reply 0 == 0x7F
-
-abbrev pub is_to_wrong_key : List ℕ → Bool
-is_to_wrong_key reply = (slice_index reply 2 == 0x35) || (slice_index reply 2 == 0x36)
+-- what is sent where the positive reply is: none where the request asks for silence
+abbrev pub sent_positive : State → Service → List ℕ → Option (List ℕ)
+sent_positive s service p =
+    if asks_for_silence (row service) p then None else Some (positive_reply s service p)
 
 -- what is sent of an answer
 abbrev pub sent : Bool → List ℕ → Result (List ℕ) Nrc → Option (List ℕ)
@@ -370,8 +372,8 @@ abbrev pub outcome : State → ℕ → List ℕ → Outcome
 outcome s who p = served s who (service_of (sid p)) p
 
 -- the state after a request, which is the same for a functional and a physical one
-abbrev pub after_request : State → ℕ → Bool → List ℕ → State
-after_request s who functional p = kept_alive (outcome s who p).state who
+abbrev pub after_request : State → ℕ → List ℕ → State
+after_request s who p = kept_alive (done s who p (outcome s who p).effect) who
 
 -- the reply that is sent, or none
 abbrev pub reply : State → ℕ → Bool → List ℕ → Option (List ℕ)

@@ -1,11 +1,12 @@
 //! The ECU: what it holds, and what it does with a request.
-ghost use Rattle.std.specs.Prelude.{◌≡◌, ◌≤◌, ◌+◌, ◌++◌, ◌∷◌, [], ℕ, List, None, Some, length, option_copied, IfOk, IfNone, OnOk, OnErr, IsTrue};
+ghost use Rattle.std.specs.Prelude.{◌≡◌, ◌≢◌, ◌≤◌, ◌+◌, ◌++◌, None, Some, length, IfOk, IfNone, OnOk, OnErr};
 ghost use Rattle.diag_setup.specs.Setup.{first_holding};
-ghost use Rattle.diag_ecu.specs.State.{State, opening, is_holder, is_held_by_another, is_open};
-ghost use Rattle.diag_ecu.specs.Respond.{common_checks, own_checks, checks, after_request, reply, outcome, served, effect, positive_reply, kept_alive, sent, sent_negative, is_negative, is_to_wrong_key};
+ghost use Rattle.diag_ecu.specs.State.{opening, is_holder, is_held_by_another, is_open};
+ghost use Rattle.diag_ecu.specs.Respond.{common_checks, own_checks, checks, after_request, reply, outcome, effect, positive_reply, kept_alive, sent_positive, sent_negative};
 ghost use Rattle.diag_ecu.specs.Service.{row as row_of};
 
 use crate::bytes::sub_of;
+use crate::effect::Effect;
 use crate::service::{Nrc, Service, ServiceRow};
 use crate::trouble_codes::setting_refusal;
 use crate::write_data::write_reply;
@@ -123,8 +124,8 @@ impl Ecu {
         Ok(answer)
     }
 
-    /// Puts the reply to a request of these bytes in its place, or none where none is sent. It is made where it stays, and
-    /// those that come most often by one look.
+    /// Puts the reply to a request of these bytes in its place, or none where none is sent, and tells what the request
+    /// does, which `apply` takes. The reply is made where it stays, and nothing changes yet.
     ///
     /// # Errors
     /// `AllocError` where memory is refused; what stands in the place then isn't told.
@@ -135,58 +136,52 @@ impl Ecu {
         functional: bool,
         p: &[u8],
         answer: &mut Option<Message>,
-    ) -> Result<(), AllocError>
+    ) -> Result<Effect, AllocError>
         requires { 1 ≤ length p.now }
-        ensures { OnOk result (answer.new ≡ reply self.now who functional p.now) }
+        ensures reply { OnOk result (answer.new ≡ reply self.now who functional p.now) }
+        ensures effect { IfOk result (λ e. e ≡ (outcome self.now who p.now).effect) }
     {
-        match p {
-            [0x22, high, low] => return self.put_read_reply(who, functional, *high, *low, answer),
-            [0x3E, 0x00] => *answer = Some(say(&[0x7E, 0x00])),
-            [0x3E, 0x80] => *answer = None,
-            _ => return self.put_any_reply(who, functional, p, answer),
+        let Some(service) = Service::of(p[0]) else {
+            *answer = negative_reply(functional, p[0], Nrc::ServiceNotSupported);
+            return Ok(Effect::Nothing);
+        };
+        let refusal = match service {
+            Service::TesterPresent => self.put_presence(who, p, answer),
+            Service::ReadDataByIdentifier => self.put_data(who, p, answer)?,
+            service => self.put_answer(who, service, p, answer)?,
+        };
+        match refusal {
+            Some(nrc) => {
+                *answer = negative_reply(functional, p[0], nrc);
+                Ok(nrc.effect())
+            }
+            None => Ok(service.effect()),
         }
-        Ok(())
+    }
+
+    /// Does what a request did by its answer, and keeps S3 of the holder full. It takes no memory.
+    #[inline(always)]
+    pub fn apply(&mut self, who: TesterId, p: &[u8], effect: Effect)
+        requires some { 1 ≤ length p.now }
+        requires told { effect ≡ (outcome self.old who p.now).effect }
+        ensures { self.new ≡ after_request self.old who p.now }
+    {
+        match effect {
+            Effect::Nothing => {}
+            Effect::Serve(service) => self.serve(who, service, p),
+            Effect::CountWrongKey => self.security.count_wrong_key(who),
+        }
+        self.keep_alive(who);
     }
 
     /// Goes to the state after a tester's request, which is the same for a functional and a physical one. It takes no
     /// memory, and asks the checks.
-    pub fn settle(&mut self, who: TesterId, functional: bool, message: &Message)
-        ensures { self.new ≡ after_request self.old who functional message.now }
+    pub fn settle(&mut self, who: TesterId, message: &Message)
+        ensures { self.new ≡ after_request self.old who message.now }
     {
-        // (for its contract alone: it decides only what is sent)
-        let _ = functional;
         let p = message.bytes();
-        if let Some(service) = Service::of(p[0]) {
-            self.change(who, service, p);
-        }
-        self.keep_alive(who);
-    }
-
-    /// The same of a request of these bytes, to which this is the reply, or none where none is sent: it tells whether a
-    /// check held.
-    pub fn settle_answered(
-        &mut self,
-        who: TesterId,
-        functional: bool,
-        p: &[u8],
-        answer: Option<&Message>,
-    )
-        requires some { 1 ≤ length p.now }
-        requires replied { option_copied answer ≡ reply self.old who functional p.now }
-        ensures { self.new ≡ after_request self.old who functional p.now }
-    {
-        self.serve(who, functional, p, answer);
-        self.keep_alive(who);
-    }
-
-    /// Goes to the state after a request for one identifier.
-    #[inline]
-    pub fn settle_read(&mut self, who: TesterId, functional: bool, high: u8, low: u8)
-        ensures { self.new ≡ after_request self.old who functional (0x22 ∷ high ∷ low ∷ []) }
-    {
-        // (for its contract alone: reading changes nothing but S3)
-        let _ = (functional, high, low);
-        self.keep_alive(who);
+        let effect = self.effect(who, p);
+        self.apply(who, p, effect);
     }
 
     /// Answers a tester's request and goes to the state after it; where memory is refused, all is as before.
@@ -197,45 +192,66 @@ impl Ecu {
         message: &Message,
     ) -> Result<Option<Message>, AllocError>
         ensures reply { IfOk result (λ r. r ≡ reply self.old who functional message.now) }
-        ensures state { OnOk result (self.new ≡ after_request self.old who functional message.now) }
+        ensures state { OnOk result (self.new ≡ after_request self.old who message.now) }
         ensures refused { OnErr result (self.new ≡ self.old) }
     {
-        let reply = self.reply(who, functional, message)?;
-        self.settle_answered(who, functional, message.bytes(), reply.as_ref());
-        Ok(reply)
+        let mut answer = None;
+        let effect = self.put_reply(who, functional, message.bytes(), &mut answer)?;
+        self.apply(who, message.bytes(), effect);
+        Ok(answer)
     }
 }
 
 impl Ecu {
-    /// Puts the reply to any request in its place.
-    #[inline(never)]
-    fn put_any_reply(
-        &self,
-        who: TesterId,
-        functional: bool,
-        p: &[u8],
-        answer: &mut Option<Message>,
-    ) -> Result<(), AllocError>
+    /// What a request does, by the checks.
+    fn effect(&self, who: TesterId, p: &[u8]) -> Effect
         requires { 1 ≤ length p.now }
-        ensures { OnOk result (answer.new ≡ reply self.now who functional p.now) }
+        ensures { result ≡ (outcome self.now who p.now).effect }
     {
         let Some(service) = Service::of(p[0]) else {
-            *answer = negative_reply(functional, p[0], Nrc::ServiceNotSupported);
-            return Ok(());
+            return Effect::Nothing;
         };
         let row = service.row();
-        *answer = match self.refusal(who, service, row, p) {
-            Some(nrc) => negative_reply(functional, p[0], nrc),
-            None if row.asks_for_silence(p) => None,
-            None => self.positive_reply(who, service, p)?,
-        };
-        Ok(())
+        if !row.changes {
+            return Effect::Nothing;
+        }
+        match self.refusal(who, service, row, p) {
+            Some(nrc) => nrc.effect(),
+            None => service.effect(),
+        }
+    }
+
+    /// The code of the first check that holds; where none does, the positive reply is put in its place, or none where
+    /// the request asks for silence. (Two services have such a function of their own: `put_presence` and `put_data`.)
+    #[inline(never)]
+    fn put_answer(
+        &self,
+        who: TesterId,
+        service: Service,
+        p: &[u8],
+        answer: &mut Option<Message>,
+    ) -> Result<Option<Nrc>, AllocError>
+        requires some { 1 ≤ length p.now }
+        requires presence { service ≢ Service.TesterPresent }
+        requires data { service ≢ Service.ReadDataByIdentifier }
+        ensures first { IfOk result (λ r. r ≡ first_holding (checks self.now who service p.now)) }
+        ensures reply { IfOk result (λ r. IfNone r (answer.new ≡ sent_positive self.now service p.now)) }
+    {
+        let row = service.row();
+        match self.refusal(who, service, row, p) {
+            Some(nrc) => return Ok(Some(nrc)),
+            None if row.asks_for_silence(p) => *answer = None,
+            None => *answer = self.positive_reply(who, service, p)?,
+        }
+        Ok(None)
     }
 
     /// The code of the first check of the service that holds.
     fn refusal(&self, who: TesterId, service: Service, row: &ServiceRow, p: &[u8]) -> Option<Nrc>
         requires some { 1 ≤ length p.now }
         requires row { row.now ≡ row_of service }
+        requires presence { service ≢ Service.TesterPresent }
+        requires data { service ≢ Service.ReadDataByIdentifier }
         ensures first { result ≡ first_holding (checks self.now who service p.now) }
         ensures common { IfNone result
             (first_holding (common_checks self.now who (row_of service) p.now) ≡ None) }
@@ -250,20 +266,20 @@ impl Ecu {
     /// The code of the first check of this service alone that holds.
     fn own_refusal(&self, who: TesterId, service: Service, p: &[u8]) -> Option<Nrc>
         requires some { 1 ≤ length p.now }
+        requires presence { service ≢ Service.TesterPresent }
+        requires data { service ≢ Service.ReadDataByIdentifier }
         requires passed { first_holding (common_checks self.now who (row_of service) p.now) ≡ None }
         ensures { result ≡ first_holding (own_checks self.now who service p.now) }
     {
         match service {
             Service::ClearDiagnosticInformation => self.clear_refusal(p),
-            Service::ReadDataByIdentifier => self.read_refusal(who, p),
             Service::SecurityAccess => self.security_refusal(who, p),
             Service::WriteDataByIdentifier => self.write_refusal(who, p),
             Service::RoutineControl => self.routine_refusal(who, p),
             Service::ControlDtcSetting => setting_refusal(p),
-            Service::DiagnosticSessionControl
-            | Service::EcuReset
-            | Service::ReadDtcInformation
-            | Service::TesterPresent => None,
+            Service::DiagnosticSessionControl | Service::EcuReset | Service::ReadDtcInformation =>
+                None,
+            Service::TesterPresent | Service::ReadDataByIdentifier => unreachable!(),
         }
     }
 
@@ -275,6 +291,8 @@ impl Ecu {
         p: &[u8],
     ) -> Result<Option<Message>, AllocError>
         requires some { 1 ≤ length p.now }
+        requires presence { service ≢ Service.TesterPresent }
+        requires data { service ≢ Service.ReadDataByIdentifier }
         requires common { first_holding (common_checks self.now who (row_of service) p.now) ≡ None }
         requires own { first_holding (own_checks self.now who service p.now) ≡ None }
         ensures { IfOk result (λ reply. reply ≡ Some (positive_reply self.now service p.now)) }
@@ -284,74 +302,17 @@ impl Ecu {
             Service::EcuReset => Ok(Some(say(&[0x51, sub_of(p)]))),
             Service::ClearDiagnosticInformation => Ok(Some(say(&[0x54]))),
             Service::ReadDtcInformation => Ok(Some(self.codes_reply(p)?)),
-            Service::ReadDataByIdentifier => Ok(Some(self.data_reply(who, p)?)),
             Service::SecurityAccess => self.security_reply(who, p),
             Service::WriteDataByIdentifier => Ok(Some(write_reply(p))),
             Service::RoutineControl => self.routine_reply(p),
-            Service::TesterPresent => Ok(Some(say(&[0x7E, 0x00]))),
             Service::ControlDtcSetting => Ok(Some(say(&[0xC5, sub_of(p)]))),
+            Service::TesterPresent | Service::ReadDataByIdentifier => unreachable!(),
         }
     }
 
-    /// Does what a request does, but for S3.
-    fn serve(&mut self, who: TesterId, functional: bool, p: &[u8], answer: Option<&Message>)
-        requires some { 1 ≤ length p.now }
-        requires replied { option_copied answer ≡ reply self.old who functional p.now }
-        ensures { self.new ≡ (outcome self.old who p.now).state }
-    {
-        let Some(service) = Service::of(p[0]) else {
-            return;
-        };
-        if changes_nothing(service) {
-            return;
-        }
-        match answer {
-            Some(answer) => self.change_by(who, functional, service, p, answer.bytes()),
-            None => self.change(who, service, p),
-        }
-    }
-
-    /// Does what a request does of a service that may change something, by what is sent: only of a wrong key the checks
-    /// are asked again.
+    /// Does what a service does, of whose checks none holds.
     #[inline(never)]
-    fn change_by(
-        &mut self,
-        who: TesterId,
-        functional: bool,
-        service: Service,
-        p: &[u8],
-        answer: &[u8],
-    )
-        requires some { 1 ≤ length p.now }
-        requires replied { Some answer.now
-            ≡ sent functional p.now (served self.old who (Some service) p.now).answer }
-        ensures { self.new ≡ (served self.old who (Some service) p.now).state }
-    {
-        // (for its contract alone: it decides only what was sent)
-        let _ = functional;
-        if !is_negative(answer) {
-            self.take_effect(who, service, p);
-        } else if is_to_wrong_key(answer) {
-            self.change(who, service, p);
-        }
-    }
-
-    /// Does what a request does of a service that may change something, by its checks.
-    #[inline(never)]
-    fn change(&mut self, who: TesterId, service: Service, p: &[u8])
-        requires { 1 ≤ length p.now }
-        ensures { self.new ≡ (served self.old who (Some service) p.now).state }
-    {
-        match self.refusal(who, service, service.row(), p) {
-            None => self.take_effect(who, service, p),
-            // It counts, though it is refused.
-            Some(nrc) if nrc.is_of_wrong_key() => self.access_security(who, p),
-            Some(_) => {}
-        }
-    }
-
-    /// The effect of a request that passes all checks.
-    fn take_effect(&mut self, who: TesterId, service: Service, p: &[u8])
+    fn serve(&mut self, who: TesterId, service: Service, p: &[u8])
         requires some { 1 ≤ length p.now }
         requires common { first_holding (common_checks self.old who (row_of service) p.now) ≡ None }
         requires own { first_holding (own_checks self.old who service p.now) ≡ None }
@@ -460,36 +421,4 @@ pub(crate) fn negative_reply(functional: bool, sid: u8, nrc: Nrc) -> Option<Mess
         return None;
     }
     Some(say(&[0x7F, sid, nrc.code()]))
-}
-
-/// Whether a reply is a negative response.
-fn is_negative(reply: &[u8]) -> bool
-    ensures { result ≡ is_negative reply.now }
-{
-    matches!(reply, [0x7F, ..])
-}
-
-/// Whether a negative response has the code of a wrong key.
-fn is_to_wrong_key(reply: &[u8]) -> bool
-    ensures { result ≡ is_to_wrong_key reply.now }
-{
-    matches!(reply, [_, _, 0x35 | 0x36, ..])
-}
-
-/// Whether a service changes nothing but S3, whatever a request of it is answered.
-fn changes_nothing(service: Service) -> bool
-    ensures { IsTrue result
-        → (s : State) → (who : ℕ) → (p : List ℕ) → (served s who (Some service) p).state ≡ s }
-{
-    match service {
-        Service::ReadDtcInformation | Service::ReadDataByIdentifier | Service::TesterPresent =>
-            true,
-        Service::DiagnosticSessionControl
-        | Service::EcuReset
-        | Service::ClearDiagnosticInformation
-        | Service::SecurityAccess
-        | Service::WriteDataByIdentifier
-        | Service::RoutineControl
-        | Service::ControlDtcSetting => false,
-    }
 }

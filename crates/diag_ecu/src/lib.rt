@@ -4,6 +4,7 @@
 mod bytes;
 mod checks;
 mod ecu;
+mod effect;
 mod read_data;
 mod routine_control;
 mod security_access;
@@ -14,6 +15,7 @@ mod trouble_codes;
 mod write_data;
 
 pub use ecu::Ecu;
+pub use effect::Effect;
 pub use read_data::Lent;
 pub use service::{Busy, Lengths, Nrc, Service, ServiceRow, SubFunctions};
 pub use session::Session;

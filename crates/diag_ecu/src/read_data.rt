@@ -1,13 +1,15 @@
 //! Reading data by identifier (ISO 14229-1:2013, 10.2).
-ghost use Rattle.std.specs.Prelude.{◌≡◌, ◌≤◌, ◌++◌, ◌∷◌, [], length, min, IfOk, IfSome, OnOk, Some, option_map};
+ghost use Rattle.std.specs.Prelude.{◌≡◌, ◌≤◌, ◌++◌, ◌∷◌, [], length, min, IfOk, IfErr, IfNone, IfSome, OnOk, None, Some, option_map};
 ghost use Rattle.std.specs.List.{list_any, list_all};
 ghost use Rattle.diag_setup.specs.Setup.{first_holding};
 ghost use Rattle.diag_ecu.specs.Lent.{lent_bytes};
-ghost use Rattle.diag_ecu.specs.Respond.{ids_in, knows, may_read, data_records, data_reply, did_record, read_checks, reply, sent_negative};
+ghost use Rattle.diag_ecu.specs.Respond.{checks, ids_in, knows, may_read, data_records, data_reply, did_record, outcome, read_checks, reply, sent_negative, sent_positive};
 
 use crate::bytes::{bytes_16, number_16};
-use crate::ecu::{Ecu, say};
-use crate::service::Nrc;
+use crate::ecu::Ecu;
+use crate::effect::Effect;
+use crate::service::{Nrc, Service};
+use diag_can::FrameBytes;
 use diag_pdu::Message;
 use diag_setup::TesterId;
 use std::alloc::AllocError;
@@ -37,7 +39,8 @@ impl Ecu {
     #[inline(never)]
     pub(crate) fn read_refusal(&self, who: TesterId, p: &[u8]) -> Option<Nrc>
         requires { 1 ≤ length p.now }
-        ensures { result ≡ first_holding (read_checks self.now who p.now) }
+        ensures first { result ≡ first_holding (read_checks self.now who p.now) }
+        ensures fits { IfNone result (length (data_reply self.now p.now) ≤ 65535) }
     {
         let reading = self.reading(who, &p[1..]);
         if !reading.any_known {
@@ -64,69 +67,126 @@ impl Ecu {
         Ok(Message::from_vec(bytes))
     }
 
-    /// Puts the reply to a request for one identifier in its place.
+    /// The code of the first check that holds of a request to read data; where none does, the reply is put in its
+    /// place. Most requests ask for one identifier, which is looked for once.
     #[inline(always)]
-    pub(crate) fn put_read_reply(
+    pub(crate) fn put_data(
         &self,
         who: TesterId,
-        functional: bool,
+        p: &[u8],
+        answer: &mut Option<Message>,
+    ) -> Result<Option<Nrc>, AllocError>
+        ensures first { IfOk result (λ r.
+            r ≡ first_holding (checks self.now who Service.ReadDataByIdentifier p.now)) }
+        ensures reply { IfOk result (λ r. IfNone r
+            (answer.new ≡ sent_positive self.now Service.ReadDataByIdentifier p.now)) }
+    {
+        let row = Service::ReadDataByIdentifier.row();
+        if let Some(nrc) = self.common_refusal(who, row, p) {
+            return Ok(Some(nrc));
+        }
+        match p {
+            [_, high, low] => self.put_one(who, *high, *low, answer),
+            _ => self.put_many(who, p, answer),
+        }
+    }
+
+    /// The same of one identifier.
+    #[inline(always)]
+    fn put_one(
+        &self,
+        who: TesterId,
         high: u8,
         low: u8,
         answer: &mut Option<Message>,
-    ) -> Result<(), AllocError>
-        ensures { OnOk result
-            (answer.new ≡ reply self.now who functional (0x22 ∷ high ∷ low ∷ [])) }
+    ) -> Result<Option<Nrc>, AllocError>
+        ensures first { IfOk result (λ r.
+            r ≡ first_holding (read_checks self.now who (0x22 ∷ high ∷ low ∷ []))) }
+        ensures reply { IfOk result (λ r. IfNone r
+            (answer.new ≡ Some (data_reply self.now (0x22 ∷ high ∷ low ∷ [])))) }
     {
-        match self.lent_reply(who, functional, high, low) {
-            Some(lent) => self.put_said(lent, answer),
+        match self.value_for(who, high, low) {
+            Ok(value) => {
+                *answer = self.say_value(high, low, value)?;
+                Ok(None)
+            }
+            Err(nrc) => Ok(Some(nrc)),
+        }
+    }
+
+    /// The same of any identifiers.
+    #[inline(never)]
+    fn put_many(
+        &self,
+        who: TesterId,
+        p: &[u8],
+        answer: &mut Option<Message>,
+    ) -> Result<Option<Nrc>, AllocError>
+        requires { 1 ≤ length p.now }
+        ensures first { IfOk result (λ r. r ≡ first_holding (read_checks self.now who p.now)) }
+        ensures reply { IfOk result (λ r. IfNone r (answer.new ≡ Some (data_reply self.now p.now))) }
+    {
+        match self.read_refusal(who, p) {
+            Some(nrc) => Ok(Some(nrc)),
             None => {
-                *answer = None;
-                Ok(())
+                *answer = Some(self.data_reply(who, p)?);
+                Ok(None)
             }
         }
     }
 
-    /// Puts the reply that is lent in its place, with a copy of the value. Up to eight bytes are put together at once.
+    /// An identifier with its value. Up to eight bytes are put together at once.
     #[inline(always)]
-    fn put_said(&self, lent: Lent<'_>, answer: &mut Option<Message>) -> Result<(), AllocError>
-        requires { length lent.value.now ≤ 255 }
-        ensures { OnOk result (answer.new ≡ Some (lent_bytes lent.entry)) }
+    fn say_value(&self, high: u8, low: u8, value: &[u8]) -> Result<Option<Message>, AllocError>
+        requires { length value.now ≤ 255 }
+        ensures { IfOk result (λ reply. reply ≡ Some (0x62 ∷ high ∷ low ∷ value.now)) }
     {
-        let [x, y, z] = lent.head;
-        let few = match lent.value {
-            [] => say(&[x, y, z]),
-            [a] => say(&[x, y, z, *a]),
-            [a, b] => say(&[x, y, z, *a, *b]),
-            [a, b, c] => say(&[x, y, z, *a, *b, *c]),
-            [a, b, c, d] => say(&[x, y, z, *a, *b, *c, *d]),
-            [a, b, c, d, e] => say(&[x, y, z, *a, *b, *c, *d, *e]),
-            value => {
-                *answer = self.say_long(&[x, y, z], value)?;
-                return Ok(());
-            }
-        };
-        *answer = Some(few);
-        Ok(())
+        if value.len() > 5 {
+            return self.say_long(&[0x62, high, low], value);
+        }
+        let bytes = FrameBytes::made_of(value)
+            .behind(low)
+            .behind(high)
+            .behind(0x62);
+        Ok(Some(Message::in_place(bytes)))
     }
 
-    /// It too, or none where none is sent, with the value where it stands. None of the checks that every service has can
-    /// hold of the request.
+    /// The value of an identifier, or the code of the first check that holds of it.
+    #[inline(always)]
+    fn value_for(&self, who: TesterId, high: u8, low: u8) -> Result<&[u8], Nrc>
+        ensures refused { IfErr result (λ nrc.
+            first_holding (read_checks self.now who (0x22 ∷ high ∷ low ∷ [])) ≡ Some nrc) }
+        ensures open { OnOk result
+            (first_holding (read_checks self.now who (0x22 ∷ high ∷ low ∷ [])) ≡ None) }
+        ensures value { IfOk result (λ value. 0x62 ∷ high ∷ low ∷ value.now
+            ≡ data_reply self.now (0x22 ∷ high ∷ low ∷ [])) }
+        ensures fits { IfOk result (λ value. length value.now ≤ 255) }
+    {
+        let Some(row) = self.dids.row(number_16(high, low)) else {
+            return Err(Nrc::RequestOutOfRange);
+        };
+        if !self.is_open(who, row.rule.read_level) {
+            return Err(Nrc::SecurityAccessDenied);
+        }
+        Ok(row.value.as_slice())
+    }
+
+    /// The reply to a request for one identifier, or none where none is sent, with the value where it stands. None of
+    /// the checks that every service has can hold of the request, and it does nothing.
     #[inline(always)]
     pub fn lent_reply(&self, who: TesterId, functional: bool, high: u8, low: u8) -> Option<Lent<'_>>
         ensures same { option_map lent_bytes result
             ≡ reply self.now who functional (0x22 ∷ high ∷ low ∷ []) }
         ensures fits { IfSome result (λ lent. length lent.value.now ≤ 255) }
+        ensures nothing { (outcome self.now who (0x22 ∷ high ∷ low ∷ [])).effect ≡ Effect.Nothing }
     {
-        let Some(row) = self.dids.row(number_16(high, low)) else {
-            return refused(functional, Nrc::RequestOutOfRange);
-        };
-        if !self.is_open(who, row.rule.read_level) {
-            return refused(functional, Nrc::SecurityAccessDenied);
+        match self.value_for(who, high, low) {
+            Ok(value) => Some(Lent {
+                head: [0x62, high, low],
+                value,
+            }),
+            Err(nrc) => refused(functional, nrc),
         }
-        Some(Lent {
-            head: [0x62, high, low],
-            value: row.value.as_slice(),
-        })
     }
 
     fn reading(&self, who: TesterId, ids: &[u8]) -> Reading

@@ -2,7 +2,7 @@
 ghost use Rattle.std.specs.Prelude.{◌≡◌, ◌≤◌, length, false, IsTrue, IfOk, Some};
 ghost use Rattle.diag_setup.specs.Setup.{first_holding};
 ghost use Rattle.diag_store.specs.Security.{is_delayed};
-ghost use Rattle.diag_ecu.specs.Respond.{own_outcome, security_checks, positive_reply, is_sub_function, sub, seed_refusal, key_refusal};
+ghost use Rattle.diag_ecu.specs.Respond.{security_checks, security_effect, positive_reply, is_sub_function, sub, seed_refusal, key_refusal};
 
 use crate::bytes::sub_of;
 use crate::ecu::{Ecu, say};
@@ -50,11 +50,11 @@ impl Ecu {
         Ok(Some(say(&[0x67, sub])))
     }
 
-    /// Gives a seed, or takes a key: what a key does that is wrong is here too.
+    /// Gives a seed, or takes the right key.
     pub(crate) fn access_security(&mut self, who: TesterId, p: &[u8])
         requires long { 2 ≤ length p.now }
         requires known { IsTrue (is_sub_function self.old SubFunctions.OfLevels (sub p.now)) }
-        ensures { self.new ≡ (own_outcome self.old who Service.SecurityAccess p.now).state }
+        ensures { self.new ≡ security_effect self.old who p.now }
     {
         let sub = sub_of(p);
         if self.has_level(sub) {

@@ -1,11 +1,12 @@
-//! Diagnostic session control and ECU reset (ISO 14229-1:2013, 9.2 and 9.3).
-ghost use Rattle.std.specs.Prelude.{◌≡◌};
-ghost use Rattle.diag_ecu.specs.Respond.{positive_reply, session_effect, sub};
+//! Diagnostic session control, ECU reset and tester present (ISO 14229-1:2013, 9.2, 9.3 and 9.6).
+ghost use Rattle.std.specs.Prelude.{◌≡◌, IfNone};
+ghost use Rattle.diag_setup.specs.Setup.{first_holding};
+ghost use Rattle.diag_ecu.specs.Respond.{checks, positive_reply, sent_positive, session_effect, sub};
 ghost use Rattle.diag_ecu.specs.State.{session_of, session_ended};
 
 use crate::bytes::{bytes_16, sub_of};
 use crate::ecu::{Ecu, say};
-use crate::service::Service;
+use crate::service::{Nrc, Service};
 use diag_pdu::Message;
 use diag_setup::TesterId;
 
@@ -37,6 +38,31 @@ impl Ecu {
         let [p2_high, p2_low] = bytes_16(self.values.p2_ms);
         let [star_high, star_low] = bytes_16(self.values.p2_star_10ms);
         say(&[0x50, sub_of(p), p2_high, p2_low, star_high, star_low])
+    }
+
+    /// The code of the first check that holds of tester present; where none does, the reply is put in its place, or
+    /// none where the request asks for silence.
+    #[inline(always)]
+    pub(crate) fn put_presence(
+        &self,
+        who: TesterId,
+        p: &[u8],
+        answer: &mut Option<Message>,
+    ) -> Option<Nrc>
+        ensures first { result ≡ first_holding (checks self.now who Service.TesterPresent p.now) }
+        ensures reply { IfNone result
+            (answer.new ≡ sent_positive self.now Service.TesterPresent p.now) }
+    {
+        let row = Service::TesterPresent.row();
+        if let Some(nrc) = self.common_refusal(who, row, p) {
+            return Some(nrc);
+        }
+        *answer = if row.asks_for_silence(p) {
+            None
+        } else {
+            Some(say(&[0x7E, 0x00]))
+        };
+        None
     }
 
     /// Enters or leaves the extended session. Who enters it again finds all locked again.

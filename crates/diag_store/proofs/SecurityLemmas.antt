@@ -31,7 +31,7 @@ right_key-keeps s who sub h = record {
       ] refl;
 }
 
-wrong_key-keeps : (s : SecurityState) (who : ℕ) → IsSecurity s → IsSecurity (after_wrong_key s who)
+pub wrong_key-keeps : (s : SecurityState) (who : ℕ) → IsSecurity s → IsSecurity (after_wrong_key s who)
 wrong_key-keeps s who h = record {
   counts = length-set s.wrong_keys (who - 1) (slice_index s.wrong_keys (who - 1) + 1) ∙ h.counts;
   delays = elim (is_last_attempt s who) as (λ b. length (cond b (slice_set s.delays (who - 1) s.delay_ms) s.delays) ≡ 8)

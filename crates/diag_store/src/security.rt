@@ -1,7 +1,7 @@
 //! The security access of the testers: seeds, keys, and the delay after too many wrong keys (ISO 14229-1:2013, 9.4).
 
-ghost use Rattle.std.specs.Prelude.{◌≡◌, ◌≤◌, ◌<◌, bytes_eq, is_some, replicate, length, IsTrue, IfOk};
-ghost use Rattle.diag_store.specs.Security.{IsSecurity, is_unlocked, level_of, key_len, locked, is_delayed, nobody_is_delayed, outstanding_row, seed_at, key_at, next_row, seed_answer, after_seed, key_answer, after_key, after_tick, after_ticks};
+ghost use Rattle.std.specs.Prelude.{◌≡◌, ◌≤◌, ◌<◌, false, bytes_eq, is_some, replicate, length, IsTrue, IfOk};
+ghost use Rattle.diag_store.specs.Security.{IsSecurity, is_unlocked, level_of, key_len, locked, is_delayed, nobody_is_delayed, outstanding_row, seed_at, key_at, next_row, seed_answer, after_seed, key_answer, after_key, after_wrong_key, after_tick, after_ticks};
 ghost use Rattle.diag_store.specs.Opening.{opening_security};
 
 use crate::bytes::bytes_of;
@@ -165,6 +165,14 @@ impl Security {
         self.state.key_answer(who, sub, key)
     }
 
+    /// Counts a wrong key of a tester: the seed isn't outstanding any more, and the delay begins where they are too many.
+    pub fn count_wrong_key(&mut self, who: TesterId)
+        requires { is_delayed self.old who ≡ false }
+        ensures { self.new ≡ after_wrong_key self.old who }
+    {
+        self.state.count_wrong_key(who);
+    }
+
     /// One tick of a tester's delay.
     pub fn tick(&mut self, who: TesterId)
         ensures { self.new ≡ after_tick self.old who }
@@ -306,21 +314,29 @@ impl SecurityState {
         ensures state { self.new ≡ after_key self.old who sub key.now }
     {
         let answer = self.key_answer(who, sub, key);
-        let tester = who.index();
         match answer {
-            KeyAnswer::Delayed | KeyAnswer::NoSeed => return answer,
+            KeyAnswer::Delayed | KeyAnswer::NoSeed => {}
             KeyAnswer::Right => {
                 self.unlocked = Some(sub);
-                self.wrong_keys[tester] = 0;
+                self.outstanding = None;
+                self.wrong_keys[who.index()] = 0;
             }
-            KeyAnswer::Wrong => self.wrong_keys[tester] += 1,
-            KeyAnswer::TooMany => {
-                self.wrong_keys[tester] += 1;
-                self.delays[tester] = self.delay_ms;
-            }
+            KeyAnswer::Wrong | KeyAnswer::TooMany => self.count_wrong_key(who),
+        }
+        answer
+    }
+
+    fn count_wrong_key(&mut self, who: TesterId)
+        requires valid { IsSecurity self.old }
+        requires not_delayed { is_delayed self.old who ≡ false }
+        ensures { self.new ≡ after_wrong_key self.old who }
+    {
+        let tester = who.index();
+        self.wrong_keys[tester] += 1;
+        if self.wrong_keys[tester] >= self.attempts {
+            self.delays[tester] = self.delay_ms;
         }
         self.outstanding = None;
-        answer
     }
 
     #[tactic(auto, using(crate::proofs::DelayLemmas::no_delay, crate::proofs::DelayLemmas::shorter, crate::proofs::DelayLemmas::over))]
