@@ -1,10 +1,11 @@
 //! The entries of the run's journal, as they are written.
 
 use crate::bus::Output;
-use diag_desk::{JournalVersion, StepFault};
-use diag_pdu::{Message, Step};
+use diag_can::TickCount;
+use diag_desk::{EntryRef, JournalVersion, StepFault, StepRef, write_entry};
+use diag_pdu::{Message, Request};
 use diag_setup::TesterId;
-use diag_world::{Keeper, enter_step};
+use diag_world::Keeper;
 
 /// The entries of a line: their text, as far as a journal is wanted.
 #[derive(Drop)]
@@ -27,20 +28,39 @@ impl<'a> Keeper for LineEntries<'a> {
 
     ghost place = { λ entries. entries.text.ghost_name };
 
-    fn keep(
+    fn keep_request(
         &mut self,
         before: u64,
         who: TesterId,
-        step: &Step,
+        request: &Request,
         reply: Option<&Message>,
     ) -> Result<(), StepFault> {
-        match self.output {
-            Output::Journal => {
-                enter_step(self.text, JournalVersion::Stamped, before, who, step, reply)?;
-                Ok(())
-            }
-            Output::Replies | Output::End | Output::Verdict => Ok(()),
+        if let Output::Journal = self.output {
+            let entry = EntryRef {
+                who,
+                step: StepRef::of_request(request),
+                reply: reply.map(Message::bytes),
+            };
+            write_entry(self.text, JournalVersion::Stamped, before, &entry)?;
         }
+        Ok(())
+    }
+
+    fn keep_ticks(
+        &mut self,
+        before: u64,
+        who: TesterId,
+        count: TickCount,
+    ) -> Result<(), StepFault> {
+        if let Output::Journal = self.output {
+            let entry = EntryRef {
+                who,
+                step: StepRef::of_ticks(count),
+                reply: None,
+            };
+            write_entry(self.text, JournalVersion::Stamped, before, &entry)?;
+        }
+        Ok(())
     }
 
     ghost unkept_same = { λ _. refl };

@@ -10,7 +10,7 @@ use Rattle.diag_desk.specs.Text.{ticks_in, ticks_of}
 use Rattle.diag_desk.specs.Clocks.{Tells}
 
 pub step_bound : (s : Step) (r : Option (List ℕ)) → IsStep s r → ticks_in s ≤ 60000
-step_bound (Request f m) r h = omega arith
+step_bound (Request request) r h = omega arith
 step_bound (Ticks n) r h = omega (arith, h)
 
 pub ticks_bound : (e : Entry) → IsEntry e → ticks_in e.step ≤ 60000

@@ -8,6 +8,7 @@ use Rattle.diag_desk.specs.declared.flat.Head.{Head}
 use Rattle.diag_desk.specs.declared.flat.Head.TheVariants.{Answered, Silent, Ticks}
 use Rattle.diag_desk.specs.Flat.{HeadFits, HeadsFit, entry_of, part}
 use Rattle.diag_pdu.specs.declared.step.Step.TheVariants as step
+use Rattle.diag_pdu.specs.Request.{request_of}
 
 -- the head at an index fits
 pub fits_at : (heads : List Head) (n i : ℕ) (d : Head) → HeadsFit heads n → i < length heads → HeadFits (slice_index_or heads i d) n
@@ -31,10 +32,10 @@ entry_kept : (bytes more : List ℕ) (head : Head) → HeadFits head (length byt
 entry_kept bytes more (Answered who functional request_len reply_len start) within =
     let request = part_kept bytes more start request_len (omega (arith, within.1)) in
     let reply = part_kept bytes more (start + request_len) reply_len within.1 in
-    λ i. record { who = who; step = step.Request functional (request i); reply = Some (reply i) }
+    λ i. record { who = who; step = step.Request (request_of functional (request i)); reply = Some (reply i) }
 entry_kept bytes more (Silent who functional request_len start) within =
     let request = part_kept bytes more start request_len within.1 in
-    λ i. record { who = who; step = step.Request functional (request i); reply = None }
+    λ i. record { who = who; step = step.Request (request_of functional (request i)); reply = None }
 entry_kept bytes more (Ticks who count) within = refl
 
 entries_kept : (bytes more : List ℕ) (heads : List Head) → HeadsFit heads (length bytes) → map (entry_of (bytes ++ more)) heads ≡ map (entry_of bytes) heads

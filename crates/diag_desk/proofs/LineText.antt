@@ -14,8 +14,9 @@ use Rattle.diag_desk.proofs.HexText.{encode-decode_sized, upper-encode}
 use Rattle.diag_desk.proofs.CutText.{Above, above-free, cut-there, same_cut}
 use Rattle.diag_desk.specs.Cut.{cut}
 use Rattle.diag_desk.specs.Entry.{IsEntry, IsMessage, IsReply, IsStep}
-use Rattle.diag_desk.specs.Text.{IsNoReply, entry_line, is_upper_digit, reply_text, step_text}
+use Rattle.diag_desk.specs.Text.{IsNoReply, entry_line, is_upper_digit, kind_text, reply_text, step_text}
 use Rattle.diag_desk.specs.Line.{HasBody, IsHex, decoded, fronted, kind_code, request_kind}
+use Rattle.diag_pdu.specs.Request.{request_of}
 use Rattle.diag_pdu.specs.declared.step.Step.{Step}
 use Rattle.diag_pdu.specs.declared.step.Step.TheVariants.{Request, Ticks}
 use Rattle.diag_desk.specs.declared.entry.Entry.{Entry}
@@ -89,6 +90,28 @@ apart l m e other =
     let same : get_or l 1 0 ≡ get_or m 1 0 = ap (λ t. get_or t 1 0) e in
     cc (sym other ∙ eq-eqb (get_or l 1 0) (get_or m 1 0) same)
 
+-- the text of a kind tells it, and what follows it
+kind_same : (f g : Bool) (l m : List ℕ) → kind_text f ++ l ≡ kind_text g ++ m → (f ≡ g) × (l ≡ m)
+kind_same true true l m e = (refl, ap (drop 3) e)
+kind_same false false l m e = (refl, ap (drop 3) e)
+kind_same true false l m e = absurd (apart _ _ e refl)
+kind_same false true l m e = absurd (apart _ _ e refl)
+
+no_ticks : (f : Bool) (l m : List ℕ) → kind_text f ++ l ≡ codes " T " ++ m → ⊥
+no_ticks true l m e = apart _ _ e refl
+no_ticks false l m e = apart _ _ e refl
+
+kind_above : (f : Bool) (l : List ℕ) → Above 10 l → Above 10 (kind_text f ++ l)
+kind_above true l h = (omega arith, (omega arith, (omega arith, h)))
+kind_above false l h = (omega arith, (omega arith, (omega arith, h)))
+
+kind_code_is : (f : Bool) (l : List ℕ) → kind_text f ++ l ≡ 32 ∷ kind_code (request_kind f) ∷ 32 ∷ l
+kind_code_is true l = refl
+kind_code_is false l = refl
+
+body_same : (f g : Bool) (l body : List ℕ) → kind_text g ++ l ≡ 32 ∷ kind_code (request_kind f) ∷ 32 ∷ body → l ≡ body
+body_same f g l body e = (kind_same g f l body (e ∙ sym (kind_code_is f body))).1
+
 pub record RequestBody (r : Option (List ℕ)) (body : List ℕ) : Type 0 where
   pub message : List ℕ
   pub is_message : IsMessage message
@@ -102,24 +125,26 @@ cut_request m r body h e = ap (cut 32) (sym e) ∙ cut-there 32 (encode_upper m)
 -- the body of a request
 pub request-body : (functional : Bool) (body : List ℕ) (s : Step) (r : Option (List ℕ)) → IsStep s r → HasBody (request_kind functional) s r body
     → RequestBody r body
-request-body true body (Request true m) r h e = record { message = m; is_message = h.0; is_reply = h.1; cuts = cut_request m r body h.0 (ap (drop 3) e) }
-request-body false body (Request false m) r h e = record { message = m; is_message = h.0; is_reply = h.1; cuts = cut_request m r body h.0 (ap (drop 3) e) }
-request-body true body (Request false m) r h e = absurd (apart _ _ e refl)
-request-body false body (Request true m) r h e = absurd (apart _ _ e refl)
 request-body true body (Ticks n) r h e = absurd (apart _ _ e refl)
 request-body false body (Ticks n) r h e = absurd (apart _ _ e refl)
+request-body functional body (Request request) r h e = record {
+  message = request.message;
+  is_message = h.0;
+  is_reply = h.1;
+  cuts = cut_request request.message r body h.0 (body_same functional request.functional (encode_upper request.message ++ (32 ∷ reply_text r)) body e);
+}
 
 -- a request's text is put together from its parts
 pub request-text : (functional : Bool) (m : List ℕ) (r : Option (List ℕ)) (message reply body : List ℕ) → encode_upper m ≡ message
     → reply_text r ≡ reply → body ≡ message ++ 32 ∷ reply
-    → HasBody (request_kind functional) (Request functional m) r body
+    → HasBody (request_kind functional) (Request (request_of functional m)) r body
 request-text true m r message reply body a b e = ap (λ l. 32 ∷ 70 ∷ 32 ∷ l) ((λ i. a i ++ (32 ∷ b i)) ∙ sym e)
 request-text false m r message reply body a b e = ap (λ l. 32 ∷ 80 ∷ 32 ∷ l) ((λ i. a i ++ (32 ∷ b i)) ∙ sym e)
 
 -- each step's text has a kind and a body
 pub has_body : (s : Step) (r : Option (List ℕ)) → (k : Kind) × (body : List ℕ) × HasBody k s r body
-has_body (Request true m) r = (kind.Functional, encode_upper m ++ (32 ∷ reply_text r), refl)
-has_body (Request false m) r = (kind.Physical, encode_upper m ++ (32 ∷ reply_text r), refl)
+has_body (Request request) r =
+    (request_kind request.functional, encode_upper request.message ++ (32 ∷ reply_text r), kind_code_is request.functional _)
 has_body (Ticks n) r = (kind.Ticks, decimal n, refl)
 
 -- ---- whole lines
@@ -141,20 +166,14 @@ line_parts e =
     }
 
 step_same : (s t : Step) (p q : Option (List ℕ)) → IsStep s p → IsStep t q → step_text s p ≡ step_text t q → (s ≡ t) × (p ≡ q)
-step_same (Request true m) (Request true n) p q h k e =
-    let both = same_cut 32 (encode_upper m) (encode_upper n) (reply_text p) (reply_text q) (above-free 32 _ (hex_above m h.0))
-    (above-free 32 _ (hex_above n k.0)) (ap (drop 3) e) in
-    (ap (λ l. Request true l) (message_same m n h.0 k.0 both.0), reply_same p q h.1 k.1 both.1)
-step_same (Request false m) (Request false n) p q h k e =
-    let both = same_cut 32 (encode_upper m) (encode_upper n) (reply_text p) (reply_text q) (above-free 32 _ (hex_above m h.0))
-    (above-free 32 _ (hex_above n k.0)) (ap (drop 3) e) in
-    (ap (λ l. Request false l) (message_same m n h.0 k.0 both.0), reply_same p q h.1 k.1 both.1)
-step_same (Request true m) (Request false n) p q h k e = absurd (apart _ _ e refl)
-step_same (Request false m) (Request true n) p q h k e = absurd (apart _ _ e refl)
-step_same (Request true m) (Ticks n) p q h k e = absurd (apart _ _ e refl)
-step_same (Request false m) (Ticks n) p q h k e = absurd (apart _ _ e refl)
-step_same (Ticks m) (Request true n) p q h k e = absurd (apart _ _ e refl)
-step_same (Ticks m) (Request false n) p q h k e = absurd (apart _ _ e refl)
+step_same (Request a) (Request b) p q h k e =
+    let kind = kind_same a.functional b.functional _ _ e in
+    let both = same_cut 32 (encode_upper a.message) (encode_upper b.message) (reply_text p) (reply_text q) (above-free 32 _ (hex_above a.message h.0))
+    (above-free 32 _ (hex_above b.message k.0)) kind.1 in
+    let message = message_same a.message b.message h.0 k.0 both.0 in
+    (λ i. Request (request_of (kind.0 i) (message i)), reply_same p q h.1 k.1 both.1)
+step_same (Request a) (Ticks n) p q h k e = absurd (no_ticks a.functional _ _ e)
+step_same (Ticks m) (Request b) p q h k e = absurd (no_ticks b.functional _ _ (sym e))
 step_same (Ticks m) (Ticks n) p q h k e =
     let count : m ≡ n = decimal_injective m n (omega (arith, h.1)) (omega (arith, k.1)) (ap (drop 3) e) in
     (ap Ticks count, h.2 ∙ sym k.2)
@@ -184,14 +203,9 @@ low_append xs ys h k = above_append 10 xs (32 ∷ ys) (above_lower 10 32 xs (ome
 
 -- no line has an end in it
 step_above : (s : Step) (r : Option (List ℕ)) → IsStep s r → Above 10 (step_text s r)
-step_above (Request true m) r h = (
-  omega arith,
-  (omega arith, (omega arith, low_append (encode_upper m) (reply_text r) (hex_above m h.0) (above_lower 10 32 _ (omega arith) (reply_above r h.1)))),
-)
-step_above (Request false m) r h = (
-  omega arith,
-  (omega arith, (omega arith, low_append (encode_upper m) (reply_text r) (hex_above m h.0) (above_lower 10 32 _ (omega arith) (reply_above r h.1)))),
-)
+step_above (Request request) r h =
+    kind_above request.functional _
+    (low_append (encode_upper request.message) (reply_text r) (hex_above request.message h.0) (above_lower 10 32 _ (omega arith) (reply_above r h.1)))
 step_above (Ticks n) r h = (omega arith, (omega arith, (omega arith, above_lower 10 32 _ (omega arith) (decimal_above n (omega (arith, h.1))))))
 
 pub line_above : (e : Entry) → IsEntry e → Above 10 (entry_line e)

@@ -23,10 +23,10 @@ step_unlocks : (s : State) (e : Entry) (holder level : ℕ) → HasUnlocked (aft
     → HasUnlocked s holder level ⊎ SendsKey s e holder level
 step_unlocks s e holder level h =
     elim e.step as (λ step. e.step ≡ step → HasUnlocked (after_step s e.who step) holder level → HasUnlocked s holder level ⊎ SendsKey s e holder level) [
-      | Request functional p ↦ λ is u.
-          elim (ecu.request_unlocks s e.who functional p holder level u) [
+      | Request request ↦ λ is u.
+          elim (ecu.request_unlocks s e.who request.message holder level u) [
             | inl before ↦ inl before
-            | inr key ↦ inr (record { sender = key.0; functional = functional; message = p; request = is; is_key = key.1 })
+            | inr key ↦ inr (record { sender = key.0; request = request; is_request = is; is_key = key.1 })
           ]
       | Ticks n ↦ λ is u. inl (ecu.unlocked_before s (elapse s e.who n) holder level (ecu.elapse_keeps s e.who n) u)
     ] refl h
@@ -81,7 +81,7 @@ since s entries (suc i) holder level locked within h =
 -- ---- rules stay
 
 step_rules : (s : State) (who : ℕ) (step : Step) → ecu.SameRules s (after_step s who step)
-step_rules s who (Request functional p) = ecu.request_rules s who functional p
+step_rules s who (Request request) = ecu.request_rules s who request.message
 step_rules s who (Ticks n) = ecu.elapse_rules s who n
 
 run_rules : (s : State) (entries : List Entry) → ecu.SameRules s (after s entries)
@@ -101,7 +101,7 @@ legal_at s (x ∷ entries) (suc i) e legal at = legal_at (after_entry s x) entri
 reply_open : (s : State) (who id : ℕ) (step : Step) → reply_to s who step ≡ Some (0x6E ∷ bytes_16 id) → 0 < write_level_of s id
     → HasUnlocked s who (write_level_of s id)
 reply_open s who id (Ticks n) e above = cc e
-reply_open s who id (Request functional p) e above = ecu.reply_open s who id functional p e above
+reply_open s who id (Request request) e above = ecu.reply_open s who id request.functional request.message e above
 
 -- the law
 pub unlock : UnlockLaw

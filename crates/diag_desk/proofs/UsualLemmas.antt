@@ -10,10 +10,11 @@ use Rattle.diag_can.proofs.Hex.{upper-parts}
 use Rattle.diag_desk.proofs.Runs.{take_one}
 use Rattle.diag_desk.specs.Text.{entry_line, reply_text, upper_value}
 use Rattle.diag_desk.specs.Line.{fronted, kind_code, request_kind}
-use Rattle.diag_desk.specs.Entries.{entry}
+use Rattle.diag_desk.specs.Entries.{asks, entry}
 use Rattle.diag_desk.specs.declared.line.Kind.TheVariants as kind
 use Rattle.diag_desk.specs.declared.table.TheConstants.{VALUES}
-use Rattle.diag_pdu.specs.declared.step.Step.TheVariants.{Request, Ticks}
+use Rattle.diag_pdu.specs.Request.{request_of}
+use Rattle.diag_pdu.specs.declared.step.Step.TheVariants.{Ticks}
 
 -- ---- the table
 
@@ -133,13 +134,13 @@ byte_more text bytes i b high low t room at h l spelled =
 -- ---- whole lines
 
 line_joined : (functional : Bool) (who : ℕ) (m : List ℕ) (r : Option (List ℕ))
-    → entry_line (entry who (Request functional m) r) ≡ fronted (48 + who) (kind_code (request_kind functional)) (encode_upper m ++ 32 ∷ reply_text r)
+    → entry_line (asks who (request_of functional m) r) ≡ fronted (48 + who) (kind_code (request_kind functional)) (encode_upper m ++ 32 ∷ reply_text r)
 line_joined true who m r = refl
 line_joined false who m r = refl
 
 pub usual_line : (functional : Bool) (who : ℕ) (m : List ℕ) (r : Option (List ℕ)) (text body rest : List ℕ)
     → text ≡ fronted (48 + who) (kind_code (request_kind functional)) body
-    → body ≡ encode_upper m ++ 32 ∷ (reply_text r ++ 10 ∷ rest) → text ≡ entry_line (entry who (Request functional m) r) ++ 10 ∷ rest
+    → body ≡ encode_upper m ++ 32 ∷ (reply_text r ++ 10 ∷ rest) → text ≡ entry_line (asks who (request_of functional m) r) ++ 10 ∷ rest
 usual_line functional who m r text body rest t b =
     t ∙ ap (fronted (48 + who) (kind_code (request_kind functional))) (b ∙ sym (append_assoc (encode_upper m) (32 ∷ reply_text r) (10 ∷ rest)))
     ∙ ap (λ l. l ++ 10 ∷ rest) (sym (line_joined functional who m r))

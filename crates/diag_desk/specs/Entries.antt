@@ -1,10 +1,16 @@
 -- Lists of entries, by tester, by what was asked and by what was answered.
 use Rattle.std.specs.Prelude.{◌≡◌, ℕ, ◌==◌, List, ◌++◌, Option, filter, map}
+use Rattle.diag_pdu.specs.declared.step.Request.{Request}
 use Rattle.diag_pdu.specs.declared.step.Step.{Step}
+use Rattle.diag_pdu.specs.declared.step.Step.TheVariants as step
 use Rattle.diag_desk.specs.declared.entry.Entry.{Entry}
 
 abbrev pub entry : ℕ → Step → Option (List ℕ) → Entry
 entry who step reply = record { who = who; step = step; reply = reply }
+
+-- the entry of a request
+abbrev pub asks : ℕ → Request → Option (List ℕ) → Entry
+asks who request reply = entry who (step.Request request) reply
 
 -- the entries of one tester
 abbrev pub own : List Entry → ℕ → List Entry

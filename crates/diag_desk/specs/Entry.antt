@@ -3,6 +3,7 @@ use Rattle.std.specs.Prelude.{ℕ, ◌+◌, ◌≤◌, ◌≡◌, List, [], ◌�
 use Rattle.hex.specs.Hex.{IsBytes}
 use Rattle.diag_pdu.specs.declared.step.Step.{Step}
 use Rattle.diag_pdu.specs.declared.step.Step.TheVariants.{Request, Ticks}
+use Rattle.diag_pdu.specs.Request.{request_of}
 use Rattle.diag_desk.specs.declared.entry.Entry.{Entry}
 use Rattle.diag_desk.specs.declared.entry.EntryRef.{EntryRef}
 use Rattle.diag_desk.specs.declared.entry.StepRef.{StepRef}
@@ -20,7 +21,7 @@ pub record Kept : Type 0 where
 
 -- the step and the entry that a reference shows
 abbrev pub step_seen : StepRef → Step
-step_seen (seen.Request functional bytes) = Request functional bytes.now
+step_seen (seen.Request functional bytes) = Request (request_of functional bytes.now)
 step_seen (seen.Ticks count) = Ticks count
 
 abbrev pub entry_seen : EntryRef → Entry
@@ -28,26 +29,30 @@ entry_seen e = record { who = e.who; step = step_seen e.step; reply = option_cop
 
 -- the bytes of a step
 abbrev pub step_len : Step → ℕ
-step_len (Request functional message) = length message
+step_len (Request request) = length request.message
 step_len (Ticks count) = 0
 
 -- the bytes that an entry of this step keeps
 abbrev pub entry_bytes : Step → Option (List ℕ) → List ℕ
-entry_bytes (Request functional message) reply = message ++ unwrap_or reply []
+entry_bytes (Request request) reply = request.message ++ unwrap_or reply []
 entry_bytes (Ticks count) reply = []
 
 -- how many bytes those are
 abbrev pub messages_len : Step → Option (List ℕ) → ℕ
-messages_len (Request functional message) reply = length message + length (unwrap_or reply [])
+messages_len (Request request) reply = length request.message + length (unwrap_or reply [])
 messages_len (Ticks count) reply = 0
+
+-- an entry of a request of so many bytes with any reply has room
+abbrev pub HasRoomFor : Kept → ℕ → Type 0
+HasRoomFor journal len = (1 ≤ journal.entry_room) × (len + 65535 ≤ journal.byte_room)
 
 -- an entry of this step with any reply has room
 abbrev pub HasRoom : Kept → Step → Type 0
-HasRoom journal step = (1 ≤ journal.entry_room) × (step_len step + 65535 ≤ journal.byte_room)
+HasRoom journal step = HasRoomFor journal (step_len step)
 
 -- ticks have no reply
 abbrev pub HasNoReply : Step → Option (List ℕ) → Type 0
-HasNoReply (Request functional message) reply = Unit {0}
+HasNoReply (Request request) reply = Unit {0}
 HasNoReply (Ticks count) reply = reply ≡ None
 
 -- ---- what a journal can hold
@@ -62,7 +67,7 @@ IsReply None = Unit {0}
 IsReply (Some reply) = IsMessage reply
 
 abbrev pub IsStep : Step → Option (List ℕ) → Type 0
-IsStep (Request functional message) reply = IsMessage message × IsReply reply
+IsStep (Request request) reply = IsMessage request.message × IsReply reply
 IsStep (Ticks count) reply = (1 ≤ count) × (count ≤ 60000) × (reply ≡ None)
 
 -- an entry of one of the eight places

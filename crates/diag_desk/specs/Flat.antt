@@ -2,6 +2,7 @@
 use Rattle.std.specs.Prelude.{ℕ, ◌+◌, ◌-◌, ◌≤◌, List, [], ◌∷◌, map, length, take, drop, Some, None, vec_len, vec_capacity}
 use Rattle.diag_desk.specs.Entry.{IsJournal, Kept}
 use Rattle.diag_pdu.specs.declared.step.Step.TheVariants as step
+use Rattle.diag_pdu.specs.Request.{request_of}
 use Rattle.diag_desk.specs.declared.entry.Entry.{Entry}
 use Rattle.diag_desk.specs.declared.flat.Head.{Head}
 use Rattle.diag_desk.specs.declared.flat.Head.TheVariants.{Answered, Silent, Ticks}
@@ -15,11 +16,11 @@ part bytes start len = take len (drop start bytes)
 abbrev pub entry_of : List ℕ → Head → Entry
 entry_of bytes (Answered who functional request_len reply_len start) = record {
   who = who;
-  step = step.Request functional (part bytes start request_len);
+  step = step.Request (request_of functional (part bytes start request_len));
   reply = Some (part bytes (start + request_len) reply_len);
 }
 entry_of bytes (Silent who functional request_len start) =
-    record { who = who; step = step.Request functional (part bytes start request_len); reply = None }
+    record { who = who; step = step.Request (request_of functional (part bytes start request_len)); reply = None }
 entry_of bytes (Ticks who count) = record { who = who; step = step.Ticks count; reply = None }
 
 -- the parts that a head names lie within n bytes, and a request has a byte

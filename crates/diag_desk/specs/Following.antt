@@ -66,7 +66,7 @@ pub record Answered (s new : State) (who : ℕ) (functional : Bool) (text rest :
   pub is_message : IsMessage message
   pub is_reply : IsReply (reply s who functional message)
   pub is : text ≡ encode_upper message ++ 32 ∷ (reply_text (reply s who functional message) ++ 10 ∷ rest)
-  pub state : new ≡ after_request s who functional message
+  pub state : new ≡ after_request s who message
 
 -- the next entry has room and no stamp, none before it differs, and its tester is in the setup
 pub record IsUsual (setup : RawSetup) (f : Follower) (who : ℕ) : Type 0 where

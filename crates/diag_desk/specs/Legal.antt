@@ -11,17 +11,17 @@ use Rattle.diag_ecu.specs.Elapse.{elapse}
 use Rattle.diag_ecu.specs.Respond as ecu
 
 abbrev pub is_ticks : Step → Bool
-is_ticks (Request functional message) = false
+is_ticks (Request request) = false
 is_ticks (Ticks count) = true
 
 -- the state after a step of a tester
 abbrev pub after_step : State → ℕ → Step → State
-after_step s who (Request functional message) = ecu.after_request s who functional message
+after_step s who (Request request) = ecu.after_request s who request.message
 after_step s who (Ticks count) = elapse s who count
 
 -- the reply to a step: ticks have none
 abbrev pub reply_to : State → ℕ → Step → Option (List ℕ)
-reply_to s who (Request functional message) = ecu.reply s who functional message
+reply_to s who (Request request) = ecu.reply s who request.functional request.message
 reply_to s who (Ticks count) = None
 
 -- the last state of a run

@@ -3,6 +3,7 @@ use Rattle.std.specs.Prelude.{◌≡◌, ℕ, Bool, if◌then◌else◌, List, [
 use Rattle.std.specs.Result.{result_unwrap_or}
 use Rattle.hex.specs.Hex.{decode_of, encode_upper}
 use Rattle.diag_pdu.specs.declared.step.Step.TheVariants as step
+use Rattle.diag_pdu.specs.Request.{request_of}
 use Rattle.diag_desk.specs.declared.entry.Entry.{Entry}
 use Rattle.diag_desk.specs.declared.line.Line.{Line}
 use Rattle.diag_desk.specs.declared.line.LineStep.{LineStep}
@@ -21,7 +22,7 @@ abbrev pub IsHex : List ℕ → Type 0
 IsHex text = IsMessage (decoded text) × (encode_upper (decoded text) ≡ text)
 
 abbrev pub line_step : LineStep → Step
-line_step (Request functional message reply) = step.Request functional (decoded message.now)
+line_step (Request functional message reply) = step.Request (request_of functional (decoded message.now))
 line_step (Ticks count) = step.Ticks count
 
 abbrev pub line_reply : LineStep → Option (List ℕ)

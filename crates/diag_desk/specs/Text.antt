@@ -17,8 +17,9 @@ kind_text functional = if functional then codes " F " else codes " P "
 
 -- what follows a tester's place
 abbrev pub step_text : Step → Option (List ℕ) → List ℕ
-step_text (Request functional message) reply =
-    kind_text functional ++ (encode_upper message ++ (codes " " ++ reply_text reply))
+step_text (Request request) reply =
+    kind_text request.functional
+    ++ (encode_upper request.message ++ (codes " " ++ reply_text reply))
 step_text (Ticks count) reply = codes " T " ++ decimal count
 
 -- the line of an entry, without its end
@@ -27,7 +28,7 @@ entry_line e = (48 + e.who) ∷ step_text e.step e.reply
 
 -- the ticks of one tester in a list of entries
 abbrev pub ticks_in : Step → ℕ
-ticks_in (Request functional message) = 0
+ticks_in (Request request) = 0
 ticks_in (Ticks count) = count
 
 abbrev pub ticks_of : ℕ → List Entry → ℕ

@@ -1,6 +1,7 @@
 -- What has to come before a value is written that needs a security level.
-use Rattle.std.specs.Prelude.{◌≡◌, ◌<◌, ◌≤◌, ℕ, Bool, List, ◌∷◌, take, slice_get, Some, None}
-use Rattle.diag_pdu.specs.declared.step.Step.TheVariants.{Request}
+use Rattle.std.specs.Prelude.{◌≡◌, ◌<◌, ◌≤◌, ℕ, List, ◌∷◌, take, slice_get, Some, None}
+use Rattle.diag_pdu.specs.declared.step.Request.{Request}
+use Rattle.diag_pdu.specs.declared.step.Step.TheVariants as step
 use Rattle.diag_desk.specs.declared.entry.Entry.{Entry}
 use Rattle.diag_desk.specs.Legal.{Legal, after}
 use Rattle.diag_ecu.specs.Bytes.{bytes_16}
@@ -10,10 +11,9 @@ use Rattle.diag_ecu.specs.Unlocking.{HasUnlocked, IsKey, write_level_of}
 -- a request of the tester with the key of the level
 pub record SendsKey (s : State) (e : Entry) (who level : ℕ) : Type 0 where
   pub sender : e.who ≡ who
-  pub functional : Bool
-  pub message : List ℕ
-  pub request : e.step ≡ Request functional message
-  pub is_key : IsKey s message level
+  pub request : Request
+  pub is_request : e.step ≡ step.Request request
+  pub is_key : IsKey s request.message level
 
 -- entry `at` of the run sent the key, and from then to entry i the tester stays the holder with the level unlocked
 pub record UnlockedBefore (s : State) (entries : List Entry) (i who level : ℕ) : Type 0 where

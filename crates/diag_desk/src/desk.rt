@@ -1,14 +1,17 @@
 //! The desk: the ECU with its journal.
-ghost use Rattle.std.specs.Prelude.{◌≡◌, ◌<◌, ◌≤◌, ◌↔◌, [], length, option_copied, IsTrue, OnOk, OnErr, IfOk, IfErr, Err, None};
+ghost use Rattle.std.specs.Prelude.{◌≡◌, ◌<◌, ◌≤◌, ◌↔◌, [], length, IsTrue, OnOk, OnErr, IfOk, IfErr, Err, None};
+ghost use Rattle.diag_pdu.specs.declared.step.Step.{Step as AStep};
 ghost use Rattle.diag_ecu.specs.State.{opening};
-ghost use Rattle.diag_desk.specs.Entries.{entry};
+ghost use Rattle.diag_desk.specs.Entries.{asks, entry};
 ghost use Rattle.diag_desk.specs.Entry.{IsJournal, most_entries};
-ghost use Rattle.diag_desk.specs.Legal.{IsOpening, Legal, after, after_step, reply_to, entered, is_ticks};
+ghost use Rattle.diag_desk.specs.Legal.{IsOpening, Legal, after, entered, is_ticks};
 
-use crate::flat::len_of;
+use crate::entry::StepRef;
+use crate::flat::bytes_of;
 use crate::journal::Journal;
+use diag_can::TickCount;
 use diag_ecu::Ecu;
-use diag_pdu::{Message, Step};
+use diag_pdu::{Message, Request, Step};
 use diag_setup::{Setup, TesterId};
 use std::alloc::{AllocError, Global};
 use std::marker::Model;
@@ -109,7 +112,7 @@ impl Desk {
         &self.ecu
     }
 
-    /// Takes a step: the reply is asked for, entered, and then the ECU settles.
+    /// Takes a step: a request, or ticks.
     ///
     /// JournalFull is looked at first. After a refusal all is as before. Ticks have no reply.
     pub fn step(&mut self, who: TesterId, step: &Step) -> Result<Option<Message>, StepFault>
@@ -121,56 +124,55 @@ impl Desk {
             fault ≡ StepFault.Memory → length self.old.journal < most_entries) }
         ensures limit { length self.new.journal ≤ most_entries }
     {
-        if self.journal.is_full() {
-            return Err(StepFault::JournalFull);
+        match step {
+            Step::Request(request) => self.request(who, request),
+            Step::Ticks(count) => {
+                self.ticks(who, *count)?;
+                Ok(None)
+            }
         }
-        self.journal.make_room(step)?;
+    }
+
+    /// Takes a request: its reply is asked for, entered, and then the ECU does what the request does.
+    ///
+    /// # Errors
+    /// `JournalFull` where the journal is full, which is looked at first, `Memory` where memory is refused. All is then as
+    /// before.
+    pub fn request(
+        &mut self,
+        who: TesterId,
+        request: &Request,
+    ) -> Result<Option<Message>, StepFault>
+        ensures ok { IfOk result (λ reply. self.new ≡ entered self.old (asks who request.now reply)) }
+        ensures err { OnErr result (self.new ≡ self.old) }
+        ensures full { (result ≡ Err StepFault.JournalFull) ↔ (length self.old.journal ≡ most_entries) }
+        ensures limit { length self.new.journal ≤ most_entries }
+    {
+        let bytes = request.message.bytes();
+        self.journal.open(bytes.len())?;
         let mut reply = None;
-        put_reply(&self.ecu, who, step, &mut reply)?;
-        // (for its contract: a reply has at most 65535 bytes)
-        let _len = len_of(reply.as_ref());
-        self.journal.add(who, step, reply.as_ref());
-        settle_answered(&mut self.ecu, who, step, reply.as_ref());
+        let effect = self
+            .ecu
+            .put_reply(who, request.functional, bytes, &mut reply)?;
+        let step = StepRef::of_request(request);
+        self.journal.add(who, &step, bytes_of(reply.as_ref()));
+        self.ecu.apply(who, bytes, effect);
         Ok(reply)
     }
-}
 
-/// Puts the reply to a step in its place, none for ticks.
-///
-/// # Errors
-/// `AllocError` where memory is refused; what stands in the place then isn't told.
-#[inline(always)]
-pub fn put_reply(
-    ecu: &Ecu,
-    who: TesterId,
-    step: &Step,
-    answer: &mut Option<Message>,
-) -> Result<(), AllocError>
-    ensures { OnOk result (answer.new ≡ reply_to ecu.now who step.now) }
-{
-    match step {
-        Step::Request {
-            functional,
-            message,
-        } => ecu.put_reply(who, *functional, message.bytes(), answer),
-        Step::Ticks(_) => {
-            *answer = None;
-            Ok(())
-        }
-    }
-}
-
-/// Brings the ECU to the state after a step, to which this is the reply.
-#[inline(always)]
-pub fn settle_answered(ecu: &mut Ecu, who: TesterId, step: &Step, reply: Option<&Message>)
-    requires { option_copied reply ≡ reply_to ecu.old who step.now }
-    ensures { ecu.new ≡ after_step ecu.old who step.now }
-{
-    match step {
-        Step::Request {
-            functional,
-            message,
-        } => ecu.settle_answered(who, *functional, message.bytes(), reply),
-        Step::Ticks(count) => ecu.ticks(who, *count),
+    /// Takes so many ticks, which are entered. They have no reply.
+    ///
+    /// # Errors
+    /// As `request`.
+    pub fn ticks(&mut self, who: TesterId, count: TickCount) -> Result<(), StepFault>
+        ensures ok { OnOk result (self.new ≡ entered self.old (entry who (AStep.Ticks count) None)) }
+        ensures err { OnErr result (self.new ≡ self.old) }
+        ensures full { (result ≡ Err StepFault.JournalFull) ↔ (length self.old.journal ≡ most_entries) }
+        ensures limit { length self.new.journal ≤ most_entries }
+    {
+        self.journal.open(0)?;
+        self.journal.add(who, &StepRef::of_ticks(count), None);
+        self.ecu.ticks(who, count);
+        Ok(())
     }
 }

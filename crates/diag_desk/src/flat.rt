@@ -1,7 +1,7 @@
 //! How the journal keeps its entries: a small head for each, and the bytes of all messages in one list.
 ghost use Rattle.std.specs.Prelude.{◌≡◌, ◌≤◌, ◌+◌, ◌++◌, [], length, OnErr, IfOk, ◌/◌, option_map, option_copied, unwrap_or, vec_len, vec_capacity};
 ghost use Rattle.diag_desk.specs.Entries.{entry};
-ghost use Rattle.diag_desk.specs.Entry.{entry_seen, HasNoReply, step_len, entry_bytes, IsEntry, IsMessage, IsReply};
+ghost use Rattle.diag_desk.specs.Entry.{entry_seen, step_seen, step_len, entry_bytes, IsEntry, IsMessage, IsReply, IsStep};
 ghost use Rattle.hex.specs.Hex.{IsBytes};
 ghost use Rattle.diag_desk.specs.Flat.{HeadFits, entry_of};
 ghost use Rattle.diag_desk.specs.Line.{HasHex, IsHex, IsHexReply, decoded, line_entry};
@@ -45,7 +45,7 @@ pub(crate) fn step_len(step: &Step) -> usize
     ensures bound { result ≤ 65535 }
 {
     match step {
-        Step::Request { message, .. } => message.bytes().len(),
+        Step::Request(request) => request.message.bytes().len(),
         Step::Ticks(_) => 0,
     }
 }
@@ -111,42 +111,36 @@ fn append(bytes: &mut Vec<u8>, more: &[u8])
 pub(crate) fn head_of(
     bytes: &mut Vec<u8>,
     who: TesterId,
-    step: &Step,
-    reply: Option<&Message>,
+    step: &StepRef<'_>,
+    reply: Option<&[u8]>,
 ) -> Head
     requires room { vec_len bytes.old
-        + (step_len step.now + length (unwrap_or (option_copied reply) []))
+        + (step_len (step_seen step.now) + length (unwrap_or (option_copied reply) []))
         ≤ vec_capacity bytes.old }
-    requires no_reply { HasNoReply step.now (option_copied reply) }
+    requires step { IsStep (step_seen step.now) (option_copied reply) }
     ensures items { bytes.new.items
-        ≡ bytes.old.items ++ entry_bytes step.now (option_copied reply.entry) }
+        ≡ bytes.old.items ++ entry_bytes (step_seen step.now) (option_copied reply.entry) }
     ensures fits { HeadFits result (length bytes.new.items) }
     ensures same { entry_of bytes.new.items result
-        ≡ entry who step.now (option_copied reply.entry) }
-    ensures entry { IsEntry (entry who step.now (option_copied reply.entry)) }
+        ≡ entry who (step_seen step.now) (option_copied reply.entry) }
+    ensures entry { IsEntry (entry who (step_seen step.now) (option_copied reply.entry)) }
 {
     // (for its contract: a place is at most 8)
     let _place = who.place();
-    match step {
-        Step::Ticks(count) => {
-            // (for its contract: a count is 1 to 60000)
-            let _count = count.get();
-            Head::Ticks { who, count: *count }
-        }
-        Step::Request {
+    match *step {
+        StepRef::Ticks(count) => Head::Ticks { who, count },
+        StepRef::Request {
             functional,
-            message,
+            bytes: request,
         } => {
             let start = bytes.len();
-            let request = message_bytes(message);
             append(bytes, request);
             match reply {
                 Some(reply) => {
-                    let reply = message_bytes(reply);
                     append(bytes, reply);
                     Head::Answered {
                         who,
-                        functional: *functional,
+                        functional,
                         request_len: request.len() as u16,
                         reply_len: reply.len() as u16,
                         start,
@@ -154,7 +148,7 @@ pub(crate) fn head_of(
                 }
                 None => Head::Silent {
                     who,
-                    functional: *functional,
+                    functional,
                     request_len: request.len() as u16,
                     start,
                 },

@@ -27,7 +27,7 @@ use crate::usual::{
     read_front, read_request, short_front,
 };
 use crate::version::JournalVersion;
-use diag_ecu::Ecu;
+use diag_ecu::{Ecu, Effect};
 use diag_pdu::Message;
 use diag_setup::{Setup, TesterId};
 use std::alloc::{AllocError, Global};
@@ -145,16 +145,18 @@ impl Play {
             ↔ (option_map decoded (option_copied reply.entry)
             ≡ ecu.reply self.old.ecu who functional (decoded message.now))) }
         ensures state { IfOk result (λ same. OnTrue same
-            (self.new.ecu ≡ ecu.after_request self.old.ecu who functional (decoded message.now))) }
+            (self.new.ecu ≡ ecu.after_request self.old.ecu who (decoded message.now))) }
     {
         read_into(&mut self.bytes, message)?;
         let message = Message::of(alloc, self.bytes.as_slice())?;
-        let said = self.ecu.reply(who, functional, &message)?;
+        let mut said = None;
+        let effect = self
+            .ecu
+            .put_reply(who, functional, message.bytes(), &mut said)?;
         if !is_said(&mut self.bytes, reply, said.as_ref())? {
             return Ok(false);
         }
-        self.ecu
-            .settle_answered(who, functional, message.bytes(), said.as_ref());
+        self.ecu.apply(who, message.bytes(), effect);
         Ok(true)
     }
 
@@ -235,7 +237,7 @@ fn answers_read<'a>(
     let Some(rest) = behind(b'\n', text) else {
         return None;
     };
-    ecu.settle_read(who, functional, front.high, front.low);
+    ecu.apply(who, &[0x22, front.high, front.low], Effect::Nothing);
     Some(rest)
 }
 
@@ -270,7 +272,7 @@ fn answers_bytes<'a>(
     ensures none { IfNone result (ecu.new ≡ ecu.old) }
 {
     let mut said = None;
-    let Ok(()) = ecu.put_reply(who, functional, bytes, &mut said) else {
+    let Ok(effect) = ecu.put_reply(who, functional, bytes, &mut said) else {
         return None;
     };
     let Some(text) = behind_reply(said.as_ref(), text) else {
@@ -279,7 +281,7 @@ fn answers_bytes<'a>(
     let Some(rest) = behind(b'\n', text) else {
         return None;
     };
-    ecu.settle_answered(who, functional, bytes, said.as_ref());
+    ecu.apply(who, bytes, effect);
     Some(rest)
 }
 

@@ -1,11 +1,12 @@
 //! The journal: the steps of all testers in their order, with the replies.
 ghost use Rattle.std.specs.Prelude.{◌≡◌, ◌≢◌, ◌↔◌, ◌≤◌, ◌+◌, ◌++◌, ◌∷◌, [], length, unwrap_or, IsTrue, OnOk, OnErr, IfSome, Err, option_map, option_copied, slice_get};
 ghost use Rattle.diag_desk.specs.Entries.{entry};
-ghost use Rattle.diag_desk.specs.Entry.{entry_seen, HasNoReply, HasRoom, IsEntry, IsJournal, step_len, most_entries};
+ghost use Rattle.diag_desk.specs.Entry.{entry_seen, step_seen, HasNoReply, HasRoom, HasRoomFor, IsEntry, IsJournal, IsStep, step_len, most_entries};
 ghost use Rattle.diag_desk.specs.Line.{HasHex, line_entry};
 
-use crate::entry::{EntryRef, MOST_ENTRIES};
-use crate::flat::{Head, entry_at, head_of, head_of_line, len_of, step_len};
+use crate::desk::StepFault;
+use crate::entry::{EntryRef, MOST_ENTRIES, StepRef};
+use crate::flat::{Head, bytes_of, entry_at, head_of, head_of_line, len_of, step_len};
 use crate::line::Line;
 use crate::version::JournalVersion;
 use diag_pdu::{Message, Step};
@@ -116,20 +117,20 @@ impl Journal {
         if self.heads.reserve(1).is_err() || self.bytes.reserve(room).is_err() {
             return Err(JournalPush::Memory);
         }
-        self.add(who, step, reply);
+        self.add(who, &StepRef::of(step), bytes_of(reply));
         Ok(())
     }
 
     /// Adds an entry at the end, for which there is room.
     #[inline(always)]
-    pub(crate) fn add(&mut self, who: TesterId, step: &Step, reply: Option<&Message>)
-        requires no_reply { HasNoReply step.now (option_copied reply) }
+    pub(crate) fn add(&mut self, who: TesterId, step: &StepRef<'_>, reply: Option<&[u8]>)
+        requires step { IsStep (step_seen step.now) (option_copied reply) }
         requires open { length self.old.entries ≢ most_entries }
         requires head { 1 ≤ self.old.entry_room }
-        requires room { step_len step.now + length (unwrap_or (option_copied reply) [])
+        requires room { step_len (step_seen step.now) + length (unwrap_or (option_copied reply) [])
             ≤ self.old.byte_room }
-        ensures ok { self.new.entries
-            ≡ self.old.entries ++ entry who step.now (option_copied reply.entry) ∷ [] }
+        ensures ok { self.new.entries ≡ self.old.entries
+            ++ entry who (step_seen step.now) (option_copied reply.entry) ∷ [] }
         ensures journal { IsJournal self.new.entries }
     {
         let head = head_of(&mut self.bytes, who, step, reply);
@@ -163,8 +164,37 @@ impl Journal {
         ensures same { self.new.entries ≡ self.old.entries }
         ensures ok { OnOk result (HasRoom self.new step.now) }
     {
+        self.reserve(step_len(step))
+    }
+
+    /// Makes room for an entry whose request has so many bytes, with any reply, where one more is taken. Refused, the
+    /// entries are as before; that the journal is full is looked at first.
+    #[inline(always)]
+    pub(crate) fn open(&mut self, len: usize) -> Result<(), StepFault>
+        requires fits { len ≤ 65535 }
+        ensures same { self.new.entries ≡ self.old.entries }
+        ensures room { OnOk result (HasRoomFor self.new len) }
+        ensures full { (result ≡ Err StepFault.JournalFull) ↔ (length self.old.entries ≡ most_entries) }
+        ensures limit { length self.new.entries ≤ most_entries }
+    {
+        // (for its contract: a journal has at most 1,000,000 entries)
+        let _ = &self.heads;
+        if self.is_full() {
+            return Err(StepFault::JournalFull);
+        }
+        self.reserve(len)?;
+        Ok(())
+    }
+
+    /// Makes room for an entry whose request has so many bytes, with any reply.
+    #[inline(always)]
+    fn reserve(&mut self, len: usize) -> Result<(), AllocError>
+        requires fits { len ≤ 65535 }
+        ensures same { self.new.entries ≡ self.old.entries }
+        ensures ok { OnOk result (HasRoomFor self.new len) }
+    {
         self.heads.reserve(1)?;
-        self.bytes.reserve(step_len(step) + Message::MAX)
+        self.bytes.reserve(len + Message::MAX)
     }
 
     /// No fewer bytes than the journal's text of this version has.

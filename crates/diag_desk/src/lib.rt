@@ -19,7 +19,7 @@ mod text;
 mod usual;
 mod version;
 
-pub use desk::{Desk, StepFault, put_reply, settle_answered};
+pub use desk::{Desk, StepFault};
 pub use entry::{Entry, EntryRef, MOST_ENTRIES, StepRef};
 pub use following::{Replayed, TextFault, TextReplay};
 pub use journal::{Journal, JournalPush};

@@ -79,10 +79,10 @@ fn play(ecu: &mut Ecu, entry: &EntryRef<'_>) -> Result<bool, AllocError>
     match entry.step {
         StepRef::Request { functional, bytes } => {
             let mut reply = None;
-            ecu.put_reply(entry.who, functional, bytes, &mut reply)?;
+            let effect = ecu.put_reply(entry.who, functional, bytes, &mut reply)?;
             let same = is_same(entry.reply, reply.as_ref());
             if same {
-                ecu.settle_answered(entry.who, functional, bytes, reply.as_ref());
+                ecu.apply(entry.who, bytes, effect);
             }
             Ok(same)
         }

@@ -32,10 +32,11 @@ pub fn journal_text_at(alloc: Global, journal: &Journal) -> Result<Vec<u8>, Allo
     write_all(alloc, journal, JournalVersion::Stamped)
 }
 
-/// Appends the line of an entry in this version; `before` is the ticks of its tester before it.
+/// Appends the line of an entry in this version; `before` is the ticks of its tester before it. (Not inlined: a step of
+/// which no line is written is quicker so.)
 ///
 /// After an error the bytes that stood there are as before.
-#[inline(always)]
+#[inline(never)]
 pub fn write_entry(
     text: &mut Vec<u8>,
     version: JournalVersion,

@@ -55,6 +55,12 @@ EntersOne old before k new = EntersMore old new before (Some k)
     × (new.count ≡ old.count + 1)
     × (new.count ≤ most_entries)
 
+-- what an entry that isn't taken leaves: the same but for room
+abbrev pub IsUnkept : JournalLines → JournalLines → Type 0
+IsUnkept old new = (new.text.items ≡ old.text.items)
+    × (new.version ≡ old.version)
+    × (new.count ≡ old.count)
+
 -- ---- the reply lines
 
 -- the lines of the tester of this name, who was sent these frames

@@ -1,13 +1,17 @@
 //! The text of a play's journal, as it is written entry by entry.
 
-ghost use Rattle.std.specs.Prelude.{◌≡◌, [], IfOk};
-ghost use Rattle.diag_run.specs.Playing.{Enters, version_of};
+ghost use Rattle.std.specs.Prelude.{◌≡◌, ◌≤◌, [], Err, IfOk, OnErr, OnOk};
+ghost use Rattle.diag_desk.specs.Entry.{entry_seen, most_entries};
+ghost use Rattle.diag_world.specs.Server.{closing_time};
+ghost use Rattle.diag_run.specs.Playing.{Enters, EntersOne, IsUnkept, version_of};
 
-use diag_can::Timing;
-use diag_desk::{JournalVersion, MOST_ENTRIES, StepFault, write_header};
-use diag_pdu::{Message, Step};
+use diag_can::{TickCount, Timing};
+use diag_desk::{
+    EntryRef, JournalVersion, MOST_ENTRIES, StepFault, StepRef, write_entry, write_header,
+};
+use diag_pdu::{Message, Request};
 use diag_setup::TesterId;
-use diag_world::{Keeper, enter_step};
+use diag_world::Keeper;
 use std::alloc::{AllocError, Global};
 
 /// The journal's text, and how many entries it has.
@@ -39,36 +43,63 @@ impl JournalLines {
             count: 0,
         })
     }
+
+    /// Appends the line of an entry; `before` is the ticks of its tester before it.
+    fn enter(&mut self, before: u64, entry: &EntryRef<'_>) -> Result<(), StepFault>
+        requires early { before ≤ closing_time }
+        ensures kept { OnOk result (EntersOne self.old before (entry_seen entry.now) self.new) }
+        ensures full { result ≡ Err StepFault.JournalFull → most_entries ≤ self.old.count }
+        ensures err { OnErr result (IsUnkept self.old self.new) }
+    {
+        if self.count >= MOST_ENTRIES {
+            return Err(StepFault::JournalFull);
+        }
+        write_entry(&mut self.text, self.version, before, entry)?;
+        self.count += 1;
+        Ok(())
+    }
 }
 
 impl Keeper for JournalLines {
     ghost use Rattle.std.specs.Prelude.{◌≡◌, ◌≤◌, refl};
     ghost use Rattle.diag_desk.specs.Entry.{most_entries};
-    ghost use Rattle.diag_run.specs.Playing.{EntersOne};
+    ghost use Rattle.diag_run.specs.Playing.{EntersOne, IsUnkept};
 
     ghost keeps = { EntersOne };
 
     ghost is_full = { λ lines. most_entries ≤ lines.count };
 
-    ghost unkept = { λ old new. (new.text.items ≡ old.text.items)
-        × (new.version ≡ old.version)
-        × (new.count ≡ old.count) };
+    ghost unkept = { IsUnkept };
 
     ghost place = { λ _. 0 };
 
-    fn keep(
+    fn keep_request(
         &mut self,
         before: u64,
         who: TesterId,
-        step: &Step,
+        request: &Request,
         reply: Option<&Message>,
     ) -> Result<(), StepFault> {
-        if self.count >= MOST_ENTRIES {
-            return Err(StepFault::JournalFull);
-        }
-        enter_step(&mut self.text, self.version, before, who, step, reply)?;
-        self.count += 1;
-        Ok(())
+        let entry = EntryRef {
+            who,
+            step: StepRef::of_request(request),
+            reply: reply.map(Message::bytes),
+        };
+        self.enter(before, &entry)
+    }
+
+    fn keep_ticks(
+        &mut self,
+        before: u64,
+        who: TesterId,
+        count: TickCount,
+    ) -> Result<(), StepFault> {
+        let entry = EntryRef {
+            who,
+            step: StepRef::of_ticks(count),
+            reply: None,
+        };
+        self.enter(before, &entry)
     }
 
     ghost unkept_same = { λ _. (refl, refl, refl) };

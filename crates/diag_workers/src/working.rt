@@ -4,16 +4,17 @@ ghost use Rattle.diag_can.specs.Log.{most_events};
 ghost use Rattle.diag_tp.specs.Gives.{steps};
 ghost use Rattle.diag_tp.specs.Placing.{drawn};
 ghost use Rattle.diag_setup.specs.Setup.{link_of};
-ghost use Rattle.diag_desk.specs.Entries.{asked_by, replies};
+ghost use Rattle.diag_desk.specs.Entries.{asked_by, entry, replies};
+ghost use Rattle.diag_desk.specs.Entry.{HasNoReply};
 ghost use Rattle.diag_world.specs.Channel.{due, channel_of, ChannelStands};
 ghost use Rattle.diag_world.specs.Weaving.{all_by};
-ghost use Rattle.diag_workers.specs.Work.{AskedSome, CanKeep, PlayedLog, WorkerTook};
+ghost use Rattle.diag_workers.specs.Work.{AskedSome, CanKeep, HasAsked, PlayedLog, WorkerTook};
 
 use crate::keeping::Keep;
-use diag_can::Event;
+use diag_can::{Event, TickCount};
 use diag_desk::{Journal, StepFault};
 use diag_gate::Door;
-use diag_pdu::{LinkSetup, Message, Step};
+use diag_pdu::{LinkSetup, Message, Request, Step};
 use diag_setup::{Setup, TesterId};
 use diag_tp::Sent;
 use diag_world::{Channel, TakeSteps};
@@ -135,6 +136,28 @@ struct Asking<'w, K, D> {
     door: &'w mut D,
 }
 
+impl<'w, K: Keep, D: Door> Asking<'w, K, D> {
+    /// Asks the door for a step, and keeps its entry. All that can be refused here comes before the door is asked.
+    fn ask(&mut self, step: &Step) -> Result<Option<Message>, StepFault>
+        requires keep { CanKeep K.keeps self.old.entries.now }
+        ensures asked { IfOk result (λ reply. HasAsked K.keeps (D.given self.old.door.now)
+            (D.given self.new.door.now) self.old.entries.now self.new.entries.now
+            (entry (D.tester self.old.door.now) step.now reply)) }
+        ensures ticks_unanswered { IfOk result (λ reply. HasNoReply step.now reply) }
+        ensures refused { OnErr result (D.given self.new.door.now ≡ D.given self.old.door.now) }
+        ensures entries { self.new.entries.ghost_name ≡ self.old.entries.ghost_name }
+        ensures door { self.new.door.ghost_name ≡ self.old.door.ghost_name }
+        ensures tester { D.tester self.new.door.now ≡ D.tester self.old.door.now }
+        ensures home { D.home self.new.door.now ≡ D.home self.old.door.now }
+    {
+        let who = self.door.who();
+        self.entries.prepare(step)?;
+        let reply = self.door.step(step)?;
+        self.entries.enter(who, step, reply.as_ref());
+        Ok(reply)
+    }
+}
+
 impl<'w, K: Keep, D: Door> TakeSteps for Asking<'w, K, D> {
     ghost use Rattle.std.specs.Prelude.{◌≡◌, ⊤, refl};
     ghost use Rattle.diag_workers.specs.Work.{CanKeep, HasAsked};
@@ -154,16 +177,26 @@ impl<'w, K: Keep, D: Door> TakeSteps for Asking<'w, K, D> {
         × (D.tester new.door.now ≡ D.tester old.door.now)
         × (D.home new.door.now ≡ D.home old.door.now) };
 
-    fn take_step(
+    fn take_request(
         &mut self,
         _before: u64,
-        who: TesterId,
-        step: &Step,
+        _who: TesterId,
+        request: &Request,
         reply: &mut Option<Message>,
     ) -> Result<(), StepFault> {
-        self.entries.prepare(step)?;
-        *reply = self.door.step(step)?;
-        self.entries.enter(who, step, reply.as_ref());
+        // (a door is asked for a step, which owns its request)
+        let step = Step::Request(request.try_copy()?);
+        *reply = self.ask(&step)?;
+        Ok(())
+    }
+
+    fn take_ticks(
+        &mut self,
+        _before: u64,
+        _who: TesterId,
+        count: TickCount,
+    ) -> Result<(), StepFault> {
+        self.ask(&Step::Ticks(count))?;
         Ok(())
     }
 

@@ -4,7 +4,7 @@ use crate::gate::given::{desk_of_two, tester};
 use crate::trouble::{Trouble, holds};
 use diag_can::{FrameBytes, TickCount};
 use diag_desk::{Desk, MOST_ENTRIES, StepFault};
-use diag_pdu::{Message, Step};
+use diag_pdu::{Message, Request, Step};
 use diag_setup::TesterId;
 
 /// Takes so many steps of one tick.
@@ -24,10 +24,10 @@ fn is_full(desk: &Desk) -> bool {
 
 /// Whether a request is refused, since the journal is full.
 fn refuses(desk: &mut Desk, who: TesterId) -> bool {
-    let session = Step::Request {
+    let session = Step::Request(Request {
         functional: false,
         message: Message::in_place(FrameBytes::from_slice(b"\x10\x03")),
-    };
+    });
     matches!(desk.step(who, &session), Err(StepFault::JournalFull))
 }
 

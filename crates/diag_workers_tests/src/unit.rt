@@ -8,7 +8,7 @@ use crate::link::opened as opened_link;
 use crate::trouble::{Trouble, holds};
 use diag_can::{Event, Frame, FrameBytes, TickCount};
 use diag_ecu::Ecu;
-use diag_pdu::{Message, Step};
+use diag_pdu::{Message, Request};
 use diag_setup::TesterId;
 use diag_tp::Link;
 use std::alloc::{AllocError, Global};
@@ -31,19 +31,13 @@ fn send_due<D: Driver>(link: &mut Link, driver: &mut D)
 fn reply_to(
     ecu: &mut Ecu,
     who: TesterId,
-    asked: Option<&Step>,
+    asked: Option<&Request>,
 ) -> Result<Option<Message>, AllocError>
     ensures { OnErr result (ecu.new ≡ ecu.old) }
 {
-    let Some(step) = asked else {
-        return Ok(None);
-    };
-    match step {
-        Step::Request {
-            functional,
-            message,
-        } => ecu.request(who, *functional, message),
-        Step::Ticks(_) => Ok(None),
+    match asked {
+        Some(request) => ecu.request(who, request.functional, &request.message),
+        None => Ok(None),
     }
 }
 

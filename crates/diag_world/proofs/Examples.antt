@@ -4,6 +4,7 @@ use Rattle.diag_can.specs.declared.frame.Event.{Event}
 use Rattle.diag_can.specs.declared.frame.Event.TheVariants.{Physical, Ticks}
 use Rattle.diag_pdu.specs.declared.setup.LinkSetup.{LinkSetup}
 use Rattle.diag_pdu.specs.declared.step.Step.TheVariants as step
+use Rattle.diag_pdu.specs.Request.{request_of}
 use Rattle.diag_tp.specs.Gives.{gives, steps}
 use Rattle.diag_pdu.specs.Kind.{kind}
 use Rattle.diag_tp.specs.Placing.{moments_of_steps, placed}
@@ -31,7 +32,7 @@ long_log = Physical (16 ∷ 8 ∷ 1 ∷ 2 ∷ 3 ∷ 4 ∷ 5 ∷ 6 ∷ []) ∷ Ti
 abbrev short_log : List Event
 short_log = Physical (2 ∷ 62 ∷ 0 ∷ []) ∷ []
 
-long_steps : steps (links 1) long_log ≡ step.Ticks 2 ∷ step.Request false (1 ∷ 2 ∷ 3 ∷ 4 ∷ 5 ∷ 6 ∷ 7 ∷ 8 ∷ []) ∷ []
+long_steps : steps (links 1) long_log ≡ step.Ticks 2 ∷ step.Request (request_of false (1 ∷ 2 ∷ 3 ∷ 4 ∷ 5 ∷ 6 ∷ 7 ∷ 8 ∷ [])) ∷ []
 unfolding gives kind open_at
 long_steps = refl
 
@@ -49,7 +50,7 @@ in_turn : turns (long_log ∷ short_log ∷ [])
 in_turn = refl
 
 steps_in_turn : steps_of links (turns (long_log ∷ short_log ∷ []))
-    ≡ (2, step.Request false (62 ∷ 0 ∷ [])) ∷ (1, step.Ticks 2) ∷ (1, step.Request false (1 ∷ 2 ∷ 3 ∷ 4 ∷ 5 ∷ 6 ∷ 7 ∷ 8 ∷ [])) ∷ []
+    ≡ (2, step.Request (request_of false (62 ∷ 0 ∷ []))) ∷ (1, step.Ticks 2) ∷ (1, step.Request (request_of false (1 ∷ 2 ∷ 3 ∷ 4 ∷ 5 ∷ 6 ∷ 7 ∷ 8 ∷ []))) ∷ []
 unfolding gives kind open_at
 steps_in_turn = refl
 
@@ -57,8 +58,8 @@ steps_in_turn = refl
 abbrev journal : List Entry
 journal =
     record { who = 1; step = step.Ticks 2; reply = None }
-    ∷ record { who = 2; step = step.Request false (62 ∷ 0 ∷ []); reply = Some (126 ∷ 0 ∷ []) }
-    ∷ record { who = 1; step = step.Request false (1 ∷ 2 ∷ 3 ∷ 4 ∷ 5 ∷ 6 ∷ 7 ∷ 8 ∷ []); reply = None } ∷ []
+    ∷ record { who = 2; step = step.Request (request_of false (62 ∷ 0 ∷ [])); reply = Some (126 ∷ 0 ∷ []) }
+    ∷ record { who = 1; step = step.Request (request_of false (1 ∷ 2 ∷ 3 ∷ 4 ∷ 5 ∷ 6 ∷ 7 ∷ 8 ∷ [])); reply = None } ∷ []
 
 woven : weave links journal (long_log ∷ short_log ∷ [])
     ≡ (1, Physical (16 ∷ 8 ∷ 1 ∷ 2 ∷ 3 ∷ 4 ∷ 5 ∷ 6 ∷ [])) ∷ (1, Ticks 2) ∷ (2, Physical (2 ∷ 62 ∷ 0 ∷ [])) ∷ (1, Physical (33 ∷ 7 ∷ 8 ∷ [])) ∷ []

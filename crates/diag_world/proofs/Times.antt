@@ -41,7 +41,7 @@ ticks_own (k ∷ K) t = pick (k.who == t) (ticks_own K t)
 -- a request has no ticks
 no_ticks_of : (o : Option Step) → (IsSome o → IsTrue (is_request o)) → sum_by ticks_in (option_to_list o) ≡ 0
 no_ticks_of None request = refl
-no_ticks_of (Some (step.Request functional message)) request = refl
+no_ticks_of (Some (step.Request asked)) request = refl
 no_ticks_of (Some (step.Ticks n)) request = absurd (clash (request refl))
   where
     clash : false ≡ true → ⊥

@@ -13,7 +13,7 @@ use Rattle.diag_tp.specs.Wire.{Placed, wire}
 use Rattle.diag_tp.specs.State.{LinkState, LinkView}
 use Rattle.diag_tp.specs.declared.taken.Taken.{Taken}
 use Rattle.diag_tp.specs.Taken.{IsTaken, FitsIn, asked_in}
-use Rattle.diag_tp.specs.Link.{EachHistory, StandsFor, has_reply_room, last_tick, pending, unsent}
+use Rattle.diag_tp.specs.Link.{EachHistory, StandsFor, asked_of, has_reply_room, last_tick, pending, unsent}
 use Rattle.diag_desk.specs.declared.entry.Entry.{Entry}
 use Rattle.diag_desk.specs.Entries.{asked, entry, replies}
 use Rattle.diag_pdu.specs.declared.step.Step.{Step}
@@ -43,7 +43,7 @@ pub record IsPrepared (link : LinkView) (e : Event) (taken : Taken) (len capacit
   pub fits : FitsIn link taken
   pub reply_room : IsTrue (has_reply_room link)
   pub room : len + unsent link.state + 2 ≤ capacity
-  pub step : EachHistory link.state (λ s E A Q. asked_in link taken ≡ gives s E e)
+  pub step : EachHistory link.state (λ s E A Q. asked_of (asked_in link taken) ≡ gives s E e)
 
 -- whatever a link stands for, the event gives a step
 abbrev pub GivesStep : LinkState → Event → Type 0

@@ -1,15 +1,14 @@
 //! Who keeps the journal of what a server takes.
 
-ghost use Rattle.std.specs.Prelude.{◌≡◌, ◌≤◌, ◌+◌, ◌++◌, Err, OnOk, OnErr, option_copied};
-ghost use Rattle.diag_desk.specs.Entries.{entry};
-ghost use Rattle.diag_desk.specs.Entry.{step_seen};
-ghost use Rattle.diag_desk.specs.Text.{ended, entry_line, stamped_line, ticks_in};
+ghost use Rattle.std.specs.Prelude.{◌≡◌, ◌≤◌, Err, OnOk, OnErr, option_copied};
+ghost use Rattle.diag_desk.specs.Entries.{asks};
+ghost use Rattle.diag_world.specs.Port.{entry_of_ticks};
 ghost use Rattle.diag_world.specs.Server.{closing_time};
 
-use diag_desk::{EntryRef, JournalVersion, StepFault, StepRef, write_entry};
-use diag_pdu::{Message, Step};
+use diag_can::TickCount;
+use diag_desk::StepFault;
+use diag_pdu::{Message, Request};
 use diag_setup::TesterId;
-use std::alloc::AllocError;
 
 /// Keeps the entries of what a server takes, or passes them over.
 pub trait Keeper {
@@ -28,20 +27,31 @@ pub trait Keeper {
     /// The name of what is written to, where that is borrowed.
     ghost place: { Self → ℕ };
 
-    /// Keeps the entry of a step and its reply; `before` is the ticks of its tester before it.
+    /// Keeps the entry of a request and its reply; `before` is the ticks of its tester before it.
     ///
     /// # Errors
     /// `JournalFull` where no further entry can be kept, `Memory` where memory is refused. What is kept is then as before.
-    fn keep(
+    fn keep_request(
         &mut self,
         before: u64,
         who: TesterId,
-        step: &Step,
+        request: &Request,
         reply: Option<&Message>,
     ) -> Result<(), StepFault>
         requires early { before ≤ closing_time }
         ensures kept { OnOk result
-            (keeps self.old before (entry who step.now (option_copied reply.entry)) self.new) }
+            (keeps self.old before (asks who request.now (option_copied reply.entry)) self.new) }
+        ensures full { result ≡ Err StepFault.JournalFull → is_full self.old }
+        ensures err { OnErr result (unkept self.old self.new) }
+        ensures place { place self.new ≡ place self.old };
+
+    /// Keeps the entry of so many ticks; `before` is the ticks of their tester before them.
+    ///
+    /// # Errors
+    /// As `keep_request`.
+    fn keep_ticks(&mut self, before: u64, who: TesterId, count: TickCount) -> Result<(), StepFault>
+        requires early { before ≤ closing_time }
+        ensures kept { OnOk result (keeps self.old before (entry_of_ticks who count) self.new) }
         ensures full { result ≡ Err StepFault.JournalFull → is_full self.old }
         ensures err { OnErr result (unkept self.old self.new) }
         ensures place { place self.new ≡ place self.old };
@@ -65,58 +75,19 @@ impl Keeper for NoJournal {
 
     ghost place = { λ _. 0 };
 
-    fn keep(
+    fn keep_request(
         &mut self,
-        _before: u64,
-        _who: TesterId,
-        _step: &Step,
-        _reply: Option<&Message>,
+        _: u64,
+        _: TesterId,
+        _: &Request,
+        _: Option<&Message>,
     ) -> Result<(), StepFault> {
         Ok(())
     }
 
-    ghost unkept_same = { λ _. refl };
-}
-
-/// Appends the line of the entry of a step and its reply in this version; `before` is the ticks of its tester before
-/// it. After an error the text is as before. (Not inlined: what a line is made of is passed in registers.)
-#[inline(never)]
-pub fn enter_step(
-    text: &mut Vec<u8>,
-    version: JournalVersion,
-    before: u64,
-    who: TesterId,
-    step: &Step,
-    reply: Option<&Message>,
-) -> Result<(), AllocError>
-    requires early { before ≤ closing_time }
-    ensures ok { OnOk result (text.new.items ≡ text.old.items
-        ++ ended (stamped_line version (before + ticks_in step.now)
-        (entry_line (entry who step.now (option_copied reply.entry))))) }
-    ensures err { OnErr result (text.new.items ≡ text.old.items) }
-{
-    let entry = EntryRef {
-        who,
-        step: show_step(step),
-        reply: reply.map(Message::bytes),
-    };
-    write_entry(text, version, before, &entry)?;
-    Ok(())
-}
-
-/// A step as a journal shows one; a message is the step's own bytes.
-#[inline(always)]
-fn show_step(step: &Step) -> StepRef<'_>
-    ensures { step_seen result ≡ step.now }
-{
-    match step {
-        Step::Request {
-            functional,
-            message,
-        } => StepRef::Request {
-            functional: *functional,
-            bytes: message.bytes(),
-        },
-        Step::Ticks(count) => StepRef::Ticks(*count),
+    fn keep_ticks(&mut self, _: u64, _: TesterId, _: TickCount) -> Result<(), StepFault> {
+        Ok(())
     }
+
+    ghost unkept_same = { λ _. refl };
 }

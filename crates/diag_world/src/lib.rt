@@ -14,7 +14,7 @@ mod taking;
 mod world;
 
 pub use channel::Channel;
-pub use keeper::{Keeper, NoJournal, enter_step};
+pub use keeper::{Keeper, NoJournal};
 pub use laws::{interleaving_law, turns_law, weaving_law};
 pub use serial_play::{Played, serial};
 pub use server::{CLOSING_TIME, Server, ServerFault};

@@ -154,9 +154,9 @@ fn take_request<T: TakeSteps>(
     ensures stays { T.stays taker.old taker.new }
 {
     match link.request(taken) {
-        Some(step) => {
+        Some(request) => {
             let mut reply = None;
-            taker.take_step(link.now(), who, step, &mut reply)?;
+            taker.take_request(link.now(), who, request, &mut reply)?;
             receive(link, event, taken, &mut reply, out);
         }
         None => take_silent(link, event, taken, out),

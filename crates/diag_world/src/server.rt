@@ -36,9 +36,9 @@ use crate::lazy_link::LazyLink;
 use crate::port;
 use crate::stepping::TakeSteps;
 use diag_can::{Event, TickCount};
-use diag_desk::{StepFault, put_reply, settle_answered};
+use diag_desk::StepFault;
 use diag_ecu::Ecu;
-use diag_pdu::{Message, Step};
+use diag_pdu::{Message, Request};
 use diag_setup::{Setup, TesterId};
 use diag_tp::{Link, Sent};
 use std::alloc::{AllocError, Global};
@@ -228,16 +228,18 @@ impl<'a, K: Keeper> TakeSteps for Answering<'a, K> {
         × (K.place new.keeper.now ≡ K.place old.keeper.now) };
 
     #[inline(always)]
-    fn take_step(
+    fn take_request(
         &mut self,
         before: u64,
         who: TesterId,
-        step: &Step,
+        request: &Request,
         reply: &mut Option<Message>,
     ) -> Result<(), StepFault> {
-        put_reply(self.ecu, who, step, reply)?;
-        self.keeper.keep(before, who, step, reply.as_ref())?;
-        settle_answered(self.ecu, who, step, reply.as_ref());
+        let bytes = request.message.bytes();
+        let effect = self.ecu.put_reply(who, request.functional, bytes, reply)?;
+        self.keeper
+            .keep_request(before, who, request, reply.as_ref())?;
+        self.ecu.apply(who, bytes, effect);
         Ok(())
     }
 
@@ -248,7 +250,7 @@ impl<'a, K: Keeper> TakeSteps for Answering<'a, K> {
         who: TesterId,
         count: TickCount,
     ) -> Result<(), StepFault> {
-        self.keeper.keep(before, who, &Step::Ticks(count), None)?;
+        self.keeper.keep_ticks(before, who, count)?;
         self.ecu.ticks(who, count);
         Ok(())
     }

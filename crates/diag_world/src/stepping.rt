@@ -1,13 +1,12 @@
 //! Who takes the steps that events give.
 
 ghost use Rattle.std.specs.Prelude.{◌≡◌, Err, None, OnErr, OnOk};
-ghost use Rattle.diag_desk.specs.Entries.{entry};
-ghost use Rattle.diag_desk.specs.Entry.{HasNoReply};
+ghost use Rattle.diag_desk.specs.Entries.{asks};
 ghost use Rattle.diag_world.specs.Port.{entry_of_ticks};
 
 use diag_can::TickCount;
 use diag_desk::{Desk, StepFault};
-use diag_pdu::{Message, Step};
+use diag_pdu::{Message, Request};
 use diag_setup::TesterId;
 
 /// Takes the testers' steps and answers them: a desk, a server's ECU with who keeps its journal, or whoever asks a door.
@@ -30,22 +29,22 @@ pub trait TakeSteps {
     /// What no step changes, as the names of what it borrows.
     ghost stays: { Self → Self → Type 0 };
 
-    /// Takes a step of a tester, whose clock told `before` before it, and puts the reply in its place, where nothing
-    /// stands. Ticks have no reply.
+    /// Takes a request of a tester, whose clock told `before` before it, and puts the reply in its place, where nothing
+    /// stands.
     ///
     /// # Errors
-    /// `JournalFull` where there is no room for an entry more, `Memory` where memory is refused. The step isn't taken then.
-    fn take_step(
+    /// `JournalFull` where there is no room for an entry more, `Memory` where memory is refused. The request isn't taken
+    /// then.
+    fn take_request(
         &mut self,
         before: u64,
         who: TesterId,
-        step: &Step,
+        request: &Request,
         reply: &mut Option<Message>,
     ) -> Result<(), StepFault>
         requires allows { allows self.old who before }
         requires none { reply.old ≡ None }
-        ensures took { OnOk result (takes self.old before (entry who step.now reply.new) self.new) }
-        ensures ticks_unanswered { OnOk result (HasNoReply step.now reply.new) }
+        ensures took { OnOk result (takes self.old before (asks who request.now reply.new) self.new) }
         ensures full { result ≡ Err StepFault.JournalFull → is_full self.old }
         ensures refused { OnErr result (refuses self.old self.new) }
         ensures stays { stays self.old self.new };
@@ -53,17 +52,13 @@ pub trait TakeSteps {
     /// Takes so many ticks of a tester, as the step that they are. They have no reply.
     ///
     /// # Errors
-    /// As `take_step`.
+    /// As `take_request`.
     fn take_ticks(&mut self, before: u64, who: TesterId, count: TickCount) -> Result<(), StepFault>
         requires allows { allows self.old who before }
         ensures took { OnOk result (takes self.old before (entry_of_ticks who count) self.new) }
         ensures full { result ≡ Err StepFault.JournalFull → is_full self.old }
         ensures refused { OnErr result (refuses self.old self.new) }
-        ensures stays { stays self.old self.new }
-    {
-        let mut reply = None;
-        self.take_step(before, who, &Step::Ticks(count), &mut reply)
-    }
+        ensures stays { stays self.old self.new };
 
     /// One that was asked nothing is as one that refused.
     ghost refuses_none: { (taker : Self) → refuses taker taker };
@@ -87,15 +82,24 @@ impl TakeSteps for Desk {
 
     ghost stays = { λ _ _. ⊤ };
 
-    fn take_step(
+    fn take_request(
         &mut self,
         _before: u64,
         who: TesterId,
-        step: &Step,
+        request: &Request,
         reply: &mut Option<Message>,
     ) -> Result<(), StepFault> {
-        *reply = self.step(who, step)?;
+        *reply = self.request(who, request)?;
         Ok(())
+    }
+
+    fn take_ticks(
+        &mut self,
+        _before: u64,
+        who: TesterId,
+        count: TickCount,
+    ) -> Result<(), StepFault> {
+        self.ticks(who, count)
     }
 
     ghost refuses_none = { λ _. refl };

@@ -2,7 +2,7 @@
 
 use crate::trouble::Trouble;
 use diag_desk::Desk;
-use diag_pdu::{Message, Step};
+use diag_pdu::{Message, Request, Step};
 use diag_setup::TesterId;
 use diag_stored::two_testers;
 use std::alloc::Global;
@@ -29,10 +29,10 @@ pub(crate) fn desk_of_two(alloc: Global) -> Result<Desk, Trouble> {
 
 /// A physical request.
 pub(crate) fn request(alloc: Global, bytes: &[u8]) -> Result<Step, Trouble> {
-    Ok(Step::Request {
+    Ok(Step::Request(Request {
         functional: false,
         message: Message::new(alloc, bytes)?,
-    })
+    }))
 }
 
 /// Whether a reply has these bytes.

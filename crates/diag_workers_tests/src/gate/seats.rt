@@ -18,7 +18,7 @@ fn is_busy(alloc: Global, gate: &Gate, seat: &mut Seat, bytes: &[u8]) -> Result<
     ensures { seat.new.gate ≡ seat.old.gate }
 {
     match gate.try_step(seat, request(alloc, bytes)?) {
-        Err(TryFault::Busy(Step::Request { message, .. })) => Ok(message.bytes() == bytes),
+        Err(TryFault::Busy(Step::Request(request))) => Ok(request.message.bytes() == bytes),
         _ => Err(Trouble::Wrong),
     }
 }

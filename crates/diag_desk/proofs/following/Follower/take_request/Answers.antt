@@ -1,7 +1,7 @@
 use Rattle.std.proofs.Common.{◌∷◌, [], ◌++◌, ◌∙◌, refl, sym, ap, arith, length-append}
 use Rattle.diag_ecu.specs.Respond.{reply}
-use Rattle.diag_pdu.specs.declared.step.Step.TheVariants.{Request}
-use Rattle.diag_desk.specs.Entries.{entry}
+use Rattle.diag_pdu.specs.Request.{request_of}
+use Rattle.diag_desk.specs.Entries.{asks}
 use Rattle.diag_desk.specs.Entry.{IsEntry}
 use Rattle.diag_desk.specs.Text.{line_after}
 use Rattle.diag_desk.proofs.ClockLemmas.{tells_still}
@@ -18,7 +18,7 @@ returns-clause-some c = λ past f.
     let old = c.args.self.now in
     let answered = c.in-Some.ensures.some in
     let said = reply old.play.ecu who functional answered.message in
-    let e = entry who (Request functional answered.message) said in
+    let e = asks who (request_of functional answered.message) said in
     let place = c.place-place.ensures in
     let is : IsEntry e = (omega (arith, place), omega (arith, place), (answered.is_message, answered.is_reply)) in
     let counted = f.count in

@@ -1,5 +1,5 @@
 use Rattle.std.proofs.Common.{rules}
-use Rattle.diag_world.proofs.server.AnsweringTakeSteps.take_step.Goals as goal
+use Rattle.diag_world.proofs.server.AnsweringTakeSteps.take_request.Goals as goal
 
 pub returns-clause-took : goal.returns-clause-took
 returns-clause-took g c = search rules
