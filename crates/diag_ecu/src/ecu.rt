@@ -176,9 +176,11 @@ impl Ecu {
 
     /// Goes to the state after a tester's request, which is the same for a functional and a physical one. It takes no
     /// memory, and asks the checks.
-    pub fn settle(&mut self, who: TesterId, message: &Message)
+    pub fn settle(&mut self, who: TesterId, functional: bool, message: &Message)
         ensures { self.new ≡ after_request self.old who message.now }
     {
+        // (it decides only what is sent)
+        let _ = functional;
         let p = message.bytes();
         let effect = self.effect(who, p);
         self.apply(who, p, effect);

@@ -1,4 +1,4 @@
-//! Diagnostic session control, ECU reset and tester present (ISO 14229-1:2013, 9.2, 9.3 and 9.6).
+//! DiagnosticSessionControl, ECUReset and TesterPresent (ISO 14229-1:2013, 9.2, 9.3 and 9.6).
 ghost use Rattle.std.specs.Prelude.{◌≡◌, IfNone};
 ghost use Rattle.diag_setup.specs.Setup.{first_holding};
 ghost use Rattle.diag_ecu.specs.Respond.{checks, positive_reply, sent_positive, session_effect, sub};
@@ -40,8 +40,8 @@ impl Ecu {
         say(&[0x50, sub_of(p), p2_high, p2_low, star_high, star_low])
     }
 
-    /// The code of the first check that holds of tester present; where none does, the reply is put in its place, or
-    /// none where the request asks for silence.
+    /// The code of the first check that holds of TesterPresent; where none does, the reply is put in its place, or none
+    /// where the request asks for silence.
     #[inline(always)]
     pub(crate) fn put_presence(
         &self,

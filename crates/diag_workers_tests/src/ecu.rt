@@ -93,7 +93,7 @@ fn leaves(alloc: Global, ecu: &mut Ecu, who: TesterId) -> Result<bool, Trouble> 
         None => false,
     };
     let stays = ecu.session_of(who) == Session::Extended;
-    ecu.settle(who, &request);
+    ecu.settle(who, false, &request);
     Ok(told && stays && ecu.session_of(who) == Session::Default)
 }
 
