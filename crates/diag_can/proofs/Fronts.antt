@@ -1,5 +1,5 @@
 -- A line of the usual form at the front of a text.
-use Rattle.std.proofs.Common.{◌≡◌, ◌==◌, ◌⊎◌, ℕ, ◌+◌, ◌-◌, ◌%◌, ◌<◌, ◌≤◌, nat_lt, true, false, cond, List, [], ◌∷◌, ◌++◌, append_assoc, length, length-append, take, drop, get_or, Some, None, refl, subst, sym, ap, ◌∙◌, arith, inl, inr, drop-cons, take-append-drop, length-take-le, length-drop}
+use Rattle.std.proofs.Common.{◌≡◌, ◌==◌, ◌⊎◌, ℕ, ◌+◌, ◌-◌, ◌%◌, ◌<◌, ◌≤◌, nat_lt, true, false, cond, List, [], ◌∷◌, ◌++◌, append_assoc, length, length-append, take, drop, get_or, Some, None, Ok, refl, subst, sym, ap, ◌∙◌, arith, inl, inr, drop-cons, take-append-drop, length-take-le, length-drop}
 use Rattle.std.specs.List.{prefix_len}
 use Rattle.std.proofs.lemmas.Bool.{agree_below, agree_below_at, cases_lt, eqb-true, ne_eqb}
 use Rattle.std.proofs.lemmas.Bool.Decides.{nat_tests}
@@ -9,14 +9,14 @@ use Rattle.std.proofs.lemmas.List.Elements.{All-append, All-cons, All-nil}
 use Rattle.std.proofs.lemmas.List.Sums.{prefix_len_passes}
 use lib.Seq.{drop-append_seam}
 use Rattle.hex.specs.Hex.{is_hex_digit}
-use Rattle.diag_can.specs.Bus.{HasNoFeed}
+use Rattle.diag_can.specs.Bus.{HasNoFeed, IsFirst}
 use Rattle.diag_can.specs.Lanes.{IsRunIn, IsWithin}
-use Rattle.diag_can.specs.Line.{id_of}
+use Rattle.diag_can.specs.Line.{id_of, line_says}
 use Rattle.diag_can.specs.Log.{is_feed, without_return}
 use Rattle.diag_can.specs.Stamp.{behind, is_mark, is_no_space}
-use Rattle.diag_can.specs.Usual.{BeginsFramed, IsFirstLine, IsUsual}
-use Rattle.diag_can.specs.declared.usual.UsualFrame.{UsualFrame}
-use Rattle.diag_can.proofs.UsualLines.{says-usual, usual_parts}
+use Rattle.diag_can.specs.Usual.{BeginsFramed, IsUsual}
+use Rattle.diag_can.specs.declared.bus.BusLine.{BusLine}
+use Rattle.diag_can.proofs.UsualLines.{bus_line-short, usual_parts}
 use Rattle.diag_can.proofs.Windows.{back_least, back_most, framed_within, front_least, front_most}
 
 plain : (c : ℕ) → 10 < c → is_feed c ≡ false
@@ -116,10 +116,6 @@ module _ (text : List ℕ) (place count : ℕ) (f : BeginsFramed text place) (ru
   abbrev line : List ℕ
   line = take end text
 
-  -- its frame, of this identifier
-  abbrev seen : ℕ → UsualFrame
-  seen id = record { id = id; at = place + 4 }
-
   long : length line ≡ end
   long = length-take-le end text (omega arith)
 
@@ -171,7 +167,7 @@ module _ (text : List ℕ) (place count : ℕ) (f : BeginsFramed text place) (ru
         let inside : k < end = omega (arith, long, lt) in
         ap is_feed (get_or-take end text k d inside ∙ get_or_default_zero text k d (omega (arith, fits, inside))) ∙ no_feed_to k inside
 
-    is_usual : (number : ℕ) → id_of (take 3 part) ≡ Some number → rest ≡ drop 4 part → 4 ≤ length part → count % 2 ≡ 0 → IsUsual line (seen number)
+    pub is_usual : (number : ℕ) → id_of (take 3 part) ≡ Some number → rest ≡ drop 4 part → 4 ≤ length part → count % 2 ≡ 0 → IsUsual line place number
     is_usual number is behind_is four even =
         let size : length line - (place + 4) ≡ count = omega (arith, long) in
         usual_parts line place number part (f.framed end (omega (arith, f.after)) (omega (arith, fits))) cut id is (hash ∙ ap (λ (t : List ℕ). Some t) behind_is) four
@@ -179,27 +175,23 @@ module _ (text : List ℕ) (place count : ℕ) (f : BeginsFramed text place) (ru
         (λ k from to. ap is_hex_digit (in_line k (omega (arith, long))) ∙ run.pass k (omega (arith, long)) (omega (arith, long)))
 
     -- it is the first line, whatever stands in front of its LF
-    is_first : (number : ℕ) (whole after : List ℕ) → text ≡ whole ++ 10 ∷ after → HasNoFeed whole → length whole ≤ end + 1 → line ≡ without_return whole
-        → IsUsual line (seen number) → IsFirstLine text (take (length text - length after - 1) text) line after (Some (seen number))
-    is_first number whole after is none short same usual =
+    is_first : (said : BusLine) (whole after : List ℕ) → text ≡ whole ++ 10 ∷ after → HasNoFeed whole → length whole ≤ end + 1 → line ≡ without_return whole
+        → line_says line ≡ Ok said → IsFirst text (take (length text - length after - 1) text) after (Some said)
+    is_first said whole after is none short same says =
         let fits : length whole ≤ 4096 = omega (arith, short, f.before, run.in_range) in
-        subst (λ (w : List ℕ). IsFirstLine text w line after (Some (seen number))) (sym (front_is text whole after is)) (record {
+        subst (λ (w : List ℕ). IsFirst text w after (Some said)) (sym (front_is text whole after is)) (record {
           is = is;
           plain = none;
-          line_is = same;
-          usual = usual;
-          says = says-usual whole line (seen number) usual fits same;
+          says = bus_line-short whole line said fits same says;
         })
 
     -- with an LF behind it, or a CR and an LF
-    pub front_line : (number : ℕ) (after : List ℕ) → (drop end text ≡ 10 ∷ after) ⊎ (drop end text ≡ 13 ∷ 10 ∷ after)
-        → id_of (take 3 part) ≡ Some number → rest ≡ drop 4 part → 4 ≤ length part → count % 2 ≡ 0
-        → IsFirstLine text (take (length text - length after - 1) text) line after (Some (seen number))
-    front_line number after (inl feed) is behind_is four even =
-        is_first number line after (sym (take-append-drop end text) ∙ ap (λ (t : List ℕ). line ++ t) feed) line_plain (omega (arith, long)) (sym without_cr)
-        (is_usual number is behind_is four even)
-    front_line number after (inr ends) is behind_is four even =
-        is_first number (line ++ 13 ∷ []) after
+    pub front_line : (said : BusLine) (after : List ℕ) → (drop end text ≡ 10 ∷ after) ⊎ (drop end text ≡ 13 ∷ 10 ∷ after)
+        → line_says line ≡ Ok said → IsFirst text (take (length text - length after - 1) text) after (Some said)
+    front_line said after (inl feed) says =
+        is_first said line after (sym (take-append-drop end text) ∙ ap (λ (t : List ℕ). line ++ t) feed) line_plain (omega (arith, long)) (sym without_cr) says
+    front_line said after (inr ends) says =
+        is_first said (line ++ 13 ∷ []) after
         (sym (take-append-drop end text) ∙ ap (λ (t : List ℕ). line ++ t) ends ∙ sym (append_assoc line (13 ∷ []) (10 ∷ after)))
         (All-append (λ c. is_feed c ≡ false) line (13 ∷ []) line_plain (All-cons (λ c. is_feed c ≡ false) 13 [] refl (All-nil (λ c. is_feed c ≡ false))))
-        (omega (arith, long, length-append line (13 ∷ []))) (sym (without_its_cr line)) (is_usual number is behind_is four even)
+        (omega (arith, long, length-append line (13 ∷ []))) (sym (without_its_cr line)) says

@@ -49,11 +49,10 @@ pub record IsPairs (text bytes : List ℕ) (count : ℕ) : Type 0 where
   pub counted : length bytes ≡ count
   pub few : 2 * count ≤ length text
   pub written : decode_of (take (2 * count) text) ≡ Ok bytes
-  pub run : prefix_len is_hex_digit text ≡ 2 * count + prefix_len is_hex_digit (drop (2 * count) text)
 
 pub pairs-none : (text : List ℕ) → IsPairs text [] 0
 unfolding decode_pairs
-pairs-none text = record { counted = refl; few = omega arith; written = refl; run = omega arith }
+pairs-none text = record { counted = refl; few = omega arith; written = refl }
 
 value-some : (c i : ℕ) (v : ℕ) → hex_digit_value c ≡ Some v → value_at c i ≡ Ok v
 value-some c i v is = ap (digit_or_error c i) is
@@ -101,10 +100,6 @@ pair-digits c d b is = go (hex_digit_value c) (hex_digit_value d) refl refl is
     go (Some v) None h l was = cc was
     go (Some v) (Some w) h l was = (v, w, h, l, cc was)
 
-run-more : (c d v w : ℕ) (rest : List ℕ) → hex_digit_value c ≡ Some v → hex_digit_value d ≡ Some w
-    → prefix_len is_hex_digit (c ∷ d ∷ rest) ≡ 2 + prefix_len is_hex_digit rest
-run-more c d v w rest h l = rw (h, l) (omega arith)
-
 -- one pair more
 pub pairs-more : (text bytes : List ℕ) (count b : ℕ) → IsPairs text bytes count → pair (drop (2 * count) text) ≡ Some b
     → IsPairs text (bytes ++ b ∷ []) (count + 1)
@@ -131,7 +126,6 @@ pairs-more text bytes count b r is =
       counted = length-append bytes (b ∷ []) ∙ ap (λ (n : ℕ). n + 1) r.counted;
       few = omega arith;
       written = even (2 * (count + 1)) (omega arith) (omega arith) ∙ ap (decode_pairs 0) taken ∙ more ∙ ap (λ (n : ℕ). Ok (bytes ++ n ∷ [])) (sym value);
-      run = (let next = ap (prefix_len is_hex_digit) here ∙ run-more c d v w rest h l in omega (arith, r.run));
     }
 
 -- ---- pairs that are appended

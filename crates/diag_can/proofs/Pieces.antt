@@ -1,16 +1,15 @@
 -- A log that comes in pieces: what one line more makes of it, and where a line is at fault.
 use Rattle.std.proofs.Common.{◌≡◌, ℕ, false, arith, length, List, [], ◌∷◌, ◌++◌, Option, Some, None, Err, refl, sym, ap, subst, ◌∙◌, append_assoc, append-nil}
 use Rattle.std.proofs.lemmas.List.Elements.{All-nil}
-use Rattle.diag_can.specs.Bus.{HasNoFeed, begun_line}
+use Rattle.diag_can.specs.Bus.{HasNoFeed, IsFirst, begun_line}
 use Rattle.diag_can.specs.HasRead.{AreRead, HasLines, HasRead}
-use Rattle.diag_can.specs.Log.{is_feed, lines_of, fault_after, events}
+use Rattle.diag_can.specs.Log.{is_feed, lines_of, fault_after, events, without_return}
 use Rattle.diag_can.specs.Pieces.{TakesLines}
-use Rattle.diag_can.specs.Usual.{IsFirstLine}
+use Rattle.diag_can.specs.declared.bus.BusLine.{BusLine}
 use Rattle.diag_can.specs.declared.fault.LogFault.{LogFault}
 use Rattle.diag_can.specs.declared.frame.Ids.{Ids}
 use Rattle.diag_can.specs.declared.log.Timing.{Timing}
 use Rattle.diag_can.specs.declared.log_reader.LogReader.{LogReader}
-use Rattle.diag_can.specs.declared.usual.UsualFrame.{UsualFrame}
 use Rattle.diag_can.proofs.Lines.{lines_of-first}
 use Rattle.diag_can.proofs.Reading.{fault_next, one_more}
 
@@ -41,33 +40,33 @@ none_read ids timing r text = record {
 
 module _ {ids : Ids} {timing : Timing} {old mid : LogReader} {text rest : List ℕ} (f : FrontRead ids timing old mid text rest) where
   -- a line more, which a line feed ends
-  pub line_more : {first : List ℕ} (line after : List ℕ) {usual : Option UsualFrame} (l : IsFirstLine rest first line after usual) (new : LogReader)
-      → ((past : List (List ℕ)) → AreRead ids timing mid past → AreRead ids timing new (past ++ line ∷ [])) → FrontRead ids timing old new text after
-  line_more {first} line after l new took = record {
-    front = f.front ++ (first ++ 10 ∷ []);
-    is = f.is ∙ ap (λ (r : List ℕ). f.front ++ r) (l.is ∙ sym (append_assoc first (10 ∷ []) after))
-        ∙ sym (append_assoc f.front (first ++ 10 ∷ []) after);
+  pub line_more : (line after : List ℕ) {said : Option BusLine} (l : IsFirst rest line after said) (new : LogReader)
+      → ((past : List (List ℕ)) → AreRead ids timing mid past → AreRead ids timing new (past ++ without_return line ∷ []))
+      → FrontRead ids timing old new text after
+  line_more line after l new took = record {
+    front = f.front ++ (line ++ 10 ∷ []);
+    is = f.is ∙ ap (λ (r : List ℕ). f.front ++ r) (l.is ∙ sym (append_assoc line (10 ∷ []) after))
+        ∙ sym (append_assoc f.front (line ++ 10 ∷ []) after);
     takes = λ seen h.
         let at = f.takes seen h in
-        let past = lines_of (seen ++ f.front) in
-        let read = subst (λ (t : List ℕ). AreRead ids timing new (past ++ t ∷ [])) l.line_is (took past at.read) in
-        subst (HasLines ids timing new) (append_assoc seen f.front (first ++ 10 ∷ [])) (one_more at new first l.plain read);
+        subst (HasLines ids timing new) (append_assoc seen f.front (line ++ 10 ∷ []))
+        (one_more at new line l.plain (took (lines_of (seen ++ f.front)) at.read));
   }
 
   -- the line that comes next is at fault
-  pub line_fault : {first : List ℕ} (line after : List ℕ) {usual : Option UsualFrame} (l : IsFirstLine rest first line after usual) (fault : LogFault)
-      → ((past : List (List ℕ)) → AreRead ids timing mid past → fault_after timing ids past line ≡ Some fault)
+  pub line_fault : (line after : List ℕ) {said : Option BusLine} (l : IsFirst rest line after said) (fault : LogFault)
+      → ((past : List (List ℕ)) → AreRead ids timing mid past → fault_after timing ids past (without_return line) ≡ Some fault)
       → (seen more : List ℕ) → HasLines ids timing old seen → events (seen ++ (text ++ more)) ids timing ≡ Err fault
-  line_fault {first} line after l fault at seen more h =
+  line_fault line after l fault at seen more h =
       let here = f.takes seen h in
       let whole : seen ++ (text ++ more) ≡ (seen ++ f.front) ++ (rest ++ more) =
       ap (λ (t : List ℕ). seen ++ (t ++ more)) f.is ∙ ap (λ (t : List ℕ). seen ++ t) (append_assoc f.front rest more)
       ∙ sym (append_assoc seen f.front (rest ++ more)) in
-      let begins : lines_of (rest ++ more) ≡ line ∷ lines_of (after ++ more) =
-      ap (λ (t : List ℕ). lines_of (t ++ more)) l.is ∙ ap lines_of (append_assoc first (10 ∷ after) more)
-      ∙ lines_of-first first (after ++ more) l.plain ∙ ap (λ (t : List ℕ). t ∷ lines_of (after ++ more)) (sym l.line_is) in
+      let begins : lines_of (rest ++ more) ≡ without_return line ∷ lines_of (after ++ more) =
+      ap (λ (t : List ℕ). lines_of (t ++ more)) l.is ∙ ap lines_of (append_assoc line (10 ∷ after) more)
+      ∙ lines_of-first line (after ++ more) l.plain in
       ap (λ (t : List ℕ). events t ids timing) whole
-      ∙ fault_next here line (rest ++ more) (lines_of (after ++ more)) fault begins (at (lines_of (seen ++ f.front)) here.read)
+      ∙ fault_next here (without_return line) (rest ++ more) (lines_of (after ++ more)) fault begins (at (lines_of (seen ++ f.front)) here.read)
 
   -- no line ends in the rest
   pub front_taken : HasNoFeed rest → TakesLines (HasLines ids timing old) (HasLines ids timing mid) text rest

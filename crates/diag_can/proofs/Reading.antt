@@ -7,18 +7,19 @@ use Rattle.std.proofs.lemmas.List.Sums.{fold-append}
 use Rattle.std.proofs.lemmas.Bool.Decides.{nat_tests}
 use Rattle.diag_can.specs.Bus.{HasNoFeed}
 use Rattle.diag_can.specs.HasRead.{AreRead, HasLines}
-use Rattle.diag_can.specs.Line.{frame_moment, line_event}
-use Rattle.diag_can.specs.Log.{lines_of, without_return, reference, silence, line_gives, events_after, fault_after, first_fault, unless_fault, log_events, events}
+use Rattle.diag_can.specs.Line.{event_for, frame_moment, line_event, line_says, moment_for}
+use Rattle.diag_can.specs.Log.{event_list, lines_of, without_return, reference, silence, line_gives, events_after, fault_after, first_fault, unless_fault, log_events, events}
 use Rattle.diag_can.specs.Reading.{later, fault_with, given_at}
+use Rattle.diag_can.specs.declared.bus.BusLine.{BusLine}
 use Rattle.diag_can.specs.declared.fault.LogFault.{LogFault}
-use Rattle.diag_can.specs.declared.fault.LogFault.TheVariants.{TooManyLines}
+use Rattle.diag_can.specs.declared.fault.LogFault.TheVariants.{TooManyEvents, TooManyLines}
 use Rattle.diag_can.specs.declared.frame.Ids.{Ids}
 use Rattle.diag_can.specs.declared.frame.Event.{Event}
 use Rattle.diag_can.specs.declared.log.Reading.{Reading}
 use Rattle.diag_can.specs.declared.log.Timing.{Timing}
 use Rattle.diag_can.specs.declared.log.Timing.TheVariants.{Lines, Stamps}
 use Rattle.diag_can.specs.declared.log_reader.LogReader.{LogReader}
-use Rattle.diag_can.specs.Took.{Took}
+use Rattle.diag_can.specs.Took.{Grown, Took}
 use Rattle.diag_can.proofs.BusLines.{begun_line-line}
 use Rattle.diag_can.proofs.Lines.{lines_of-last, lines_of-line, lines_of-more}
 
@@ -62,23 +63,25 @@ events-more timing ids past (first ∷ lines) line =
     let joined : earlier ++ lines ≡ past ++ first ∷ lines = append_assoc past (first ∷ []) lines in
     rw joined at all
 
--- ---- a line that gives nothing
+-- ---- what a line says was taken
 
-no-time : (timing : Timing) (reference : Option ℕ) → silence timing reference None ≡ 0
-no-time Lines reference = refl
-no-time Stamps None = refl
-no-time Stamps (Some reference) = refl
-
-pub took-none : (timing : Timing) (ids : Ids) (all : Reading) (line : List ℕ) → length all.events.items ≤ 1000000
-    → line_event line ids ≡ Ok None → frame_moment ids line ≡ None → Took timing ids all all line
-took-none timing ids all line few nothing timeless =
-    let none = no-time timing all.reference in
-    let same : all.events.items ≡ all.events.items ++ given_at timing all.reference None [] = rw none (sym (append-nil all.events.items)) in
-    let below : nat_lt 1000000 (length all.events.items) ≡ false = grind (arith, nat_tests) in
+pub took_said : {timing : Timing} {ids : Ids} {old new : Reading} {said : BusLine} (line : List ℕ) → line_says line ≡ Ok said
+    → Grown timing old new (moment_for ids (Ok said)) (event_list (Ok (event_for ids said))) → Took timing ids old new line
+took_said {timing} {ids} {old} {new} {said} line says grown =
+    let below : nat_lt 1000000 (length new.events.items) ≡ false = (let few = grown.few in grind (arith, nat_tests)) in
     record {
-      grown = rw (nothing, timeless) (record { events = same; reference = λ _. sym (later-none all.reference); few = few });
-      well = λ number. rw (nothing, timeless, ← same, below) refl;
+      grown = rw says grown;
+      well = λ number. rw (says, ← grown.events, below) refl;
     }
+
+-- or is at fault
+pub said_fault : (timing : Timing) (ids : Ids) (old : Reading) (said : BusLine) (line : List ℕ) (number : ℕ) → line_says line ≡ Ok said
+    → 1000000 < length (old.events.items ++ given_at timing old.reference (moment_for ids (Ok said)) (event_list (Ok (event_for ids said))))
+    → fault_with timing ids old.events.items old.reference number line ≡ Some TooManyEvents
+said_fault timing ids old said line number says many =
+    let over : nat_lt 1000000 (length (old.events.items ++ given_at timing old.reference (moment_for ids (Ok said)) (event_list (Ok (event_for ids said)))))
+    ≡ true = grind (arith, nat_tests) in
+    rw (says, over) refl
 
 -- ---- faults
 

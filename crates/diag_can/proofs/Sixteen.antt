@@ -1,10 +1,13 @@
 -- The bytes of hex digits that are looked at together.
-use Rattle.std.proofs.Common.{◌≡◌, ℕ, zero, suc, ◌+◌, ◌-◌, ◌*◌, ◌/◌, ◌%◌, ◌<◌, ◌≤◌, eqb, leb, true, cond, List, [], ◌∷◌, ◌++◌, map, length, drop, get_or, replicate, Fits, w8, length-drop, drop-drop, unwrap_or, is_some, Option, Some, None, Ok, refl, sym, ap, subst, ◌∙◌, arith}
+use Rattle.std.proofs.Common.{◌≡◌, ℕ, zero, suc, ◌+◌, ◌-◌, ◌*◌, ◌/◌, ◌%◌, ◌<◌, ◌≤◌, eqb, leb, true, cond, List, [], ◌∷◌, ◌++◌, append-nil, take-append-drop, map, length, length-take-le, take, drop, get_or, replicate, Fits, w8, length-drop, drop-drop, unwrap_or, is_some, Option, Some, None, Ok, refl, sym, ap, subst, ◌∙◌, arith}
 use Rattle.std.specs.Prelude.{IsOk}
 use Rattle.std.specs.List.{AllPass}
 use Rattle.std.proofs.lemmas.Bool.{agree_below_at, eqb-true}
 use Rattle.std.proofs.lemmas.Simd.{Each1-get_or, pick_l_whole}
-use Rattle.std.proofs.lemmas.List.{take_all, get_or-drop}
+use Rattle.std.proofs.lemmas.List.{drop_all, take_all, get_or-drop}
+use Rattle.std.proofs.lemmas.Slice.{drop-put_mid, take-put_mid}
+use Rattle.std.proofs.Math.Seq.{drop-append-add}
+use borrow.Rule.Slice.PartMut.{put_mid}
 use lib.Lanes.{Each1, chunk, zip2, sel_l, top, pick_l}
 use Rattle.hex.specs.Hex.{is_hex_digit, hex_digit_value, decode_of, decode_pairs}
 use Rattle.hex.proofs.HexLemmas.{decode_of-even, decode_of-ok}
@@ -92,15 +95,15 @@ last_sixteen line long n few =
     ap (drop (16 - 2 * n)) (take_all 16 (drop from line) (omega (arith, length-drop from line)))
     ∙ drop-drop (16 - 2 * n) from line ∙ ap (λ (n : ℕ). drop n line) start
 
--- the same, from a place on
-pub digits_from : (line eight bytes : List ℕ) (at : ℕ) → length eight ≡ 8 → at ≤ length line → length (drop at line) ≤ 16 → IsOk (decode_of (drop at line))
-    → ((n : ℕ) → n ≤ 8 → IsOk (decode_of (drop (length line - 2 * n) line)) → decode_of (drop (length line - 2 * n) line) ≡ Ok (drop (8 - n) eight))
-    → bytes ≡ drop (8 - (length line - at) / 2) eight → decode_of (drop at line) ≡ Ok bytes
-digits_from line eight bytes at full inside few ok read is =
-    let value = is_ok-value (decode_of (drop at line)) ok in
-    let even = (decode_of-ok (drop at line) value.0 value.1).0 in
-    let count = length-drop at line in
-    let n : ℕ = (length line - at) / 2 in
-    let same : length line - 2 * n ≡ at = omega (arith, even, count) in
-    let decoded = rw same at (read n (omega (arith, count, few))) in
-    decoded ok ∙ ap Ok (sym is)
+-- the same of a text with fewer bytes, in front of which zeros stand
+pub few_digits : (zeros copied text : List ℕ) (n : ℕ) → length zeros ≡ 16 → copied ≡ text → length text < 16 → 2 * n ≤ length text
+    → drop (16 - 2 * n) (put_mid (16 - length text) (16 - (16 - length text)) zeros copied) ≡ drop (length text - 2 * n) text
+few_digits zeros copied text n sixteen same few fits =
+    let a : ℕ = 16 - length text in
+    let all = put_mid a (16 - a) zeros text in
+    let front : length (take a zeros) ≡ a = length-take-le a zeros (omega arith) in
+    let none : drop 16 all ≡ [] = drop-put_mid a (16 - a) zeros text 16 (omega arith) (omega arith) (omega arith) ∙ drop_all 16 zeros (omega arith) in
+    let some : take 16 all ≡ take a zeros ++ text = take-put_mid a (16 - a) zeros text 16 (omega arith) (omega arith) in
+    let parts : all ≡ take a zeros ++ text = sym (take-append-drop 16 all) ∙ (λ i. some i ++ none i) ∙ append-nil (take a zeros ++ text) in
+    let at : 16 - 2 * n ≡ length (take a zeros) + (length text - 2 * n) = omega (arith, front) in
+    rw (same, parts, at) (drop-append-add (take a zeros) text (length text - 2 * n))

@@ -6,15 +6,14 @@ use Rattle.std.proofs.lemmas.Bool.{cases_Bool, eqb-true}
 use Rattle.std.proofs.lemmas.Bool.Decides.{nat_tests}
 use Rattle.std.proofs.lemmas.List.Elements.{All-append, All-cons, All-nil}
 use Rattle.std.proofs.lemmas.List.Sums.{AllPass-from_list_all, list_all-from_AllPass, prefix_len-le-length}
-use Rattle.diag_can.specs.Bus.{HasNoFeed, bus_line}
+use Rattle.diag_can.specs.Bus.{HasNoFeed, IsFirst}
 use Rattle.diag_can.specs.Line.{is_decimal, line_says, tick_count, ticks_of}
 use Rattle.diag_can.specs.Log.{is_feed, without_return}
-use Rattle.diag_can.specs.Seen.{IsFront}
 use Rattle.diag_can.specs.Stamp.{behind, decimal_value, is_digit}
-use Rattle.diag_can.specs.declared.bus.BusLine.TheVariants as says
-use Rattle.diag_can.specs.declared.bus.Seen.TheVariants.{Ticks}
+use Rattle.diag_can.specs.declared.bus.BusLine.TheVariants.{Ticks}
 use Rattle.diag_can.proofs.Fronts.{front_is, without_its_cr}
 use Rattle.diag_can.proofs.Runs.{run-passes}
+use Rattle.diag_can.proofs.UsualLines.{bus_line-short}
 
 -- ---- the count at the front of a text
 
@@ -109,29 +108,20 @@ module _ (rest after : List ℕ) (len count : ℕ) (well : tick_count (take len 
   size : length line ≡ len + 4
   size = omega (arith, length-take-le len rest fits)
 
-  line_is : line_says line ≡ Ok (says.Ticks count)
+  line_is : line_says line ≡ Ok (Ticks count)
   line_is = rw well refl
 
-  bus_line_is : (whole : List ℕ) → length whole ≤ 4096 → without_return whole ≡ line → bus_line whole ≡ Ok (says.Ticks count)
-  bus_line_is whole short same =
-      let not_long : nat_lt 4096 (length whole) ≡ false = grind (arith, nat_tests) in
-      rw not_long (ap line_says same ∙ line_is)
-
-  cut : take (4 + len) text ≡ line
-  cut = let four : 4 + len ≡ suc (suc (suc (suc len))) = omega arith in rw four refl
-
   is_front : (whole : List ℕ) → text ≡ whole ++ 10 ∷ after → HasNoFeed whole → length whole ≤ 4096 → without_return whole ≡ line
-      → IsFront text (take (length text - length after - 1) text) (take (4 + len) text) after (Ticks count)
+      → IsFirst text (take (length text - length after - 1) text) after (Some (Ticks count))
   is_front whole is none short same =
-      subst (λ (w : List ℕ). IsFront text w (take (4 + len) text) after (Ticks count)) (sym (front_is text whole after is)) (record {
+      subst (λ (w : List ℕ). IsFirst text w after (Some (Ticks count))) (sym (front_is text whole after is)) (record {
         is = is;
         plain = none;
-        line_is = cut ∙ sym same;
-        holds = bus_line_is whole short same;
+        says = bus_line-short whole line (Ticks count) short (sym same) line_is;
       })
 
   pub ticks_line : (drop len rest ≡ 10 ∷ after) ⊎ (drop len rest ≡ 13 ∷ 10 ∷ after)
-      → IsFront text (take (length text - length after - 1) text) (take (4 + len) text) after (Ticks count)
+      → IsFirst text (take (length text - length after - 1) text) after (Some (Ticks count))
   ticks_line (inl feed) =
       is_front line (ap (λ (t : List ℕ). 116 ∷ 105 ∷ 99 ∷ 107 ∷ t) (sym (take-append-drop len rest) ∙ ap (λ (t : List ℕ). take len rest ++ t) feed))
       line_plain (omega (arith, size)) (without_cr line (omega (arith, size)) plain)

@@ -1,24 +1,26 @@
 -- Lines of the usual form.
-use Rattle.std.proofs.Common.{◌≡◌, ℕ, ◌+◌, ◌-◌, ◌%◌, ◌<◌, ◌≤◌, ◌==◌, ◌&&◌, ◌||◌, nat_le, nat_lt, Bool, true, false, List, [], ◌∷◌, length, take, drop, get_or, Option, Some, None, Ok, refl, sym, ap, ◌∙◌, arith, add-one, length-drop, drop-drop, drop-cons, inl, inr}
+use Rattle.std.proofs.Common.{◌≡◌, ℕ, ◌+◌, ◌-◌, ◌/◌, ◌*◌, ◌%◌, ◌<◌, ◌≤◌, ◌==◌, ◌&&◌, ◌||◌, nat_le, nat_lt, Bool, true, false, cond, List, [], ◌∷◌, length, take, drop, get_or, Option, Some, None, Ok, Err, refl, sym, ap, ◌∙◌, arith, add-one, length-drop, drop-drop, drop-cons, inl, inr}
 use Rattle.std.specs.Prelude.{IsOk}
 use Rattle.std.specs.List.{AllPass, prefix_len}
 use Rattle.std.proofs.lemmas.Bool.{eq-eqb, ne_eqb, not-true, not-false, eqb-true, cases_eq}
 use Rattle.std.proofs.lemmas.Bool.Decides.{nat_tests}
 use Rattle.std.proofs.lemmas.List.{get_or-drop, take_all, drop_all, length-take-le}
-use Rattle.std.proofs.lemmas.List.Sums.{prefix_len_is}
+use Rattle.std.proofs.lemmas.List.Sums.{prefix_len-le-length, prefix_len_is}
 use Rattle.std.proofs.lemmas.List.Elements.{All-from_get_or}
 use Rattle.hex.specs.Hex.{is_hex_digit, decode_of}
 use Rattle.hex.proofs.HexLemmas.{decode_of-digits}
 use Rattle.diag_can.specs.Stamp.{is_digit, is_space, is_no_space, behind, behind_run, digits_of, moment_of}
 use Rattle.diag_can.specs.declared.bus.BusLine.TheVariants.{Stamped}
-use Rattle.diag_can.specs.Line.{line_event, line_says, frame_moment, stamped_frame, is_time, is_passed_over, frame_data, frame_of, text_frame, id_of}
+use Rattle.diag_can.specs.Line.{line_says, stamped_frame, is_time, is_passed_over, is_well_ended, data_frame, frame_data, frame_of, text_frame, id_of}
 use Rattle.diag_can.specs.Bus.{bus_line}
 use Rattle.diag_can.specs.Lanes.{IsRunIn}
 use Rattle.diag_can.specs.Log.{without_return}
-use Rattle.diag_can.specs.Usual.{IsFramed, IsUsual, bytes_or_none, usual_bytes, usual_moment, usual_said}
+use Rattle.diag_can.specs.FrameText.{EndsInBytes, bytes_or_none, last_bytes, last_digits}
+use Rattle.diag_can.specs.Usual.{IsFramed, IsUsual, usual_moment}
+use Rattle.diag_can.specs.declared.bus.BusLine.{BusLine}
+use Rattle.diag_can.specs.declared.fault.LineFault.TheVariants.{BadLine}
 use Rattle.diag_can.specs.declared.frame.Frame.{Frame}
-use Rattle.diag_can.specs.declared.frame.Ids.{Ids}
-use Rattle.diag_can.specs.declared.usual.UsualFrame.{UsualFrame}
+use Rattle.diag_can.proofs.Runs.{run-passes}
 
 -- ---- parts of a line, by the bytes that stand there
 
@@ -136,56 +138,107 @@ stamped_says : (line text : List ℕ) (moment : ℕ) (frame : Option Frame) → 
 stamped_says [] text moment frame long plain stamp is = absurd (omega arith)
 stamped_says (c ∷ line) text moment frame long plain stamp is = rw (plain, stamp, is) refl
 
-pub usual : (line : List ℕ) (place id at : ℕ) → IsFramed line place → at ≡ place + 4 → at ≤ length line → prefix_len is_hex_digit (drop place line) ≡ 3
-    → id_of (take 3 (drop place line)) ≡ Some id → behind 35 (drop 3 (drop place line)) ≡ Some (drop at line)
-    → length line ≤ at + 16 → (length line - at) % 2 ≡ 0 → ((k : ℕ) → at ≤ k → k < length line → is_hex_digit (get_or line k 0) ≡ true)
-    → IsUsual line (record { id = id; at = at })
-usual line place id at framed four inside run is hash few even digits =
-    let rest : List ℕ = drop at line in
-    let text : List ℕ = drop place line in
-    let count : length rest ≡ length line - at = length-drop at line in
-    let all : AllPass is_hex_digit rest = All-from_get_or (λ c. is_hex_digit c ≡ true) rest 0
-    (λ k below. ap is_hex_digit (get_or-drop at line k 0) ∙ digits (at + k) (omega arith) (omega arith)) in
-    let long : 4 ≤ length text = omega (arith, length-drop place line) in
-    let value = decode_of-digits rest (ap (λ (n : ℕ). n % 2) count ∙ even) all in
-    let bytes : Ok value.0 ≡ Ok (usual_bytes line at) = ap (λ (b : List ℕ). Ok b) (sym (ap bytes_or_none value.1)) in
-    let read = data_from_digits rest value.0 all (omega arith) (ap (λ (n : ℕ). n % 2) count ∙ even) value.1 ∙ bytes in
-    record {
-      long = framed.long;
-      seconds = framed.seconds;
-      fraction = framed.fraction;
-      inside = inside;
-      few = omega arith;
-      hex = is_ok-from rest value.0 value.1;
-      says = stamped_says line text (usual_moment line) _ framed.long framed.is_frame framed.stamped
-          (text_frame-is text rest id run long is hash all ∙ ap (frame_of id) read);
-    }
+module _ (line : List ℕ) (place id : ℕ) (u : IsUsual line place id) where
+  abbrev rest : List ℕ
+  rest = drop (place + 4) line
 
--- the same, from the parts that were read
+  -- the bytes of its frame
+  abbrev count : ℕ
+  count = (length line - (place + 4)) / 2
+
+  size : length rest ≡ length line - (place + 4)
+  size = length-drop (place + 4) line
+
+  even : length rest % 2 ≡ 0
+  even = ap (λ (n : ℕ). n % 2) size ∙ u.even
+
+  all : AllPass is_hex_digit rest
+  all = All-from_get_or (λ c. is_hex_digit c ≡ true) rest 0
+      (λ k below. ap is_hex_digit (get_or-drop (place + 4) line k 0) ∙ u.digits (place + 4 + k) (omega arith) (omega (arith, size)))
+
+  same : last_digits line count ≡ rest
+  same =
+      let inside = u.inside in
+      let whole = u.even in
+      let at : length line - 2 * count ≡ place + 4 = omega arith in
+      ap (λ (n : ℕ). drop n line) at
+
+  value : (bytes : List ℕ) × (decode_of rest ≡ Ok bytes)
+  value = decode_of-digits rest even all
+
+  pub ends : EndsInBytes line count
+  ends =
+      let inside = u.inside in
+      let few = u.few in
+      record { few = omega arith; inside = omega arith; hex = rw same (is_ok-from rest value.0 value.1) }
+
+  -- what it says
+  pub says : line_says line ≡ Ok (Stamped (usual_moment line) (Some (record { id = id; bytes = last_bytes line count })))
+  says =
+      let text : List ℕ = drop place line in
+      let inside = u.inside in
+      let few = u.few in
+      let long : 4 ≤ length text = omega (arith, length-drop place line) in
+      let bytes : Ok value.0 ≡ Ok (last_bytes line count) = ap (λ (b : List ℕ). Ok b) (sym (ap bytes_or_none (ap decode_of same ∙ value.1))) in
+      let read = data_from_digits rest value.0 all (omega (arith, size)) even value.1 ∙ bytes in
+      stamped_says line text (usual_moment line) _ u.framed.long u.framed.is_frame u.framed.stamped
+      (text_frame-is text rest id u.run long u.id_is u.mark all ∙ ap (frame_of id) read)
+
+-- such a line, from the parts that were read
 pub usual_parts : (line : List ℕ) (place id : ℕ) (text : List ℕ) → IsFramed line place → text ≡ take (length line - place) (drop place line)
     → prefix_len is_hex_digit text ≡ 3 → id_of (take 3 text) ≡ Some id → behind 35 (drop 3 text) ≡ Some (drop 4 text) → 4 ≤ length text
     → length line - (place + 4) ≤ 16 → (length line - (place + 4)) % 2 ≡ 0
     → ((k : ℕ) → length line - (length line - (place + 4)) ≤ k → k < length line → is_hex_digit (get_or line k 0) ≡ true)
-    → IsUsual line (record { id = id; at = place + 4 })
+    → IsUsual line place id
 usual_parts line place id text framed cut run is hash long few even digits =
     let whole : text ≡ drop place line = cut ∙ take_all (length line - place) (drop place line) (omega (arith, length-drop place line)) in
     let behind_hash : drop 4 text ≡ drop (place + 4) line = ap (drop 4) whole ∙ drop-drop 4 place line in
     let room : place + 4 ≤ length line = (let inside = framed.inside in omega (arith, ap length whole, length-drop place line)) in
-    usual line place id (place + 4) framed refl room (ap (prefix_len is_hex_digit) (sym whole) ∙ run)
-    (ap (λ (t : List ℕ). id_of (take 3 t)) (sym whole) ∙ is)
-    (ap (λ (t : List ℕ). behind 35 (drop 3 t)) (sym whole) ∙ hash ∙ ap (λ (t : List ℕ). Some t) behind_hash)
-    (omega arith) even (λ k from to. digits k (omega arith) to)
+    record {
+      framed = framed;
+      inside = room;
+      few = omega arith;
+      even = even;
+      run = ap (prefix_len is_hex_digit) (sym whole) ∙ run;
+      id_is = ap (λ (t : List ℕ). id_of (take 3 t)) (sym whole) ∙ is;
+      mark = ap (λ (t : List ℕ). behind 35 (drop 3 t)) (sym whole) ∙ hash ∙ ap (λ (t : List ℕ). Some t) behind_hash;
+      digits = λ k from to. digits k (omega arith) to;
+    }
 
--- ---- what such a line says
+-- ---- as a whole line of a capture
 
--- to a tester that its identifier isn't for
-pub is-foreign : (line : List ℕ) (frame : UsualFrame) → IsUsual line frame → (ids : Ids) → (frame.id == ids.request) ≡ false
-    → (frame.id == ids.functional) ≡ false → (line_event line ids ≡ Ok None) × (frame_moment ids line ≡ None)
-is-foreign line frame usual ids other another = let says = usual.says in (rw (says, other, another) refl, rw (says, other, another) refl)
-
--- as a whole line of a capture
-pub says-usual : (piece line : List ℕ) (frame : UsualFrame) → IsUsual line frame → length piece ≤ 4096 → line ≡ without_return piece
-    → bus_line piece ≡ Ok (usual_said line frame)
-says-usual piece line frame usual short same =
+pub bus_line-short : (piece line : List ℕ) (said : BusLine) → length piece ≤ 4096 → line ≡ without_return piece → line_says line ≡ Ok said
+    → bus_line piece ≡ Ok said
+bus_line-short piece line said short same says =
     let not_long : nat_lt 4096 (length piece) ≡ false = grind (arith, nat_tests) in
-    rw not_long (ap line_says (sym same) ∙ usual.says)
+    rw not_long (ap line_says (sym same) ∙ says)
+
+-- a line that says something isn't too long
+pub bus_line-says : (piece : List ℕ) (said : BusLine) → bus_line piece ≡ Ok said → line_says (without_return piece) ≡ Ok said
+bus_line-says piece said =
+    elim (nat_lt 4096 (length piece)) as (λ b. cond b (Err BadLine) (line_says (without_return piece)) ≡ Ok said → line_says (without_return piece) ≡ Ok said) [
+      | true ↦ λ is. cc is
+      | false ↦ λ is. is
+    ]
+
+-- ---- data behind an identifier
+
+-- digits alone that end well
+pub digits_frame-is : (rest : List ℕ) (id count : ℕ) → is_passed_over rest ≡ false → count ≡ prefix_len is_hex_digit rest → count ≤ 16 → count % 2 ≡ 0
+    → is_well_ended count (drop count rest) ≡ true
+    → EndsInBytes (take count rest) (count / 2)
+    × (data_frame id rest ≡ Ok (Some (record { id = id; bytes = last_bytes (take count rest) (count / 2) })))
+digits_frame-is rest id count is_data run few even ends =
+    let text : List ℕ = take count rest in
+    let fits : count ≤ length rest = omega (arith, run, prefix_len-le-length is_hex_digit rest) in
+    let size : length text ≡ count = length-take-le count rest fits in
+    let all : AllPass is_hex_digit text = rw run (run-passes is_hex_digit rest) in
+    let value = decode_of-digits text (ap (λ (n : ℕ). n % 2) size ∙ even) all in
+    let at : length text - 2 * (count / 2) ≡ 0 = omega (arith, size) in
+    let same : last_digits text (count / 2) ≡ text = ap (λ (n : ℕ). drop n text) at in
+    let below : nat_lt 16 count ≡ false = grind (arith, nat_tests) in
+    let whole : (count % 2 == 1) ≡ false = grind (arith, nat_tests) in
+    let bytes : last_bytes text (count / 2) ≡ value.0 = ap bytes_or_none (ap decode_of same ∙ value.1) in (
+      record { few = omega arith; inside = omega (arith, size); hex = rw same (is_ok-from text value.0 value.1) },
+      rw (is_data, ← run, below, whole, ends, value.1, bytes) refl,
+    )

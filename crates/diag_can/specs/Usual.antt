@@ -1,14 +1,11 @@
 -- Lines of the usual form: ten digits of seconds and six of the fraction, and nothing but the frame's digits behind its `#`.
-use Rattle.std.specs.Prelude.{◌≡◌, ℕ, ◌+◌, ◌*◌, ◌≤◌, ◌<◌, IfSome, IsOk, List, [], ◌∷◌, ◌++◌, length, take, drop, slice_index, Option, Some, Result, Ok, Err, false}
-use Rattle.hex.specs.Hex.{decode_of}
-use Rattle.diag_can.specs.Stamp.{is_digit, moment_of}
-use Rattle.diag_can.specs.Line.{is_time, line_says, stamped_frame}
-use Rattle.diag_can.specs.Bus.{HasNoFeed, bus_line}
-use Rattle.diag_can.specs.Log.{without_return}
+use Rattle.std.specs.Prelude.{◌≡◌, ℕ, ◌+◌, ◌-◌, ◌*◌, ◌%◌, ◌≤◌, ◌<◌, List, length, take, drop, slice_index, Some, true, false}
+use Rattle.std.specs.List.{prefix_len}
+use Rattle.hex.specs.Hex.{is_hex_digit}
+use Rattle.diag_can.specs.Stamp.{behind, is_digit, moment_of}
+use Rattle.diag_can.specs.Line.{id_of, is_time, stamped_frame}
+use Rattle.diag_can.specs.Bus.{HasNoFeed}
 use Rattle.diag_can.specs.Lanes.{IsRunIn}
-use Rattle.diag_can.specs.declared.bus.BusLine.{BusLine}
-use Rattle.diag_can.specs.declared.bus.BusLine.TheVariants.{Stamped}
-use Rattle.diag_can.specs.declared.usual.UsualFrame.{UsualFrame}
 
 -- the moment of a stamp of that form
 abbrev pub usual_moment : List ℕ → ℕ
@@ -35,33 +32,13 @@ pub record BeginsFramed (text : List ℕ) (place : ℕ) : Type 0 where
   pub plain : HasNoFeed (take place text)
   pub framed : (n : ℕ) → 28 ≤ n → n ≤ length text → IsFramed (take n text) place
 
--- the bytes that were read, if any
-abbrev pub bytes_or_none : {E : Type 0} → Result (List ℕ) E → List ℕ
-bytes_or_none (Ok bytes) = bytes
-bytes_or_none (Err fault) = []
-
--- the bytes of the frame, from where its data begin
-abbrev pub usual_bytes : List ℕ → ℕ → List ℕ
-usual_bytes line at = bytes_or_none (decode_of (drop at line))
-
--- what the line says
-abbrev pub usual_said : List ℕ → UsualFrame → BusLine
-usual_said line frame = Stamped (usual_moment line) (Some (record { id = frame.id; bytes = usual_bytes line frame.at }))
-
--- its frame has this identifier, and there its data begin, which are hex digits alone
-pub record IsUsual (line : List ℕ) (frame : UsualFrame) : Type 0 where
-  pub long : 28 ≤ length line
-  pub seconds : IsRunIn is_digit line 1 16 10
-  pub fraction : IsRunIn is_digit line 12 8 6
-  pub inside : frame.at ≤ length line
-  pub few : length (drop frame.at line) ≤ 16
-  pub hex : IsOk (decode_of (drop frame.at line))
-  pub says : line_says line ≡ Ok (usual_said line frame)
-
--- the first line of a text without its line feed, the same without its return, what follows, and what is seen of it
-pub record IsFirstLine (text whole line after : List ℕ) (seen : Option UsualFrame) : Type 0 where
-  pub is : text ≡ whole ++ 10 ∷ after
-  pub plain : HasNoFeed whole
-  pub line_is : line ≡ without_return whole
-  pub usual : IfSome seen (λ frame. IsUsual line frame)
-  pub says : IfSome seen (λ frame. bus_line whole ≡ Ok (usual_said line frame))
+-- such a line: at this place its frame's text begins, with this identifier of three digits, and ends in hex digits alone
+pub record IsUsual (line : List ℕ) (place id : ℕ) : Type 0 where
+  pub framed : IsFramed line place
+  pub inside : place + 4 ≤ length line
+  pub few : length line ≤ place + 20
+  pub even : (length line - (place + 4)) % 2 ≡ 0
+  pub run : prefix_len is_hex_digit (drop place line) ≡ 3
+  pub id_is : id_of (take 3 (drop place line)) ≡ Some id
+  pub mark : behind 35 (drop 3 (drop place line)) ≡ Some (drop (place + 4) line)
+  pub digits : (k : ℕ) → place + 4 ≤ k → k < length line → is_hex_digit (slice_index line k) ≡ true

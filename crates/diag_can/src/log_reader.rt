@@ -1,17 +1,17 @@
 //! The log of a tester's link, whole or as its lines come.
 
 ghost use Rattle.std.specs.Prelude.{◌≡◌, ◌≢◌, ◌≤◌, ℕ, List, [], ◌∷◌, ◌++◌, length, Some, Ok, Err, IfOk, IfSome, IfErr, OnOk};
-ghost use Rattle.diag_can.specs.Bus.{HasNoFeed};
+ghost use Rattle.diag_can.specs.Bus.{HasNoFeed, bus_line};
 ghost use Rattle.diag_can.specs.HasRead.{AreRead, HasLines, HasRead};
-ghost use Rattle.diag_can.specs.Log.{events, fault_after, most_events};
+ghost use Rattle.diag_can.specs.Log.{events, fault_after, most_events, without_return};
 ghost use Rattle.diag_can.specs.Pieces.{TakesLines};
-ghost use Rattle.diag_can.specs.Usual.{IsUsual};
 ghost use Rattle.diag_can.specs.declared.log.Timing.{Timing};
 
+use crate::bus::BusLine;
 use crate::fault::LogFault;
 use crate::frame::{Event, Ids};
-use crate::log::{MAX_EVENTS, Reading, Timing, first_line, without_return};
-use crate::usual::UsualFrame;
+use crate::front::first_line;
+use crate::log::{MAX_EVENTS, Reading, Timing, without_return};
 use std::alloc::{AllocError, Global};
 
 /// The most lines of a log.
@@ -101,29 +101,29 @@ impl LogReader {
     {
         let mut rest = text;
         while let Some(first) = first_line(rest) {
-            self.take_line(ids, timing, first.line, first.usual)?;
+            self.take_line(ids, timing, first.line, first.said)?;
             rest = first.after;
         }
         Ok(rest)
     }
 
-    /// Takes the line that comes next, with its frame where that is seen.
+    /// Takes the line that comes next, with what it says where that is known.
     #[inline(always)]
     fn take_line(
         &mut self,
         ids: &Ids,
         timing: Timing,
         line: &[u8],
-        usual: Option<UsualFrame>,
+        said: Option<BusLine>,
     ) -> Result<(), LogFault>
         requires read { (past : List (List ℕ)) × AreRead ids.now timing self.old past }
-        requires usual { IfSome usual (λ frame. IsUsual line.now frame) }
+        requires says { IfSome said (λ said. bus_line line.now ≡ Ok said) }
         ensures took { OnOk result ((past : List (List ℕ))
             → AreRead ids.now timing self.old past
-            → AreRead ids.now timing self.new (past ++ line.now ∷ [])) }
+            → AreRead ids.now timing self.new (past ++ without_return line.now ∷ [])) }
         ensures fault { IfErr result (λ fault. fault ≢ LogFault.Memory → (past : List (List ℕ))
             → AreRead ids.now timing self.old past
-            → fault_after timing ids.now past line.now ≡ Some fault) }
+            → fault_after timing ids.now past (without_return line.now) ≡ Some fault) }
         ensures still { self.new.fault ≡ self.old.fault }
     {
         if self.lines >= MAX_LINES {
@@ -131,9 +131,11 @@ impl LogReader {
         }
         self.lines += 1;
         let number = self.lines;
-        match usual {
-            Some(frame) => self.reading.take_usual(timing, ids, number, line, frame),
-            None => self.reading.take_other(timing, ids, number, line),
+        match said {
+            Some(said) => self.reading.take(timing, ids, &said),
+            None => self
+                .reading
+                .take_line(timing, ids, number, without_return(line)),
         }
     }
 
@@ -157,7 +159,7 @@ impl LogReader {
         if begun.is_empty() {
             return Ok(self.reading.events);
         }
-        self.take_line(ids, timing, without_return(begun), None)?;
+        self.take_line(ids, timing, begun, None)?;
         Ok(self.reading.events)
     }
 }

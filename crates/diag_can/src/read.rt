@@ -1,16 +1,17 @@
 //! What a line says, and what it is to a tester.
 
-ghost use Rattle.std.specs.Prelude.{◌≡◌, option_map, IfSome, Ok};
+ghost use Rattle.std.specs.Prelude.{◌≡◌, option_map};
 ghost use Rattle.std.specs.List.{list_all};
 ghost use Rattle.diag_can.specs.Stamp.{is_digit};
 ghost use Rattle.diag_can.specs.Line.{is_decimal, ticks_of, tick_count, stamped_frame, line_says, frame_for, event_for, line_event};
 
 use crate::bus::BusLine;
 use crate::fault::LineFault;
-use crate::frame::{Event, Frame, Ids, TickCount};
+use crate::frame::{Event, Ids, TickCount};
+use crate::frame_text::FrameText;
 use crate::line::text_frame;
 use crate::stamp::{behind_name, decimal_value, is_digit, stamp_of};
-use crate::usual::{UsualFrame, bytes_at, usual_frame, usual_moment};
+use crate::usual::usual_says;
 
 /// Whether each byte is a decimal digit.
 fn is_all_digits(text: &[u8]) -> bool
@@ -62,22 +63,9 @@ fn stamped_frame(line: &[u8]) -> Option<(u64, &[u8])>
     Some((moment, text))
 }
 
-/// What a line of the usual form says; None of another line.
-#[inline(always)]
-fn usual_says(line: &[u8]) -> Option<BusLine>
-    ensures { IfSome result (λ said. line_says line.now ≡ Ok said) }
-{
-    let UsualFrame { id, at } = usual_frame(line)?;
-    let bytes = bytes_at(line, at);
-    Some(BusLine::Stamped {
-        moment: usual_moment(line),
-        frame: Some(Frame { id, bytes }),
-    })
-}
-
 /// What a line without its end says, whatever its form is.
 #[inline(never)]
-pub fn line_says(line: &[u8]) -> Result<BusLine, LineFault>
+pub fn line_says(line: &[u8]) -> Result<BusLine<'_>, LineFault>
     ensures { result ≡ line_says line.now }
 {
     if line.is_empty() {
@@ -100,7 +88,7 @@ pub fn line_says(line: &[u8]) -> Result<BusLine, LineFault>
 
 /// The same; most lines are of the usual form.
 #[inline(always)]
-pub fn said_by(line: &[u8]) -> Result<BusLine, LineFault>
+pub fn said_by(line: &[u8]) -> Result<BusLine<'_>, LineFault>
     ensures { result ≡ line_says line.now }
 {
     match usual_says(line) {
@@ -110,26 +98,29 @@ pub fn said_by(line: &[u8]) -> Result<BusLine, LineFault>
 }
 
 /// What a frame is to the tester of these identifiers.
-pub fn frame_for(frame: Option<Frame>, ids: &Ids) -> Option<Event>
-    ensures { result ≡ frame_for ids.now frame }
+#[inline(always)]
+pub fn frame_for(frame: &Option<FrameText>, ids: &Ids) -> Option<Event>
+    ensures { result ≡ frame_for ids.now frame.now }
 {
-    let Frame { id, bytes } = frame?;
-    if id == ids.request {
-        Some(Event::Physical(bytes))
-    } else if id == ids.functional {
-        Some(Event::Functional(bytes))
+    let Some(frame) = frame else {
+        return None;
+    };
+    if frame.id() == ids.request {
+        Some(Event::Physical(frame.bytes()))
+    } else if frame.id() == ids.functional {
+        Some(Event::Functional(frame.bytes()))
     } else {
         None
     }
 }
 
 /// What a line is to the tester of these identifiers, by what it says.
-fn event_for(said: BusLine, ids: &Ids) -> Option<Event>
-    ensures { result ≡ event_for ids.now said }
+fn event_for(said: &BusLine, ids: &Ids) -> Option<Event>
+    ensures { result ≡ event_for ids.now said.now }
 {
     match said {
         BusLine::Empty => None,
-        BusLine::Ticks(count) => Some(Event::Ticks(count)),
+        BusLine::Ticks(count) => Some(Event::Ticks(*count)),
         BusLine::Stamped { moment: _, frame } => frame_for(frame, ids),
     }
 }
@@ -146,5 +137,5 @@ pub fn read_line(line: &[u8], ids: &Ids) -> Result<Option<Event>, LineFault>
     ensures { result ≡ line_event line.now ids.now }
 {
     let said = said_by(line)?;
-    Ok(event_for(said, ids))
+    Ok(event_for(&said, ids))
 }

@@ -73,19 +73,6 @@ pub fn digit(c: u8) -> u32
     u32::from(VALUES[usize::from(c)])
 }
 
-/// The byte that the two hex digits at the front write, where there are two.
-pub fn pair(text: &[u8]) -> Option<u8>
-    ensures { result ≡ pair text.now }
-{
-    match text {
-        [high, low, ..] => {
-            let value = digit(*high) * 16 + digit(*low);
-            if value < 256 { Some(value as u8) } else { None }
-        }
-        _ => None,
-    }
-}
-
 /// The byte that two hex digits write.
 pub fn byte(high: u8, low: u8) -> u8
     requires { IsSome (pair (high ∷ low ∷ [])) }

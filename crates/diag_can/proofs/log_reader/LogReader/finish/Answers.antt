@@ -12,9 +12,9 @@ returns-in_err-take_line-clause-err c =
     let p = err_from_is_err_and c.from_residual.result c.from_residual.ensures.1 in
     rw (p.1, p.2) (λ known seen h.
     let at = h.well (search rules) in
-    fault_next at _ c.args.begun.now [] _ (lines_of-last c.args.begun.now c.requires.line (search rules)) ((rw c.without_return.ensures at c.in_err-take_line.ensures.fault) known _ at.read))
+    fault_next at _ c.args.begun.now [] _ (lines_of-last c.args.begun.now c.requires.line (search rules)) (c.in_err-take_line.ensures.fault known _ at.read))
 
 pub returns-clause-ok : goal.returns-clause-ok
 returns-clause-ok c = λ seen h.
     let at = h.well (search rules) in
-    ended_in at _ c.args.begun.now c.requires.line (search rules) ((rw c.without_return.ensures at c.in_ok-take_line.ensures.took) _ at.read)
+    ended_in at _ c.args.begun.now c.requires.line (search rules) (c.in_ok-take_line.ensures.took _ at.read)

@@ -2,7 +2,7 @@ use Rattle.std.proofs.Common.{◌≡◌, ◌∷◌, ℕ, ◌+◌, List, take, sy
 use Rattle.std.proofs.lemmas.Bool.{ne_eqb}
 use Rattle.diag_can.specs.Line.{tick_count, ticks_of}
 use Rattle.diag_can.proofs.TickFronts.{begins, count_said}
-use Rattle.diag_can.proofs.bus.count_front.Goals as goal
+use Rattle.diag_can.proofs.front.count_front.Goals as goal
 
 pub returns-clause-is : goal.returns-clause-is
 returns-clause-is c =

@@ -2,10 +2,10 @@ use Rattle.std.proofs.Common.{length, refl, subst, arith}
 use Rattle.std.proofs.lemmas.List.{take_all}
 use Rattle.diag_can.specs.Usual.{IsFramed}
 use Rattle.diag_can.proofs.UsualLines.{usual_parts}
-use Rattle.diag_can.proofs.usual.usual_frame.Goals as goal
+use Rattle.diag_can.proofs.usual.usual_says.Goals as goal
 
-pub returns : goal.returns
-returns c =
+pub said_from-requires : goal.said_from-requires
+said_from-requires c =
     let line = c.args.line.now in
     let read = c.in_ok-id.ensures in
     let begins = c.in_ok-place.ensures in

@@ -1,9 +1,9 @@
-use Rattle.std.proofs.Common.{◌≡◌, ◌∷◌, ℕ, ◌+◌, ◌-◌, List, length, take, drop, length-drop, sym, subst, arith, rules}
+use Rattle.std.proofs.Common.{◌≡◌, ◌∷◌, ℕ, ◌-◌, List, Some, length, take, drop, length-drop, sym, subst, arith, rules}
 use Rattle.std.proofs.lemmas.List.{take_all}
-use Rattle.diag_can.specs.Seen.{IsFront}
-use Rattle.diag_can.specs.declared.bus.Seen.TheVariants.{Ticks}
+use Rattle.diag_can.specs.Bus.{IsFirst}
+use Rattle.diag_can.specs.declared.bus.BusLine.TheVariants.{Ticks}
 use Rattle.diag_can.proofs.TickFronts.{letters, ticks_line}
-use Rattle.diag_can.proofs.bus.ticks_front.Goals as goal
+use Rattle.diag_can.proofs.front.ticks_front.Goals as goal
 
 pub returns : goal.returns
 returns c =
@@ -19,4 +19,5 @@ returns c =
     let whole : text ≡ 116 ∷ 105 ∷ 99 ∷ 107 ∷ rest = letters text c.in-116.len_at_least (search rules) (search rules) (search rules) (search rules) in
     let line =
     ticks_line rest after len count (rw four at read.is) (rw four at read.fits) read.few (rw (four, ends) at c.in_ok-after.ensures.is) in
-    subst (λ (t : List ℕ). IsFront t (take (length t - length after - 1) t) (take (4 + len) t) after (Ticks count)) (sym whole) line
+    let first = c.told.ensures in
+    rw (first.line, first.after, first.said) (subst (λ (t : List ℕ). IsFirst t (take (length t - length after - 1) t) after (Some (Ticks count))) (sym whole) line)

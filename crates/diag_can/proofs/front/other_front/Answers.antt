@@ -1,7 +1,7 @@
 use Rattle.std.proofs.Common.{◌+◌, ◌-◌, ◌∷◌, ◌++◌, ◌∙◌, length, take, drop, sym, ap, arith, length-drop}
 use Rattle.std.proofs.lemmas.List.{take_all}
 use Rattle.diag_can.proofs.Lines.{no_feed_before, split_at_feed}
-use Rattle.diag_can.proofs.log.other_front.Goals as goal
+use Rattle.diag_can.proofs.front.other_front.Goals as goal
 
 pub returns : goal.returns
 returns c =
@@ -12,7 +12,5 @@ returns c =
       is = split_at_feed text end c.in_ok-end.ensures
           ∙ ap (λ r. take end text ++ 10 ∷ r) (sym (take_all (length text - (end + 1)) after (omega (arith, length-drop (end + 1) text))));
       plain = no_feed_before text end c.in_ok-end.ensures;
-      line_is = c.without_return.ensures;
-      usual = tt;
       says = tt;
     }
