@@ -1,5 +1,5 @@
 -- How a batch goes on.
-use Rattle.std.proofs.lemmas.Bool.{eq-eqb}
+use Rattle.std.proofs.lemmas.Bool.{cases_eq, eq-eqb}
 use Rattle.std.proofs.lemmas.Bool.Decides.{nat_tests}
 use Rattle.std.specs.Prelude.{if◌then◌else◌, ◌/◌, ◌%◌}
 use Rattle.diag_can.specs.Log.{waited}
@@ -107,14 +107,21 @@ waited_rest ms some =
     some-eqb : (n : ℕ) → 1 ≤ n → (n == 0) ≡ false
     some-eqb n h = grind (arith, nat_tests)
 
+-- a count of ticks is waited at once
+pub waited_count : (n : ℕ) → 1 ≤ n → n ≤ 60000 → waited n ≡ Ticks n ∷ []
+waited_count n some few = elim (cases_eq n 60000) [
+  | inl most ↦ rw most refl
+  | inr fewer ↦
+      let parts : n / 60000 ≡ 0 = omega (arith, fewer) in
+      let rest : n % 60000 ≡ n = omega (arith, fewer) in
+      let left : (n == 0) ≡ false = grind (arith, nat_tests) in
+      rw (parts, rest, left) refl
+]
+
 -- fewer than 60000 are given as they are
 pub waited_few : (n ms count : ℕ) → count ≡ ms → 1 ≤ ms → ms < 60000 → each_of n (Ticks count) ≡ flat_map (each_of n) (waited ms)
 waited_few n ms count is some few =
-    let rest : ms % 60000 ≡ count = omega (arith, is, few) in
-    let none : ms / 60000 ≡ 0 = omega (arith, few) in
-    sym (ap (flat_map (each_of n)) (waited_rest ms (omega (arith, rest, is, some)))
-    ∙ (ap (λ k. flat_map (each_of n) (replicate k (Ticks 60000) ++ Ticks (ms % 60000) ∷ [])) none
-    ∙ (append-nil (each_of n (Ticks (ms % 60000))) ∙ ap (λ k. each_of n (Ticks k)) rest)))
+    ap (λ k. each_of n (Ticks k)) is ∙ sym (ap (flat_map (each_of n)) (waited_count ms some (omega arith)) ∙ append-nil (each_of n (Ticks ms)))
 
 pub rest_more : (n : ℕ) (es : List Event) (e : Event) → flat_map (each_of n) (es ++ e ∷ []) ≡ flat_map (each_of n) es ++ each_of n e
 rest_more n es e = flat_map-append (each_of n) es (e ∷ []) ∙ ap (λ w. flat_map (each_of n) es ++ w) (append-nil (each_of n e))

@@ -20,5 +20,4 @@ pub mod TextExamples
 pub mod Texts
 pub mod Verdicts
 mod VerdictExamples
-pub mod Usual
 pub mod Owners

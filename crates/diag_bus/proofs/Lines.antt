@@ -32,31 +32,9 @@ use Rattle.diag_bus.specs.declared.clock.Start.{Start}
 
 -- ---- what a line says
 
-frames_none : (setup : RawSetup) (ts : List ℕ) → flat_map (frame_to setup None) ts ≡ []
+pub frames_none : (setup : RawSetup) (ts : List ℕ) → flat_map (frame_to setup None) ts ≡ []
 frames_none setup [] = refl
 frames_none setup (t ∷ ts) = frames_none setup ts
-
-pub said_empty : (setup : RawSetup) (r : Option ℕ) (said : BusLine) → said ≡ Empty → [] ≡ said_gives setup r said
-said_empty setup r said is = sym (ap (said_gives setup r) is ∙ frames_none setup (counted_from 1 (length setup.testers)))
-
-pub said_ticks : (setup : RawSetup) (r : Option ℕ) (said : BusLine) (n : ℕ) → said ≡ Ticks n
-    → each_of (length setup.testers) (event.Ticks n) ≡ said_gives setup r said
-said_ticks setup r said n is =
-    let each = each_of (length setup.testers) (event.Ticks n) in
-    sym (ap (said_gives setup r) is ∙ (ap (λ w. (each ++ []) ++ w) (frames_none setup (counted_from 1 (length setup.testers)))
-    ∙ (append-nil (each ++ []) ∙ append-nil each)))
-
-pub said_quiet : (setup : RawSetup) (r : Option ℕ) (said : BusLine) (m : ℕ) (frame : Option Frame) → said ≡ Stamped m frame → frame ≡ None
-    → flat_map (each_of (length setup.testers)) (waited (silence Stamps r (Some m))) ≡ said_gives setup r said
-said_quiet setup r said m frame is none =
-    let time = flat_map (each_of (length setup.testers)) (waited (silence Stamps r (Some m))) in
-    sym (ap (said_gives setup r) (is ∙ ap (λ f. Stamped m f) none)
-    ∙ (ap (λ w. time ++ w) (frames_none setup (counted_from 1 (length setup.testers))) ∙ append-nil time))
-
-pub said_frame : (setup : RawSetup) (r : Option ℕ) (said : BusLine) (m : ℕ) (o : Option Frame) (frame : Frame) → said ≡ Stamped m o → o ≡ Some frame
-    → flat_map (each_of (length setup.testers)) (waited (silence Stamps r (Some m)))
-    ++ flat_map (frame_to setup (Some frame)) (counted_from 1 (length setup.testers)) ≡ said_gives setup r said
-said_frame setup r said m o frame is some = sym (ap (said_gives setup r) (is ∙ ap (λ f. Stamped m f) some))
 
 -- ---- the run
 

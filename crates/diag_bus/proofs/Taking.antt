@@ -1,10 +1,9 @@
 -- A bus takes a line more.
 use Rattle.std.proofs.Common.{◌≡◌, ◌≤◌, ℕ, ◌+◌, Bool, false, List, [], ◌∷◌, ◌++◌, Option, Some, None, Ok, Err, length, refl, ap, ap₂, subst, sym, ◌∙◌, arith}
-use Rattle.std.specs.Prelude.{IfSome, IsTrue, slice_get}
+use Rattle.std.proofs.lemmas.Bool.Decides.{nat_tests}
+use Rattle.std.specs.Prelude.{IfSome, nat_lt, slice_get}
 use Rattle.diag_can.specs.Bus.{bus_line}
 use Rattle.diag_can.specs.declared.bus.BusLine.{BusLine}
-use Rattle.diag_can.specs.declared.bus.BusLine.TheVariants.{Ticks}
-use Rattle.diag_can.specs.declared.frame.Event.TheVariants as event
 use Rattle.diag_tp.specs.declared.sent.Sent.{Sent}
 use Rattle.diag_setup.specs.declared.raw.RawSetup.{RawSetup}
 use Rattle.diag_world.specs.Server.{ServerView, closing_time, each_of, server_of}
@@ -22,7 +21,7 @@ use Rattle.diag_bus.specs.declared.fault.BusFault.{BusFault}
 use Rattle.diag_bus.specs.declared.mid_line.MidLine.{MidLine}
 use Rattle.diag_bus.specs.declared.request_ids.RequestIds.{RequestIds}
 use Rattle.diag_bus.proofs.Faults.{well_more}
-use Rattle.diag_bus.proofs.Lines.{line_taken, said_ticks}
+use Rattle.diag_bus.proofs.Lines.{line_taken}
 use Rattle.diag_bus.proofs.Paces.{line_paced, sent_nothing}
 use Rattle.diag_bus.proofs.Stamps.{bus_line_low}
 use Rattle.diag_bus.proofs.Texts.{wrote}
@@ -46,6 +45,14 @@ line_well : (bus : BusState) (line : List ℕ) → fault_said (bus_line line) (b
     → (lines : List (List ℕ)) → TookLines bus lines → line_fault lines line ≡ None
 line_well bus line well lines h =
     ap₂ (λ time reference. fault_said (bus_line line) (time + span_said reference (bus_line line))) (sym h.stands.time) (sym h.stands.reference) ∙ well
+
+-- a line by which the clocks go on in time
+pub well_time : (clock : Clock) (line : List ℕ) (said : BusLine) (time : ℕ) → bus_line line ≡ Ok said
+    → time ≡ clock.time + span_said clock.reference (Ok said) → time ≤ closing_time
+    → fault_said (bus_line line) (clock.time + span_said clock.reference (bus_line line)) ≡ None
+well_time clock line said time says is early =
+    let below : nat_lt closing_time (clock.time + span_said clock.reference (Ok said)) ≡ false = grind (arith, nat_tests) in
+    rw (says, below) refl
 
 ok_is_no_err : {A : Type 0} {x : A} {f : BusFault} → Ok x ≡ Err f → ⊥
 ok_is_no_err h = cc
@@ -90,16 +97,6 @@ took_line {A} {x} {text} {text'} {said} {old} {begun} {taken} {done} {clock} {cl
       setup = refl;
       output = third.output ∙ same;
     })
-
--- ticks to each tester are what a line gives that says so many
-pub ticks_gave : (setup : RawSetup) (clock : Clock) (begun taken : MidLine) (count : ℕ)
-    → Gave begun taken (each_of (length setup.testers) (event.Ticks count))
-    → Gave begun taken (said_gives setup clock.reference (Ticks count))
-ticks_gave setup clock begun taken count gave = subst (λ L. Gave begun taken L) (said_ticks setup clock.reference (Ticks count) count refl) gave
-
--- no verdict is wanted where that was found so
-pub judged_not : (is : Bool) → is ≡ false → IsTrue is → ⊥
-judged_not is none some = cc
 
 -- ---- what holds whatever the bus took
 

@@ -1,10 +1,7 @@
 //! The bus: the server, and what is kept of a capture between two of its lines.
 
-ghost use Rattle.std.specs.Prelude.{◌≡◌, ◌≤◌, ◌↔◌, [], ◌++◌, ℕ, List, length, IfOk, OnOk, OnErr, IsTrue, Ok};
+ghost use Rattle.std.specs.Prelude.{◌≡◌, ◌≤◌, [], ◌++◌, ℕ, List, length, IfOk, OnOk, OnErr, Ok};
 ghost use Rattle.diag_can.specs.Bus.{bus_line};
-ghost use Rattle.diag_can.specs.Seen.{IsSeen};
-ghost use Rattle.diag_can.specs.Usual.{IsUsual, usual_said};
-ghost use Rattle.diag_can.specs.declared.bus.BusLine.TheVariants.{Ticks};
 ghost use Rattle.diag_world.specs.Port.{Grew};
 ghost use Rattle.diag_world.specs.Server.{quiet_of};
 ghost use Rattle.diag_bus.specs.Batch.{lists_of};
@@ -13,7 +10,7 @@ ghost use Rattle.diag_bus.specs.Comparing.{TakesLine};
 ghost use Rattle.diag_bus.specs.Text.{ecu_after, written};
 ghost use Rattle.diag_bus.specs.Verdict.{recorded, verdict};
 
-use crate::clock::{Clock, next_ticks, next_time, next_usual, silence};
+use crate::clock::Clock;
 use crate::comparing::Comparisons;
 use crate::fault::BusFault;
 use crate::filled::Filled;
@@ -21,7 +18,7 @@ use crate::mid_line::MidLine;
 use crate::request_ids::RequestIds;
 use crate::verdict::Verdict;
 use crate::writing::{Writing, writers_of};
-use diag_can::{BusLine, Seen, TickCount, UsualFrame, read_bus_line, usual_line};
+use diag_can::{BusLine, read_bus_line};
 use diag_desk::{JournalVersion, write_header};
 use diag_ecu::Ecu;
 use diag_setup::{Setup, TesterId};
@@ -41,16 +38,6 @@ pub enum Output {
     End,
     /// Nothing: what is wanted is the verdict on the unit's own frames in the capture.
     Verdict,
-}
-
-impl Output {
-    /// Whether a verdict is wanted.
-    #[inline(always)]
-    fn is_verdict(self) -> bool
-        ensures { IsTrue result ↔ (self ≡ Output.Verdict) }
-    {
-        matches!(self, Output::Verdict)
-    }
 }
 
 /// The server, and what is kept of a capture between two of its lines: the bus's clock, and room to work in.
@@ -159,123 +146,28 @@ impl Bus {
         ensures setup { self.new.setup ≡ self.old.setup }
         ensures output { self.new.output ≡ self.old.output }
     {
-        match usual_line(line) {
-            Some((usual, frame)) => self.take_usual(line, usual, &frame, text),
-            None => self.take_read(line, text),
-        }
-    }
-
-    /// The same of a line of which this is seen already; `usual` is the line without its CR. Of ticks no value is made that
-    /// could hold a frame.
-    ///
-    /// # Errors
-    /// As `take_line`.
-    #[inline(always)]
-    pub fn take_seen(
-        &mut self,
-        line: &[u8],
-        usual: &[u8],
-        seen: Seen,
-        text: &mut Vec<u8>,
-    ) -> Result<(), BusFault>
-        requires { IsSeen line.now usual.now seen }
-        ensures { AnswersLine self.old self.new line.now text.old.items text.new.items result }
-    {
-        match seen {
-            Seen::Usual(frame) => self.take_usual(line, usual, &frame, text),
-            Seen::Ticks(count) => self.take_ticks(line, count, text),
-            Seen::Nothing => self.take_line(line, text),
-        }
-    }
-
-    /// Takes a line of the usual form.
-    #[inline(always)]
-    fn take_usual(
-        &mut self,
-        line: &[u8],
-        usual: &[u8],
-        frame: &UsualFrame,
-        text: &mut Vec<u8>,
-    ) -> Result<(), BusFault>
-        requires usual { IsUsual usual.now frame.now }
-        requires says { bus_line line.now ≡ Ok (usual_said usual.now frame.now) }
-        ensures { AnswersLine self.old self.new line.now text.old.items text.new.items result }
-    {
-        if self.line.output.is_verdict() {
-            return self.take_read(line, text);
-        }
-        let (moment, time) = next_usual(&self.clock, line, usual, frame)?;
-        let span = silence(self.clock.reference, moment);
-        self.clock.go_on_at(moment, time);
-        self.line.begin();
-        self.line
-            .take_usual(&self.setup, &self.ids, span, usual, frame)?;
-        self.line
-            .write(&self.setup, &self.clock, &mut self.writing, text)?;
-        Ok(())
-    }
-
-    /// Takes a line that says so many ticks.
-    #[inline(never)]
-    fn take_ticks(
-        &mut self,
-        line: &[u8],
-        count: TickCount,
-        text: &mut Vec<u8>,
-    ) -> Result<(), BusFault>
-        requires says { bus_line line.now ≡ Ok (Ticks count) }
-        ensures { AnswersLine self.old self.new line.now text.old.items text.new.items result }
-    {
-        if self.line.output.is_verdict() {
-            return self.take_judged_ticks(line, count, text);
-        }
-        let time = next_ticks(&self.clock, line, count)?;
-        self.clock.go_on_by(count, time);
-        self.line.begin();
-        self.line.give_each(&self.setup, count)?;
-        self.line
-            .write(&self.setup, &self.clock, &mut self.writing, text)?;
-        Ok(())
-    }
-
-    /// The same where a verdict is wanted.
-    #[inline(never)]
-    fn take_judged_ticks(
-        &mut self,
-        line: &[u8],
-        count: TickCount,
-        text: &mut Vec<u8>,
-    ) -> Result<(), BusFault>
-        requires says { bus_line line.now ≡ Ok (Ticks count) }
-        ensures { AnswersLine self.old self.new line.now text.old.items text.new.items result }
-    {
-        self.take_said(line, &BusLine::Ticks(count), text)
-    }
-
-    /// Takes a line by the value that says all of it.
-    #[inline(never)]
-    fn take_read(&mut self, line: &[u8], text: &mut Vec<u8>) -> Result<(), BusFault>
-        ensures { AnswersLine self.old self.new line.now text.old.items text.new.items result }
-    {
         match read_bus_line(line) {
-            Ok(said) => self.take_said(line, &said, text),
+            Ok(said) => self.take(&said, text),
             Err(fault) => Err(BusFault::Line(fault)),
         }
     }
 
     /// Takes a line that says this.
+    ///
+    /// # Errors
+    /// As `take_line`.
     #[inline(always)]
-    fn take_said(&mut self, line: &[u8], said: &BusLine, text: &mut Vec<u8>) -> Result<(), BusFault>
-        requires says { bus_line line.now ≡ Ok said.now }
-        ensures { AnswersLine self.old self.new line.now text.old.items text.new.items result }
+    pub fn take(&mut self, said: &BusLine, text: &mut Vec<u8>) -> Result<(), BusFault>
+        requires { (line : List ℕ) × (bus_line line ≡ Ok said.now) }
+        ensures { (line : List ℕ) → bus_line line ≡ Ok said.now
+            → AnswersLine self.old self.new line text.old.items text.new.items result }
     {
-        let time = next_time(&self.clock, line, said)?;
-        let reference = self.clock.reference;
+        let time = self.clock.next(said)?;
+        let span = time - self.clock.time;
         // (first: no link's clock is ahead of the bus's, also where the line is refused)
         self.clock.go_on(said, time);
         self.line.begin();
-        self.line
-            .take_said(&self.setup, &self.ids, reference, said)?;
+        self.line.take(&self.setup, &self.ids, span, said)?;
         compare(&mut self.compared, &self.setup, said, &self.line)?;
         self.line
             .write(&self.setup, &self.clock, &mut self.writing, text)?;

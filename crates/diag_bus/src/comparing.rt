@@ -267,14 +267,14 @@ fn reply_in(response: CanId, line: u64, said: &BusLine) -> Option<Recorded>
     else {
         return None;
     };
-    let bytes = frame.bytes.as_slice();
-    if frame.id != response || is_pending(bytes) {
+    if frame.id() != response {
         return None;
     }
-    Some(Recorded {
-        line,
-        bytes: frame.bytes.copy(),
-    })
+    let bytes = frame.bytes();
+    if is_pending(bytes.as_slice()) {
+        return None;
+    }
+    Some(Recorded { line, bytes })
 }
 
 /// The number behind this one.

@@ -4,22 +4,21 @@ ghost use Rattle.std.specs.Prelude.{◌≡◌, ◌≢◌, ◌≤◌, ◌<◌, �
 ghost use Rattle.std.specs.List.{flat_map};
 ghost use Rattle.diag_can.specs.declared.frame.Event.{Event as AnEvent};
 ghost use Rattle.diag_can.specs.Log.{waited};
-ghost use Rattle.diag_can.specs.Usual.{IsUsual, usual_bytes};
 ghost use Rattle.diag_pdu.specs.Cut.{counted_from};
 ghost use Rattle.diag_tp.specs.declared.sent.Sent.{Sent as ASent};
 ghost use Rattle.diag_setup.specs.declared.raw.RawSetup.{RawSetup};
 ghost use Rattle.diag_world.specs.Server.{closing_time, each_of};
-ghost use Rattle.diag_bus.specs.Events.{frame_to, said_gives, span_said};
+ghost use Rattle.diag_bus.specs.Events.{frame_said, frame_to};
 ghost use Rattle.diag_bus.specs.declared.clock.Start.{Start as AStart};
 ghost use Rattle.diag_bus.specs.Requests.{AreFilled, AreNamesOf, AreRequestsOf, IsOwner, given};
 
 use crate::bus::Output;
-use crate::clock::{Clock, silence};
+use crate::clock::Clock;
 use crate::entering::LineEntries;
 use crate::filled::Filled;
 use crate::request_ids::{Owner, RequestIds};
 use crate::writing::{Writing, is_in_order, write_drawn, write_own};
-use diag_can::{BusLine, Event, FrameBytes, TickCount, UsualFrame, usual_bytes};
+use diag_can::{BusLine, Event, FrameText, TickCount};
 use diag_setup::{Setup, TesterId};
 use diag_tp::Sent;
 use diag_world::{Server, ServerFault};
@@ -223,24 +222,25 @@ impl MidLine {
         }
     }
 
-    /// Gives the server a frame with these bytes, by whose it is.
+    /// Gives the server a frame, by whose it is.
     #[inline(always)]
     fn give_frame(
         &mut self,
         setup: &Setup,
         owner: Owner,
-        bytes: FrameBytes,
+        frame: &FrameText,
     ) -> Result<(), AllocError>
         requires in_setup { length self.old.server.links ≡ length setup.now.testers }
         requires lists { length self.old.drawn.items ≡ length setup.now.testers }
         requires owner { (id : ℕ) × IsOwner setup.now id (length setup.now.testers) owner }
         requires early { HasTime self.old.server 0 }
-        ensures { Passed self.old self.new 0 (given (length setup.now.testers) owner bytes) result }
+        ensures { Passed self.old self.new 0
+            (given (length setup.now.testers) owner frame.now.bytes) result }
     {
         match owner {
             Owner::Nobody => Ok(()),
-            Owner::Tester(who) => self.give(who, &Event::Physical(bytes)),
-            Owner::Each => self.give_to_each(setup, &Event::Functional(bytes)),
+            Owner::Tester(who) => self.give(who, &Event::Physical(frame.bytes())),
+            Owner::Each => self.give_to_each(setup, &Event::Functional(frame.bytes())),
         }
     }
 
@@ -266,55 +266,27 @@ impl MidLine {
         Ok(())
     }
 
-    /// Gives the server what a line of the usual form says: so many milliseconds, and this frame.
+    /// Gives the server what a line says: so many milliseconds, and its frame.
     #[inline(always)]
-    pub fn take_usual(
+    pub fn take(
         &mut self,
         setup: &Setup,
         ids: &RequestIds,
         ms: u64,
-        line: &[u8],
-        frame: &UsualFrame,
+        said: &BusLine,
     ) -> Result<(), AllocError>
         requires ready { IsReady self.old (length setup.now.testers) ms }
         requires ids { AreRequestsOf setup.now ids.now }
-        requires usual { IsUsual line.now frame.now }
         ensures { Passed self.old self.new ms (flat_map (each_of (length setup.now.testers)) (waited ms)
-            ++ flat_map (frame_to setup.now (Some (record { id = frame.now.id; bytes = usual_bytes line.now frame.now.at })))
-            (counted_from 1 (length setup.now.testers))) result }
+            ++ flat_map (frame_to setup.now (frame_said said.now)) (counted_from 1 (length setup.now.testers))) result }
     {
         self.pass(setup, ms)?;
-        match ids.owner(frame.id) {
-            Owner::Nobody => Ok(()),
-            owner => self.give_frame(setup, owner, usual_bytes(line, frame.at)),
-        }
-    }
-
-    /// Gives the server what a line says.
-    pub fn take_said(
-        &mut self,
-        setup: &Setup,
-        ids: &RequestIds,
-        reference: Option<u64>,
-        said: &BusLine,
-    ) -> Result<(), AllocError>
-        requires ready { IsReady self.old (length setup.now.testers) (span_said reference (Ok said.now)) }
-        requires ids { AreRequestsOf setup.now ids.now }
-        ensures { Passed self.old self.new (span_said reference (Ok said.now))
-            (said_gives setup.now reference said.now) result }
-    {
         match said {
-            BusLine::Empty => Ok(()),
-            BusLine::Ticks(count) => self.give_each(setup, *count),
-            BusLine::Stamped { moment, frame } => {
-                self.pass(setup, silence(reference, *moment))?;
-                match frame {
-                    Some(frame) => {
-                        self.give_frame(setup, ids.owner(frame.id), frame.bytes.copy())
-                    }
-                    None => Ok(()),
-                }
-            }
+            BusLine::Empty | BusLine::Ticks(_) => Ok(()),
+            BusLine::Stamped { moment: _, frame } => match frame {
+                Some(frame) => self.give_frame(setup, ids.owner(frame.id()), frame),
+                None => Ok(()),
+            },
         }
     }
 }

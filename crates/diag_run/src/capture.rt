@@ -1,10 +1,9 @@
 //! A capture that comes piece by piece: its lines go to the bus, and what they write goes out.
 
-ghost use Rattle.std.specs.Prelude.{◌≡◌, ◌⊎◌, ◌+◌, ◌<◌, ◌≤◌, ◌^◌, ◌∷◌, [], ◌++◌, ℕ, List, length, vec_len, IfOk, IfErr, OnOk};
+ghost use Rattle.std.specs.Prelude.{◌≡◌, ◌⊎◌, ◌+◌, ◌<◌, ◌≤◌, ◌^◌, ◌∷◌, [], ◌++◌, ℕ, List, length, vec_len, Ok, IfOk, IfSome, IfErr, OnOk};
 ghost use Rattle.std.specs.Io.KnownBytes.{Appends};
-ghost use Rattle.diag_can.specs.Bus.{HasNoFeed, ended_lines};
-ghost use Rattle.diag_can.specs.Seen.{IsSeen};
-ghost use Rattle.diag_bus.specs.Bus.{TookLines};
+ghost use Rattle.diag_can.specs.Bus.{HasNoFeed, bus_line, ended_lines};
+ghost use Rattle.diag_bus.specs.Bus.{AnswersLine, TookLines};
 ghost use Rattle.diag_text.specs.Bytes.{AppendsFront, Sends};
 ghost use Rattle.diag_world.specs.Server.{quiet_of};
 ghost use Rattle.diag_run.specs.Faults.{fault_at};
@@ -12,7 +11,7 @@ ghost use Rattle.diag_run.specs.Capture.{IsBorneOut, IsFrontOf, StopsOn, capture
 
 use crate::ending::add_end;
 use diag_bus::{Bus, BusFault};
-use diag_can::{LONGEST_LINE, LineFault, Seen, first_bus_line};
+use diag_can::{BusLine, LONGEST_LINE, LineFault, first_line};
 use diag_text::write_text;
 use std::alloc::{AllocError, Global};
 use std::io::Write;
@@ -111,8 +110,8 @@ impl Capture {
             (HaltsIn self.old fault piece.now)) }
     {
         let mut rest = piece;
-        while let Some(first) = first_bus_line(rest) {
-            if let Err(fault) = self.take_line(first.whole, first.line, first.seen, out) {
+        while let Some(first) = first_line(rest) {
+            if let Err(fault) = self.take_line(first.line, first.said, out) {
                 return Err(fault);
             }
             rest = first.after;
@@ -120,19 +119,18 @@ impl Capture {
         self.take_begun(rest, out)
     }
 
-    /// Takes the line that these bytes and an LF end, of which this is seen; `usual` is it without its CR. What is to be
-    /// written is written where it is much.
+    /// Takes the line that these bytes and an LF end, which say this alone, where that is known. What is to be written is
+    /// written where it is much.
     #[inline(always)]
     fn take_line<W: Write>(
         &mut self,
         bytes: &[u8],
-        usual: &[u8],
-        seen: Seen,
+        said: Option<BusLine>,
         out: &mut W,
     ) -> Result<(), CaptureFault>
         requires room { self.old.lines + 1 < 2 ^ 64 }
         requires line { HasNoFeed bytes.now }
-        requires seen { IsSeen bytes.now usual.now seen }
+        requires says { IfSome said (λ said. bus_line bytes.now ≡ Ok said) }
         ensures ok { OnOk result (Sends (W.contents out.old) (W.contents out.new)
             (GoesOn self.old self.new (bytes.now ++ 10 ∷ []))) }
         ensures lines { OnOk result (self.new.lines ≡ self.old.lines + 1) }
@@ -141,7 +139,7 @@ impl Capture {
             (HaltsIn self.old fault (bytes.now ++ 10 ∷ []))) }
     {
         let number = self.lines + 1;
-        if let Err(fault) = self.end_line(bytes, usual, seen) {
+        if let Err(fault) = self.end_line(bytes, said) {
             return Err(stop(fault_at(number, fault), &mut self.text, out));
         }
         if self.text.len() > TEXT_LIMIT {
@@ -170,10 +168,10 @@ impl Capture {
 
     /// Gives the bus the line that these bytes and an LF end, behind what is kept of it.
     #[inline(always)]
-    fn end_line(&mut self, bytes: &[u8], usual: &[u8], seen: Seen) -> Result<(), BusFault>
+    fn end_line(&mut self, bytes: &[u8], said: Option<BusLine>) -> Result<(), BusFault>
         requires room { self.old.lines + 1 < 2 ^ 64 }
         requires line { HasNoFeed bytes.now }
-        requires seen { IsSeen bytes.now usual.now seen }
+        requires says { IfSome said (λ said. bus_line bytes.now ≡ Ok said) }
         ensures ok { OnOk result (GoesOn self.old self.new (bytes.now ++ 10 ∷ []) []) }
         ensures lines { OnOk result (self.new.lines ≡ self.old.lines + 1) }
         ensures kept { OnOk result (self.new.kept.items ≡ []) }
@@ -181,7 +179,7 @@ impl Capture {
             HaltsIn self.old (fault_at (self.old.lines + 1) fault) (bytes.now ++ 10 ∷ []) self.new.text.items) }
     {
         if self.kept.is_empty() {
-            self.take_whole(bytes, usual, seen)
+            self.take_whole(bytes, said)
         } else {
             self.take_kept(bytes)
         }
@@ -189,10 +187,10 @@ impl Capture {
 
     /// Gives the bus a line of which nothing is kept.
     #[inline(always)]
-    fn take_whole(&mut self, line: &[u8], usual: &[u8], seen: Seen) -> Result<(), BusFault>
+    fn take_whole(&mut self, line: &[u8], said: Option<BusLine>) -> Result<(), BusFault>
         requires room { self.old.lines + 1 < 2 ^ 64 }
         requires line { HasNoFeed line.now }
-        requires seen { IsSeen line.now usual.now seen }
+        requires says { IfSome said (λ said. bus_line line.now ≡ Ok said) }
         requires none { self.old.kept.items ≡ [] }
         ensures ok { OnOk result (GoesOn self.old self.new (line.now ++ 10 ∷ []) []) }
         ensures lines { OnOk result (self.new.lines ≡ self.old.lines + 1) }
@@ -200,7 +198,7 @@ impl Capture {
         ensures err { IfErr result (λ fault.
             HaltsIn self.old (fault_at (self.old.lines + 1) fault) (line.now ++ 10 ∷ []) self.new.text.items) }
     {
-        if let Err(fault) = self.bus.take_seen(line, usual, seen, &mut self.text) {
+        if let Err(fault) = give(&mut self.bus, line, said, &mut self.text) {
             return Err(fault);
         }
         self.lines += 1;
@@ -249,7 +247,7 @@ impl Capture {
         if self.kept.is_empty() {
             return self.close(alloc, out);
         }
-        self.take_line(&[], &[], Seen::Nothing, out)?;
+        self.take_line(&[], None, out)?;
         self.close(alloc, out)
     }
 
@@ -269,6 +267,23 @@ impl Capture {
             return Err(stop(fault, &mut self.text, out));
         }
         write_out(&mut self.text, out)
+    }
+}
+
+/// Gives the bus a line, which says this, where that is known.
+#[inline(always)]
+fn give(
+    bus: &mut Bus,
+    line: &[u8],
+    said: Option<BusLine>,
+    text: &mut Vec<u8>,
+) -> Result<(), BusFault>
+    requires { IfSome said (λ said. bus_line line.now ≡ Ok said) }
+    ensures { AnswersLine bus.old bus.new line.now text.old.items text.new.items result }
+{
+    match said {
+        Some(said) => bus.take(&said, text),
+        None => bus.take_line(line, text),
     }
 }
 

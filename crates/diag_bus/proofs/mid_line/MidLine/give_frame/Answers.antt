@@ -1,16 +1,17 @@
-use Rattle.std.proofs.Common.{◌-◌, length, refl, ap, subst, sym, arith}
+use Rattle.std.proofs.Common.{◌-◌, ◌∷◌, [], ℕ, List, length, refl, ap, subst, ◌∙◌, sym, arith}
 use Rattle.std.proofs.lemmas.Result.{on_ok_weaker}
+use Rattle.diag_can.specs.declared.frame.Event.TheVariants.{Physical}
 use Rattle.diag_bus.specs.Batch.{Gave}
 use Rattle.diag_bus.specs.Requests.{IsOwner, given}
 use Rattle.diag_bus.specs.declared.request_ids.Owner.{Owner}
-use Rattle.diag_bus.specs.declared.request_ids.Owner.TheVariants.{Tester}
+use Rattle.diag_bus.specs.declared.request_ids.Owner.TheVariants.{Each, Tester}
 use Rattle.diag_bus.proofs.Paces.{sent_none, sent_then, took_none, took_one}
 use Rattle.diag_bus.proofs.Passing.{passed_as, passed_none}
 use Rattle.diag_bus.proofs.mid_line.MidLine.give_frame.Goals as goal
 
 pub returns-in-Nobody : goal.returns-in-Nobody
 returns-in-Nobody c =
-    passed_as refl (ap (λ o. given (length c.args.setup.now.testers) o c.args.bytes) (sym c.in-Nobody.is)) (passed_none c.args.self.now 0)
+    passed_as refl (ap (λ o. given (length c.args.setup.now.testers) o c.args.frame.now.bytes) (sym c.in-Nobody.is)) (passed_none c.args.self.now 0)
 
 pub give-requires-clause-in_setup : goal.give-requires-clause-in_setup
 give-requires-clause-in_setup c =
@@ -31,7 +32,9 @@ returns-in-Tester c =
     let old = c.args.self.now in
     let none = took_none old.server 0 in
     record {
-      ok = on_ok_weaker c.give.result (λ gave. subst (λ (o : Owner). Gave old c.give.new.self (given n o c.args.bytes)) (sym c.in-Tester.is) gave)
+      ok = on_ok_weaker c.give.result
+          (λ gave. subst (λ (o : Owner). Gave old c.give.new.self (given n o c.args.frame.now.bytes)) (sym c.in-Tester.is)
+          (subst (λ (bytes : List ℕ). Gave old c.give.new.self ((c.in-Tester.who, Physical bytes) ∷ [])) c.bytes.ensures gave))
           c.give.ensures.ok;
       shape = c.give.ensures.shape;
       pace = took_one old.server old.server c.give.new.self.server 0 (c.in-Tester.who - 1) 0 0 (omega arith) none
@@ -44,7 +47,7 @@ returns-in-Tester c =
 pub returns-in-Each : goal.returns-in-Each
 returns-in-Each c =
     let n = length c.args.setup.now.testers in
-    passed_as refl (ap (λ o. given n o c.args.bytes) (sym c.in-Each.is)) (record {
+    passed_as refl (ap (given n Each) c.bytes-in-Each.ensures ∙ ap (λ o. given n o c.args.frame.now.bytes) (sym c.in-Each.is)) (record {
       ok = c.give_to_each.ensures.ok;
       shape = c.give_to_each.ensures.shape;
       pace = c.give_to_each.ensures.pace 0 (λ now. omega arith);

@@ -6,7 +6,7 @@ use Rattle.diag_run.proofs.capture.Capture.take_piece.Goals as goal
 
 pub loop-first-preserved : goal.loop-first-preserved
 loop-first-preserved g c =
-    one_line_more _ _ _ _ _ c.args.piece.now c.loop-first.rest.now c.loop-first.invariant c.take_line.new.self c.in-Some.first.whole.now
+    one_line_more _ _ _ _ _ c.args.piece.now c.loop-first.rest.now c.loop-first.invariant c.take_line.new.self c.in-Some.first.line.now
     c.in-Some.first.after.now c.in-Some.ensures.is c.in_default-take_line.ensures.ok c.in_default-take_line.ensures.lines
 
 pub take_begun-requires-clause-room : goal.take_begun-requires-clause-room
@@ -28,7 +28,7 @@ returns-clause-err g c =
 
 pub returns-in-Err-clause-err : goal.returns-in-Err-clause-err
 returns-in-Err-clause-err g c =
-    let whole = c.in-Some.first.whole.now in
+    let whole = c.in-Some.first.line.now in
     let after = c.in-Some.first.after.now in
     so_far_halts _ _ _ _ _ c.args.piece.now c.loop-first.rest.now c.loop-first.invariant c.in-Err.fault (whole ++ 10 ∷ []) after
     (c.in-Some.ensures.is ∙ sym (append_assoc whole (10 ∷ []) after)) c.in-Err.ensures.err

@@ -6,13 +6,13 @@ pub returns-in-Err-clause-err : goal.returns-in-Err-clause-err
 returns-in-Err-clause-err c =
     let line = c.args.line.now in
     let whole : line ≡ c.args.self.now.kept.items ++ line = ap (λ (k : List ℕ). k ++ line) (sym c.requires.none) in
-    give_halts c.args.self.now line line c.take_seen.new.text.items c.in-Err.fault c.requires.line whole c.in-Err.ensures.err
-    (c.take_seen.ensures.fault c.in-Err.fault c.in-Err.is)
+    give_halts c.args.self.now line line c.give.new.text.items c.in-Err.fault c.requires.line whole c.in-Err.ensures.err
+    (c.give.ensures.fault c.in-Err.fault c.in-Err.is)
 
 pub returns-clause-ok : goal.returns-clause-ok
 returns-clause-ok c =
     let line = c.args.line.now in
     let whole : line ≡ c.args.self.now.kept.items ++ line = ap (λ (k : List ℕ). k ++ line) (sym c.requires.none) in
     let gave = c.in_default.ensures.took in
-    line_goes_on c.args.self.now _ c.take_seen.ensures.setup c.take_seen.ensures.output line line gave.more c.requires.line whole gave.holds
+    line_goes_on c.args.self.now _ c.give.ensures.setup c.give.ensures.output line line gave.more c.requires.line whole gave.holds
     c.requires.none refl gave.grown
