@@ -8,6 +8,8 @@ use Rattle.diag_setup.specs.declared.raw.RawCode.{RawCode}
 use Rattle.diag_setup.specs.declared.raw.RawRoutine.{RawRoutine}
 use Rattle.diag_setup.specs.declared.raw.RawKeyRow.{RawKeyRow}
 use Rattle.diag_setup.specs.declared.raw.RawLevel.{RawLevel}
+use Rattle.diag_setup.specs.declared.raw.RawAnswer.{RawAnswer}
+use Rattle.diag_setup.specs.Setup.{templates_of}
 
 pub record TesterFits (tester : RawTester) : Type 0 where
   pub request : tester.request ≤ 0x7FF
@@ -43,6 +45,15 @@ pub record LevelFits (level : RawLevel) : Type 0 where
   pub few : length level.rows ≤ 64
   pub rows : All KeyRowFits level.rows
 
+pub record AnswerFits (row : RawAnswer) : Type 0 where
+  pub pattern : length row.pattern ≤ 64
+  pub templates : length (templates_of row) ≤ 4096
+  pub items : All (λ template. length template ≤ 4095) (templates_of row)
+  pub session : row.session ≤ 126
+  pub level : row.level ≤ 65
+  pub enter : row.enter ≤ 126
+  pub after_ms : row.after_ms ≤ 600000
+
 -- the numbers that stand beside the tables
 pub record NumbersFit (raw : RawSetup) : Type 0 where
   pub p2_ms : raw.p2_ms ≤ 0xFFFF
@@ -57,6 +68,7 @@ pub record NumbersFit (raw : RawSetup) : Type 0 where
   pub pad_byte : raw.pad_byte ≤ 0xFF
   pub functional : raw.functional ≤ 0x7FF
   pub availability : raw.availability ≤ 0xFF
+  pub s3_ms : raw.s3_ms ≤ 600000
   pub attempts_some : 1 ≤ raw.attempts
   pub attempts : raw.attempts ≤ 0xFF
   pub delay_ms : 1 ≤ raw.delay_ms

@@ -12,6 +12,8 @@ use Rattle.diag_setup.specs.declared.raw.RawCode.{RawCode}
 use Rattle.diag_setup.specs.declared.raw.RawRoutine.{RawRoutine}
 use Rattle.diag_setup.specs.declared.raw.RawKeyRow.{RawKeyRow}
 use Rattle.diag_setup.specs.declared.raw.RawLevel.{RawLevel}
+use Rattle.diag_setup.specs.declared.raw.RawAnswer.{RawAnswer}
+use Rattle.diag_setup.specs.declared.raw.TemplateItem.{TemplateItem}
 use Rattle.diag_setup.specs.declared.fault.SetupFault.{SetupFault}
 use Rattle.diag_setup.specs.declared.fault.SetupFault.TheVariants.{Range, Empty, DuplicateId, UnknownCode, UnknownLevel}
 
@@ -72,6 +74,14 @@ level_is_in_range level =
     is_between 1 65 level.request_seed && level.request_seed % 2 == 1 && nat_le (length level.rows) 64
     && list_all key_row_is_in_range level.rows && have_one_length seed_of level.rows
     && have_one_length key_of level.rows
+
+abbrev pub items_or_none : {X : Type 0} → Option (List X) → List X
+items_or_none None = []
+items_or_none (Some items) = items
+
+-- the templates of a row of answers; none where the services answer
+abbrev pub templates_of : RawAnswer → List (List TemplateItem)
+templates_of row = items_or_none row.reply
 
 abbrev pub is_st_min : ℕ → Bool
 is_st_min st = nat_le st 127 || is_between 241 249 st

@@ -46,6 +46,8 @@ pub struct RawSetup {
     pub routines: Items<RawRoutine>,
     /// Up to 4 security levels, no two of one sub-function.
     pub levels: Items<RawLevel>,
+    /// Up to 1024 rows of answers, in the order in which they are looked at.
+    pub answers: Items<RawAnswer>,
 }
 
 /// A tester, by its place in the list.
@@ -112,8 +114,52 @@ pub struct RawKeyRow {
 pub struct RawLevel {
     /// The sub-function requestSeed, odd, 1 to 65 (ISO 14229-1:2013, 9.4).
     pub request_seed: u32,
+    /// Whether every key of the length of its keys is right.
+    pub any_key: bool,
+    /// Whether its seeds vary from run to run of a unit, so that they aren't compared with a recording's.
+    pub varies: bool,
     /// 1 to 64 rows, whose seeds have one length, and whose keys have one.
     pub rows: Items<RawKeyRow>,
+}
+
+/// An item of a pattern: what a byte of a request has to be.
+#[derive(Clone, Copy, Drop)]
+pub enum PatternItem {
+    /// This byte.
+    Byte(u8),
+    /// Any byte.
+    Any,
+}
+
+/// An item of a template: a byte of an answer.
+#[derive(Clone, Copy, Drop)]
+pub enum TemplateItem {
+    /// This byte.
+    Byte(u8),
+    /// The byte of the request at this index, from 0.
+    OfRequest(u8),
+    /// A byte that differs from time to time, so that it isn't compared with a recording's. It is sent as 0.
+    Varies,
+}
+
+/// A row of answers: for which requests it is, what is answered, and how long after the request.
+#[derive(Drop)]
+pub struct RawAnswer {
+    /// 1 to 64 items: the bytes of the requests that it is for.
+    pub pattern: Items<PatternItem>,
+    /// Whether a request may have more bytes behind those.
+    pub more: bool,
+    /// 1 to 4096 templates of up to 4095 items, of which the answers are made in turn; none leaves the answer to the
+    /// services. A template of no items sends nothing.
+    pub reply: Option<Items<Items<TemplateItem>>>,
+    /// The session that it is for, 1 to 126 (ISO 14229-1:2013, 9.2); 0 is any.
+    pub session: u32,
+    /// The sub-function of the level that it needs; 0 is open.
+    pub level: u32,
+    /// The session that it enters, 1 to 126; 0 is none.
+    pub enter: u32,
+    /// How long after the request the answer goes, in milliseconds, 0 to 600000.
+    pub after_ms: u32,
 }
 
 /// A row of a table, which has a key of its own.
