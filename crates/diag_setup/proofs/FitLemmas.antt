@@ -1,6 +1,6 @@
 -- A setup keeps to its bounds.
-use Rattle.std.proofs.Common.{◌≡◌, ℕ, ◌≤◌, ◌||◌, ◌&&◌, ◌==◌, ◌%◌, Bool, true, false, not, nat_le, List, [], ◌∷◌, length, refl, arith, Option, Some, None, slice_index_or, IsTrue}
-use Rattle.std.specs.List.{All, list_any, list_all}
+use Rattle.std.proofs.Common.{◌≡◌, ℕ, ◌≤◌, ◌||◌, ◌&&◌, ◌==◌, ◌%◌, Bool, true, false, not, nat_le, List, [], ◌∷◌, length, refl, arith, Option, Some, None, slice_index_or, IsTrue, is_some}
+use Rattle.std.specs.List.{All, list_any, list_all, sum_by}
 use Rattle.std.proofs.lemmas.Bool.{eqb-true, eqb-false, leb-true, and_parts, or_parts, not-false}
 use Rattle.std.proofs.lemmas.List.Elements.{All-cons}
 use Rattle.std.proofs.lemmas.List.Sums.{AllPass-from_list_all}
@@ -9,9 +9,10 @@ use Rattle.diag_setup.specs.declared.raw.RawTester.{RawTester}
 use Rattle.diag_setup.specs.declared.raw.RawCode.{RawCode}
 use Rattle.diag_setup.specs.declared.raw.RawKeyRow.{RawKeyRow}
 use Rattle.diag_setup.specs.declared.raw.RawLevel.{RawLevel}
+use Rattle.diag_setup.specs.declared.raw.TemplateItem.{TemplateItem}
 use Rattle.diag_setup.specs.Rows.{is_between, has_length, has_key, have_one_length, is_rising}
-use Rattle.diag_setup.specs.Setup.{level_sub, seed_of, key_of, is_name_byte, is_can_id, is_st_min, faults, is_in_range, times_are_in_range, link_is_in_range, server_is_in_range, testers_are_in_range, dids_are_in_range, codes_are_in_range, routines_are_in_range, levels_are_in_range, tester_is_in_range, did_is_in_range, code_is_in_range, routine_is_in_range, on_done_is_in_range, key_row_is_in_range, level_is_in_range, has_no_rows, is_known_level, did_levels_are_known, routine_level_is_known, IsSetup, did_id, dtc_code, routine_id}
-use Rattle.diag_setup.specs.Fits.{TesterFits, DidFits, CodeFits, OnDoneFits, RoutineFits, KeyRowFits, LevelFits, NumbersFit}
+use Rattle.diag_setup.specs.Setup.{level_sub, seed_of, key_of, is_name_byte, is_can_id, is_st_min, faults, is_in_range, times_are_in_range, link_is_in_range, server_is_in_range, testers_are_in_range, dids_are_in_range, codes_are_in_range, routines_are_in_range, levels_are_in_range, tester_is_in_range, did_is_in_range, code_is_in_range, routine_is_in_range, on_done_is_in_range, key_row_is_in_range, level_is_in_range, has_no_rows, is_known_level, did_levels_are_known, routine_level_is_known, IsSetup, did_id, dtc_code, routine_id, answers_are_in_range, answer_is_in_range, reply_is_in_range, enter_is_in_range, template_is_in_range, item_is_in_range, items_or_none, template_count, is_in_time, latest_answer_ms, answer_level_is_known}
+use Rattle.diag_setup.specs.Fits.{TesterFits, DidFits, CodeFits, OnDoneFits, RoutineFits, KeyRowFits, LevelFits, AnswerFits, NumbersFit}
 use Rattle.diag_setup.proofs.SetupLemmas.{NoneHold, none_hold}
 
 and3 : (a b c : Bool) → (a && b && c) ≡ true → (a ≡ true) × (b ≡ true) × (c ≡ true)
@@ -46,6 +47,13 @@ and8 a b c d e f g i h =
     let front = and6 a b c d e f next.0 in
     (front.0, front.1, front.2, front.3, front.4, front.5, next.1, last.1)
 
+and9 : (a b c d e f g i j : Bool) → (a && b && c && d && e && f && g && i && j) ≡ true
+    → (a ≡ true) × (b ≡ true) × (c ≡ true) × (d ≡ true) × (e ≡ true) × (f ≡ true) × (g ≡ true) × (i ≡ true) × (j ≡ true)
+and9 a b c d e f g i j h =
+    let last = and_parts (a && b && c && d && e && f && g && i) j h in
+    let front = and8 a b c d e f g i last.0 in
+    (front.0, front.1, front.2, front.3, front.4, front.5, front.6, front.7, last.1)
+
 between : (low high n : ℕ) → is_between low high n ≡ true → (low ≤ n) × (n ≤ high)
 between low high n h =
     let parts = and_parts (nat_le low n) (nat_le n high) h in
@@ -61,13 +69,13 @@ st_min-fits st h =
 abbrev Parts : RawSetup → Type 0
 Parts raw = (times_are_in_range raw ≡ true) × (link_is_in_range raw ≡ true) × (server_is_in_range raw ≡ true)
     × (testers_are_in_range raw.testers ≡ true) × (dids_are_in_range raw.dids ≡ true) × (codes_are_in_range raw.dtcs ≡ true)
-    × (routines_are_in_range raw.routines ≡ true) × (levels_are_in_range raw.levels ≡ true)
+    × (routines_are_in_range raw.routines ≡ true) × (levels_are_in_range raw.levels ≡ true) × (answers_are_in_range raw ≡ true)
 
 parts_of : (raw : RawSetup) → IsSetup raw → Parts raw
 parts_of raw h =
     let none : NoneHold (faults raw) = none_hold (faults raw) h.0 in
-    and8 (times_are_in_range raw) (link_is_in_range raw) (server_is_in_range raw) (testers_are_in_range raw.testers) (dids_are_in_range raw.dids)
-    (codes_are_in_range raw.dtcs) (routines_are_in_range raw.routines) (levels_are_in_range raw.levels) (not-false (is_in_range raw) none.0)
+    and9 (times_are_in_range raw) (link_is_in_range raw) (server_is_in_range raw) (testers_are_in_range raw.testers) (dids_are_in_range raw.dids)
+    (codes_are_in_range raw.dtcs) (routines_are_in_range raw.routines) (levels_are_in_range raw.levels) (answers_are_in_range raw) (not-false (is_in_range raw) none.0)
 
 pub numbers_fit : (raw : RawSetup) → IsSetup raw → NumbersFit raw
 numbers_fit raw h =
@@ -93,6 +101,7 @@ numbers_fit raw h =
       attempts_some = (between 1 0xFF raw.attempts server.1).0;
       attempts = (between 1 0xFF raw.attempts server.1).1;
       delay_ms = (between 1 600000 raw.delay_ms server.2).0;
+      s3_ms = (between 1 600000 raw.s3_ms times.2).1;
     }
 
 -- rows that are in range are so many at most, and each is
@@ -105,14 +114,14 @@ all_rows test most rows h = (and_parts (nat_le (length rows) most) (list_all tes
 pub testers_few : (raw : RawSetup) → IsSetup raw → length raw.testers ≤ 8
 testers_few raw h = few_rows tester_is_in_range 8 raw.testers (parts_of raw h).3
 
-pub dids_few : (raw : RawSetup) → IsSetup raw → length raw.dids ≤ 64
-dids_few raw h = few_rows did_is_in_range 64 raw.dids (parts_of raw h).4
+pub dids_few : (raw : RawSetup) → IsSetup raw → length raw.dids ≤ 1024
+dids_few raw h = few_rows did_is_in_range 1024 raw.dids (parts_of raw h).4
 
-pub codes_few : (raw : RawSetup) → IsSetup raw → length raw.dtcs ≤ 256
-codes_few raw h = few_rows code_is_in_range 256 raw.dtcs (parts_of raw h).5
+pub codes_few : (raw : RawSetup) → IsSetup raw → length raw.dtcs ≤ 4096
+codes_few raw h = few_rows code_is_in_range 4096 raw.dtcs (parts_of raw h).5
 
-pub routines_few : (raw : RawSetup) → IsSetup raw → length raw.routines ≤ 16
-routines_few raw h = few_rows routine_is_in_range 16 raw.routines (parts_of raw h).6
+pub routines_few : (raw : RawSetup) → IsSetup raw → length raw.routines ≤ 256
+routines_few raw h = few_rows routine_is_in_range 256 raw.routines (parts_of raw h).6
 
 pub levels_few : (raw : RawSetup) → IsSetup raw → length raw.levels ≤ 4
 levels_few raw h = few_rows level_is_in_range 4 raw.levels (parts_of raw h).7
@@ -135,7 +144,7 @@ code-fits row h =
     record { code = leb-true row.code 0xFFFFFE parts.0; status = leb-true row.status 0xFF parts.1 }
 
 pub codes_fit : (raw : RawSetup) → IsSetup raw → All CodeFits raw.dtcs
-codes_fit raw h = each code_is_in_range CodeFits code-fits raw.dtcs (all_rows code_is_in_range 256 raw.dtcs (parts_of raw h).5)
+codes_fit raw h = each code_is_in_range CodeFits code-fits raw.dtcs (all_rows code_is_in_range 4096 raw.dtcs (parts_of raw h).5)
 
 level_in_list-fits : (levels : List RawLevel) → list_all level_is_in_range levels ≡ true → (n : ℕ) → has_key level_sub levels n ≡ true → n ≤ 65
 level_in_list-fits [] all n h = cc
@@ -163,16 +172,18 @@ levels-in_range raw h = all_rows level_is_in_range 4 raw.levels (parts_of raw h)
 
 abbrev KnownLevels : RawSetup → Type 0
 KnownLevels raw = (list_all (did_levels_are_known raw.levels) raw.dids ≡ true) × (list_all (routine_level_is_known raw.levels) raw.routines ≡ true)
+    × (list_all (answer_level_is_known raw.levels) raw.answers ≡ true)
 
 known_levels : (raw : RawSetup) → IsSetup raw → KnownLevels raw
 known_levels raw h =
     let none : NoneHold (faults raw) = none_hold (faults raw) h.0 in
-    and_parts (list_all (did_levels_are_known raw.levels) raw.dids) (list_all (routine_level_is_known raw.levels) raw.routines)
-    (not-false (list_all (did_levels_are_known raw.levels) raw.dids && list_all (routine_level_is_known raw.levels) raw.routines) none.1.1.1.1.0)
+    and3 (list_all (did_levels_are_known raw.levels) raw.dids) (list_all (routine_level_is_known raw.levels) raw.routines)
+    (list_all (answer_level_is_known raw.levels) raw.answers) (not-false (list_all (did_levels_are_known raw.levels) raw.dids
+    && list_all (routine_level_is_known raw.levels) raw.routines && list_all (answer_level_is_known raw.levels) raw.answers) none.1.1.1.1.0)
 
 pub dids_fit : (raw : RawSetup) → IsSetup raw → All DidFits raw.dids
 dids_fit raw h =
-    let in_range = AllPass-from_list_all did_is_in_range raw.dids (all_rows did_is_in_range 64 raw.dids (parts_of raw h).4) in
+    let in_range = AllPass-from_list_all did_is_in_range raw.dids (all_rows did_is_in_range 1024 raw.dids (parts_of raw h).4) in
     let known = AllPass-from_list_all (did_levels_are_known raw.levels) raw.dids (known_levels raw h).0 in
     λ k d below.
     let did = slice_index_or raw.dids k d in
@@ -191,7 +202,7 @@ on_done-fits (Some row) h = leb-true row.status 0xFF h
 
 pub routines_fit : (raw : RawSetup) → IsSetup raw → All RoutineFits raw.routines
 routines_fit raw h =
-    let in_range = AllPass-from_list_all routine_is_in_range raw.routines (all_rows routine_is_in_range 16 raw.routines (parts_of raw h).6) in
+    let in_range = AllPass-from_list_all routine_is_in_range raw.routines (all_rows routine_is_in_range 256 raw.routines (parts_of raw h).6) in
     let known = AllPass-from_list_all (routine_level_is_known raw.levels) raw.routines (known_levels raw h).1 in
     λ k d below.
     let routine = slice_index_or raw.routines k d in
@@ -206,8 +217,8 @@ routines_fit raw h =
 
 key_row-fits : (row : RawKeyRow) → key_row_is_in_range row ≡ true → KeyRowFits row
 key_row-fits row h =
-    let parts = and3 (has_length 1 16 row.seed) (list_any (λ b. not (b == 0)) row.seed) (has_length 1 16 row.key) h in
-    record { seed = (between 1 16 (length row.seed) parts.0).1; key = (between 1 16 (length row.key) parts.2).1 }
+    let parts = and3 (has_length 1 255 row.seed) (list_any (λ b. not (b == 0)) row.seed) (has_length 1 255 row.key) h in
+    record { seed = (between 1 255 (length row.seed) parts.0).1; key = (between 1 255 (length row.key) parts.2).1 }
 
 some_rows : (levels : List RawLevel) → list_any has_no_rows levels ≡ false → All (λ level. 1 ≤ length level.rows) levels
 some_rows [] h = λ k d below. absurd (omega arith)
@@ -230,6 +241,49 @@ levels_fit raw h =
       some = some k d below;
       few = leb-true (length level.rows) 64 parts.2;
       rows = each key_row_is_in_range KeyRowFits key_row-fits level.rows parts.3;
+    }
+
+answer_parts : (raw : RawSetup) → IsSetup raw → (nat_le (length raw.answers) 1024 ≡ true) × (list_all answer_is_in_range raw.answers ≡ true)
+    × (list_all (is_in_time (latest_answer_ms raw.p2_ms raw.p2_star_10ms)) raw.answers ≡ true) × (nat_le (sum_by template_count raw.answers) 65536 ≡ true)
+answer_parts raw h =
+    and4 (nat_le (length raw.answers) 1024) (list_all answer_is_in_range raw.answers) (list_all (is_in_time (latest_answer_ms raw.p2_ms raw.p2_star_10ms)) raw.answers)
+    (nat_le (sum_by template_count raw.answers) 65536) (parts_of raw h).8
+
+pub answers_few : (raw : RawSetup) → IsSetup raw → length raw.answers ≤ 1024
+answers_few raw h = leb-true (length raw.answers) 1024 (answer_parts raw h).0
+
+template-fits : (n : ℕ) (template : List TemplateItem) → template_is_in_range n template ≡ true → length template ≤ 4095
+template-fits n template h =
+    leb-true (length template) 4095 (and_parts (nat_le (length template) 4095) (list_all (item_is_in_range n) template) h).0
+
+abbrev ReplyFits : List (List TemplateItem) → Type 0
+ReplyFits templates = (length templates ≤ 4096) × All (λ template. length template ≤ 4095) templates
+
+reply-fits : (n : ℕ) (reply : Option (List (List TemplateItem))) → reply_is_in_range n reply ≡ true → ReplyFits (items_or_none reply)
+reply-fits n None h = (omega arith, λ k d below. absurd (omega arith))
+reply-fits n (Some templates) h =
+    let parts = and_parts (has_length 1 4096 templates) (list_all (template_is_in_range n) templates) h in (
+      (between 1 4096 (length templates) parts.0).1,
+      each (template_is_in_range n) (λ template. length template ≤ 4095) (template-fits n) templates parts.1,
+    )
+
+pub answers_fit : (raw : RawSetup) → IsSetup raw → All AnswerFits raw.answers
+answers_fit raw h =
+    let in_range = AllPass-from_list_all answer_is_in_range raw.answers (answer_parts raw h).1 in
+    let known = AllPass-from_list_all (answer_level_is_known raw.levels) raw.answers (known_levels raw h).2 in
+    λ k d below.
+    let row = slice_index_or raw.answers k d in
+    let parts = and5 (has_length 1 64 row.pattern) (reply_is_in_range (length row.pattern) row.reply) (nat_le row.session 126)
+    (enter_is_in_range row) (nat_le row.after_ms 600000) (in_range k d below) in
+    let reply = reply-fits (length row.pattern) row.reply parts.1 in
+    record {
+      pattern = (between 1 64 (length row.pattern) parts.0).1;
+      templates = reply.0;
+      items = reply.1;
+      session = leb-true row.session 126 parts.2;
+      level = known_level-fits raw.levels (levels-in_range raw h) row.level (known k d below);
+      enter = leb-true row.enter 126 (and_parts (nat_le row.enter 126) (row.enter == 0 || is_some row.reply) parts.3).0;
+      after_ms = leb-true row.after_ms 600000 parts.4;
     }
 
 tables : (raw : RawSetup) → IsSetup raw → (is_rising did_id raw.dids ≡ true) × (is_rising dtc_code raw.dtcs ≡ true)

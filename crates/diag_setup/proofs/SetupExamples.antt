@@ -3,7 +3,7 @@ use Rattle.std.proofs.Common.{◌≡◌, [], ◌∷◌, Some, Ok, refl, codes}
 use Rattle.diag_setup.specs.declared.raw.RawTester.{RawTester}
 use Rattle.diag_setup.specs.declared.fault.SetupFault.TheVariants.{Range, Empty, DuplicateId, UnknownCode, UnknownLevel}
 use Rattle.diag_setup.specs.Setup.{checked, fault_of}
-use Rattle.diag_setup.specs.ExampleSetup.{two_testers, tester, did, routine}
+use Rattle.diag_setup.specs.ExampleSetup.{two_testers, tester, did, routine, level}
 
 abbrev tester_a : RawTester
 tester_a = tester (codes "A") 0x7E0 0x7E8
@@ -21,7 +21,7 @@ sorts = refl
 no_tester : fault_of (record two_testers { testers = [] }) ≡ Some Empty
 no_tester = refl
 
-level_without_row : fault_of (record two_testers { levels = record { request_seed = 1; rows = [] } ∷ [] }) ≡ Some Empty
+level_without_row : fault_of (record two_testers { levels = record level { rows = [] } ∷ [] }) ≡ Some Empty
 level_without_row = refl
 
 s3_of_zero : fault_of (record two_testers { s3_ms = 0 }) ≡ Some Range
@@ -33,11 +33,11 @@ range_before_empty = refl
 request_of_65536 : fault_of (record two_testers { max_request = 65536 }) ≡ Some Range
 request_of_65536 = refl
 
-zero_seed : fault_of (record two_testers { levels = record { request_seed = 1; rows = record { seed = 0 ∷ 0 ∷ []; key = 1 ∷ [] } ∷ [] } ∷ [] }) ≡ Some Range
+zero_seed : fault_of (record two_testers { levels = record level { rows = record { seed = 0 ∷ 0 ∷ []; key = 1 ∷ [] } ∷ [] } ∷ [] }) ≡ Some Range
 zero_seed = refl
 
 two_key_lengths : fault_of (record two_testers
-    { levels = record { request_seed = 1; rows = record { seed = 1 ∷ []; key = 1 ∷ [] } ∷ record { seed = 2 ∷ []; key = 1 ∷ 2 ∷ [] } ∷ [] } ∷ [] }) ≡ Some Range
+    { levels = record level { rows = record { seed = 1 ∷ []; key = 1 ∷ [] } ∷ record { seed = 2 ∷ []; key = 1 ∷ 2 ∷ [] } ∷ [] } ∷ [] }) ≡ Some Range
 two_key_lengths = refl
 
 st_min_gap : fault_of (record two_testers { st_min = 240 }) ≡ Some Range

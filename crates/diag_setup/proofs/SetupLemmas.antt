@@ -8,7 +8,7 @@ use Rattle.diag_setup.specs.declared.raw.RawCode.{RawCode}
 use Rattle.diag_setup.specs.declared.raw.RawRoutine.{RawRoutine}
 use Rattle.diag_setup.specs.declared.raw.RawLevel.{RawLevel}
 use Rattle.diag_setup.specs.Rows.{has_repeat, in_order, insert_in_order}
-use Rattle.diag_setup.specs.Setup.{did_id, dtc_code, routine_id, level_sub, first_holding, fault_of, faults, sorted, is_in_range, dids_are_in_range, codes_are_in_range, routines_are_in_range, levels_are_in_range, did_is_in_range, code_is_in_range, routine_is_in_range, level_is_in_range, lacks_rows, has_no_rows, has_repeated_name, can_ids, itself, has_duplicates, names_unknown_code, names_unknown_level, done_code_is_known, is_known_code, is_known_level, did_levels_are_known, routine_level_is_known, IsSetup}
+use Rattle.diag_setup.specs.Setup.{did_id, dtc_code, routine_id, level_sub, first_holding, fault_of, faults, sorted, is_in_range, dids_are_in_range, codes_are_in_range, routines_are_in_range, levels_are_in_range, did_is_in_range, code_is_in_range, routine_is_in_range, level_is_in_range, lacks_rows, has_no_rows, has_repeated_name, can_ids, itself, has_duplicates, names_unknown_code, names_unknown_level, done_code_is_known, is_known_code, is_known_level, did_levels_are_known, routine_level_is_known, answer_level_is_known, IsSetup}
 use Rattle.diag_setup.proofs.SortLemmas.{in_order-moves, in_order-no_repeat, in_order-is_rising}
 
 -- no check of a list holds
@@ -103,7 +103,9 @@ sorted-unknown_level raw =
     let routines = list_all-in_order routine_id (routine_level_is_known levels) raw.routines
     ∙ list_all-same (routine_level_is_known levels) (routine_level_is_known raw.levels) (λ routine. known_level-in_order raw.levels routine.level)
     raw.routines in
-    rw (dids, routines) refl
+    let answers = list_all-same (answer_level_is_known levels) (answer_level_is_known raw.levels) (λ row. known_level-in_order raw.levels row.level)
+    raw.answers in
+    rw (dids, routines, answers) refl
 
 abbrev pub NoRepeats : RawSetup → Type 0
 NoRepeats raw = (has_repeat did_id raw.dids ≡ false) × (has_repeat dtc_code raw.dtcs ≡ false) × (has_repeat routine_id raw.routines ≡ false)

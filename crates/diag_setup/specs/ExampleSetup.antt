@@ -1,5 +1,5 @@
 -- The setup of the worked examples, two testers, as it is before its tables are sorted.
-use Rattle.std.specs.Prelude.{ℕ, true, List, [], ◌∷◌, Some, codes}
+use Rattle.std.specs.Prelude.{ℕ, true, false, List, [], ◌∷◌, Some, codes}
 use Rattle.diag_setup.specs.declared.raw.RawSetup.{RawSetup}
 use Rattle.diag_setup.specs.declared.raw.RawTester.{RawTester}
 use Rattle.diag_setup.specs.declared.raw.RawDid.{RawDid}
@@ -38,6 +38,8 @@ key_row seed key = record { seed = seed; key = key }
 abbrev pub level : RawLevel
 level = record {
   request_seed = 1;
+  any_key = false;
+  varies = false;
   rows = key_row (0x11 ∷ 0x22 ∷ 0x33 ∷ 0x44 ∷ []) (0xAA ∷ 0xBB ∷ 0xCC ∷ 0xDD ∷ [])
       ∷ key_row (0x55 ∷ 0x66 ∷ 0x77 ∷ 0x88 ∷ []) (0x01 ∷ 0x02 ∷ 0x03 ∷ 0x04 ∷ []) ∷ [];
 }
@@ -63,4 +65,5 @@ two_testers = record {
   dtcs = code ∷ [];
   routines = routine ∷ [];
   levels = level ∷ [];
+  answers = [];
 }

@@ -36,8 +36,8 @@ pub record RoutineFits (routine : RawRoutine) : Type 0 where
   pub on_done : OnDoneFits routine.on_done
 
 pub record KeyRowFits (row : RawKeyRow) : Type 0 where
-  pub seed : length row.seed ≤ 16
-  pub key : length row.key ≤ 16
+  pub seed : length row.seed ≤ 255
+  pub key : length row.key ≤ 255
 
 pub record LevelFits (level : RawLevel) : Type 0 where
   pub request_seed : level.request_seed ≤ 65

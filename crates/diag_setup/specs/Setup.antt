@@ -1,6 +1,6 @@
 -- Which raw setups are refused, with which fault, what setup the others are, and what a setup tells.
-use Rattle.std.specs.Prelude.{◌≡◌, ◌==◌, ◌&&◌, ◌||◌, ◌%◌, ◌+◌, ◌-◌, bytes_eq, ℕ, Bool, true, false, not, List, [], ◌∷◌, ◌++◌, length, Option, Some, None, Result, Ok, Err, if◌then◌else◌, nat_le, nat_lt, slice_get, unwrap_or}
-use Rattle.std.specs.List.{list_all, list_any, flat_map}
+use Rattle.std.specs.Prelude.{◌≡◌, ◌==◌, ◌&&◌, ◌||◌, ◌%◌, ◌+◌, ◌-◌, ◌*◌, max, bytes_eq, ℕ, Bool, true, false, not, List, [], ◌∷◌, ◌++◌, length, Option, Some, None, is_some, Result, Ok, Err, if◌then◌else◌, nat_le, nat_lt, slice_get, unwrap_or}
+use Rattle.std.specs.List.{list_all, list_any, flat_map, sum_by}
 use Rattle.diag_can.specs.declared.frame.Ids.{Ids}
 use Rattle.diag_pdu.specs.declared.setup.LinkSetup.{LinkSetup}
 use Rattle.diag_setup.specs.declared.setup.ServerParameters.{ServerParameters}
@@ -14,6 +14,7 @@ use Rattle.diag_setup.specs.declared.raw.RawKeyRow.{RawKeyRow}
 use Rattle.diag_setup.specs.declared.raw.RawLevel.{RawLevel}
 use Rattle.diag_setup.specs.declared.raw.RawAnswer.{RawAnswer}
 use Rattle.diag_setup.specs.declared.raw.TemplateItem.{TemplateItem}
+use Rattle.diag_setup.specs.declared.raw.TemplateItem.TheVariants.{OfRequest}
 use Rattle.diag_setup.specs.declared.fault.SetupFault.{SetupFault}
 use Rattle.diag_setup.specs.declared.fault.SetupFault.TheVariants.{Range, Empty, DuplicateId, UnknownCode, UnknownLevel}
 
@@ -60,7 +61,7 @@ routine_is_in_range routine =
 
 abbrev pub key_row_is_in_range : RawKeyRow → Bool
 key_row_is_in_range row =
-    has_length 1 16 row.seed && list_any (λ b. not (b == 0)) row.seed && has_length 1 16 row.key
+    has_length 1 255 row.seed && list_any (λ b. not (b == 0)) row.seed && has_length 1 255 row.key
 
 abbrev pub seed_of : RawKeyRow → List ℕ
 seed_of row = row.seed
@@ -83,6 +84,32 @@ items_or_none (Some items) = items
 abbrev pub templates_of : RawAnswer → List (List TemplateItem)
 templates_of row = items_or_none row.reply
 
+abbrev pub template_count : RawAnswer → ℕ
+template_count row = length (templates_of row)
+
+-- an item names a byte only of those that each request of a pattern of n items has
+abbrev pub item_is_in_range : ℕ → TemplateItem → Bool
+item_is_in_range n (OfRequest k) = nat_lt k n
+item_is_in_range n _ = true
+
+abbrev pub template_is_in_range : ℕ → List TemplateItem → Bool
+template_is_in_range n template =
+    nat_le (length template) 4095 && list_all (item_is_in_range n) template
+
+abbrev pub reply_is_in_range : ℕ → Option (List (List TemplateItem)) → Bool
+reply_is_in_range n None = true
+reply_is_in_range n (Some templates) =
+    has_length 1 4096 templates && list_all (template_is_in_range n) templates
+
+-- a session is entered only beside a reply
+abbrev pub enter_is_in_range : RawAnswer → Bool
+enter_is_in_range row = nat_le row.enter 126 && (row.enter == 0 || is_some row.reply)
+
+abbrev pub answer_is_in_range : RawAnswer → Bool
+answer_is_in_range row =
+    has_length 1 64 row.pattern && reply_is_in_range (length row.pattern) row.reply
+    && nat_le row.session 126 && enter_is_in_range row && nat_le row.after_ms 600000
+
 abbrev pub is_st_min : ℕ → Bool
 is_st_min st = nat_le st 127 || is_between 241 249 st
 
@@ -104,17 +131,31 @@ abbrev pub testers_are_in_range : List RawTester → Bool
 testers_are_in_range testers = nat_le (length testers) 8 && list_all tester_is_in_range testers
 
 abbrev pub dids_are_in_range : List RawDid → Bool
-dids_are_in_range dids = nat_le (length dids) 64 && list_all did_is_in_range dids
+dids_are_in_range dids = nat_le (length dids) 1024 && list_all did_is_in_range dids
 
 abbrev pub codes_are_in_range : List RawCode → Bool
-codes_are_in_range codes = nat_le (length codes) 256 && list_all code_is_in_range codes
+codes_are_in_range codes = nat_le (length codes) 4096 && list_all code_is_in_range codes
 
 abbrev pub routines_are_in_range : List RawRoutine → Bool
 routines_are_in_range routines =
-    nat_le (length routines) 16 && list_all routine_is_in_range routines
+    nat_le (length routines) 256 && list_all routine_is_in_range routines
 
 abbrev pub levels_are_in_range : List RawLevel → Bool
 levels_are_in_range levels = nat_le (length levels) 4 && list_all level_is_in_range levels
+
+-- the latest that an answer goes: at most 255 times response pending comes before it, the first after P2 and each
+-- further one after P2*, of which the least is 1 ms
+abbrev pub latest_answer_ms : ℕ → ℕ → ℕ
+latest_answer_ms p2_ms p2_star_10ms = p2_ms + 255 * max 1 (10 * p2_star_10ms)
+
+abbrev pub is_in_time : ℕ → RawAnswer → Bool
+is_in_time latest row = nat_le row.after_ms latest
+
+abbrev pub answers_are_in_range : RawSetup → Bool
+answers_are_in_range raw =
+    nat_le (length raw.answers) 1024 && list_all answer_is_in_range raw.answers
+    && list_all (is_in_time (latest_answer_ms raw.p2_ms raw.p2_star_10ms)) raw.answers
+    && nat_le (sum_by template_count raw.answers) 65536
 
 -- Range: every value and every number of rows is one that the table allows
 abbrev pub is_in_range : RawSetup → Bool
@@ -122,7 +163,7 @@ is_in_range raw =
     times_are_in_range raw && link_is_in_range raw && server_is_in_range raw
     && testers_are_in_range raw.testers && dids_are_in_range raw.dids
     && codes_are_in_range raw.dtcs && routines_are_in_range raw.routines
-    && levels_are_in_range raw.levels
+    && levels_are_in_range raw.levels && answers_are_in_range raw
 
 abbrev pub has_no_rows : RawLevel → Bool
 has_no_rows level = length level.rows == 0
@@ -178,11 +219,15 @@ abbrev pub did_levels_are_known : List RawLevel → RawDid → Bool
 did_levels_are_known levels did =
     is_known_level levels did.read_level && is_known_level levels did.write_level
 
--- UnknownLevel: an identifier or a routine names a level that isn't in the list
+abbrev pub answer_level_is_known : List RawLevel → RawAnswer → Bool
+answer_level_is_known levels row = is_known_level levels row.level
+
+-- UnknownLevel: an identifier, a routine or a row of answers names a level that isn't in the list
 abbrev pub names_unknown_level : RawSetup → Bool
 names_unknown_level raw =
     not (list_all (did_levels_are_known raw.levels) raw.dids
-    && list_all (routine_level_is_known raw.levels) raw.routines)
+    && list_all (routine_level_is_known raw.levels) raw.routines
+    && list_all (answer_level_is_known raw.levels) raw.answers)
 
 -- what is looked at, in this order, and the fault where it holds
 abbrev pub faults : RawSetup → List (Bool × SetupFault)

@@ -4,24 +4,26 @@ ghost use Rattle.std.specs.Prelude.{◌≡◌, ◌==◌, ◌≤◌, ◌&&◌, Bo
 ghost use Rattle.std.specs.List.{list_all, list_any};
 ghost use Rattle.std.specs.Bool.{OnTrue};
 ghost use Rattle.diag_setup.specs.Rows.{is_between, have_one_length};
-ghost use Rattle.diag_setup.specs.Setup.{can_ids, has_name, has_repeated_name, has_no_rows, is_known_level, done_code_is_known, did_levels_are_known, routine_level_is_known, lacks_rows, has_duplicates, names_unknown_code, names_unknown_level, key_of, seed_of, fault_of, is_in_range, times_are_in_range, link_is_in_range, server_is_in_range, tester_is_in_range, did_is_in_range, code_is_in_range, routine_is_in_range, key_row_is_in_range, level_is_in_range, is_st_min, is_name_byte, is_can_id};
+ghost use Rattle.diag_setup.specs.Setup.{can_ids, has_name, has_repeated_name, has_no_rows, is_known_level, done_code_is_known, did_levels_are_known, routine_level_is_known, answer_level_is_known, lacks_rows, has_duplicates, names_unknown_code, names_unknown_level, key_of, seed_of, fault_of, is_in_range, times_are_in_range, link_is_in_range, server_is_in_range, tester_is_in_range, did_is_in_range, code_is_in_range, routine_is_in_range, key_row_is_in_range, level_is_in_range, is_st_min, is_name_byte, is_can_id};
 
 use crate::fault::SetupFault;
 use crate::keyed::{has_key, has_repeat};
-use crate::raw::{RawCode, RawDid, RawKeyRow, RawLevel, RawRoutine, RawSetup, RawTester};
+use crate::raw::{
+    RawAnswer, RawCode, RawDid, RawKeyRow, RawLevel, RawRoutine, RawSetup, RawTester,
+};
 use arrayvec::ArrayVec;
 
 /// The most testers of a setup.
 const MOST_TESTERS: usize = 8;
 
 /// The most data identifiers.
-const MOST_DIDS: usize = 64;
+const MOST_DIDS: usize = 1024;
 
 /// The most trouble codes.
-const MOST_DTCS: usize = 256;
+const MOST_DTCS: usize = 4096;
 
 /// The most routines.
-const MOST_ROUTINES: usize = 16;
+const MOST_ROUTINES: usize = 256;
 
 /// The most security levels.
 const MOST_LEVELS: usize = 4;
@@ -70,11 +72,12 @@ impl RawSetup {
             && are_in_range(self.dtcs.as_slice(), MOST_DTCS)
             && are_in_range(self.routines.as_slice(), MOST_ROUTINES)
             && are_in_range(self.levels.as_slice(), MOST_LEVELS)
+            && self.answers_are_in_range()
     }
 }
 
 /// What may stand in a setup only within a range.
-trait Ranged {
+pub(crate) trait Ranged {
     ghost in_range: { Self → Bool };
 
     /// Whether it is within its range.
@@ -83,7 +86,7 @@ trait Ranged {
 }
 
 /// Whether there are at most so many rows, each within its range.
-fn are_in_range<T: Ranged>(rows: &[T], most: usize) -> bool
+pub(crate) fn are_in_range<T: Ranged>(rows: &[T], most: usize) -> bool
     ensures answer { result
         ≡ (nat_le (length rows.now) most && list_all T.in_range rows.now) }
     ensures few { OnTrue result (length rows.now ≤ most) }
@@ -143,9 +146,9 @@ impl Ranged for RawKeyRow {
     ghost in_range = { key_row_is_in_range };
 
     fn is_in_range(&self) -> bool {
-        is_between_len(1, 16, self.seed.len())
+        is_between_len(1, 255, self.seed.len())
             && has_a_bit(self.seed.as_slice())
-            && is_between_len(1, 16, self.key.len())
+            && is_between_len(1, 255, self.key.len())
     }
 }
 
@@ -188,7 +191,7 @@ fn is_between(low: u32, high: u32, n: u32) -> bool
     low <= n && n <= high
 }
 
-fn is_between_len(low: usize, high: usize, n: usize) -> bool
+pub(crate) fn is_between_len(low: usize, high: usize, n: usize) -> bool
     ensures { result ≡ is_between low high n }
 {
     low <= n && n <= high
@@ -320,6 +323,18 @@ fn routine_levels_are_known(levels: &[RawLevel], routines: &[RawRoutine]) -> boo
         .all(|routine| routine_level_is_known(levels, routine))
 }
 
+fn answer_level_is_known(levels: &[RawLevel], row: &RawAnswer) -> bool
+    ensures { result ≡ answer_level_is_known levels.now row.now }
+{
+    is_known_level(levels, row.level)
+}
+
+fn answer_levels_are_known(levels: &[RawLevel], rows: &[RawAnswer]) -> bool
+    ensures { result ≡ list_all (answer_level_is_known levels.now) rows.now }
+{
+    rows.iter().all(|row| answer_level_is_known(levels, row))
+}
+
 impl RawSetup {
     fn lacks_rows(&self) -> bool
         ensures { result ≡ lacks_rows self.now }
@@ -349,7 +364,8 @@ impl RawSetup {
         ensures { result ≡ names_unknown_level self.now }
     {
         !(all_did_levels_are_known(self.levels.as_slice(), self.dids.as_slice())
-            && routine_levels_are_known(self.levels.as_slice(), self.routines.as_slice()))
+            && routine_levels_are_known(self.levels.as_slice(), self.routines.as_slice())
+            && answer_levels_are_known(self.levels.as_slice(), self.answers.as_slice()))
     }
 
     /// The first fault of the setup, in the order in which it is looked at.

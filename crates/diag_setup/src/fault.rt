@@ -17,7 +17,7 @@ pub enum SetupFault {
     DuplicateId,
     /// A routine names a trouble code that is not in the list.
     UnknownCode,
-    /// A data identifier or a routine names a security level that is not in the list.
+    /// A data identifier, a routine or a row of answers names a security level that is not in the list.
     UnknownLevel,
 }
 

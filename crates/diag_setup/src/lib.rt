@@ -1,6 +1,7 @@
 //! The setup of the server: as it was read, the tests that it has to pass, and what it tells.
 #![tactic(auto)]
 
+mod answers;
 mod check;
 mod fault;
 mod items;

@@ -38,15 +38,15 @@ pub struct RawSetup {
     pub delay_ms: u32,
     /// 1 to 8 testers, no two of one name; no two CAN identifiers of the setup are equal.
     pub testers: Items<RawTester>,
-    /// Up to 64 data identifiers, no two equal.
+    /// Up to 1024 data identifiers, no two equal.
     pub dids: Items<RawDid>,
-    /// Up to 256 trouble codes, no two equal.
+    /// Up to 4096 trouble codes, no two equal.
     pub dtcs: Items<RawCode>,
-    /// Up to 16 routines, no two of one identifier.
+    /// Up to 256 routines, no two of one identifier.
     pub routines: Items<RawRoutine>,
     /// Up to 4 security levels, no two of one sub-function.
     pub levels: Items<RawLevel>,
-    /// Up to 1024 rows of answers, in the order in which they are looked at.
+    /// Up to 1024 rows of answers, in the order in which they are looked at, of up to 65536 templates in all.
     pub answers: Items<RawAnswer>,
 }
 
@@ -103,9 +103,9 @@ pub struct RawRoutine {
 /// A seed with its key.
 #[derive(Drop)]
 pub struct RawKeyRow {
-    /// 1 to 16 bytes, not all of them 0.
+    /// 1 to 255 bytes, not all of them 0.
     pub seed: Items<u8>,
-    /// 1 to 16 bytes.
+    /// 1 to 255 bytes.
     pub key: Items<u8>,
 }
 
@@ -136,7 +136,7 @@ pub enum PatternItem {
 pub enum TemplateItem {
     /// This byte.
     Byte(u8),
-    /// The byte of the request at this index, from 0.
+    /// The byte of the request at this index, from 0, which each request of the pattern has.
     OfRequest(u8),
     /// A byte that differs from time to time, so that it isn't compared with a recording's. It is sent as 0.
     Varies,
@@ -156,9 +156,10 @@ pub struct RawAnswer {
     pub session: u32,
     /// The sub-function of the level that it needs; 0 is open.
     pub level: u32,
-    /// The session that it enters, 1 to 126; 0 is none.
+    /// The session that it enters, 1 to 126; 0 is none, and the only value where there is no reply.
     pub enter: u32,
-    /// How long after the request the answer goes, in milliseconds, 0 to 600000.
+    /// How long after the request the answer goes, in milliseconds, 0 to 600000, and so soon that at most 255 times
+    /// *response pending* (ISO 14229-1:2013, A.1) comes before it.
     pub after_ms: u32,
 }
 

@@ -4,10 +4,10 @@ ghost use Rattle.std.specs.Prelude.{IsTrue, ◌≡◌, ◌≤◌, ◌-◌, lengt
 ghost use Rattle.std.specs.List.{All};
 ghost use Rattle.diag_setup.specs.Setup.{IsSetup, checked, did_id, dtc_code, routine_id, level_sub, who_at, name_of, ids_of, link_of, values_of};
 ghost use Rattle.diag_setup.specs.Rows.{is_rising};
-ghost use Rattle.diag_setup.specs.Fits.{TesterFits, DidFits, CodeFits, RoutineFits, LevelFits, NumbersFit};
+ghost use Rattle.diag_setup.specs.Fits.{TesterFits, DidFits, CodeFits, RoutineFits, LevelFits, AnswerFits, NumbersFit};
 
 use crate::fault::SetupFault;
-use crate::raw::{RawCode, RawDid, RawLevel, RawRoutine, RawSetup, RawTester};
+use crate::raw::{RawAnswer, RawCode, RawDid, RawLevel, RawRoutine, RawSetup, RawTester};
 use crate::tester_id::TesterId;
 use diag_can::{CanId, Ids, TickCount};
 use diag_pdu::LinkSetup;
@@ -174,7 +174,7 @@ impl Setup {
     pub fn dids(&self) -> &[RawDid]
         ensures same { result.now ≡ self.now.dids }
         ensures rising { IsTrue (is_rising did_id result.now) }
-        ensures few { length result.now ≤ 64 }
+        ensures few { length result.now ≤ 1024 }
         ensures fit { All DidFits result.now }
     {
         self.raw.dids.as_slice()
@@ -185,7 +185,7 @@ impl Setup {
     pub fn dtcs(&self) -> &[RawCode]
         ensures same { result.now ≡ self.now.dtcs }
         ensures rising { IsTrue (is_rising dtc_code result.now) }
-        ensures few { length result.now ≤ 256 }
+        ensures few { length result.now ≤ 4096 }
         ensures fit { All CodeFits result.now }
     {
         self.raw.dtcs.as_slice()
@@ -196,7 +196,7 @@ impl Setup {
     pub fn routines(&self) -> &[RawRoutine]
         ensures same { result.now ≡ self.now.routines }
         ensures rising { IsTrue (is_rising routine_id result.now) }
-        ensures few { length result.now ≤ 16 }
+        ensures few { length result.now ≤ 256 }
         ensures fit { All RoutineFits result.now }
     {
         self.raw.routines.as_slice()
@@ -211,6 +211,16 @@ impl Setup {
         ensures fit { All LevelFits result.now }
     {
         self.raw.levels.as_slice()
+    }
+
+    /// The rows of answers, in the order in which they are looked at.
+    #[tactic(auto, using(crate::proofs::FitLemmas::answers_few))]
+    pub fn answers(&self) -> &[RawAnswer]
+        ensures same { result.now ≡ self.now.answers }
+        ensures few { length result.now ≤ 1024 }
+        ensures fit { All AnswerFits result.now }
+    {
+        self.raw.answers.as_slice()
     }
 }
 
