@@ -1,9 +1,13 @@
 -- Raw setups and what check makes of them, computed.
-use Rattle.std.proofs.Common.{◌≡◌, [], ◌∷◌, Some, Ok, refl, codes}
+use Rattle.std.proofs.Common.{◌≡◌, [], ◌∷◌, None, Some, Ok, refl, codes, replicate, Option}
 use Rattle.diag_setup.specs.declared.raw.RawTester.{RawTester}
+use Rattle.diag_setup.specs.declared.raw.RawAnswer.{RawAnswer}
+use Rattle.diag_setup.specs.declared.raw.PatternItem.TheVariants as pattern
+use Rattle.diag_setup.specs.declared.raw.TemplateItem.TheVariants as template
+use Rattle.diag_setup.specs.declared.fault.SetupFault.{SetupFault}
 use Rattle.diag_setup.specs.declared.fault.SetupFault.TheVariants.{Range, Empty, DuplicateId, UnknownCode, UnknownLevel}
 use Rattle.diag_setup.specs.Setup.{checked, fault_of}
-use Rattle.diag_setup.specs.ExampleSetup.{two_testers, tester, did, routine, level}
+use Rattle.diag_setup.specs.ExampleSetup.{two_testers, tester, did, routine, level, with_answers, echo_row, slow_row, enter_row}
 
 abbrev tester_a : RawTester
 tester_a = tester (codes "A") 0x7E0 0x7E8
@@ -57,3 +61,61 @@ unknown_code = refl
 
 unknown_level : fault_of (record two_testers { dids = record did { write_level = 3 } ∷ [] }) ≡ Some UnknownLevel
 unknown_level = refl
+
+-- ---- rows of answers
+
+the_answers : checked with_answers ≡ Ok with_answers
+the_answers = refl
+
+-- the fault of the setup with this row alone
+abbrev fault_with : RawAnswer → Option SetupFault
+fault_with row = fault_of (record two_testers { answers = row ∷ [] })
+
+byte_beyond_the_pattern : fault_with (record echo_row {
+  pattern = pattern.Byte 0x28 ∷ pattern.Any ∷ [];
+  reply = Some ((template.Byte 0x68 ∷ template.OfRequest 2 ∷ []) ∷ []);
+}) ≡ Some Range
+byte_beyond_the_pattern = refl
+
+last_byte_of_the_pattern : fault_with (record echo_row { reply = Some ((template.OfRequest 2 ∷ []) ∷ []) }) ≡ None
+last_byte_of_the_pattern = refl
+
+reply_of_no_template : fault_with (record echo_row { reply = Some [] }) ≡ Some Range
+reply_of_no_template = refl
+
+template_of_no_items : fault_with (record echo_row { reply = Some ([] ∷ []) }) ≡ None
+template_of_no_items = refl
+
+pattern_of_no_items : fault_with (record slow_row { pattern = [] }) ≡ Some Range
+pattern_of_no_items = refl
+
+pattern_of_65_items : fault_with (record slow_row { pattern = replicate 65 pattern.Any }) ≡ Some Range
+pattern_of_65_items = refl
+
+template_of_4096_items : fault_with (record echo_row { reply = Some (replicate 4096 template.Varies ∷ []) }) ≡ Some Range
+template_of_4096_items = refl
+
+session_of_127 : fault_with (record slow_row { session = 127 }) ≡ Some Range
+session_of_127 = refl
+
+enters_without_a_reply : fault_with (record slow_row { enter = 2 }) ≡ Some Range
+enters_without_a_reply = refl
+
+enters_127 : fault_with (record enter_row { enter = 127 }) ≡ Some Range
+enters_127 = refl
+
+unknown_level_of_an_answer : fault_with (record slow_row { level = 3 }) ≡ Some UnknownLevel
+unknown_level_of_an_answer = refl
+
+after_600001 : fault_with (record slow_row { after_ms = 600001 }) ≡ Some Range
+after_600001 = refl
+
+-- 255 times response pending, 1 ms apart, the first at 50
+latest : fault_of (record two_testers { p2_star_10ms = 0; answers = record slow_row { after_ms = 305 } ∷ [] }) ≡ None
+latest = refl
+
+too_late : fault_of (record two_testers { p2_star_10ms = 0; answers = record slow_row { after_ms = 306 } ∷ [] }) ≡ Some Range
+too_late = refl
+
+rows_of_1025 : fault_of (record two_testers { answers = replicate 1025 slow_row }) ≡ Some Range
+rows_of_1025 = refl

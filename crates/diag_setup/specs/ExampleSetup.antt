@@ -1,5 +1,5 @@
--- The setup of the worked examples, two testers, as it is before its tables are sorted.
-use Rattle.std.specs.Prelude.{ℕ, true, false, List, [], ◌∷◌, Some, codes}
+-- The setups of the worked examples, two testers, without and with rows of answers, before their tables are sorted.
+use Rattle.std.specs.Prelude.{ℕ, true, false, List, [], ◌∷◌, map, Option, Some, None, codes}
 use Rattle.diag_setup.specs.declared.raw.RawSetup.{RawSetup}
 use Rattle.diag_setup.specs.declared.raw.RawTester.{RawTester}
 use Rattle.diag_setup.specs.declared.raw.RawDid.{RawDid}
@@ -7,6 +7,11 @@ use Rattle.diag_setup.specs.declared.raw.RawCode.{RawCode}
 use Rattle.diag_setup.specs.declared.raw.RawRoutine.{RawRoutine}
 use Rattle.diag_setup.specs.declared.raw.RawKeyRow.{RawKeyRow}
 use Rattle.diag_setup.specs.declared.raw.RawLevel.{RawLevel}
+use Rattle.diag_setup.specs.declared.raw.RawAnswer.{RawAnswer}
+use Rattle.diag_setup.specs.declared.raw.PatternItem.{PatternItem}
+use Rattle.diag_setup.specs.declared.raw.PatternItem.TheVariants as pattern
+use Rattle.diag_setup.specs.declared.raw.TemplateItem.{TemplateItem}
+use Rattle.diag_setup.specs.declared.raw.TemplateItem.TheVariants as template
 
 abbrev pub tester : List ℕ → ℕ → ℕ → RawTester
 tester name request response = record { name = name; request = request; response = response }
@@ -66,4 +71,59 @@ two_testers = record {
   routines = routine ∷ [];
   levels = level ∷ [];
   answers = [];
+}
+
+-- ---- the same with rows of answers
+
+-- a pattern, and a template, of bytes alone
+abbrev pub pattern_bytes : List ℕ → List PatternItem
+pattern_bytes = map pattern.Byte
+
+abbrev pub template_bytes : List ℕ → List TemplateItem
+template_bytes = map template.Byte
+
+-- a row for every session, which goes at once and enters none
+abbrev pub answer : List PatternItem → Option (List (List TemplateItem)) → RawAnswer
+answer pattern reply = record {
+  pattern = pattern;
+  more = false;
+  reply = reply;
+  session = 0;
+  level = 0;
+  enter = 0;
+  after_ms = 0;
+}
+
+-- CommunicationControl, its sub-function echoed
+abbrev pub echo_row : RawAnswer
+echo_row = record (answer (pattern.Byte 0x28 ∷ pattern.Any ∷ pattern.Any ∷ [])
+    (Some ((template.Byte 0x68 ∷ template.OfRequest 1 ∷ []) ∷ [])))
+    { more = true }
+
+-- a measured value: each read gives the next one
+abbrev pub rounds_row : RawAnswer
+rounds_row = answer (pattern_bytes (0x22 ∷ 0xF4 ∷ 0x0C ∷ []))
+    (Some (template_bytes (0x62 ∷ 0xF4 ∷ 0x0C ∷ 0x0B ∷ 0x54 ∷ [])
+    ∷ template_bytes (0x62 ∷ 0xF4 ∷ 0x0C ∷ 0x0B ∷ 0x70 ∷ [])
+    ∷ template_bytes (0x62 ∷ 0xF4 ∷ 0x0C ∷ 0x0B ∷ 0x2E ∷ []) ∷ []))
+
+-- in the extended session alone, only unlocked, after 3 s
+abbrev pub unlocked_row : RawAnswer
+unlocked_row = record (answer (pattern_bytes (0x31 ∷ 0x01 ∷ 0xFF ∷ 0x00 ∷ []))
+    (Some (template_bytes (0x71 ∷ 0x01 ∷ 0xFF ∷ 0x00 ∷ []) ∷ [])))
+    { more = true; session = 3; level = 1; after_ms = 3000 }
+
+-- the answer of the services, but slow
+abbrev pub slow_row : RawAnswer
+slow_row = record (answer (pattern_bytes (0x14 ∷ 0xFF ∷ 0xFF ∷ 0xFF ∷ [])) None) { after_ms = 400 }
+
+-- the programming session, from the extended one alone
+abbrev pub enter_row : RawAnswer
+enter_row = record (answer (pattern_bytes (0x10 ∷ 0x02 ∷ []))
+    (Some (template_bytes (0x50 ∷ 0x02 ∷ 0x00 ∷ 0x32 ∷ 0x01 ∷ 0xF4 ∷ []) ∷ [])))
+    { session = 3; enter = 2 }
+
+abbrev pub with_answers : RawSetup
+with_answers = record two_testers {
+  answers = echo_row ∷ rounds_row ∷ unlocked_row ∷ slow_row ∷ enter_row ∷ [];
 }
