@@ -10,13 +10,17 @@ use Rattle.diag_setup.specs.declared.raw.RawCode.{RawCode}
 use Rattle.diag_setup.specs.declared.raw.RawRoutine.{RawRoutine}
 use Rattle.diag_setup.specs.declared.raw.RawKeyRow.{RawKeyRow}
 use Rattle.diag_setup.specs.declared.raw.RawLevel.{RawLevel}
+use Rattle.diag_setup.specs.declared.raw.RawAnswer.{RawAnswer}
+use Rattle.diag_setup.specs.declared.raw.TemplateItem.{TemplateItem}
 use Rattle.diag_setup.specs.declared.raw.RawSetup.{RawSetup}
 use Rattle.diag_setup.specs.declared.fault.SetupFault.{SetupFault}
 use Rattle.diag_setup.specs.Setup.{checked}
+use Rattle.diag_config.specs.declared.answer.Pattern.{Pattern}
 use Rattle.diag_config.specs.declared.rows.Times.{Times}
 use Rattle.diag_config.specs.declared.rows.LinkValues.{LinkValues}
 use Rattle.diag_config.specs.declared.rows.ServerValues.{ServerValues}
 use Rattle.diag_config.specs.declared.rows.SetupTables.{SetupTables}
+use Rattle.diag_config.specs.Answer.{pattern_of, template_of}
 use Rattle.diag_config.specs.Key.{Fault, syntax, missing, bad_value, refused, ◌>>=◌}
 
 -- ---- kinds of value: what a value of the kind says, or that the key holds a bad value
@@ -41,6 +45,18 @@ hex_bytes key (Err e) = Err (bad_value key)
 abbrev pub hex : List ℕ → Data → Result (List ℕ) Fault
 hex key (string s) = hex_bytes key (decode_of s)
 hex key _ = Err (bad_value key)
+
+abbrev pub or_bad_value : {A : Type 0} → List ℕ → Option A → Result A Fault
+or_bad_value key (Some x) = Ok x
+or_bad_value key None = Err (bad_value key)
+
+abbrev pub pattern : List ℕ → Data → Result Pattern Fault
+pattern key (string s) = or_bad_value key (pattern_of s)
+pattern key _ = Err (bad_value key)
+
+abbrev pub template : List ℕ → Data → Result (List TemplateItem) Fault
+template key (string s) = or_bad_value key (template_of s)
+template key _ = Err (bad_value key)
 
 -- a table, read by its own keys
 abbrev pub row : {A : Type 0} → (Members → Result A Fault) → List ℕ → Data → Result A Fault
@@ -157,8 +173,28 @@ row_at ms = do
 unfoldable pub level_at : Members → Result RawLevel Fault
 level_at ms = do
   request_seed ← required number ms (codes "sub") (codes "level.sub")
+  any_key ← with_default truth ms (codes "any_key") (codes "level.any_key") false
+  varies ← with_default truth ms (codes "varies") (codes "level.varies") false
   rows ← with_default (list (row row_at)) ms (codes "row") (codes "level.row") []
-  Ok (record { request_seed = request_seed; rows = rows })
+  Ok (record { request_seed = request_seed; any_key = any_key; varies = varies; rows = rows })
+
+unfoldable pub answer_at : Members → Result RawAnswer Fault
+answer_at ms = do
+  request ← required pattern ms (codes "request") (codes "answer.request")
+  reply ← optional (list template) ms (codes "reply") (codes "answer.reply")
+  session ← with_default number ms (codes "session") (codes "answer.session") 0
+  level ← with_default number ms (codes "level") (codes "answer.level") 0
+  enter ← with_default number ms (codes "enter") (codes "answer.enter") 0
+  after_ms ← with_default number ms (codes "after_ms") (codes "answer.after_ms") 0
+  Ok (record {
+    pattern = request.items;
+    more = request.more;
+    reply = reply;
+    session = session;
+    level = level;
+    enter = enter;
+    after_ms = after_ms;
+  })
 
 -- ---- the keys at the top, in four groups
 
@@ -212,12 +248,14 @@ tables_at ms = do
   trouble_codes ← at_top (list (row code_at)) ms (codes "code") []
   routines ← at_top (list (row routine_at)) ms (codes "routine") []
   levels ← at_top (list (row level_at)) ms (codes "level") []
+  answers ← at_top (list (row answer_at)) ms (codes "answer") []
   Ok (record {
     testers = testers;
     dids = dids;
     dtcs = trouble_codes;
     routines = routines;
     levels = levels;
+    answers = answers;
   })
 
 -- all keys, in the order of the table
@@ -247,6 +285,7 @@ setup_at ms = do
     dtcs = tables.dtcs;
     routines = tables.routines;
     levels = tables.levels;
+    answers = tables.answers;
   })
 
 -- ---- a whole text

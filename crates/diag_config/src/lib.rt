@@ -6,6 +6,7 @@ ghost use Rattle.std.specs.Str.{is_utf8};
 ghost use Rattle.diag_config.specs.Fault.{Gives};
 ghost use Rattle.diag_config.specs.Setup.{raw_setup_of, setup_of};
 
+mod answer;
 mod fault;
 mod rows;
 mod table;

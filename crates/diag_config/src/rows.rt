@@ -2,12 +2,15 @@
 
 ghost use Rattle.toml.specs.View.{table_view};
 ghost use Rattle.diag_config.specs.Key.{KeyGives};
-ghost use Rattle.diag_config.specs.Setup.{tester_at, did_at, code_at, done_at, routine_at, row_at, level_at, timing_at, transport_at, server_at, tables_at, setup_at};
+ghost use Rattle.diag_config.specs.Setup.{tester_at, did_at, code_at, done_at, routine_at, row_at, level_at, answer_at, timing_at, transport_at, server_at, tables_at, setup_at};
 
+use crate::answer::{Pattern, Reply};
 use crate::fault::KeyFault;
 use crate::table::{FromTable, at_top, optional, required, with_default};
 use crate::value::{Hex, Text};
-use diag_setup::{Items, RawCode, RawDid, RawKeyRow, RawLevel, RawRoutine, RawSetup, RawTester};
+use diag_setup::{
+    Items, RawAnswer, RawCode, RawDid, RawKeyRow, RawLevel, RawRoutine, RawSetup, RawTester,
+};
 use std::alloc::Global;
 use toml::Table;
 
@@ -48,6 +51,7 @@ struct SetupTables {
     dtcs: Items<RawCode>,
     routines: Items<RawRoutine>,
     levels: Items<RawLevel>,
+    answers: Items<RawAnswer>,
 }
 
 impl FromTable for RawTester {
@@ -153,6 +157,8 @@ impl FromTable for RawLevel {
     #[tactic(auto, unfolding(crate::specs::Setup::level_at))]
     fn from_table(alloc: Global, table: &Table) -> Result<RawLevel, KeyFault> {
         let request_seed: u32 = required(alloc, table, "sub", "level.sub")?;
+        let any_key = with_default(alloc, table, "any_key", "level.any_key", false)?;
+        let varies = with_default(alloc, table, "varies", "level.varies", false)?;
         let rows = with_default(
             alloc,
             table,
@@ -160,7 +166,35 @@ impl FromTable for RawLevel {
             "level.row",
             Items::<RawKeyRow>::new(alloc),
         )?;
-        Ok(RawLevel { request_seed, rows })
+        Ok(RawLevel {
+            request_seed,
+            any_key,
+            varies,
+            rows,
+        })
+    }
+}
+
+impl FromTable for RawAnswer {
+    ghost at = { answer_at };
+
+    #[tactic(auto, unfolding(crate::specs::Setup::answer_at))]
+    fn from_table(alloc: Global, table: &Table) -> Result<RawAnswer, KeyFault> {
+        let request: Pattern = required(alloc, table, "request", "answer.request")?;
+        let reply: Option<Reply> = optional(alloc, table, "reply", "answer.reply")?;
+        let session = with_default(alloc, table, "session", "answer.session", 0u32)?;
+        let level = with_default(alloc, table, "level", "answer.level", 0u32)?;
+        let enter = with_default(alloc, table, "enter", "answer.enter", 0u32)?;
+        let after_ms = with_default(alloc, table, "after_ms", "answer.after_ms", 0u32)?;
+        Ok(RawAnswer {
+            pattern: request.items,
+            more: request.more,
+            reply: reply.map(|templates| templates.0),
+            session,
+            level,
+            enter,
+            after_ms,
+        })
     }
 }
 
@@ -229,12 +263,14 @@ fn tables(alloc: Global, table: &Table) -> Result<SetupTables, KeyFault>
     let dtcs = at_top(alloc, table, "code", Items::<RawCode>::new(alloc))?;
     let routines = at_top(alloc, table, "routine", Items::<RawRoutine>::new(alloc))?;
     let levels = at_top(alloc, table, "level", Items::<RawLevel>::new(alloc))?;
+    let answers = at_top(alloc, table, "answer", Items::<RawAnswer>::new(alloc))?;
     Ok(SetupTables {
         testers,
         dids,
         dtcs,
         routines,
         levels,
+        answers,
     })
 }
 
@@ -267,5 +303,6 @@ pub fn setup(alloc: Global, table: &Table) -> Result<RawSetup, KeyFault>
         dtcs: tables.dtcs,
         routines: tables.routines,
         levels: tables.levels,
+        answers: tables.answers,
     })
 }
