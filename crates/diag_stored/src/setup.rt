@@ -53,6 +53,7 @@ fn raw_two_testers(alloc: Global) -> Result<RawSetup, AllocError>
         dtcs: rows(alloc, [code()])?,
         routines: rows(alloc, [routine(alloc)?])?,
         levels: rows(alloc, [level(alloc)?])?,
+        answers: Items::new(alloc),
     })
 }
 
@@ -107,6 +108,8 @@ fn level(alloc: Global) -> Result<RawLevel, AllocError>
     let second = key_row(alloc, &[0x55, 0x66, 0x77, 0x88], &[0x01, 0x02, 0x03, 0x04])?;
     Ok(RawLevel {
         request_seed: 1,
+        any_key: false,
+        varies: false,
         rows: rows(alloc, [first, second])?,
     })
 }
