@@ -15,7 +15,7 @@ pub enum ConfigFault {
     Syntax,
     /// A key that is required isn't there. It is written as in the table of keys, as `tester.name`.
     Missing(&'static str),
-    /// A key's value is of another type, no number from 0 to 4294967295, or no hex text.
+    /// A key's value is of another type, no number from 0 to 4294967295, or a text that is no hex, pattern or template.
     BadValue(&'static str),
     /// All keys are well, and the setup that they make is refused.
     Setup(SetupFault),

@@ -1,4 +1,4 @@
-use Rattle.std.proofs.Common.{◌≡◌, option_map, refl, rules, sym}
+use Rattle.std.proofs.Common.{◌≡◌, option_map, refl, rules}
 use Rattle.std.proofs.lemmas.Result.{err_from_is_err_and}
 use Rattle.diag_config.specs.Setup.{answer_at}
 use Rattle.diag_config.proofs.Binds.{Fails-bind}
