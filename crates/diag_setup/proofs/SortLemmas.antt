@@ -1,12 +1,20 @@
 -- Rows of which no two have one key have one list in rising order.
-use Rattle.std.proofs.Common.{◌≡◌, ℕ, zero, suc, ◌+◌, ◌<◌, ◌≤◌, ◌||◌, ◌==◌, true, false, cond, nat_le, nat_lt, List, [], ◌∷◌, length, refl, ap, sym, ◌∙◌, arith, slice_index_or, eq-eqb, ◌⊎◌, inl, inr}
+use Rattle.std.proofs.Common.{◌≡◌, ℕ, zero, suc, ◌+◌, ◌<◌, ◌≤◌, ◌||◌, ◌==◌, Bool, true, false, cond, nat_le, nat_lt, List, [], ◌∷◌, length, map, take, drop, get_or, ◌-◌, ◌≢◌, refl, ap, sym, ◌∙◌, arith, slice_index_or, eq-eqb, ◌⊎◌, inl, inr}
 use Rattle.std.specs.List.{All, Contains, sum_by, list_all}
 use Rattle.std.specs.List.Sorted.{IsPermutation, IsNonDecreasingBy}
+use Rattle.std.proofs.lemmas.List.{take_all}
 use Rattle.std.proofs.lemmas.List.Elements.{All-cons, All-nil, All-weaker, All-contains}
 use Rattle.std.proofs.lemmas.List.Sorted.{IsPermutation-refl, IsPermutation-sym, IsPermutation-cons, IsPermutation-trans, IsPermutation-middle, All-permutation, Contains-permutation, sum_by-IsPermutation}
 use Rattle.std.proofs.lemmas.List.Sums.{sum_by-cons}
 use Rattle.std.proofs.lemmas.Bool.{lt-ltb, eqb-true, leb-true, leb-false, or_parts}
 use Rattle.diag_setup.specs.Rows.{has_key, has_repeat, insert_in_order, in_order, is_rising}
+use Rattle.diag_setup.specs.Setup.{itself}
+
+same_bool : (a b : Bool) → (a ≡ false → b ≡ false) → (b ≡ false → a ≡ false) → a ≡ b
+same_bool true true to from = refl
+same_bool true false to from = from refl
+same_bool false true to from = sym (to refl)
+same_bool false false to from = refl
 
 Contains-cons : {X : Type 0} (x y : X) (ys : List X) → Contains (y ∷ ys) x → (y ≡ x) ⊎ Contains ys x
 Contains-cons x y ys (zero, below, e) = inl e
@@ -189,10 +197,6 @@ module _ {X : Type 0} (key : X → ℕ) where
         | false ↦ λ e. rest
       ] refl
 
-  strict-no_repeat : (xs : List X) → Strict xs → has_repeat key xs ≡ false
-  strict-no_repeat [] s = refl
-  strict-no_repeat (x ∷ xs) s = rw (above-no_key (key x) xs s.0) (strict-no_repeat xs s.1)
-
   above-all : (k : ℕ) (xs : List X) → All (λ y. k < key y) xs → list_all (λ y. nat_lt k (key y)) xs ≡ true
   above-all k [] h = refl
   above-all k (x ∷ xs) h = rw (lt-ltb k (key x) (h 0 x (omega arith))) (above-all k xs (λ j d below. h (suc j) d (omega arith)))
@@ -201,8 +205,67 @@ module _ {X : Type 0} (key : X → ℕ) where
   strict-is_rising [] s = refl
   strict-is_rising (x ∷ xs) s = rw (above-all (key x) xs s.0) (strict-is_rising xs s.1)
 
+  -- a key that comes never isn't there
+  absent : (k : ℕ) (xs : List X) → sum_by (one_of k) xs ≡ 0 → has_key key xs k ≡ false
+  absent k [] h = refl
+  absent k (x ∷ xs) h =
+      let first = sum_by-cons (one_of k) x xs in
+      let rest = absent k xs in
+      elim (key x == k) as (λ b. sum_by (one_of k) (x ∷ xs) ≡ cond b 1 0 + sum_by (one_of k) xs → (b || has_key key xs k) ≡ false) [
+        | true ↦ λ is. absurd (omega arith)
+        | false ↦ λ is. let none : sum_by (one_of k) xs ≡ 0 = omega arith in rest none
+      ] first
+
+  -- where each key comes once at most, none repeats
+  no_repeat : (xs : List X) → ((k : ℕ) → sum_by (one_of k) xs ≤ 1) → has_repeat key xs ≡ false
+  no_repeat [] c = refl
+  no_repeat (x ∷ xs) c =
+      let tail : (k : ℕ) → sum_by (one_of k) xs ≤ 1 = λ k. let first = sum_by-cons (one_of k) x xs in let whole = c k in omega arith in
+      let first = sum_by-cons (one_of (key x)) x xs in
+      let whole = c (key x) in
+      let here : one_of (key x) x ≡ 1 = rw (eq-eqb (key x) (key x) refl) refl in
+      let none : sum_by (one_of (key x)) xs ≡ 0 = omega arith in
+      rw (absent (key x) xs none, no_repeat xs tail) refl
+
+  no_repeat-moves : (xs ys : List X) → IsPermutation xs ys → has_repeat key xs ≡ false → has_repeat key ys ≡ false
+  no_repeat-moves xs ys moves h = no_repeat ys (λ k. let same = sum_by-IsPermutation (one_of k) xs ys moves in let least = once xs h k in omega arith)
+
+  pub has_repeat-moves : (xs ys : List X) → IsPermutation xs ys → has_repeat key ys ≡ has_repeat key xs
+  has_repeat-moves xs ys moves =
+      same_bool (has_repeat key ys) (has_repeat key xs) (no_repeat-moves ys xs (IsPermutation-sym xs ys moves)) (no_repeat-moves xs ys moves)
+
+  has_key-map : (k : ℕ) (xs : List X) → has_key itself (map key xs) k ≡ has_key key xs k
+  has_key-map k [] = refl
+  has_key-map k (x ∷ xs) = ap (λ b. (key x == k) || b) (has_key-map k xs)
+
+  pub has_repeat-map : (xs : List X) → has_repeat itself (map key xs) ≡ has_repeat key xs
+  has_repeat-map [] = refl
+  has_repeat-map (x ∷ xs) = rw (has_key-map (key x) xs, has_repeat-map xs) refl
+
   pub in_order-no_repeat : (xs : List X) → has_repeat key xs ≡ false → has_repeat key (in_order key xs) ≡ false
-  in_order-no_repeat xs h = strict-no_repeat (in_order key xs) (strict_where_once xs (in_order key xs) h (in_order-moves xs) (in_order-rises xs))
+  in_order-no_repeat xs h = no_repeat-moves xs (in_order key xs) (in_order-moves xs) h
 
   pub in_order-is_rising : (xs : List X) → has_repeat key xs ≡ false → is_rising key (in_order key xs) ≡ true
   in_order-is_rising xs h = strict-is_rising (in_order key xs) (strict_where_once xs (in_order key xs) h (in_order-moves xs) (in_order-rises xs))
+
+-- ---- numbers that don't fall
+
+-- all but the first, as a pattern gives them
+abbrev Tail : List ℕ → List ℕ
+Tail xs = take (length xs - 1) (drop 1 xs)
+
+first_below : (x y : ℕ) (ys : List ℕ) → IsNonDecreasingBy itself (x ∷ y ∷ ys) → x < y → has_repeat itself (x ∷ y ∷ ys) ≡ has_repeat itself (y ∷ ys)
+first_below x y ys rises less =
+    let above : All (λ z. x < z) (y ∷ ys) = λ j d below. let next = rises 1 (suc j) d (omega arith) (omega arith) in omega arith in
+    rw (above-no_key itself x (y ∷ ys) above) refl
+
+-- where the first differs from the one behind it, the others decide
+pub others_decide : (xs : List ℕ) → IsNonDecreasingBy itself xs → 1 ≤ length (Tail xs) → get_or xs 0 0 ≢ get_or (Tail xs) 0 0
+    → IsNonDecreasingBy itself (Tail xs) × (has_repeat itself (Tail xs) ≡ has_repeat itself xs)
+others_decide [] rises some differ = absurd (omega arith)
+others_decide (x ∷ []) rises some differ = absurd (omega arith)
+others_decide (x ∷ y ∷ ys) rises some differ =
+    let same : Tail (x ∷ y ∷ ys) ≡ y ∷ ys = take_all (length (x ∷ y ∷ ys) - 1) (y ∷ ys) (omega arith) in
+    let apart : x ≢ y = rw same at differ in
+    let up : x ≤ y = rises 0 1 0 (omega arith) (omega arith) in
+    rw same ((λ i j d le below. rises (suc i) (suc j) d (omega arith) (omega arith)), sym (first_below x y ys rises (omega arith)))

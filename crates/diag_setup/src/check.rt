@@ -63,6 +63,10 @@ impl RawSetup {
     fn is_in_range(&self) -> bool
         ensures answer { result ≡ is_in_range self.now }
         ensures testers { OnTrue result (length self.now.testers ≤ 8) }
+        ensures dids { OnTrue result (length self.now.dids ≤ 1024) }
+        ensures dtcs { OnTrue result (length self.now.dtcs ≤ 4096) }
+        ensures routines { OnTrue result (length self.now.routines ≤ 256) }
+        ensures levels { OnTrue result (length self.now.levels ≤ 4) }
     {
         self.times_are_in_range()
             && self.link_is_in_range()
@@ -343,7 +347,11 @@ impl RawSetup {
     }
 
     fn has_duplicates(&self) -> bool
-        requires { length self.now.testers ≤ 8 }
+        requires testers { length self.now.testers ≤ 8 }
+        requires dids { length self.now.dids ≤ 4096 }
+        requires dtcs { length self.now.dtcs ≤ 4096 }
+        requires routines { length self.now.routines ≤ 4096 }
+        requires levels { length self.now.levels ≤ 4096 }
         ensures { result ≡ has_duplicates self.now }
     {
         has_repeated_name(self.testers.as_slice())

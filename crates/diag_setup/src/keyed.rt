@@ -1,10 +1,15 @@
 //! Rows with a key of their own.
 
-ghost use Rattle.std.specs.Prelude.{◌≡◌, false};
+ghost use Rattle.std.specs.Prelude.{◌≡◌, ◌≤◌, false, length, map};
+ghost use Rattle.std.specs.List.Sorted.{IsNonDecreasingBy};
 ghost use Rattle.diag_setup.specs.Rows.{has_key, has_repeat, in_order};
 ghost use Rattle.diag_setup.specs.Setup.{did_id, dtc_code, routine_id, level_sub, itself};
 
 use crate::raw::{Keyed, RawCode, RawDid, RawLevel, RawRoutine};
+use arrayvec::ArrayVec;
+
+/// The most rows of a table whose keys differ.
+const MOST_ROWS: usize = 4096;
 
 impl Keyed for RawDid {
     ghost key_of = { did_id };
@@ -53,18 +58,45 @@ pub fn has_key<T: Keyed>(rows: &[T], key: u32) -> bool
     rows.iter().any(|row| row.key() == key)
 }
 
-/// Whether two rows have one key.
-pub fn has_repeat<T: Keyed>(rows: &[T]) -> bool
-    ensures { result ≡ has_repeat T.key_of rows.now }
+/// The keys of rows.
+fn keys_of<T: Keyed>(rows: &[T]) -> ArrayVec<u32, MOST_ROWS>
+    requires { length rows.now ≤ 4096 }
+    ensures { result.items ≡ map T.key_of rows.now }
 {
-    let mut rest = rows;
+    let mut keys = ArrayVec::new();
+    for row in rows {
+        keys.push(row.key());
+    }
+    keys
+}
+
+/// Whether two of these numbers, which don't fall, are equal.
+fn has_equal(numbers: &[u32]) -> bool
+    requires { IsNonDecreasingBy itself numbers.now }
+    ensures { result ≡ has_repeat itself numbers.now }
+{
+    let mut rest = numbers;
     while let [first, tail @ ..] = rest {
-        if has_key(tail, first.key()) {
+        let [second, ..] = tail else {
+            return false;
+        };
+        if *first == *second {
             return true;
         }
         rest = tail;
     }
     false
+}
+
+/// Whether two rows have one key.
+pub fn has_repeat<T: Keyed>(rows: &[T]) -> bool
+    requires { length rows.now ≤ 4096 }
+    ensures { result ≡ has_repeat T.key_of rows.now }
+{
+    let mut keys = keys_of(rows);
+    let sorted = keys.as_mut_slice();
+    sorted.sort_unstable();
+    has_equal(sorted)
 }
 
 /// Sorts rows of which no two have one key, where they stand.
