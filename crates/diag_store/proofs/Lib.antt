@@ -3,3 +3,4 @@ pub mod SearchLemmas
 pub mod SecurityLemmas
 pub mod TableLemmas
 pub mod DelayLemmas
+pub mod AnswerLemmas

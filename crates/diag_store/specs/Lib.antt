@@ -3,4 +3,5 @@ pub mod Dids
 pub mod Dtcs
 pub mod Routines
 pub mod Security
+pub mod Answers
 pub mod Opening

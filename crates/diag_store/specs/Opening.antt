@@ -6,6 +6,9 @@ use Rattle.diag_setup.specs.declared.raw.RawCode.{RawCode}
 use Rattle.diag_setup.specs.declared.raw.RawRoutine.{RawRoutine}
 use Rattle.diag_setup.specs.declared.raw.RawKeyRow.{RawKeyRow}
 use Rattle.diag_setup.specs.declared.raw.RawLevel.{RawLevel}
+use Rattle.diag_setup.specs.declared.raw.RawAnswer.{RawAnswer}
+use Rattle.diag_setup.specs.Setup.{templates_of}
+use Rattle.diag_store.specs.declared.answers.AnswerRow.{AnswerRow}
 use Rattle.diag_store.specs.declared.dids.DidRow.{DidRow}
 use Rattle.diag_store.specs.declared.dtcs.Dtc.{Dtc}
 use Rattle.diag_store.specs.declared.routines.Routine.{Routine}
@@ -47,7 +50,12 @@ abbrev pub key_row : RawKeyRow → KeyRow
 key_row row = record { seed = record { items = row.seed }; key = record { items = row.key } }
 
 abbrev pub level_row : RawLevel → Level
-level_row level = record { request_seed = level.request_seed; rows = map key_row level.rows; next = 0 }
+level_row level = record {
+  request_seed = level.request_seed;
+  any_key = level.any_key;
+  rows = map key_row level.rows;
+  next = 0;
+}
 
 -- nothing is unlocked, no seed is outstanding, and nobody is delayed
 abbrev pub opening_security : RawSetup → SecurityState
@@ -60,3 +68,19 @@ opening_security setup = record {
   wrong_keys = replicate 8 0;
   delays = replicate 8 0;
 }
+
+-- the first template of each row is next
+abbrev pub answer_row : RawAnswer → AnswerRow
+answer_row row = record {
+  pattern = row.pattern;
+  more = row.more;
+  templates = templates_of row;
+  session = row.session;
+  level = row.level;
+  enter = row.enter;
+  after_ms = row.after_ms;
+  next = 0;
+}
+
+abbrev pub opening_answers : RawSetup → List AnswerRow
+opening_answers setup = map answer_row setup.answers

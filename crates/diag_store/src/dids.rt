@@ -73,7 +73,7 @@ impl Model for Dids {
     ghost use Rattle.diag_setup.specs.Rows.{is_rising};
     ghost use Rattle.diag_store.specs.Dids.{id_of};
 
-    ghost invariant = { λ d. (length d.rows.items ≤ 64) × (is_rising id_of d.rows.items ≡ true) };
+    ghost invariant = { λ d. (length d.rows.items ≤ 1024) × (is_rising id_of d.rows.items ≡ true) };
 }
 
 impl Dids {
@@ -112,7 +112,7 @@ impl Dids {
     /// The value of an identifier; each stands once, in rising order.
     pub fn get(&self, id: u16) -> Option<&[u8]>
         ensures same { option_copied result ≡ value_of self.now id }
-        ensures few { length self.now ≤ 64 }
+        ensures few { length self.now ≤ 1024 }
         ensures rising { IsTrue (is_rising id_of self.now) }
     {
         let row = find_row(&self.rows, u32::from(id))?;

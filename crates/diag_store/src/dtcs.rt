@@ -47,7 +47,7 @@ impl Model for DtcMemory {
     ghost use Rattle.diag_store.specs.Dtcs.{code_of};
 
     ghost invariant = { λ d.
-        (length d.rows.items ≤ 256) × (is_rising code_of d.rows.items ≡ true) };
+        (length d.rows.items ≤ 4096) × (is_rising code_of d.rows.items ≡ true) };
 }
 
 /// groupOfDTC of all codes (ISO 14229-1:2013, D.1).
@@ -81,7 +81,7 @@ impl DtcMemory {
     /// How many codes there are; they stand in rising order, each once.
     pub fn len(&self) -> usize
         ensures same { result ≡ length self.now }
-        ensures fits { result ≤ 256 }
+        ensures fits { result ≤ 4096 }
         ensures rising { IsTrue (is_rising code_of self.now) }
     {
         self.rows.len()
@@ -156,7 +156,7 @@ fn clear_all(rows: &mut [Dtc])
 }
 
 fn count_matching(rows: &[Dtc], mask: u8) -> u16
-    requires { length rows.now ≤ 256 }
+    requires { length rows.now ≤ 4096 }
     ensures { result ≡ length (matching rows.now mask) }
 {
     rows.iter().filter(|row| row.status & mask != 0).count() as u16

@@ -20,9 +20,9 @@ use std::marker::Model;
 #[derive(Clone, Drop)]
 pub struct KeyRow {
     /// securitySeed.
-    pub seed: ArrayVec<u8, 16>,
+    pub seed: ArrayVec<u8, 255>,
     /// The securityKey that it asks for.
-    pub key: ArrayVec<u8, 16>,
+    pub key: ArrayVec<u8, 255>,
 }
 
 /// The rows of a level, one at least.
@@ -47,6 +47,8 @@ impl Model for KeyRows {
 pub struct Level {
     /// The sub-function requestSeed.
     pub request_seed: u8,
+    /// Whether every key of the length of its keys is right.
+    pub any_key: bool,
     /// The seeds with their keys.
     pub rows: KeyRows,
     /// The row of the next new seed, from 0.
@@ -136,6 +138,7 @@ fn level_row(alloc: Global, level: &RawLevel) -> Result<Level, AllocError>
     let rows = KeyRows::new(alloc, level.rows.as_slice())?;
     Ok(Level {
         request_seed: level.request_seed as u8,
+        any_key: level.any_key,
         rows,
         next: 0,
     })
@@ -148,6 +151,7 @@ impl Level {
         let rows = self.rows.try_copy()?;
         Ok(Level {
             request_seed: self.request_seed,
+            any_key: self.any_key,
             rows,
             next: self.next,
         })

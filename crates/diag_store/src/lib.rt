@@ -1,6 +1,7 @@
 //! The tables of the ECU: data identifiers, trouble codes, routines and security levels.
 #![tactic(auto)]
 
+mod answers;
 mod bytes;
 mod dids;
 mod dtcs;
@@ -9,8 +10,9 @@ mod routines;
 mod search;
 mod security;
 
+pub use answers::{Access, AnswerRow, Answers, Pattern, Template, Templates};
 pub use dids::{DidFault, DidRow, DidRule, Dids};
 pub use dtcs::{ALL_GROUPS, Dtc, DtcMemory};
 pub use levels::{KeyRow, KeyRows, Level, Levels};
 pub use routines::{Routine, RoutineState, Routines};
-pub use security::{KeyAnswer, Outstanding, Security, SecurityState, SeedAnswer};
+pub use security::{KeyAnswer, Outstanding, Security, SecurityState};

@@ -68,7 +68,7 @@ impl Model for Routines {
     ghost use Rattle.diag_setup.specs.Rows.{is_rising};
     ghost use Rattle.diag_store.specs.Routines.{id_of};
 
-    ghost invariant = { λ d. (length d.rows.items ≤ 16) × (is_rising id_of d.rows.items ≡ true) };
+    ghost invariant = { λ d. (length d.rows.items ≤ 256) × (is_rising id_of d.rows.items ≡ true) };
 }
 
 impl Routines {
@@ -95,7 +95,7 @@ impl Routines {
     /// What a routine does now; each identifier stands once, in rising order.
     pub fn state(&self, id: u16) -> Option<RoutineState>
         ensures same { result ≡ state_of self.now id }
-        ensures few { length self.now ≤ 16 }
+        ensures few { length self.now ≤ 256 }
         ensures rising { IsTrue (is_rising id_of self.now) }
     {
         let row = find_row(&self.rows, u32::from(id))?;

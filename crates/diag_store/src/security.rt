@@ -1,12 +1,10 @@
 //! The security access of the testers: seeds, keys, and the delay after too many wrong keys (ISO 14229-1:2013, 9.4).
 
-ghost use Rattle.std.specs.Prelude.{◌≡◌, ◌≤◌, ◌<◌, false, bytes_eq, is_some, replicate, length, IsTrue, IfOk};
-ghost use Rattle.diag_store.specs.Security.{IsSecurity, is_unlocked, level_of, key_len, locked, is_delayed, nobody_is_delayed, outstanding_row, seed_at, key_at, next_row, seed_answer, after_seed, key_answer, after_key, after_wrong_key, after_tick, after_ticks};
+ghost use Rattle.std.specs.Prelude.{◌≡◌, ◌≤◌, ◌<◌, false, bytes_eq, is_some, option_copied, replicate, length, Some, IsTrue, IfOk, IfSome};
+ghost use Rattle.diag_store.specs.Security.{IsSecurity, is_unlocked, level_of, key_len, locked, is_delayed, nobody_is_delayed, outstanding_row, seed_at, key_at, next_row, seed_answer, after_seed, is_right_key, key_answer, after_key, after_wrong_key, after_tick, after_ticks};
 ghost use Rattle.diag_store.specs.Opening.{opening_security};
 
-use crate::bytes::bytes_of;
 use crate::levels::Levels;
-use arrayvec::ArrayVec;
 use diag_setup::{Setup, TesterId};
 use std::alloc::{AllocError, Global};
 use std::marker::Model;
@@ -18,15 +16,6 @@ pub struct Outstanding {
     pub level: u8,
     /// Its row in that level, from 0.
     pub row: u8,
-}
-
-/// The answer to a request for a seed.
-#[derive(Drop)]
-pub enum SeedAnswer {
-    /// requiredTimeDelayNotExpired (0x37): the tester's delay is not over.
-    Delayed,
-    /// The seed; zeros where the level is unlocked.
-    Seed(ArrayVec<u8, 16>),
 }
 
 /// The answer to a key.
@@ -131,19 +120,20 @@ impl Security {
         Some(level.rows.key_len())
     }
 
-    /// Gives a tester the seed of a level.
-    pub fn seed(&mut self, who: TesterId, sub: u8) -> SeedAnswer
+    /// Gives a tester the seed of a level, which `seed_answer` tells.
+    pub fn seed(&mut self, who: TesterId, sub: u8)
         requires { IsTrue (is_some (level_of self.old sub)) }
-        ensures answer { result ≡ seed_answer self.old who sub }
-        ensures state { self.new ≡ after_seed self.old who sub }
+        ensures { self.new ≡ after_seed self.old who sub }
     {
-        self.state.seed(who, sub)
+        self.state.seed(who, sub);
     }
 
-    /// What a request for a seed of a level is answered; nothing changes.
-    pub fn seed_answer(&self, who: TesterId, sub: u8) -> SeedAnswer
+    /// The seed that a request for one of a level is answered, where it stands; zeros where the level is unlocked. None
+    /// where the tester's delay is not over (requiredTimeDelayNotExpired, 0x37). Nothing changes.
+    pub fn seed_answer(&self, who: TesterId, sub: u8) -> Option<&[u8]>
         requires { IsTrue (is_some (level_of self.now sub)) }
-        ensures { result ≡ seed_answer self.now who sub }
+        ensures same { option_copied result ≡ seed_answer self.now who sub }
+        ensures fits { IfSome result (λ seed. length seed.now ≤ 255) }
     {
         self.state.seed_answer(who, sub)
     }
@@ -230,12 +220,24 @@ impl SecurityState {
     }
 
     /// The seed of a row of a level.
-    fn seed_at(&self, sub: u8, row: u8) -> ArrayVec<u8, 16>
-        ensures { result.items ≡ seed_at self.now sub row }
+    fn seed_at(&self, sub: u8, row: u8) -> &[u8]
+        ensures same { result.now ≡ seed_at self.now sub row }
+        ensures fits { length result.now ≤ 255 }
     {
         match self.levels.row_at(sub, row) {
-            Some(row) => bytes_of(row.seed.as_slice()),
-            None => ArrayVec::new(),
+            Some(row) => row.seed.as_slice(),
+            None => &[],
+        }
+    }
+
+    /// Whether a key is right for the outstanding row of a level.
+    fn is_right_key(&self, sub: u8, row: u8, key: &[u8]) -> bool
+        requires { outstanding_row self.now.outstanding sub ≡ Some row }
+        ensures { result ≡ is_right_key self.now sub key.now }
+    {
+        match self.levels.find(sub) {
+            Some(level) if level.any_key => key.len() == level.rows.key_len(),
+            _ => self.is_key_at(sub, row, key),
         }
     }
 
@@ -258,34 +260,32 @@ impl SecurityState {
         }
     }
 
-    fn seed(&mut self, who: TesterId, sub: u8) -> SeedAnswer
-        ensures answer { result ≡ seed_answer self.old who sub }
-        ensures state { self.new ≡ after_seed self.old who sub }
+    fn seed(&mut self, who: TesterId, sub: u8)
+        ensures { self.new ≡ after_seed self.old who sub }
     {
-        let answer = self.seed_answer(who, sub);
         if self.is_delayed(who) || self.is_unlocked(sub) || self.outstanding_row(sub).is_some() {
-            return answer;
+            return;
         }
         let row = self.next_row(sub);
         self.outstanding = Some(Outstanding { level: sub, row });
         self.levels.move_on(sub);
-        answer
     }
 
-    fn seed_answer(&self, who: TesterId, sub: u8) -> SeedAnswer
-        ensures { result ≡ seed_answer self.now who sub }
+    fn seed_answer(&self, who: TesterId, sub: u8) -> Option<&[u8]>
+        ensures same { option_copied result ≡ seed_answer self.now who sub }
+        ensures fits { IfSome result (λ seed. length seed.now ≤ 255) }
     {
         if self.is_delayed(who) {
-            return SeedAnswer::Delayed;
+            return None;
         }
         if self.is_unlocked(sub) {
-            return SeedAnswer::Seed(zeros(self.seed_at(sub, 0).len()));
+            return Some(zeros(self.seed_at(sub, 0).len()));
         }
         let row = match self.outstanding_row(sub) {
             Some(row) => row,
             None => self.next_row(sub),
         };
-        SeedAnswer::Seed(self.seed_at(sub, row))
+        Some(self.seed_at(sub, row))
     }
 
     fn key_answer(&self, who: TesterId, sub: u8, key: &[u8]) -> KeyAnswer
@@ -298,7 +298,7 @@ impl SecurityState {
         let Some(row) = self.outstanding_row(sub) else {
             return KeyAnswer::NoSeed;
         };
-        if self.is_key_at(sub, row, key) {
+        if self.is_right_key(sub, row, key) {
             return KeyAnswer::Right;
         }
         if u32::from(self.wrong_keys[who.index()]) + 1 < u32::from(self.attempts) {
@@ -373,13 +373,13 @@ impl SecurityState {
     }
 }
 
-fn zeros(count: usize) -> ArrayVec<u8, 16>
-    requires { count ≤ 16 }
-    ensures { result.items ≡ replicate count 0 }
+/// The zeros that the longest seed of an unlocked level is.
+static ZEROS: [u8; 255] = [0; 255];
+
+/// So many zeros.
+fn zeros(count: usize) -> &'static [u8]
+    requires { count ≤ 255 }
+    ensures { result.now ≡ replicate count 0 }
 {
-    let mut bytes = ArrayVec::new();
-    for _ in 0..count {
-        bytes.push(0);
-    }
-    bytes
+    &ZEROS[..count]
 }

@@ -8,5 +8,5 @@ use Rattle.diag_store.proofs.dids.Dids.new.Goals as goal
 -- the keys are those of the setup
 pub invariant_of-result : goal.invariant_of-result
 invariant_of-result c =
-    made_rise id_of did_id did_row (λ row. refl) 64 c.dids-dids.result.now c.loop-did.rows.items c.loop-did.did-index c.loop-did.invariant.rows
+    made_rise id_of did_id did_row (λ row. refl) 1024 c.dids-dids.result.now c.loop-did.rows.items c.loop-did.did-index c.loop-did.invariant.rows
     (omega arith) (omega arith) c.dids-dids.ensures.rising

@@ -10,6 +10,6 @@ invariant_of-self c =
     let rows = c.self.inside.rows in
     let new = c.pass_all.new.rows in
     let same : rows.len ≡ length new = omega arith in
-    let few : length new ≤ 16 = omega arith in
+    let few : length new ≤ 256 = omega arith in
     let now : new ≡ rows_later c.args.count rows.items = cc in
     rw (refilled new rows.items rows.len same) (few, rw now (later_rises c.args.count rows.items c.self.invariant.1))

@@ -1,0 +1,6 @@
+use Rattle.std.proofs.Common.{arith, ℕ}
+use Rattle.std.proofs.lemmas.List.{take-replicate}
+use Rattle.diag_store.proofs.security.zeros.Goals as goal
+
+pub returns : goal.returns
+returns c = take-replicate c.args.count 255 0 (omega arith)
