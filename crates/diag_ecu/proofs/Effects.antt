@@ -3,11 +3,12 @@ use Rattle.std.proofs.Common.{◌≡◌, ℕ, true, false, cond, List, Some, Non
 use Rattle.diag_setup.specs.Setup.{first_holding}
 use Rattle.diag_store.specs.Security.{is_delayed}
 use Rattle.diag_ecu.specs.declared.effect.Effect.TheVariants.{Nothing, Serve, CountWrongKey}
+use Rattle.diag_ecu.proofs.RuleLemmas.{by_decision}
 use Rattle.diag_ecu.specs.declared.service.Service.{Service}
 use Rattle.diag_ecu.specs.declared.service.Nrc.{Nrc}
 use Rattle.diag_ecu.specs.State.{State}
 use Rattle.diag_ecu.specs.Service.{row, service_of, is_of_wrong_key}
-use Rattle.diag_ecu.specs.Respond.{sid, checks, own_effect, refused_effect, outcome, outcome_of, served}
+use Rattle.diag_ecu.specs.Respond.{sid, checks, decision, own_effect, refused_effect, outcome, outcome_of, served}
 use Rattle.diag_ecu.proofs.PassLemmas.{key_not_delayed}
 
 own_service : (own service : Service) → own_effect own ≡ Serve service → own ≡ service
@@ -25,9 +26,9 @@ refused_counts : (nrc : Nrc) → refused_effect nrc ≡ CountWrongKey → is_of_
 refused_counts nrc e = elim (is_of_wrong_key nrc) as (λ b. cond b CountWrongKey Nothing ≡ CountWrongKey → b ≡ true) [ true ↦ λ h. refl | false ↦ λ h. cc ] e
 
 -- no check holds of a service that is done
-pub serving_passes : (s : State) (who : ℕ) (p : List ℕ) (service : Service) → (outcome s who p).effect ≡ Serve service
+own_passes : (s : State) (who : ℕ) (p : List ℕ) (service : Service) → (outcome s who p).effect ≡ Serve service
     → first_holding (checks s who service p) ≡ None
-serving_passes s who p service told =
+own_passes s who p service told =
     elim (service_of (sid p)) as (λ o. (served s who o p).effect ≡ Serve service → first_holding (checks s who service p) ≡ None) [
       | None ↦ λ e. cc
       | Some own ↦ λ e.
@@ -39,9 +40,14 @@ serving_passes s who p service told =
           ] refl e
     ] told
 
+pub serving_passes : (s : State) (who : ℕ) (p : List ℕ) (service : Service) → (decision s who p).effect ≡ Serve service
+    → first_holding (checks s who service p) ≡ None
+serving_passes s who p service told = by_decision s who p (λ e. e ≡ Serve service → first_holding (checks s who service p) ≡ None)
+    (λ own e. own_passes s who p service e) (λ e. cc) (λ n e. cc) told
+
 -- who sent a wrong key that counts isn't delayed
-pub counting_not_delayed : (s : State) (who : ℕ) (p : List ℕ) → (outcome s who p).effect ≡ CountWrongKey → is_delayed s.security who ≡ false
-counting_not_delayed s who p told =
+own_not_delayed : (s : State) (who : ℕ) (p : List ℕ) → (outcome s who p).effect ≡ CountWrongKey → is_delayed s.security who ≡ false
+own_not_delayed s who p told =
     elim (service_of (sid p)) as (λ o. (served s who o p).effect ≡ CountWrongKey → is_delayed s.security who ≡ false) [
       | None ↦ λ e. cc
       | Some own ↦ λ e.
@@ -51,3 +57,7 @@ counting_not_delayed s who p told =
             | Some nrc ↦ λ refused f. key_not_delayed s who own p nrc (refused_counts nrc f) refused
           ] refl e
     ] told
+
+pub counting_not_delayed : (s : State) (who : ℕ) (p : List ℕ) → (decision s who p).effect ≡ CountWrongKey → is_delayed s.security who ≡ false
+counting_not_delayed s who p told = by_decision s who p (λ e. e ≡ CountWrongKey → is_delayed s.security who ≡ false)
+    (λ own e. own_not_delayed s who p e) (λ e. cc) (λ n e. cc) told

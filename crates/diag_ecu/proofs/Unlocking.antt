@@ -1,23 +1,26 @@
 -- A level is unlocked by its key alone, and a value that needs a level is written by who has unlocked it.
-use Rattle.std.proofs.Common.{◌≡◌, ℕ, zero, suc, ◌+◌, ◌-◌, ◌<◌, ◌==◌, ◌⊎◌, inl, inr, Bool, true, false, cond, not, ◌&&◌, List, [], ◌∷◌, length, drop, slice_index, slice_set, Option, Some, None, Ok, Err, refl, sym, ap, ◌∙◌, arith}
+use Rattle.std.proofs.Common.{◌≡◌, ℕ, zero, suc, ◌+◌, ◌-◌, ◌<◌, ◌==◌, ◌⊎◌, inl, inr, Bool, true, false, cond, not, ◌&&◌, List, [], ◌∷◌, length, drop, slice_get, slice_index, slice_set, Option, Some, None, Ok, Err, refl, sym, ap, ◌∙◌, arith}
 use Rattle.std.specs.Prelude.{nat_le, is_some, is_none, ◌||◌, ◌/◌, ◌%◌, bytes_eq, unwrap_or, option_map, if◌then◌else◌}
 use Rattle.diag_setup.specs.Setup.{first_holding}
+use Rattle.diag_store.specs.Answers as answers
 use Rattle.diag_store.specs.Dids as dids
 use Rattle.diag_store.specs.Dtcs as dtcs
 use Rattle.diag_store.specs.Routines as routines
 use Rattle.diag_store.specs.Security as security
 use Rattle.diag_store.specs.declared.dids.DidRow.{DidRow}
 use Rattle.diag_store.specs.declared.security.SecurityState.{SecurityState}
-use Rattle.diag_ecu.specs.declared.effect.Effect.TheVariants.{Nothing, CountWrongKey}
+use Rattle.diag_ecu.specs.declared.effect.Effect.{Effect}
+use Rattle.diag_ecu.specs.declared.effect.Effect.TheVariants.{Nothing, CountWrongKey, Answer}
 use Rattle.diag_ecu.specs.declared.service.Service.{Service}
 use Rattle.diag_ecu.specs.declared.service.Service.TheVariants.{DiagnosticSessionControl, EcuReset, ReadDtcInformation, SecurityAccess, WriteDataByIdentifier, RoutineControl}
 use Rattle.diag_ecu.specs.declared.service.Nrc.{Nrc}
 use Rattle.diag_ecu.specs.declared.service.Nrc.TheVariants.{ServiceNotSupported}
-use Rattle.diag_ecu.specs.State.{State, is_holder, is_open, session_ended, s3_filled, relocked}
+use Rattle.diag_ecu.specs.State.{State, is_holder, is_open, session_ended, s3_filled, relocked, entered}
 use Rattle.diag_ecu.specs.Elapse.{elapse, ticked, s3_ticked, routines_ticked, delay_ticked}
 use Rattle.diag_ecu.specs.Respond as ecu
 use Rattle.diag_ecu.specs.Service.{row, service_of, nrc_code, is_silent, is_of_wrong_key}
-use Rattle.diag_ecu.specs.Unlocking.{HasUnlocked, IsKey, write_level_of}
+use Rattle.diag_ecu.specs.Unlocking.{HasUnlocked, IsKey, IsRightKey, write_level_of}
+use Rattle.diag_ecu.proofs.RuleLemmas.{by_decision, own_by}
 use Rattle.diag_ecu.specs.Bytes.{number_16, bytes_16}
 use Rattle.std.proofs.lemmas.Option.{same_Some}
 use Rattle.std.proofs.lemmas.Slice.Eq.{bytes_eq-Decides}
@@ -82,10 +85,12 @@ own_done : (s : State) (who : ℕ) (service : Service) (p : List ℕ) → ecu.do
 own_done s who EcuReset p = refl
 own_done s who service p = refl
 
-session_keeps : (s : State) (who n : ℕ) → Keeps s (ecu.session_effect s who n)
-session_keeps s who n =
-    either s (s3_filled (record (relocked s) { holder = Some who })) (if is_holder s who then session_ended s else s) (n == 0x03) (inr refl)
-    (either s (session_ended s) s (is_holder s who) (inr refl) (inl (refl, refl)))
+entered_keeps : (s : State) (who n : ℕ) → Keeps s (entered s who n)
+entered_keeps s who n =
+    let ends : State = if is_holder s who then session_ended s else s in
+    let other : State = s3_filled (record (relocked s) { holder = Some who; session = n }) in
+    either s s (if n == 1 then ends else other) (n == 0) (inl (refl, refl))
+    (either s ends other (n == 1) (either s (session_ended s) s (is_holder s who) (inr refl) (inl (refl, refl))) (inr refl))
 
 given_unlocked : (x : SecurityState) (sub : ℕ) → (security.after_seed_given x sub).unlocked ≡ x.unlocked
 given_unlocked x sub =
@@ -165,7 +170,16 @@ bytes_same xs ys e = (bytes_eq-Decides xs ys).0 e
 abbrev KeyOf : State → ℕ → List ℕ → ℕ → ℕ → Type 0
 KeyOf s who p holder level =
     (who ≡ holder) × (ecu.sub p ≡ level + 1)
-    × ((row : ℕ) × (security.outstanding_row s.security.outstanding level ≡ Some row) × (drop 2 p ≡ security.key_at s.security level row))
+    × ((row : ℕ) × (security.outstanding_row s.security.outstanding level ≡ Some row)
+    × IsRightKey (security.takes_any_key s.security level) s level row (drop 2 p))
+
+-- a key that is right is the one of the outstanding row, or has the length where the level takes any
+right_key : (s : State) (level row : ℕ) (outstanding : Option ℕ) (key : List ℕ) (any : Bool) → outstanding ≡ Some row
+    → cond any (security.option_is (security.key_len s.security level) (length key))
+    (bytes_eq key (security.key_at s.security level (unwrap_or outstanding 0))) ≡ true → IsRightKey any s level row key
+right_key s level row outstanding key true is right = holder_is (security.key_len s.security level) (length key) right
+right_key s level row outstanding key false is right =
+    bytes_same key (security.key_at s.security level (unwrap_or outstanding 0)) right ∙ ap (λ o. security.key_at s.security level (unwrap_or o 0)) is
 
 -- an even sub-function of a key is one above its level
 above_level : (n : ℕ) (known : ℕ → Bool) → known n ≡ false → known (n - 1) ≡ true → n ≡ n - 1 + 1
@@ -185,10 +199,9 @@ key_passes s who p key passes =
     let level_known = or_true (known (ecu.sub p)) (known level) key (not-false (known (ecu.sub p) || known level) h.1.1.1.0) in
     let row = some_row outstanding (and_false (not (ecu.is_seed_request s p)) (is_none outstanding) is_key h.1.1.1.1.1.1.0) in
     let right = security.is_right_key s.security level (drop 2 p) in
-    let same = bytes_same (drop 2 p) (security.key_at s.security level (unwrap_or outstanding 0))
+    let of_row = right_key s level row.0 outstanding (drop 2 p) (security.takes_any_key s.security level) row.1
     (not-false right (and_false (not (ecu.is_seed_request s p)) (not right) is_key h.1.1.1.1.1.1.1.0)) in
-    let at_row = ap (λ o. security.key_at s.security level (unwrap_or o 0)) row.1 in
-    (holder_is s.holder who (not-false (is_holder s who) h.0), (refl, above_level (ecu.sub p) known key level_known, (row.0, row.1, same ∙ at_row)))
+    (holder_is s.holder who (not-false (is_holder s who) h.0), (refl, above_level (ecu.sub p) known key level_known, (row.0, row.1, of_row)))
 
 -- what a served request leaves: all as it was, or nothing unlocked, or what its key unlocked
 pub effect_unlocks : (s : State) (who : ℕ) (service : Service) (p : List ℕ) (holder level : ℕ)
@@ -196,7 +209,7 @@ pub effect_unlocks : (s : State) (who : ℕ) (service : Service) (p : List ℕ) 
     → HasUnlocked (ecu.effect s who service p) holder level
     → HasUnlocked s holder level ⊎ ((service ≡ SecurityAccess) × KeyOf s who p holder level)
 effect_unlocks s who DiagnosticSessionControl p holder level passes h =
-    inl (unlocked_before s (ecu.session_effect s who (ecu.sub p)) holder level (session_keeps s who (ecu.sub p)) h)
+    inl (unlocked_before s (entered s who (ecu.sub p)) holder level (entered_keeps s who (ecu.sub p)) h)
 effect_unlocks s who EcuReset p holder level passes h = cc h.0
 effect_unlocks s who SecurityAccess p holder level passes h =
     elim (ecu.is_seed_request s p) as (λ b. ecu.is_seed_request s p ≡ b
@@ -219,19 +232,17 @@ effect_unlocks s who service p holder level passes h = inl h
 
 -- ---- a request
 
-alive_keeps : (s : State) (who : ℕ) → Keeps s (ecu.kept_alive s who)
-alive_keeps s who = either s (s3_filled s) s (is_holder s who) (inl (refl, refl)) (inl (refl, refl))
+alive_keeps : (s : State) (who after : ℕ) → Keeps s (ecu.kept_alive s who after)
+alive_keeps s who after = either s _ s (is_holder s who) (inl (refl, refl)) (inl (refl, refl))
 
 security_access_id : (n : ℕ) → service_of n ≡ Some SecurityAccess → n ≡ 0x27
 security_access_id n e = grind arith
 
--- what is unlocked after a request was so before, or its key unlocked it
-pub request_unlocks : (s : State) (who : ℕ) (p : List ℕ) (holder level : ℕ)
-    → HasUnlocked (ecu.after_request s who p) holder level
+-- what is unlocked after the services' own effect was so before, or the key unlocked it
+outcome_unlocks : (s : State) (who : ℕ) (p : List ℕ) (holder level : ℕ)
+    → HasUnlocked (ecu.done s who p (ecu.outcome s who p).effect) holder level
     → HasUnlocked s holder level ⊎ ((who ≡ holder) × IsKey s p level)
-request_unlocks s who p holder level h =
-    let done = ecu.done s who p (ecu.outcome s who p).effect in
-    let unlocked = unlocked_before done (ecu.after_request s who p) holder level (alive_keeps done who) h in
+outcome_unlocks s who p holder level unlocked =
     elim (service_of (ecu.sid p)) as (λ service. service_of (ecu.sid p) ≡ service
     → HasUnlocked (ecu.done s who p (ecu.served s who service p).effect) holder level
     → HasUnlocked s holder level ⊎ ((who ≡ holder) × IsKey s p level)) [
@@ -257,6 +268,28 @@ request_unlocks s who p holder level h =
                 ]
           ] refl u
     ] refl unlocked
+
+-- and a row's answer unlocks nothing
+answered_keeps : (s : State) (who place : ℕ) → Keeps s (ecu.answered s who place)
+answered_keeps s who place =
+    let moved : State = record s { answers = answers.rows_moved_on s.answers place } in
+    keeps_then s moved (ecu.answered s who place) (inl (refl, refl)) (entered_keeps moved who (ecu.enter_of (slice_get s.answers place)))
+
+and_own : {A B : Type 0} (C : Type 0) → C → A ⊎ B → A ⊎ (B × C)
+and_own C own (inl a) = inl a
+and_own C own (inr b) = inr (b, own)
+
+-- what is unlocked after a request was so before, or its key unlocked it, which the services answered
+pub request_unlocks : (s : State) (who : ℕ) (p : List ℕ) (holder level : ℕ)
+    → HasUnlocked (ecu.after_request s who p) holder level
+    → HasUnlocked s holder level ⊎ (((who ≡ holder) × IsKey s p level) × (ecu.rule_answers (ecu.rule_for s who p) ≡ false))
+request_unlocks s who p holder level h =
+    let done = ecu.done s who p (ecu.decision s who p).effect in
+    let unlocked = unlocked_before done (ecu.after_request s who p) holder level (alive_keeps done who (ecu.delay s who p)) h in
+    by_decision s who p (λ e. HasUnlocked (ecu.done s who p e) holder level
+    → HasUnlocked s holder level ⊎ (((who ≡ holder) × IsKey s p level) × (ecu.rule_answers (ecu.rule_for s who p) ≡ false)))
+    (λ own u. and_own (ecu.rule_answers (ecu.rule_for s who p) ≡ false) own (outcome_unlocks s who p holder level u)) (λ u. inl u)
+    (λ n u. inl (unlocked_before s (ecu.answered s who n) holder level (answered_keeps s who n) u)) unlocked
 
 -- ---- rules stay
 
@@ -300,10 +333,15 @@ refused_rules : (s : State) (who : ℕ) (p : List ℕ) (nrc : Nrc) → SameRules
 refused_rules s who p nrc =
     elim (is_of_wrong_key nrc) as (λ b. SameRules s (ecu.done s who p (cond b CountWrongKey Nothing))) [ true ↦ λ id. refl | false ↦ λ id. refl ]
 
+entered_rules : (s : State) (who n : ℕ) → SameRules s (entered s who n)
+entered_rules s who n =
+    let ends : State = if is_holder s who then session_ended s else s in
+    let other : State = s3_filled (record (relocked s) { holder = Some who; session = n }) in
+    either_rules s s (if n == 1 then ends else other) (n == 0) (λ id. refl)
+    (either_rules s ends other (n == 1) (either_rules s (session_ended s) s (is_holder s who) (λ id. refl) (λ id. refl)) (λ id. refl))
+
 effect_rules : (s : State) (who : ℕ) (service : Service) (p : List ℕ) → SameRules s (ecu.effect s who service p)
-effect_rules s who DiagnosticSessionControl p =
-    either_rules s (s3_filled (record (relocked s) { holder = Some who })) (if is_holder s who then session_ended s else s) (ecu.sub p == 0x03) (λ id. refl)
-    (either_rules s (session_ended s) s (is_holder s who) (λ id. refl) (λ id. refl))
+effect_rules s who DiagnosticSessionControl p = entered_rules s who (ecu.sub p)
 effect_rules s who SecurityAccess p =
     either_rules s (record s { security = security.after_seed s.security who (ecu.sub p) })
     (record s { security = security.after_key s.security who (ecu.key_level p) (drop 2 p) }) (ecu.is_seed_request s p) (λ id. refl) (λ id. refl)
@@ -323,11 +361,16 @@ served_rules : (s : State) (who : ℕ) (service : Option Service) (p : List ℕ)
 served_rules s who None p = λ id. refl
 served_rules s who (Some service) p = outcome_rules s who service p (first_holding (ecu.checks s who service p))
 
+answered_rules : (s : State) (who place : ℕ) → SameRules s (ecu.answered s who place)
+answered_rules s who place =
+    entered_rules (record s { answers = answers.rows_moved_on s.answers place }) who (ecu.enter_of (slice_get s.answers place))
+
 pub request_rules : (s : State) (who : ℕ) (p : List ℕ) → SameRules s (ecu.after_request s who p)
 request_rules s who p =
-    let done = ecu.done s who p (ecu.outcome s who p).effect in
-    rules_then s done (ecu.kept_alive done who) (served_rules s who (service_of (ecu.sid p)) p)
-    (either_rules done (s3_filled done) done (is_holder done who) (λ id. refl) (λ id. refl))
+    let done = ecu.done s who p (ecu.decision s who p).effect in
+    rules_then s done (ecu.kept_alive done who (ecu.delay s who p))
+    (by_decision s who p (λ e. SameRules s (ecu.done s who p e)) (λ own. served_rules s who (service_of (ecu.sid p)) p) (λ id. refl) (answered_rules s who))
+    (either_rules done _ done (is_holder done who) (λ id. refl) (λ id. refl))
 
 -- ---- a written value
 
@@ -405,9 +448,9 @@ write_open : (s : State) (who id : ℕ) (service : Service) (p : List ℕ) → s
 write_open s who id service p is passes e above =
     write_passes s who id p (ap (λ x. first_holding (ecu.checks s who x p)) (sym is) ∙ passes) (ap (λ x. ecu.positive_reply s x p) (sym is) ∙ e) above
 
-pub reply_open : (s : State) (who id : ℕ) (functional : Bool) (p : List ℕ) → ecu.reply s who functional p ≡ Some (0x6E ∷ bytes_16 id)
+own_open : (s : State) (who id : ℕ) (functional : Bool) (p : List ℕ) → ecu.own_reply s who functional p ≡ Some (0x6E ∷ bytes_16 id)
     → 0 < write_level_of s id → HasUnlocked s who (write_level_of s id)
-reply_open s who id functional p e above =
+own_open s who id functional p e above =
     elim (service_of (ecu.sid p)) as (λ service. ecu.sent functional p (ecu.served s who service p).answer ≡ Some (0x6E ∷ bytes_16 id)
     → HasUnlocked s who (write_level_of s id)) [
       | None ↦ λ r. absurd (negative_differs functional p _ ServiceNotSupported r)
@@ -420,3 +463,9 @@ reply_open s who id functional p e above =
                 write_open s who id service p (writes s service p _ reply) passes reply above
           ] refl r
     ] e
+
+-- a value that the services say is written, and no row of answers
+pub reply_open : (s : State) (who id : ℕ) (functional : Bool) (p : List ℕ) → ecu.rule_answers (ecu.rule_for s who p) ≡ false
+    → ecu.reply s who functional p ≡ Some (0x6E ∷ bytes_16 id) → 0 < write_level_of s id → HasUnlocked s who (write_level_of s id)
+reply_open s who id functional p own e above =
+    own_open s who id functional p (sym (own_by s who functional p (ecu.rule_for s who p) own) ∙ e) above

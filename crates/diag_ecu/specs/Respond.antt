@@ -1,22 +1,24 @@
 -- What the ECU answers a request, and what it is then: the checks in their order, then the service's row.
-use Rattle.std.specs.Prelude.{ℕ, ◌-◌, ◌%◌, ◌==◌, ◌&&◌, ◌||◌, Bool, true, false, not, List, [], ◌∷◌, ◌++◌, length, drop, flat_map, Option, Some, None, is_some, is_none, option_map, if◌then◌else◌, nat_lt, nat_le, bit_and, slice_index, Result, Ok, Err}
+use Rattle.std.specs.Prelude.{ℕ, ◌+◌, ◌-◌, ◌%◌, ◌==◌, ◌&&◌, ◌||◌, Bool, true, false, not, List, [], ◌∷◌, ◌++◌, length, drop, flat_map, Option, Some, None, is_some, is_none, option_map, if◌then◌else◌, nat_lt, nat_le, max, bit_and, slice_get, slice_index, unwrap_or, Result, Ok, Err}
 use Rattle.std.specs.List.{list_any, list_all}
 use Rattle.diag_setup.specs.Setup.{first_holding}
+use Rattle.diag_store.specs.Answers as answers
 use Rattle.diag_store.specs.Dids as dids
 use Rattle.diag_store.specs.Dtcs as dtcs
 use Rattle.diag_store.specs.Routines as routines
 use Rattle.diag_store.specs.Security as security
+use Rattle.diag_store.specs.declared.answers.Access.{Access}
+use Rattle.diag_store.specs.declared.answers.AnswerRow.{AnswerRow}
 use Rattle.diag_store.specs.declared.dids.DidRule.{DidRule}
 use Rattle.diag_store.specs.declared.dtcs.Dtc.{Dtc}
 use Rattle.diag_store.specs.declared.routines.Routine.{Routine}
 use Rattle.diag_store.specs.declared.routines.RoutineState.{RoutineState}
 use Rattle.diag_store.specs.declared.routines.RoutineState.TheVariants.{Idle, Running, Done}
-use Rattle.diag_store.specs.declared.security.SeedAnswer.{SeedAnswer}
-use Rattle.diag_store.specs.declared.security.SeedAnswer.TheVariants.{Delayed, Seed}
 use Rattle.diag_store.specs.declared.security.KeyAnswer.{KeyAnswer}
-use Rattle.diag_store.specs.declared.security.KeyAnswer.TheVariants.{Delayed as KeyDelayed, NoSeed, Right, Wrong, TooMany}
+use Rattle.diag_store.specs.declared.security.KeyAnswer.TheVariants.{Delayed, NoSeed, Right, Wrong, TooMany}
+use Rattle.diag_ecu.specs.declared.effect.Decision.{Decision}
 use Rattle.diag_ecu.specs.declared.effect.Effect.{Effect}
-use Rattle.diag_ecu.specs.declared.effect.Effect.TheVariants.{Nothing, Serve, CountWrongKey}
+use Rattle.diag_ecu.specs.declared.effect.Effect.TheVariants.{Nothing, Serve, CountWrongKey, Answer}
 use Rattle.diag_ecu.specs.declared.service.Service.{Service}
 use Rattle.diag_ecu.specs.declared.service.Service.TheVariants.{DiagnosticSessionControl, EcuReset, ClearDiagnosticInformation, ReadDtcInformation, ReadDataByIdentifier, SecurityAccess, WriteDataByIdentifier, RoutineControl, TesterPresent, ControlDtcSetting}
 use Rattle.diag_ecu.specs.declared.service.ServiceRow.{ServiceRow}
@@ -30,7 +32,7 @@ use Rattle.diag_ecu.specs.declared.service.Nrc.{Nrc}
 use Rattle.diag_ecu.specs.declared.service.Nrc.TheVariants.{ServiceNotSupported, SubFunctionNotSupported, IncorrectMessageLengthOrInvalidFormat, ResponseTooLong, BusyRepeatRequest, ConditionsNotCorrect, RequestSequenceError, RequestOutOfRange, SecurityAccessDenied, InvalidKey, ExceedNumberOfAttempts, RequiredTimeDelayNotExpired, ServiceNotSupportedInActiveSession}
 use Rattle.diag_ecu.specs.Bytes.{bytes_16, bytes_24, number_16, number_24, has_bit_7, without_bit_7}
 use Rattle.diag_ecu.specs.Service.{service_of, nrc_code, row, is_silent, is_of_wrong_key}
-use Rattle.diag_ecu.specs.State.{State, is_holder, is_held_by_another, is_open, relocked, session_ended, s3_filled}
+use Rattle.diag_ecu.specs.State.{State, is_holder, is_held_by_another, is_open, session_of, session_ended, entered}
 
 -- ---- the parts of a request
 
@@ -279,12 +281,6 @@ checks s who service p = common_checks s who (row service) p ++ own_checks s who
 
 -- ---- effects
 
-abbrev pub session_effect : State → ℕ → ℕ → State
-session_effect s who n =
-    if n == 0x03 then s3_filled (record (relocked s) { holder = Some who })
-    else if is_holder s who then session_ended s
-    else s
-
 abbrev pub security_effect : State → ℕ → List ℕ → State
 security_effect s who p =
     if is_seed_request s p then record s { security = security.after_seed s.security who (sub p) }
@@ -296,9 +292,9 @@ routine_effect s id n =
     else if n == 0x02 then record s { routines = routines.stopped s.routines id }
     else s
 
--- what a request that passes all checks does
+-- what a request that passes all checks does; session control goes to the session that its sub-function names
 abbrev pub effect : State → ℕ → Service → List ℕ → State
-effect s who DiagnosticSessionControl p = session_effect s who (sub p)
+effect s who DiagnosticSessionControl p = entered s who (sub p)
 effect s who EcuReset p = session_ended s
 effect s who ClearDiagnosticInformation p =
     record s { dtcs = dtcs.cleared s.dtcs (number_24 p 1) }
@@ -319,13 +315,23 @@ own_effect service = if (row service).changes then Serve service else Nothing
 abbrev pub refused_effect : Nrc → Effect
 refused_effect nrc = if is_of_wrong_key nrc then CountWrongKey else Nothing
 
--- the state after it
+abbrev pub enter_of : Option AnswerRow → ℕ
+enter_of None = 0
+enter_of (Some row) = row.enter
+
+-- the state once the row at a place has answered: its next template moves on, and the tester goes to the row's session
+abbrev pub answered : State → ℕ → ℕ → State
+answered s who place = entered (record s { answers = answers.rows_moved_on s.answers place }) who
+    (enter_of (slice_get s.answers place))
+
+-- the state after an effect
 abbrev pub done : State → ℕ → List ℕ → Effect → State
 done s who p Nothing = s
 done s who p (Serve service) = effect s who service p
 done s who p CountWrongKey = record s { security = security.after_wrong_key s.security who }
+done s who p (Answer place) = answered s who place
 
--- ---- the response
+-- ---- what the services answer
 
 -- what a request does, and the answer to it: the positive reply or a negative response code
 pub record Outcome : Type 0 where
@@ -364,28 +370,88 @@ abbrev pub sent : Bool → List ℕ → Result (List ℕ) Nrc → Option (List �
 sent functional p (Ok reply) = if is_suppressed (service_of (sid p)) p then None else Some reply
 sent functional p (Err nrc) = sent_negative functional (sid p) nrc
 
--- S3 is full after every request of the holder
-abbrev pub kept_alive : State → ℕ → State
-kept_alive s who = if is_holder s who then s3_filled s else s
-
 abbrev pub outcome : State → ℕ → List ℕ → Outcome
 outcome s who p = served s who (service_of (sid p)) p
 
+-- the services' own reply, or none
+abbrev pub own_reply : State → ℕ → Bool → List ℕ → Option (List ℕ)
+own_reply s who functional p = sent functional p (outcome s who p).answer
+
+-- ---- the rows of answers, which are looked at first
+
+abbrev pub access_of : State → ℕ → Access
+access_of s who = record {
+  session = session_of s who;
+  unlocked = if is_holder s who then s.security.unlocked else None;
+}
+
+-- the row that decides, the first that applies, and its place
+abbrev pub rule_for : State → ℕ → List ℕ → Option AnswerRow
+rule_for s who p = answers.row_for s.answers (access_of s who) p
+
+abbrev pub place_for : State → ℕ → List ℕ → Option ℕ
+place_for s who p = answers.place_for s.answers (access_of s who) p
+
+-- whether it answers, and doesn't leave that to the services
+abbrev pub rule_answers : Option AnswerRow → Bool
+rule_answers None = false
+rule_answers (Some row) = answers.has_reply row
+
+-- whether the row would enter a session that another tester holds
+abbrev pub is_barred : State → ℕ → AnswerRow → Bool
+is_barred s who row = nat_lt 1 row.enter && is_held_by_another s who
+
+abbrev pub reply_of_row : State → ℕ → List ℕ → AnswerRow → Option (List ℕ)
+reply_of_row s who p row =
+    if is_barred s who row then Some (0x7F ∷ sid p ∷ nrc_code BusyRepeatRequest ∷ [])
+    else answers.row_reply row p
+
+abbrev pub reply_by : State → ℕ → Bool → List ℕ → Option AnswerRow → Option (List ℕ)
+reply_by s who functional p None = own_reply s who functional p
+reply_by s who functional p (Some row) =
+    if answers.has_reply row then reply_of_row s who p row else own_reply s who functional p
+
+-- what a request does by the row at a place
+abbrev pub effect_by : State → ℕ → List ℕ → ℕ → AnswerRow → Effect
+effect_by s who p place row =
+    if answers.has_reply row then (if is_barred s who row then Nothing else Answer place)
+    else (outcome s who p).effect
+
+abbrev pub decision_by : State → ℕ → List ℕ → Option ℕ → Option AnswerRow → Decision
+decision_by s who p place None = record { effect = (outcome s who p).effect; after_ms = 0 }
+decision_by s who p place (Some row) =
+    record { effect = effect_by s who p (unwrap_or place 0) row; after_ms = row.after_ms }
+
+-- ---- the response
+
+-- what a request does, and how long after it its answer goes
+abbrev pub decision : State → ℕ → List ℕ → Decision
+decision s who p = decision_by s who p (place_for s who p) (rule_for s who p)
+
+abbrev pub delay : State → ℕ → List ℕ → ℕ
+delay s who p = (decision s who p).after_ms
+
+-- after a request of the holder S3 lasts for the whole time from its answer on, where it doesn't last longer already
+abbrev pub kept_alive : State → ℕ → ℕ → State
+kept_alive s who after =
+    if is_holder s who then record s { s3_left = max s.s3_left (s.values.s3_ms + after) } else s
+
 -- the state after a request, which is the same for a functional and a physical one
 abbrev pub after_request : State → ℕ → List ℕ → State
-after_request s who p = kept_alive (done s who p (outcome s who p).effect) who
+after_request s who p =
+    let d = decision s who p in kept_alive (done s who p d.effect) who d.after_ms
 
 -- the reply that is sent, or none
 abbrev pub reply : State → ℕ → Bool → List ℕ → Option (List ℕ)
-reply s who functional p = sent functional p (outcome s who p).answer
+reply s who functional p = reply_by s who functional p (rule_for s who p)
 
 -- the negative response code of what security access is answered, told by the table of levels
-abbrev pub seed_refusal : SeedAnswer → Option Nrc
-seed_refusal Delayed = Some RequiredTimeDelayNotExpired
-seed_refusal (Seed seed) = None
+abbrev pub seed_refusal : Option (List ℕ) → Option Nrc
+seed_refusal None = Some RequiredTimeDelayNotExpired
+seed_refusal (Some seed) = None
 
 abbrev pub key_refusal : KeyAnswer → Option Nrc
-key_refusal KeyDelayed = Some RequiredTimeDelayNotExpired
+key_refusal Delayed = Some RequiredTimeDelayNotExpired
 key_refusal NoSeed = Some RequestSequenceError
 key_refusal Right = None
 key_refusal Wrong = Some InvalidKey

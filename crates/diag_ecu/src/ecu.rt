@@ -1,22 +1,24 @@
 //! The ECU: what it holds, and what it does with a request.
-ghost use Rattle.std.specs.Prelude.{◌≡◌, ◌≢◌, ◌≤◌, ◌+◌, ◌++◌, None, Some, length, IfOk, IfNone, OnOk, OnErr};
+ghost use Rattle.std.specs.Prelude.{◌≡◌, ◌≢◌, ◌≤◌, ◌+◌, ◌++◌, ◌↔◌, [], None, Some, false, length, IfOk, IfNone, OnOk, OnErr};
 ghost use Rattle.diag_setup.specs.Setup.{first_holding};
 ghost use Rattle.diag_ecu.specs.State.{opening, is_holder, is_held_by_another, is_open};
-ghost use Rattle.diag_ecu.specs.Respond.{common_checks, own_checks, checks, after_request, reply, outcome, effect, positive_reply, kept_alive, sent_positive, sent_negative};
+ghost use Rattle.diag_ecu.specs.Respond.{common_checks, own_checks, checks, after_request, decision, delay, own_reply, reply, outcome, effect, positive_reply, kept_alive, sent_positive, sent_negative};
 ghost use Rattle.diag_ecu.specs.Service.{row as row_of};
 
 use crate::bytes::sub_of;
-use crate::effect::Effect;
+use crate::effect::{Decision, Effect};
 use crate::service::{Nrc, Service, ServiceRow};
+use crate::session::DEFAULT_SESSION;
 use crate::trouble_codes::setting_refusal;
 use crate::write_data::write_reply;
 use diag_can::FrameBytes;
 use diag_pdu::Message;
 use diag_setup::{ServerParameters, Setup, TesterId};
-use diag_store::{Dids, DtcMemory, Routines, Security};
+use diag_store::{Answers, Dids, DtcMemory, Routines, Security};
 use std::alloc::{AllocError, Global};
 
-/// The ECU: the sequential server of all testers, of whom one at most is in the extended session, the holder.
+/// The ECU: the sequential server of all testers, of whom one at most is in a session other than the default one, the
+/// holder.
 pub struct Ecu {
     pub(crate) values: ServerParameters,
     pub(crate) dids: Dids,
@@ -24,10 +26,14 @@ pub struct Ecu {
     pub(crate) routines: Routines,
     pub(crate) security: Security,
     pub(crate) holder: Option<TesterId>,
+    /// The number of the holder's session; that of the default one while nobody is the holder.
+    pub(crate) session: u8,
     /// The ticks left of S3; 0 while nobody is the holder.
-    pub(crate) s3_left: u32,
+    pub(crate) s3_left: u64,
     /// Whether routines that are done set status bits (ISO 14229-1:2013, 9.9).
     pub(crate) dtc_setting_on: bool,
+    /// The rows of answers, which are looked at before the services.
+    pub(crate) answers: Answers,
 }
 
 // Written out, so that a function which lets an ECU go makes one call, and doesn't go through all that it owns.
@@ -40,8 +46,10 @@ impl Drop for Ecu {
             routines: _,
             security: _,
             holder: _,
+            session: _,
             s3_left: _,
             dtc_setting_on: _,
+            answers: _,
         } = self;
     }
 }
@@ -56,6 +64,7 @@ impl Ecu {
         let dtcs = DtcMemory::new(alloc, setup)?;
         let routines = Routines::new(alloc, setup)?;
         let security = Security::new(alloc, setup)?;
+        let answers = Answers::new(alloc, setup)?;
         Ok(Ecu {
             values: setup.values(),
             dids,
@@ -63,8 +72,10 @@ impl Ecu {
             routines,
             security,
             holder: None,
+            session: DEFAULT_SESSION,
             s3_left: 0,
             dtc_setting_on: true,
+            answers,
         })
     }
 
@@ -76,6 +87,7 @@ impl Ecu {
         let dtcs = self.dtcs.try_copy()?;
         let routines = self.routines.try_copy()?;
         let security = self.security.try_copy()?;
+        let answers = self.answers.try_copy()?;
         Ok(Ecu {
             values: self.values,
             dids,
@@ -83,12 +95,14 @@ impl Ecu {
             routines,
             security,
             holder: self.holder,
+            session: self.session,
             s3_left: self.s3_left,
             dtc_setting_on: self.dtc_setting_on,
+            answers,
         })
     }
 
-    /// The tester in the extended session, if there is one.
+    /// The tester in a session other than the default one, if there is one.
     pub fn holder(&self) -> Option<TesterId>
         ensures { result ≡ self.now.holder }
     {
@@ -124,8 +138,27 @@ impl Ecu {
         Ok(answer)
     }
 
-    /// Puts the reply to a request of these bytes in its place, or none where none is sent, and tells what the request
-    /// does, which `apply` takes. The reply is made where it stays, and nothing changes yet.
+    /// How long after a request its answer goes, in milliseconds.
+    #[inline(always)]
+    pub fn delay(&self, who: TesterId, message: &Message) -> u32
+        ensures { result ≡ delay self.now who message.now }
+    {
+        if self.answers.is_empty() {
+            return 0;
+        }
+        self.ruled_decision(who, message.bytes()).after_ms
+    }
+
+    /// Whether there are rows of answers, which are looked at before the services.
+    #[inline(always)]
+    pub fn has_answers(&self) -> bool
+        ensures { (result ≡ false) ↔ (self.now.answers ≡ []) }
+    {
+        !self.answers.is_empty()
+    }
+
+    /// Puts the reply to a request of these bytes in its place, or none where none is sent, and tells what is decided of
+    /// the request, which `apply` takes. The reply is made where it stays, and nothing changes yet.
     ///
     /// # Errors
     /// `AllocError` where memory is refused; what stands in the place then isn't told.
@@ -136,9 +169,35 @@ impl Ecu {
         functional: bool,
         p: &[u8],
         answer: &mut Option<Message>,
-    ) -> Result<Effect, AllocError>
+    ) -> Result<Decision, AllocError>
         requires { 1 ≤ length p.now }
         ensures reply { OnOk result (answer.new ≡ reply self.now who functional p.now) }
+        ensures decision { IfOk result (λ d. d ≡ decision self.now who p.now) }
+    {
+        if !self.answers.is_empty() {
+            return self.put_ruled(who, functional, p, answer);
+        }
+        let effect = self.put_own(who, functional, p, answer)?;
+        Ok(Decision {
+            effect,
+            after_ms: 0,
+        })
+    }
+
+    /// The same of the services alone: their reply, and what the request does.
+    ///
+    /// # Errors
+    /// As `put_reply`.
+    #[inline(always)]
+    pub(crate) fn put_own(
+        &self,
+        who: TesterId,
+        functional: bool,
+        p: &[u8],
+        answer: &mut Option<Message>,
+    ) -> Result<Effect, AllocError>
+        requires { 1 ≤ length p.now }
+        ensures reply { OnOk result (answer.new ≡ own_reply self.now who functional p.now) }
         ensures effect { IfOk result (λ e. e ≡ (outcome self.now who p.now).effect) }
     {
         let Some(service) = Service::of(p[0]) else {
@@ -159,19 +218,20 @@ impl Ecu {
         }
     }
 
-    /// Does what a request did by its answer, and keeps S3 of the holder full. It takes no memory.
+    /// Does what was decided of a request, and keeps S3 of the holder full from the answer on. It takes no memory.
     #[inline(always)]
-    pub fn apply(&mut self, who: TesterId, p: &[u8], effect: Effect)
+    pub fn apply(&mut self, who: TesterId, p: &[u8], decided: Decision)
         requires some { 1 ≤ length p.now }
-        requires told { effect ≡ (outcome self.old who p.now).effect }
+        requires told { decided ≡ decision self.old who p.now }
         ensures { self.new ≡ after_request self.old who p.now }
     {
-        match effect {
+        match decided.effect {
             Effect::Nothing => {}
             Effect::Serve(service) => self.serve(who, service, p),
             Effect::CountWrongKey => self.security.count_wrong_key(who),
+            Effect::Answer(place) => self.answer_by(who, place),
         }
-        self.keep_alive(who);
+        self.keep_alive(who, decided.after_ms);
     }
 
     /// Goes to the state after a tester's request, which is the same for a functional and a physical one. It takes no
@@ -182,8 +242,8 @@ impl Ecu {
         // (it decides only what is sent)
         let _ = functional;
         let p = message.bytes();
-        let effect = self.effect(who, p);
-        self.apply(who, p, effect);
+        let decided = self.decision(who, p);
+        self.apply(who, p, decided);
     }
 
     /// Answers a tester's request and goes to the state after it; where memory is refused, all is as before.
@@ -198,15 +258,29 @@ impl Ecu {
         ensures refused { OnErr result (self.new ≡ self.old) }
     {
         let mut answer = None;
-        let effect = self.put_reply(who, functional, message.bytes(), &mut answer)?;
-        self.apply(who, message.bytes(), effect);
+        let decided = self.put_reply(who, functional, message.bytes(), &mut answer)?;
+        self.apply(who, message.bytes(), decided);
         Ok(answer)
     }
 }
 
 impl Ecu {
-    /// What a request does, by the checks.
-    fn effect(&self, who: TesterId, p: &[u8]) -> Effect
+    /// What is decided of a request, by the rows of answers and the checks.
+    fn decision(&self, who: TesterId, p: &[u8]) -> Decision
+        requires { 1 ≤ length p.now }
+        ensures { result ≡ decision self.now who p.now }
+    {
+        if !self.answers.is_empty() {
+            return self.ruled_decision(who, p);
+        }
+        Decision {
+            effect: self.effect(who, p),
+            after_ms: 0,
+        }
+    }
+
+    /// What a request does by the checks of the services alone.
+    pub(crate) fn effect(&self, who: TesterId, p: &[u8]) -> Effect
         requires { 1 ≤ length p.now }
         ensures { result ≡ (outcome self.now who p.now).effect }
     {
@@ -333,12 +407,13 @@ impl Ecu {
         }
     }
 
-    /// S3 is full after every request of the holder.
-    fn keep_alive(&mut self, who: TesterId)
-        ensures { self.new ≡ kept_alive self.old who }
+    /// After every request of the holder S3 is full from its answer on, so many ticks later, or lasts longer already.
+    fn keep_alive(&mut self, who: TesterId, after_ms: u32)
+        ensures { self.new ≡ kept_alive self.old who after_ms }
     {
         if self.is_holder(who) {
-            self.s3_left = self.values.s3_ms;
+            let full = u64::from(self.values.s3_ms) + u64::from(after_ms);
+            self.s3_left = self.s3_left.max(full);
         }
     }
 }

@@ -1,4 +1,4 @@
-//! What a request does, told with its reply.
+//! What a request does and when its answer goes, told with its reply.
 ghost use Rattle.std.specs.Prelude.{◌≡◌};
 ghost use Rattle.diag_ecu.specs.Respond.{own_effect, refused_effect};
 
@@ -13,6 +13,17 @@ pub enum Effect {
     Serve(Service),
     /// A wrong key counts, though it is refused.
     CountWrongKey,
+    /// The row of answers at this place answers: its next template moves on, and the tester goes to the row's session.
+    Answer(u16),
+}
+
+/// What is decided of a request: what it does, and how long after it its answer goes.
+#[derive(Clone, Copy)]
+pub struct Decision {
+    /// What it does.
+    pub effect: Effect,
+    /// How long after it its answer goes, in milliseconds.
+    pub after_ms: u32,
 }
 
 impl Service {

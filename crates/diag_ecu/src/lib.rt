@@ -7,6 +7,7 @@ mod ecu;
 mod effect;
 mod read_data;
 mod routine_control;
+mod rules;
 mod security_access;
 mod service;
 mod session;
@@ -15,7 +16,7 @@ mod trouble_codes;
 mod write_data;
 
 pub use ecu::Ecu;
-pub use effect::Effect;
+pub use effect::{Decision, Effect};
 pub use read_data::Lent;
 pub use service::{Busy, Lengths, Nrc, Service, ServiceRow, SubFunctions};
-pub use session::Session;
+pub use session::DEFAULT_SESSION;

@@ -3,7 +3,7 @@ ghost use Rattle.std.specs.Prelude.{◌≡◌, ◌≤◌, ◌++◌, ◌∷◌, [
 ghost use Rattle.std.specs.List.{list_any, list_all};
 ghost use Rattle.diag_setup.specs.Setup.{first_holding};
 ghost use Rattle.diag_ecu.specs.Lent.{lent_bytes};
-ghost use Rattle.diag_ecu.specs.Respond.{checks, ids_in, knows, may_read, data_records, data_reply, did_record, outcome, read_checks, reply, sent_negative, sent_positive};
+ghost use Rattle.diag_ecu.specs.Respond.{checks, ids_in, knows, may_read, data_records, data_reply, did_record, outcome, own_reply, read_checks, sent_negative, sent_positive};
 
 use crate::bytes::{bytes_16, number_16};
 use crate::ecu::Ecu;
@@ -171,12 +171,12 @@ impl Ecu {
         Ok(row.value.as_slice())
     }
 
-    /// The reply to a request for one identifier, or none where none is sent, with the value where it stands. None of
-    /// the checks that every service has can hold of the request, and it does nothing.
+    /// The services' own reply to a request for one identifier, or none where none is sent, with the value where it
+    /// stands. None of the checks that every service has can hold of the request, and it does nothing.
     #[inline(always)]
     pub fn lent_reply(&self, who: TesterId, functional: bool, high: u8, low: u8) -> Option<Lent<'_>>
         ensures same { option_map lent_bytes result
-            ≡ reply self.now who functional (0x22 ∷ high ∷ low ∷ []) }
+            ≡ own_reply self.now who functional (0x22 ∷ high ∷ low ∷ []) }
         ensures fits { IfSome result (λ lent. length lent.value.now ≤ 255) }
         ensures nothing { (outcome self.now who (0x22 ∷ high ∷ low ∷ [])).effect ≡ Effect.Nothing }
     {

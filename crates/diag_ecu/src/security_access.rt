@@ -1,5 +1,5 @@
 //! Security access: seeds and keys (ISO 14229-1:2013, 9.4).
-ghost use Rattle.std.specs.Prelude.{◌≡◌, ◌≤◌, length, false, IsTrue, IfOk, Some};
+ghost use Rattle.std.specs.Prelude.{◌≡◌, ◌≤◌, length, false, option_copied, IsTrue, IfOk, Some};
 ghost use Rattle.diag_setup.specs.Setup.{first_holding};
 ghost use Rattle.diag_store.specs.Security.{is_delayed};
 ghost use Rattle.diag_ecu.specs.Respond.{security_checks, security_effect, positive_reply, is_sub_function, sub, seed_refusal, key_refusal};
@@ -9,7 +9,7 @@ use crate::ecu::{Ecu, say};
 use crate::service::{Nrc, Service, SubFunctions};
 use diag_pdu::Message;
 use diag_setup::TesterId;
-use diag_store::{KeyAnswer, SeedAnswer};
+use diag_store::KeyAnswer;
 use std::alloc::AllocError;
 
 impl Ecu {
@@ -22,7 +22,7 @@ impl Ecu {
     {
         let sub = sub_of(p);
         if self.has_level(sub) {
-            return seed_refusal(&self.security.seed_answer(who, sub));
+            return seed_refusal(self.security.seed_answer(who, sub));
         }
         key_refusal(
             self.security
@@ -43,9 +43,9 @@ impl Ecu {
     {
         let sub = sub_of(p);
         if self.has_level(sub)
-            && let SeedAnswer::Seed(seed) = self.security.seed_answer(who, sub)
+            && let Some(seed) = self.security.seed_answer(who, sub)
         {
-            return self.say_with(&[0x67, sub], seed.as_slice());
+            return self.say_with(&[0x67, sub], seed);
         }
         Ok(Some(say(&[0x67, sub])))
     }
@@ -65,12 +65,12 @@ impl Ecu {
     }
 }
 
-fn seed_refusal(answer: &SeedAnswer) -> Option<Nrc>
-    ensures { result ≡ seed_refusal answer.now }
+fn seed_refusal(seed: Option<&[u8]>) -> Option<Nrc>
+    ensures { result ≡ seed_refusal (option_copied seed.entry) }
 {
-    match answer {
-        SeedAnswer::Delayed => Some(Nrc::RequiredTimeDelayNotExpired),
-        SeedAnswer::Seed(_) => None,
+    match seed {
+        Some(_) => None,
+        None => Some(Nrc::RequiredTimeDelayNotExpired),
     }
 }
 

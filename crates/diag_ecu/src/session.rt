@@ -1,8 +1,8 @@
 //! DiagnosticSessionControl, ECUReset and TesterPresent (ISO 14229-1:2013, 9.2, 9.3 and 9.6).
-ghost use Rattle.std.specs.Prelude.{◌≡◌, IfNone};
+ghost use Rattle.std.specs.Prelude.{◌≡◌, IfNone, if◌then◌else◌};
 ghost use Rattle.diag_setup.specs.Setup.{first_holding};
-ghost use Rattle.diag_ecu.specs.Respond.{checks, positive_reply, sent_positive, session_effect, sub};
-ghost use Rattle.diag_ecu.specs.State.{session_of, session_ended};
+ghost use Rattle.diag_ecu.specs.Respond.{checks, positive_reply, sent_positive, sub};
+ghost use Rattle.diag_ecu.specs.State.{entered, is_holder, session_of, session_ended};
 
 use crate::bytes::{bytes_16, sub_of};
 use crate::ecu::{Ecu, say};
@@ -10,24 +10,18 @@ use crate::service::{Nrc, Service};
 use diag_pdu::Message;
 use diag_setup::TesterId;
 
-/// The session of a tester.
-#[derive(Clone, Copy, PartialEq, Eq, Debug, Drop)]
-pub enum Session {
-    /// defaultSession (01).
-    Default,
-    /// extendedDiagnosticSession (03).
-    Extended,
-}
+/// defaultSession, in which all testers but the holder are.
+pub const DEFAULT_SESSION: u8 = 0x01;
 
 impl Ecu {
-    /// The session of a tester: the holder is in the extended one, all others are in the default one.
-    pub fn session_of(&self, who: TesterId) -> Session
+    /// The number of a tester's session: that of the holder, and for all others the default one.
+    pub fn session_of(&self, who: TesterId) -> u8
         ensures { result ≡ session_of self.now who }
     {
         if self.is_holder(who) {
-            Session::Extended
+            self.session
         } else {
-            Session::Default
+            DEFAULT_SESSION
         }
     }
 
@@ -65,15 +59,36 @@ impl Ecu {
         None
     }
 
-    /// Enters or leaves the extended session. Who enters it again finds all locked again.
+    /// Goes to the session that session control names.
     pub(crate) fn control_session(&mut self, who: TesterId, p: &[u8])
-        ensures { self.new ≡ session_effect self.old who (sub p.now) }
+        ensures { self.new ≡ entered self.old who (sub p.now) }
     {
-        if sub_of(p) == 0x03 {
-            self.security.lock();
-            self.holder = Some(who);
-            self.s3_left = self.values.s3_ms;
-        } else if self.is_holder(who) {
+        self.enter(who, sub_of(p));
+    }
+
+    /// Goes to a session, or to none where it is 0. The default one ends that of the holder; who enters another finds all
+    /// locked.
+    pub(crate) fn enter(&mut self, who: TesterId, session: u8)
+        ensures { self.new ≡ entered self.old who session }
+    {
+        match session {
+            0 => {}
+            DEFAULT_SESSION => self.leave(who),
+            _ => {
+                self.security.lock();
+                self.holder = Some(who);
+                self.session = session;
+                self.s3_left = u64::from(self.values.s3_ms);
+            }
+        }
+    }
+
+    /// Ends the session of the tester, where it is the holder.
+    fn leave(&mut self, who: TesterId)
+        ensures { self.new
+            ≡ (if is_holder self.old who then session_ended self.old else self.old) }
+    {
+        if self.is_holder(who) {
             self.end_session();
         }
     }
@@ -86,6 +101,7 @@ impl Ecu {
         self.routines.idle_all();
         self.dtc_setting_on = true;
         self.holder = None;
+        self.session = DEFAULT_SESSION;
         self.s3_left = 0;
     }
 }

@@ -64,9 +64,8 @@ impl Ecu {
     fn quiet_ticks(&self) -> u32
         ensures { result ≡ min (quiet_ticks self.now.routines) (self.now.s3_left - 1) }
     {
-        self.routines
-            .quiet_ticks()
-            .min(self.s3_left.saturating_sub(1))
+        let routines = u64::from(self.routines.quiet_ticks());
+        routines.min(self.s3_left.saturating_sub(1)) as u32
     }
 
     /// So many ticks of the session, in which nothing ends.
@@ -79,7 +78,7 @@ impl Ecu {
         ensures holder { self.new.holder ≡ self.old.holder }
     {
         self.routines.pass(count);
-        self.s3_left -= count;
+        self.s3_left -= u64::from(count);
     }
 
     /// One tick of the session: of its routines, then of S3.
