@@ -94,10 +94,33 @@ impl Queue {
         self.replies.reserve(1)
     }
 
+    /// Makes room for so many more replies. Refused where memory is, and where so many more can't wait.
+    pub(crate) fn make_rooms(&mut self, count: usize) -> Result<(), AllocError>
+        ensures ok { OnOk result (count ≤ self.new.room) }
+        ensures kept { self.old.room ≤ self.new.room }
+        ensures same { self.new.replies ≡ self.old.replies }
+    {
+        let len = self.replies.len();
+        if count
+            <= self
+                .replies
+                .capacity()
+                .min(MOST_WAITING)
+                .saturating_sub(len)
+        {
+            return Ok(());
+        }
+        if count > MOST_WAITING.saturating_sub(len) {
+            return Err(AllocError);
+        }
+        self.replies.reserve(count)
+    }
+
     /// Adds a reply.
     pub(crate) fn push(&mut self, message: Message)
         requires room { 0 < self.old.room }
-        ensures { self.new.replies ≡ self.old.replies ++ message ∷ [] }
+        ensures added { self.new.replies ≡ self.old.replies ++ message ∷ [] }
+        ensures room { self.old.room ≤ self.new.room + 1 }
     {
         let frames = frames_of(&message);
         self.replies.push_back_reserved(message);

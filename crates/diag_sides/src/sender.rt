@@ -75,11 +75,22 @@ impl Sender {
         self.waiting.make_room()
     }
 
+    /// Makes room for so many more replies. Refused where memory is, and where so many more can't wait.
+    pub fn make_rooms(&mut self, count: usize) -> Result<(), AllocError>
+        ensures ok { OnOk result (count ≤ self.new.room) }
+        ensures kept { self.old.room ≤ self.new.room }
+        ensures current { self.new.current ≡ self.old.current }
+        ensures waiting { self.new.waiting ≡ self.old.waiting }
+    {
+        self.waiting.make_rooms(count)
+    }
+
     /// Places a reply: it begins where the sender is free, and waits otherwise.
     #[tactic(auto, using(crate::proofs::Settled::settled_reply))]
     pub fn answer(&mut self, setup: &LinkSetup, message: Message)
         requires room { 0 < self.old.room }
-        ensures { settled_in setup.now self.new.current self.new.waiting
+        ensures room { self.old.room ≤ self.new.room + 1 }
+        ensures settled { settled_in setup.now self.new.current self.new.waiting
             ≡ replied setup.now message
             (settled_in setup.now self.old.current self.old.waiting) }
     {

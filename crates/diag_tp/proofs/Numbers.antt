@@ -1,12 +1,12 @@
 -- How many frames are left, and how many replies wait, after each move of a link.
-use Rattle.std.proofs.Common.{◌≡◌, ℕ, suc, ◌+◌, ◌≤◌, List, [], ◌∷◌, length, drop, refl, arith, length-append, length-drop}
+use Rattle.std.proofs.Common.{◌≡◌, ℕ, suc, ◌+◌, ◌≤◌, List, [], ◌∷◌, ◌++◌, length, drop, refl, arith, length-append, length-drop}
 use Rattle.std.specs.Prelude.{Option, Some, None, sum_by}
-use Rattle.std.proofs.lemmas.List.Sums.{sum_by-cons}
+use Rattle.std.proofs.lemmas.List.Sums.{sum_by-append, sum_by-cons}
 use Rattle.diag_can.specs.declared.frame.Event.{Event}
 use Rattle.diag_pdu.specs.declared.setup.LinkSetup.{LinkSetup}
 use Rattle.diag_sides.specs.declared.sending.Sending.{Sending as Current}
 use Rattle.diag_pdu.specs.Cut.{cut}
-use Rattle.diag_sides.specs.Sender.{SenderState, Settled, frame_count, current_left, begun_sending, one_on, once_gone, started, settled_in, settled, replied}
+use Rattle.diag_sides.specs.Sender.{SenderState, Settled, frame_count, current_left, begun_sending, one_on, once_gone, started, settled_in, settled, replied, replied_in}
 use Rattle.diag_tp.specs.Kept.{sender_ticks, sender_event}
 
 -- the frames of what a sender keeps that have not gone
@@ -59,3 +59,17 @@ event_within s x cur W = grind arith
 pub replied-numbers : (s : LinkSetup) (P : List ℕ) (r : Settled)
     → (length (replied s P r).due ≤ length r.due + 1) × (length (replied s P r).left.waiting ≤ length r.left.waiting + 1)
 replied-numbers s P r = grind (arith, length-append {A = List ℕ})
+
+-- and no more frames are left than those that it has
+pub replied-frames : (s : LinkSetup) (P : List ℕ) (r : Settled)
+    → length (replied s P r).due + left s (replied s P r).left ≤ length r.due + left s r.left + frame_count s P
+replied-frames s P r = go r.due r.left.current r.left.waiting
+  where
+    go : (due : List (List ℕ)) (cur : Option Current) (W : List (List ℕ))
+        → length (replied_in s P due cur W).due + left s (replied_in s P due cur W).left
+        ≤ length due + (current_left s cur + sum_by (frame_count s) W) + frame_count s P
+    go due None W =
+        let all = started-counts s (P ∷ []) in
+        let one = sum_by-cons (frame_count s) P [] in
+        omega (arith, length-append due (started s (P ∷ [])).due, all.0, one)
+    go due (Some c) W = omega (arith, sum_by-append (frame_count s) W (P ∷ []), sum_by-cons (frame_count s) P [])

@@ -1,16 +1,18 @@
 -- What the words of a link's contract say of its fields.
-use Rattle.std.proofs.Common.{◌≡◌, ℕ, ◌+◌, ◌<◌, ◌≤◌, Bool, List, ◌∷◌, length, ap, arith, length-append}
+use Rattle.std.proofs.Common.{◌≡◌, ℕ, ◌+◌, ◌<◌, ◌≤◌, Bool, List, ◌∷◌, length, ap, ap₂, ◌∙◌, arith, length-append}
 use Rattle.std.specs.Prelude.{◌↔◌, Option, IfSome, IsTrue, option_to_list}
 use Rattle.std.proofs.lemmas.List.{nil_from_length}
 use Rattle.std.proofs.lemmas.Bool.Decides.{nat_tests}
 use Rattle.diag_can.specs.declared.frame.Event.{Event}
 use Rattle.diag_pdu.specs.declared.setup.LinkSetup.{LinkSetup}
+use Rattle.diag_pdu.specs.Cut.{frames_of}
+use Rattle.diag_pdu.proofs.CutFrames.{frames-count}
 use Rattle.diag_tp.specs.State.{LinkState, LinkView, due}
 use Rattle.diag_sides.specs.Sender.{SenderState, settled, settled_in, replied, IsSound}
 use Rattle.diag_sides.specs.declared.sending.Sending.{Sending}
 use Rattle.diag_tp.specs.Kept.{sender_event, sender_ticks}
 use Rattle.diag_tp.specs.Link.{pending, unsent, waiting_count, has_room, has_reply_room, KeepsRoom, KeepsReplyRoom, needed}
-use Rattle.diag_tp.proofs.Numbers.{left, IsWithin, settled-counts, event_within, sender_ticks_within, replied-numbers}
+use Rattle.diag_tp.proofs.Numbers.{left, IsWithin, settled-counts, event_within, sender_ticks_within, replied-frames, replied-numbers}
 use Rattle.diag_sides.proofs.Settled.{none-due, IsDrained, drained_fields, fields_drained}
 use Rattle.diag_tp.proofs.History.{drained_parts}
 
@@ -87,6 +89,24 @@ pub answered_numbers : (link link' : LinkState) (P : List ℕ) → link'.grant �
     → (pending link' ≤ pending link + 1) × (waiting_count link' ≤ waiting_count link + 1)
 unfolding pending waiting_count
 answered_numbers link link' P grant sender = grind (arith, replied-numbers, length-append {A = List ℕ})
+
+-- and its frames are left at most
+pub answered_unsent : (link link' : LinkState) (P : List ℕ) → link'.grant ≡ link.grant → link'.setup ≡ link.setup
+    → settled link'.setup link'.sender ≡ replied link.setup P (settled link.setup link.sender)
+    → unsent link' ≤ unsent link + frames_of P
+unfolding pending
+answered_unsent link link' P grant same sender =
+    let before = unsent-due link in
+    let after = unsent-due link' in
+    let frames = replied-frames link.setup P (settled link.setup link.sender) in
+    let count = frames-count P link.setup.pad in
+    let due' : length (due link') ≡ length (option_to_list link.grant) + length (replied link.setup P (settled link.setup link.sender)).due =
+    length-append (option_to_list link'.grant) (settled link'.setup link'.sender).due ∙ ap₂ (λ g r. length (option_to_list g) + length r.due) grant sender in
+    let due : length (due link) ≡ length (option_to_list link.grant) + length (settled link.setup link.sender).due =
+    length-append (option_to_list link.grant) (settled link.setup link.sender).due in
+    let left' : left link'.setup (settled link'.setup link'.sender).left ≡ left link.setup (replied link.setup P (settled link.setup link.sender)).left =
+    ap₂ (λ s r. left s r.left) same sender in
+    omega (arith, before, after, frames, count, due', due, left')
 
 -- a frame that is handed out
 pub handed_numbers : (link link' : LinkState) (bytes : List ℕ) → due link ≡ bytes ∷ due link'

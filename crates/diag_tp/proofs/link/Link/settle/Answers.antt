@@ -1,4 +1,4 @@
-use Rattle.std.proofs.Common.{ap}
+use Rattle.std.proofs.Common.{ap, arith}
 use Rattle.diag_tp.proofs.Takings.{settles, settled-numbers}
 use Rattle.diag_tp.proofs.Views.{reply_room, reply_room_made}
 use Rattle.diag_tp.proofs.link.Link.settle.Goals as goal
@@ -11,6 +11,7 @@ returns c =
     record {
       stands = λ s E A Q h event is. rw done.state (settles s old E A Q event c.args.taken.now is c.requires.drained h);
       reply_room = λ h. reply_room_made c.finish.new.self (rw done.reply_room (reply_room c.args.self.now h));
+      reply_rooms = rw done.reply_room (omega arith);
       unsent = rw done.state numbers.frames;
       due = rw done.state numbers.now;
       waiting = rw done.state numbers.replies;
