@@ -13,3 +13,4 @@ pub mod Pieces
 pub mod UsualLemmas
 pub mod Unlocking
 pub mod Written
+pub mod TimedLemmas

@@ -11,3 +11,4 @@ pub mod Legal
 pub mod Replay
 pub mod Following
 pub mod Unlocking
+pub mod Timed

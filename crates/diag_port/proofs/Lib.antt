@@ -1,0 +1,9 @@
+pub mod Pendings
+pub mod LateLemmas
+pub mod Within
+pub mod PortLemmas
+pub mod Placing
+pub mod Standing
+pub mod AtOnce
+pub mod Examples
+pub mod Quiet

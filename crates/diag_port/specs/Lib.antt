@@ -1,0 +1,6 @@
+pub mod Held
+pub mod Late
+pub mod Port
+pub mod Placing
+pub mod Standing
+pub mod Laws

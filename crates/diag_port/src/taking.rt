@@ -1,0 +1,233 @@
+//! One event at a port: the step that it gives is taken, and the frames that are due are handed out.
+
+ghost use Rattle.std.specs.Prelude.{
+  ◌≡◌,
+  ◌+◌,
+  ◌≤◌,
+  ℕ,
+  [],
+  true,
+  Err,
+  IfOk,
+  IsTrue,
+  None,
+  OnErr,
+  OnOk,
+  vec_len,
+  vec_capacity,
+};
+ghost use Rattle.diag_can.specs.declared.frame.Event.{Event as AnEvent};
+ghost use Rattle.diag_pdu.specs.declared.step.Step.{Step as AStep};
+ghost use Rattle.diag_tp.specs.Link.{is_frame, pending};
+ghost use Rattle.diag_tp.specs.Taken.{asked_in};
+ghost use Rattle.diag_port.specs.Placing.{sid_of};
+ghost use Rattle.diag_port.specs.Port.{CanHold, Grew, IsAtRest, port_of, unsent_of};
+ghost use Rattle.diag_port.specs.Standing.{GivesStep, IsPrepared, PortTook, RefusedEvent, TookEvent};
+
+use crate::held::MOST_PENDINGS;
+use crate::passing::{pass, receive_at_once, receive_held};
+use crate::port::Port;
+use crate::stepping::TakeSteps;
+use diag_can::{Event, TickCount};
+use diag_desk::StepFault;
+use diag_pdu::Request;
+use diag_setup::TesterId;
+use diag_tp::{Sent, Taken};
+use std::alloc::AllocError;
+
+/// Takes an event of a tester at its port: has the step that it gives taken, and hands out what is due. All growths here
+/// come before the step. Refused, port and frames are as before.
+///
+/// # Errors
+/// `JournalFull` where there is no room for an entry more, `Memory` where memory is refused, or where no more replies can
+/// wait.
+#[inline(always)]
+pub fn take<T: TakeSteps>(
+    port: &mut Port,
+    who: TesterId,
+    event: &Event,
+    taker: &mut T,
+    out: &mut Vec<Sent>,
+) -> Result<(), StepFault>
+    requires rest { IsAtRest port.old }
+    requires allows { T.allows taker.old who port.old.link.state.now }
+    ensures took { OnOk result (TookEvent T.takes (port_of port.old) (port_of port.new) taker.old taker.new
+        who event.now out.old.items out.new.items) }
+    ensures rest { IsAtRest port.new }
+    ensures refused { OnErr result (RefusedEvent T.refuses (port_of port.old) (port_of port.new)
+        taker.old taker.new out.old.items out.new.items) }
+    ensures full { result ≡ Err StepFault.JournalFull
+        → T.is_full taker.old × GivesStep port.old.link.state event.now }
+    ensures stays { T.stays taker.old taker.new }
+{
+    if let Event::Ticks(count) = event {
+        return take_ticks(port, who, *count, taker, out);
+    }
+    let delays = taker.can_delay();
+    let taken = prepare(port, event, delays, out)?;
+    match &taken {
+        Taken::Ignored | Taken::Read(_) => {
+            take_silent(port, event, &taken, out);
+            Ok(())
+        }
+        Taken::Functional | Taken::Single | Taken::Last => {
+            take_request(port, who, event, &taken, taker, out)
+        }
+    }
+}
+
+/// Takes ticks, which give a step that has no reply.
+#[inline(always)]
+fn take_ticks<T: TakeSteps>(
+    port: &mut Port,
+    who: TesterId,
+    count: TickCount,
+    taker: &mut T,
+    out: &mut Vec<Sent>,
+) -> Result<(), StepFault>
+    requires rest { IsAtRest port.old }
+    requires allows { T.allows taker.old who port.old.link.state.now }
+    ensures took { OnOk result (TookEvent T.takes (port_of port.old) (port_of port.new) taker.old taker.new
+        who (AnEvent.Ticks count) out.old.items out.new.items) }
+    ensures rest { IsAtRest port.new }
+    ensures refused { OnErr result (RefusedEvent T.refuses (port_of port.old) (port_of port.new)
+        taker.old taker.new out.old.items out.new.items) }
+    ensures full { result ≡ Err StepFault.JournalFull → T.is_full taker.old }
+    ensures stays { T.stays taker.old taker.new }
+{
+    make_tick_room(port, out)?;
+    taker.take_ticks(port.link.now(), who, count)?;
+    pass(port, count, out);
+    Ok(())
+}
+
+/// Makes room for all frames that may fall due as time passes.
+#[inline(always)]
+fn make_tick_room(port: &Port, out: &mut Vec<Sent>) -> Result<(), AllocError>
+    requires rest { IsAtRest port.now }
+    ensures out { out.new.items ≡ out.old.items }
+    ensures room { OnOk result (vec_len out.new + unsent_of port.now ≤ vec_capacity out.new) }
+{
+    out.reserve(port.link.backlog().saturating_add(port.held.frames()) as usize)
+}
+
+/// Reads a frame, and makes room for it and for what it may draw; where a reply may go later, or something is held, for all
+/// messages of one more reply. Nothing else changes, whatever the answer.
+#[inline(always)]
+fn prepare(
+    port: &mut Port,
+    event: &Event,
+    delays: bool,
+    out: &mut Vec<Sent>,
+) -> Result<Taken, AllocError>
+    requires rest { IsAtRest port.old }
+    requires frame { IsTrue (is_frame event.now) }
+    ensures same { port_of port.new ≡ port_of port.old }
+    ensures rest { IsAtRest port.new }
+    ensures out { out.new.items ≡ out.old.items }
+    ensures prepared { IfOk result (λ taken.
+        IsPrepared port.new event.now taken (vec_len out.new) (vec_capacity out.new)) }
+    ensures delays { delays ≡ true
+        → OnOk result (CanHold port.new (vec_len out.new) (vec_capacity out.new)) }
+{
+    let most = port.link.backlog().saturating_add(2) as usize;
+    out.reserve(most)?;
+    if delays || !port.held.is_empty() {
+        make_hold_room(port, out)?;
+    }
+    port.link.begin(event)
+}
+
+/// Makes room for the messages of one more reply, in what is held, in the link and in the frames.
+#[cold]
+#[inline(never)]
+fn make_hold_room(port: &mut Port, out: &mut Vec<Sent>) -> Result<(), AllocError>
+    requires drained { pending port.old.link.state ≡ 0 }
+    ensures same { port_of port.new ≡ port_of port.old }
+    ensures rooms { port.old.link.reply_room ≤ port.new.link.reply_room }
+    ensures out { out.new.items ≡ out.old.items }
+    ensures capacity { vec_capacity out.old ≤ vec_capacity out.new }
+    ensures can { OnOk result (CanHold port.new (vec_len out.new) (vec_capacity out.new)) }
+{
+    let most = MOST_PENDINGS as usize + 1;
+    let len = port.held.len();
+    port.held.make_room(most)?;
+    port.link.make_reply_rooms(len.saturating_add(most))?;
+    let frames = port
+        .link
+        .backlog()
+        .saturating_add(len as u64)
+        .saturating_add(most as u64 + 1);
+    out.reserve(frames as usize)
+}
+
+/// Takes a frame that was read and has room, and asks nothing.
+#[cold]
+#[inline(never)]
+fn take_silent(port: &mut Port, event: &Event, taken: &Taken, out: &mut Vec<Sent>)
+    requires prepared { IsPrepared
+        port.old event.now taken.now (vec_len out.old) (vec_capacity out.old) }
+    requires silent { asked_in port.old.link taken.now ≡ None }
+    ensures took { (who : ℕ) → Grew out.old.items out.new.items (λ more.
+        PortTook (port_of port.old) (port_of port.new) who event.now None more) }
+    ensures rest { IsAtRest port.new }
+{
+    if port.held.is_empty() {
+        receive_at_once(port, event, taken, &mut None, out);
+    } else {
+        receive_held(port, event, taken, &mut None, 0, 0, out);
+    }
+}
+
+/// The same of a frame that completes a request. (The step is taken at this one call, whatever frame it was: so the body of
+/// whoever takes it is put here.)
+#[inline(always)]
+fn take_request<T: TakeSteps>(
+    port: &mut Port,
+    who: TesterId,
+    event: &Event,
+    taken: &Taken,
+    taker: &mut T,
+    out: &mut Vec<Sent>,
+) -> Result<(), StepFault>
+    requires prepared { IsPrepared
+        port.old event.now taken.now (vec_len out.old) (vec_capacity out.old) }
+    requires delays { T.can_delay taker.old ≡ true
+        → CanHold port.old (vec_len out.old) (vec_capacity out.old) }
+    requires allows { T.allows taker.old who port.old.link.state.now }
+    ensures took { OnOk result (TookEvent T.takes (port_of port.old) (port_of port.new) taker.old taker.new
+        who event.now out.old.items out.new.items) }
+    ensures rest { IsAtRest port.new }
+    ensures refused { OnErr result (RefusedEvent T.refuses (port_of port.old) (port_of port.new)
+        taker.old taker.new out.old.items out.new.items) }
+    ensures full { result ≡ Err StepFault.JournalFull
+        → T.is_full taker.old × GivesStep port.old.link.state event.now }
+    ensures stays { T.stays taker.old taker.new }
+{
+    match port.link.request(taken) {
+        Some(request) => {
+            let mut reply = None;
+            let after = taker.take_request(port.link.now(), who, request, &mut reply)?;
+            if after == 0 && port.held.is_empty() {
+                receive_at_once(port, event, taken, &mut reply, out);
+            } else {
+                let sid = service_of(request);
+                receive_held(port, event, taken, &mut reply, after, sid, out);
+            }
+        }
+        None => take_silent(port, event, taken, out),
+    }
+    Ok(())
+}
+
+/// The service that a request asks for.
+#[cold]
+#[inline(never)]
+fn service_of(request: &Request) -> u8
+    ensures { result ≡ sid_of (AStep.Request request.now) }
+{
+    match request.message.bytes() {
+        [sid, ..] => *sid,
+        [] => 0,
+    }
+}
