@@ -1,5 +1,5 @@
 -- From a world to the headline.
-use Rattle.std.proofs.Common.{◌≡◌, ◌<◌, ◌≤◌, ℕ, ◌+◌, Bool, true, false, cond, Option, Some, None, List, [], ◌∷◌, ◌++◌, length, length-append, refl, ap, subst, sym, ◌∙◌, arith}
+use Rattle.std.proofs.Common.{◌≡◌, ◌<◌, ◌≤◌, ℕ, ◌+◌, Bool, true, false, cond, Option, Some, None, List, [], ◌∷◌, ◌++◌, length, length-append, refl, ap, ap₂, subst, sym, ◌∙◌, arith}
 use Rattle.std.proofs.lemmas.List.{length-map}
 use Rattle.std.specs.Prelude.{◌==◌, slice_get, IsSome, Result, Err}
 use Rattle.std.specs.Option.{option_to_list}
@@ -8,10 +8,12 @@ use Rattle.diag_pdu.specs.declared.setup.LinkSetup.{LinkSetup}
 use Rattle.diag_tp.specs.declared.sent.Sent.{Sent}
 use Rattle.diag_pdu.specs.declared.step.Step.{Step}
 use Rattle.diag_tp.specs.Gives.{gives, steps}
-use Rattle.diag_tp.specs.Placing.{drawn}
 use Rattle.diag_desk.specs.declared.entry.Entry.{Entry}
 use Rattle.diag_desk.specs.Entries.{own}
-use Rattle.diag_desk.specs.Entries.{asked, asked_by, replies}
+use Rattle.diag_desk.specs.Entries.{asked, asked_by}
+use Rattle.diag_desk.specs.Timed.{own_timed, timed}
+use Rattle.diag_port.specs.Late.{pace_of}
+use Rattle.diag_port.specs.Placing.{drawn}
 use Rattle.diag_desk.specs.Legal.{Legal}
 use Rattle.diag_setup.specs.Setup.{link_of}
 use Rattle.diag_setup.specs.declared.raw.RawSetup.{RawSetup}
@@ -42,7 +44,7 @@ headline setup w M logs sent law inter h many is = record {
   testers = ap length is ∙ (h.testers ∙ sym many);
   frames = λ i frames at.
       h.frames i frames (subst (λ s. slice_get s i ≡ Some frames) is at)
-      ∙ ap (λ E. drawn (link_of setup (i + 1)) E (replies (own w.desk.journal (i + 1)))) (inter (i + 1));
+      ∙ ap₂ (λ E o. drawn (link_of setup (i + 1)) (pace_of setup) E (own_timed (timed o w.desk.journal) (i + 1))) (inter (i + 1)) (sym h.opening);
 }
 
 -- further events take no step away

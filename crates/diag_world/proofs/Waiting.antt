@@ -1,16 +1,15 @@
--- Ticks of each tester, in which no link does anything.
+-- Ticks of each tester, in which no port does anything.
 use Rattle.std.proofs.Common.{◌≡◌, ◌≢◌, ◌≤◌, ◌<◌, ℕ, zero, suc, ◌+◌, ◌-◌, Bool, true, false, Some, List, [], ◌∷◌, ◌++◌, length, map, refl, ap, subst, sym, ◌∙◌, append_assoc, arith, inl, inr}
 use Rattle.std.proofs.lemmas.Bool.{eqb-true}
 use Rattle.std.proofs.lemmas.List.{append-nil, map-append, length-set}
 use Rattle.std.specs.Prelude.{◌==◌, slice_get, slice_set}
 use Rattle.diag_can.specs.declared.frame.Event.{Event}
 use Rattle.diag_can.specs.declared.frame.Event.TheVariants.{Ticks}
-use Rattle.diag_tp.specs.Link.{quiet}
 use Rattle.diag_pdu.specs.Cut.{counted_from}
-use Rattle.diag_tp.specs.State.{LinkState}
 use Rattle.diag_setup.specs.declared.raw.RawSetup.{RawSetup}
 use Rattle.diag_desk.specs.declared.entry.Entry.{Entry}
-use Rattle.diag_world.specs.Port.{entry_of_ticks}
+use Rattle.diag_port.specs.Port.{PortState, port_quiet}
+use Rattle.diag_port.specs.Standing.{entry_of_ticks}
 use Rattle.diag_world.specs.Server.{ServerState, Serves, Settled, Waited, each_of, quiet_of, sent_to}
 use Rattle.diag_world.proofs.Worlds.{set_cases}
 
@@ -26,7 +25,7 @@ counted_more a n = let e : n + 1 ≡ suc n = omega arith in ap (counted_from a) 
 pub waited_none : (s : ServerState) (count : ℕ) → Waited s s 0 count
 waited_none s count = record {
   many = refl;
-  time = λ i link at. (let fits : link.now ≤ link.now + count = omega arith in (link, at, fits));
+  time = λ i port at. (let fits : port.link.now ≤ port.link.now + count = omega arith in (port, at, fits));
   rest = λ i above. refl;
   served = λ setup M K h. (K, subst (λ N. Serves setup s N K) (sym (append-nil M)) h, λ t. ap (λ N. sent_to setup N K t) (append-nil M));
 }
@@ -45,16 +44,17 @@ get_set_other (x ∷ xs) zero (suc k) v apart = refl
 get_set_other (x ∷ xs) (suc i) zero v apart = refl
 get_set_other (x ∷ xs) (suc i) (suc k) v apart = get_set_other xs i k v (λ e. apart (ap suc e))
 
--- each link is quiet for as long as the least of them
-pub quiet_each : (links : List LinkState) (i count : ℕ) (link : LinkState) → count < quiet_of links → slice_get links i ≡ Some link → count < quiet link
-quiet_each [] i count link less at = absurd (clash at)
+-- each port is quiet for as long as the least of them
+pub quiet_each : (ports : List PortState) (i count : ℕ) (port : PortState) → count < quiet_of ports → slice_get ports i ≡ Some port
+    → count < port_quiet port
+quiet_each [] i count port less at = absurd (clash at)
   where
-    clash : slice_get [] i ≡ Some link → ⊥
+    clash : slice_get [] i ≡ Some port → ⊥
     clash e = cc
-quiet_each (first ∷ links) zero count link less at =
-    let same : first ≡ link = cc in
-    subst (λ (l : LinkState). count < quiet l) same (omega (arith, less))
-quiet_each (first ∷ links) (suc i) count link less at = quiet_each links i count link (omega (arith, less)) at
+quiet_each (first ∷ ports) zero count port less at =
+    let same : first ≡ port = cc in
+    subst (λ (p : PortState). count < port_quiet p) same (omega (arith, less))
+quiet_each (first ∷ ports) (suc i) count port less at = quiet_each ports i count port (omega (arith, less)) at
 
 -- one tester more
 pub waited_more : (a b c : ServerState) (n who count : ℕ) → who ≡ n + 1 → Waited a b n count
@@ -64,16 +64,16 @@ waited_more a b c n who count is w settled =
     let e = Ticks count in
     let place : n ≡ who - 1 = omega (arith, is) in
     record {
-      many = ap length moved.set ∙ (length-set b.links (who - 1) moved.after ∙ w.many);
-      time = λ i link at. elim (set_cases b.links (who - 1) i moved.after link (subst (λ ls. slice_get ls i ≡ Some link) moved.set at)) [
+      many = ap length moved.set ∙ (length-set b.ports (who - 1) moved.after ∙ w.many);
+      time = λ i port at. elim (set_cases b.ports (who - 1) i moved.after port (subst (λ ls. slice_get ls i ≡ Some port) moved.set at)) [
         | inl p ↦ (
-            let same : link.now ≡ moved.after.now = ap (λ (l : LinkState). l.now) p.1 in
-            let fits : link.now ≤ moved.before.now + count = omega (arith, same, moved.time) in
-            (moved.before, sym (w.rest i (omega (arith, p.0, is))) ∙ subst (λ k. slice_get b.links k ≡ Some moved.before) (sym p.0) moved.found, fits))
-        | inr p ↦ w.time i link p.1
+            let same : port.link.now ≡ moved.after.link.now = ap (λ (l : PortState). l.link.now) p.1 in
+            let fits : port.link.now ≤ moved.before.link.now + count = omega (arith, same, moved.time) in
+            (moved.before, sym (w.rest i (omega (arith, p.0, is))) ∙ subst (λ k. slice_get b.ports k ≡ Some moved.before) (sym p.0) moved.found, fits))
+        | inr p ↦ w.time i port p.1
       ];
       rest = λ i above. ap (λ ls. slice_get ls i) moved.set
-          ∙ (get_set_other b.links (who - 1) i moved.after (λ e. absurd (omega (arith, e, above, is))) ∙ w.rest i (omega (arith, above)));
+          ∙ (get_set_other b.ports (who - 1) i moved.after (λ e. absurd (omega (arith, e, above, is))) ∙ w.rest i (omega (arith, above)));
       served = λ setup M K h.
           let before = w.served setup M K h in
           let M' = M ++ each_of n e in

@@ -1,15 +1,16 @@
 -- How a world goes on with one event more.
 use Rattle.std.proofs.Common.{◌≡◌, ◌≢◌, ℕ, zero, suc, ◌+◌, Bool, true, false, cond, Some, None, List, [], ◌∷◌, ◌++◌, length, map, refl, ap, ◌∙◌, arith, inl, inr}
 use Rattle.std.proofs.lemmas.List.{append-nil}
-use Rattle.std.proofs.lemmas.List.Elements.{filter-append}
 use Rattle.std.proofs.lemmas.Bool.{eq-eqb}
 use Rattle.std.proofs.lemmas.Bool.Decides.{nat_tests}
 use Rattle.std.specs.Prelude.{◌==◌, ◌⊎◌, nat_lt, slice_get, slice_set}
 use Rattle.diag_can.specs.declared.frame.Event.{Event}
 use Rattle.diag_pdu.specs.declared.step.Step.{Step}
 use Rattle.diag_desk.specs.declared.entry.Entry.{Entry}
-use Rattle.diag_desk.specs.Entries.{own}
 use Rattle.diag_desk.specs.Entries.{asked_by}
+use Rattle.diag_desk.specs.Legal.{after_step}
+use Rattle.diag_desk.specs.Timed.{own_timed, timed, timed_entry}
+use Rattle.diag_ecu.specs.State.{State}
 use Rattle.diag_setup.specs.Setup.{who_at}
 use Rattle.diag_setup.specs.declared.raw.RawSetup.{RawSetup}
 use Rattle.diag_world.specs.Weaving.{items_of, all_by}
@@ -30,36 +31,38 @@ set_cases (y ∷ xs) (suc i) (suc j) v x h = elim (set_cases xs i j v x h) [
   | inr p ↦ inr ((λ e. p.0 (omega (arith, e))), p.1)
 ]
 
-pub own-append : (xs ys : List Entry) (t : ℕ) → own (xs ++ ys) t ≡ own xs t ++ own ys t
-own-append xs ys t = filter-append (λ (e : Entry). e.who == t) xs ys
-
 first_by : (k : Entry) (more : List Entry) (t : ℕ) (x : Step) (xs : List Step) → asked_by (k ∷ more) ≡ all_by t (x ∷ xs) → k.who ≡ t
 first_by k more t x xs h =
     let e : (k.who, k.step) ≡ (t, x) = cc in
     ap (λ (p : ℕ × Step). p.0) e
 
 -- entries that were all added by one tester
-pub own_mine : (more : List Entry) (t : ℕ) (xs : List Step) → asked_by more ≡ all_by t xs → own more t ≡ more
-own_mine [] t xs h = refl
-own_mine (k ∷ more) t [] h = absurd (clash h)
+pub own_mine : (s : State) (more : List Entry) (t : ℕ) (xs : List Step) → asked_by more ≡ all_by t xs → own_timed (timed s more) t ≡ timed s more
+own_mine s [] t xs h = refl
+own_mine s (k ∷ more) t [] h = absurd (clash h)
   where
     clash : asked_by (k ∷ more) ≡ [] → ⊥
     clash h = cc
-own_mine (k ∷ more) t (x ∷ xs) h =
+own_mine s (k ∷ more) t (x ∷ xs) h =
     let by = first_by k more t x xs h in
     let rest : asked_by more ≡ all_by t xs = cc in
-    ap (λ b. cond b (k ∷ own more t) (own more t)) (eq-eqb k.who t by) ∙ ap (λ w. k ∷ w) (own_mine more t xs rest)
+    let s' = after_step s k.who k.step in
+    ap (λ b. cond b (timed_entry s k ∷ own_timed (timed s' more) t) (own_timed (timed s' more) t)) (eq-eqb k.who t by)
+    ∙ ap (λ w. timed_entry s k ∷ w) (own_mine s' more t xs rest)
 
-pub own_none : (more : List Entry) (t u : ℕ) (xs : List Step) → (t == u) ≡ false → asked_by more ≡ all_by t xs → own more u ≡ []
-own_none [] t u xs away h = refl
-own_none (k ∷ more) t u [] away h = absurd (clash h)
+pub own_none : (s : State) (more : List Entry) (t u : ℕ) (xs : List Step) → (t == u) ≡ false → asked_by more ≡ all_by t xs
+    → own_timed (timed s more) u ≡ []
+own_none s [] t u xs away h = refl
+own_none s (k ∷ more) t u [] away h = absurd (clash h)
   where
     clash : asked_by (k ∷ more) ≡ [] → ⊥
     clash h = cc
-own_none (k ∷ more) t u (x ∷ xs) away h =
+own_none s (k ∷ more) t u (x ∷ xs) away h =
     let by = first_by k more t x xs h in
     let rest : asked_by more ≡ all_by t xs = cc in
-    ap (λ b. cond b (k ∷ own more u) (own more u)) (ap (λ v. v == u) by ∙ away) ∙ own_none more t u xs away rest
+    let s' = after_step s k.who k.step in
+    ap (λ b. cond b (timed_entry s k ∷ own_timed (timed s' more) u) (own_timed (timed s' more) u)) (ap (λ v. v == u) by ∙ away)
+    ∙ own_none s' more t u xs away rest
 
 pub items_mine : (M : List (ℕ × Event)) (t : ℕ) (e : Event) → items_of (M ++ (t, e) ∷ []) t ≡ items_of M t ++ e ∷ []
 items_mine M t e = items_of-append M ((t, e) ∷ []) t ∙ ap (λ b. items_of M t ++ cond b (e ∷ []) []) (eq-eqb t t refl)

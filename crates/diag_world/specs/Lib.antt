@@ -2,6 +2,5 @@ pub mod Headline
 pub mod Channel
 pub mod Weaving
 pub mod World
-pub mod Port
 pub mod Lazy
 pub mod Server

@@ -1,59 +1,64 @@
 -- What a server stands for: an interleaving of the testers' events, and the journal of its run. It keeps neither.
 use Rattle.std.specs.Prelude.{◌≡◌, ◌<◌, ◌≤◌, ◌-◌, ◌^◌, ℕ, ◌+◌, ◌*◌, ◌==◌, false, min, List, [], ◌∷◌, ◌++◌, length, map, Option, Some, IfSome, slice_get, slice_set}
-use Rattle.std.specs.Option.{option_to_list}
+use Rattle.std.specs.Option.{option_map, option_to_list}
 use Rattle.diag_can.specs.declared.frame.Event.{Event}
 use Rattle.diag_can.specs.declared.frame.Event.TheVariants.{Ticks}
 use Rattle.diag_tp.specs.declared.sent.Sent.{Sent}
 use Rattle.diag_pdu.specs.Cut.{counted_from}
-use Rattle.diag_tp.specs.Placing.{drawn}
-use Rattle.diag_tp.specs.State.{LinkState, LinkView}
-use Rattle.diag_tp.specs.Link.{pending, quiet}
 use Rattle.diag_sides.specs.Quiet.{always}
 use Rattle.diag_setup.specs.declared.raw.RawSetup.{RawSetup}
 use Rattle.diag_setup.specs.Setup.{link_of}
 use Rattle.diag_ecu.specs.State.{State, opening}
 use Rattle.diag_desk.specs.declared.entry.Entry.{Entry}
-use Rattle.diag_desk.specs.Entries.{asked_by, own, replies}
+use Rattle.diag_desk.specs.Entries.{asked_by}
 use Rattle.diag_desk.specs.Legal.{Legal, after, after_step, reply_to}
-use Rattle.diag_world.specs.Port.{AreWithin, Grew, HasKept, PortStands, PortTook, time_after}
+use Rattle.diag_desk.specs.Timed.{Timed, own_timed, timed, timed_entry}
+use Rattle.diag_port.specs.declared.port.Port.{Port}
+use Rattle.diag_port.specs.Late.{pace_of}
+use Rattle.diag_port.specs.Placing.{drawn}
+use Rattle.diag_port.specs.Port.{AreWithin, Grew, PortState, port_of, port_quiet, time_after}
+use Rattle.diag_port.specs.Standing.{HasKept, PortStands, PortTook}
 use Rattle.diag_world.specs.Weaving.{items_of, steps_of}
 
--- what a contract sees of a server: the ECU, and the testers' links in order, with the room that was made in them
+-- what a contract sees of a server: the ECU, and the testers' ports in order, with the room that was made in them
 pub record ServerView : Type 0 where
   pub ecu : State
-  pub links : List LinkView
+  pub ports : List Port
 
 -- the same but for the room
 pub record ServerState : Type 0 where
   pub ecu : State
-  pub links : List LinkState
+  pub ports : List PortState
 
 abbrev pub server_of : ServerView → ServerState
-server_of server = record { ecu = server.ecu; links = map (λ link. link.state) server.links }
+server_of server = record { ecu = server.ecu; ports = map port_of server.ports }
 
 -- the same from its parts
-abbrev pub state_at : State → List LinkView → ServerState
-state_at ecu links = record { ecu = ecu; links = map (λ link. link.state) links }
+abbrev pub state_at : State → List Port → ServerState
+state_at ecu ports = record { ecu = ecu; ports = map port_of ports }
 
--- for how many ticks no link does anything before the last of them: the least of the links
-abbrev pub quiet_of : List LinkState → ℕ
+-- for how many ticks no port does anything before the last of them: the least of the ports
+abbrev pub quiet_of : List PortState → ℕ
 quiet_of [] = always
-quiet_of (link ∷ links) = min (quiet link) (quiet_of links)
+quiet_of (port ∷ ports) = min (port_quiet port) (quiet_of ports)
 
 -- The server took the interleaving M, and K is the journal of its run: a legal run from the opening that asks what M
--- gives. The ECU is its end, and each link stands for its tester's part of both, with all frames handed out.
+-- gives. The ECU is its end, and each port stands for its tester's part of both, with the delays of the
+-- replies, and all frames handed out.
 pub record Serves (setup : RawSetup) (server : ServerState) (M : List (ℕ × Event)) (K : List Entry)
     : Type 0 where
   pub legal : Legal (opening setup) K
   pub ecu : server.ecu ≡ after (opening setup) K
-  pub testers : length server.links ≡ length setup.testers
+  pub testers : length server.ports ≡ length setup.testers
   pub run : asked_by K ≡ steps_of (link_of setup) M
-  pub ports : (i : ℕ) (link : LinkState) → slice_get server.links i ≡ Some link
-      → PortStands (link_of setup (i + 1)) link (items_of M (i + 1)) (own K (i + 1))
+  pub ports : (i : ℕ) (port : PortState) → slice_get server.ports i ≡ Some port
+      → PortStands (link_of setup (i + 1)) (pace_of setup) port (items_of M (i + 1))
+      (own_timed (timed (opening setup) K) (i + 1))
 
 -- the frames that a tester is sent where the journal of M is K
 abbrev pub sent_to : RawSetup → List (ℕ × Event) → List Entry → ℕ → List Sent
-sent_to setup M K t = drawn (link_of setup t) (items_of M t) (replies (own K t))
+sent_to setup M K t =
+    drawn (link_of setup t) (pace_of setup) (items_of M t) (own_timed (timed (opening setup) K) t)
 
 -- a tester's event more, with its entry where it gives one: the tester is sent these frames more, and no other is
 pub record Served (setup : RawSetup) (server : ServerState) (M : List (ℕ × Event)) (K : List Entry)
@@ -68,58 +73,58 @@ pub record Served (setup : RawSetup) (server : ServerState) (M : List (ℕ × Ev
 abbrev pub closing_time : ℕ
 closing_time = 2 ^ 63
 
--- the ECU answered a step, whose entry a keeper has, before which its tester's clock told this, and went on
-abbrev pub Answered : {X : Type 0} → (X → ℕ → Entry → X → Type 0) → State → State → X → X → ℕ → Entry → Type 0
-Answered keeps ecu ecu' keeper keeper' before k =
-    keeps keeper before k keeper'
-    × (k.reply ≡ reply_to ecu k.who k.step)
-    × (ecu' ≡ after_step ecu k.who k.step)
+-- the ECU answered a step, with this delay, whose entry a keeper has, before which its tester's clock told this, and went on
+abbrev pub Answered : {X : Type 0} → (X → ℕ → Entry → X → Type 0) → State → State → X → X → ℕ → Timed → Type 0
+Answered keeps ecu ecu' keeper keeper' before x =
+    keeps keeper before x.entry keeper'
+    × (x.entry.reply ≡ reply_to ecu x.entry.who x.entry.step)
+    × (x ≡ timed_entry ecu x.entry)
+    × (ecu' ≡ after_step ecu x.entry.who x.entry.step)
 
--- a link took a tester's event with this entry, which it gives, and the ECU answered it
-pub record PortWent (ecu ecu' : State) (old new : LinkState) (who : ℕ) (e : Event)
+-- a port took a tester's event with this entry, which it gives, and the ECU answered it
+pub record PortWent (ecu ecu' : State) (old new : PortState) (who : ℕ) (e : Event)
     (asked : Option Entry) (more : List Sent) : Type 0 where
-  pub early : old.now ≤ closing_time
+  pub early : old.link.now ≤ closing_time
   pub answer : IfSome asked (λ k. k.reply ≡ reply_to ecu k.who k.step)
   pub goes_on : ecu' ≡ after ecu (option_to_list asked)
-  pub took : PortTook old new who e asked more
+  pub took : PortTook old new who e (option_map (timed_entry ecu) asked) more
 
--- a link took a tester's event, whose entry a keeper has, and these frames were handed out behind those before: all
+-- a port took a tester's event, whose entry a keeper has, and these frames were handed out behind those before: all
 -- that are due
-pub record LinkTook {X : Type 0} (keeps : X → ℕ → Entry → X → Type 0) (ecu ecu' : State)
-    (old new : LinkState) (keeper keeper' : X) (who : ℕ) (e : Event) (out out' : List Sent)
+pub record TesterTook {X : Type 0} (keeps : X → ℕ → Entry → X → Type 0) (ecu ecu' : State)
+    (old new : PortState) (keeper keeper' : X) (who : ℕ) (e : Event) (out out' : List Sent)
     : Type 0 where
   pub asked : Option Entry
-  pub kept : HasKept keeps keeper keeper' old.now asked
+  pub kept : HasKept keeps keeper keeper' old.link.now asked
   pub sent : Grew out out' (λ more. PortWent ecu ecu' old new who e asked more)
-  pub drained : pending new ≡ 0
 
--- a link, the ECU and the frames that were handed out are as before, and a keeper is as a refused keep leaves it
-abbrev pub TookNothing : {X : Type 0} → (X → X → Type 0) → State → State → LinkState → LinkState → X → X
+-- a port, the ECU and the frames that were handed out are as before, and a keeper is as a refused keep leaves it
+abbrev pub TookNothing : {X : Type 0} → (X → X → Type 0) → State → State → PortState → PortState → X → X
     → List Sent → List Sent → Type 0
 TookNothing unkept ecu ecu' old new keeper keeper' out out' =
     (new ≡ old) × (ecu' ≡ ecu) × (out' ≡ out) × unkept keeper keeper'
 
--- The link at this place took the event, by which it moved on in time, and sent these frames; the others are as before.
+-- The port at this place took the event, by which it moved on in time, and sent these frames; the others are as before.
 -- A clock goes on by at most 60000 with an entry, and without one not at all: ticks always ask an entry.
-pub record MovedOn (old new : List LinkState) (place : ℕ) (e : Event) (asked : Option Entry)
+pub record MovedOn (old new : List PortState) (place : ℕ) (e : Event) (asked : Option Entry)
     (more : List Sent) : Type 0 where
-  pub before : LinkState
-  pub after : LinkState
+  pub before : PortState
+  pub after : PortState
   pub found : slice_get old place ≡ Some before
   pub set : new ≡ slice_set old place after
-  pub time : after.now ≡ time_after before.now e
-  pub pace : after.now ≤ before.now + 60000 * length (option_to_list asked)
-  pub within : AreWithin before.now after.now more
+  pub time : after.link.now ≡ time_after before.link.now e
+  pub pace : after.link.now ≤ before.link.now + 60000 * length (option_to_list asked)
+  pub within : AreWithin before.link.now after.link.now more
 
 -- the link at this place has come to its closing time
-pub record IsClosed (links : List LinkState) (place : ℕ) : Type 0 where
-  pub link : LinkState
-  pub found : slice_get links place ≡ Some link
-  pub late : closing_time < link.now
+pub record IsClosed (ports : List PortState) (place : ℕ) : Type 0 where
+  pub port : PortState
+  pub found : slice_get ports place ≡ Some port
+  pub late : closing_time < port.link.now
 
 -- no link has come past its closing time
-abbrev pub AreEarly : List LinkState → Type 0
-AreEarly links = (i : ℕ) (link : LinkState) → slice_get links i ≡ Some link → link.now ≤ closing_time
+abbrev pub AreEarly : List PortState → Type 0
+AreEarly ports = (i : ℕ) (port : PortState) → slice_get ports i ≡ Some port → port.link.now ≤ closing_time
 
 -- P holds of the setup, and of each interleaving and journal that the server stands for
 abbrev pub EachRun : ServerState → (RawSetup → List (ℕ × Event) → List Entry → Type 0) → Type 0
@@ -132,7 +137,7 @@ pub record Settled (old new : ServerState) (who : ℕ) (e : Event) (asked : Opti
     (more : List Sent) : Type 0 where
   pub answer : IfSome asked (λ k. k.reply ≡ reply_to old.ecu k.who k.step)
   pub ecu : new.ecu ≡ after old.ecu (option_to_list asked)
-  pub moved : MovedOn old.links new.links (who - 1) e asked more
+  pub moved : MovedOn old.ports new.ports (who - 1) e asked more
   pub served : EachRun old (λ setup M K. Served setup new M K who e asked more)
 
 -- A server took a tester's event, and these frames were handed out behind those before; a keeper has its entry, before
@@ -142,21 +147,21 @@ pub record ServerTook {X : Type 0} (keeps : X → ℕ → Entry → X → Type 0
   pub asked : Option Entry
   pub by : IfSome asked (λ k. k.who ≡ who)
   pub sent : Grew out out' (λ more. Settled old new who e asked more)
-  pub early : sent.holds.moved.before.now ≤ closing_time
-  pub kept : HasKept keeps keeper keeper' sent.holds.moved.before.now asked
+  pub early : sent.holds.moved.before.link.now ≤ closing_time
+  pub kept : HasKept keeps keeper keeper' sent.holds.moved.before.link.now asked
 
 -- an event to each of so many testers, in order
 abbrev pub each_of : ℕ → Event → List (ℕ × Event)
 each_of n e = map (λ t. (t, e)) (counted_from 1 n)
 
--- The first n testers took so many ticks each, in order, in which their links did nothing: their clocks went on, and no
--- tester is sent a frame more. The other links are as before.
+-- The first n testers took so many ticks each, in order, in which their ports did nothing: their clocks went on, and no
+-- tester is sent a frame more. The other ports are as before.
 pub record Waited (old new : ServerState) (n count : ℕ) : Type 0 where
-  pub many : length new.links ≡ length old.links
-  pub time : (i : ℕ) (link : LinkState) → slice_get new.links i ≡ Some link
-      → (before : LinkState) × (slice_get old.links i ≡ Some before)
-      × (link.now ≤ before.now + count)
-  pub rest : (i : ℕ) → n ≤ i → slice_get new.links i ≡ slice_get old.links i
+  pub many : length new.ports ≡ length old.ports
+  pub time : (i : ℕ) (port : PortState) → slice_get new.ports i ≡ Some port
+      → (before : PortState) × (slice_get old.ports i ≡ Some before)
+      × (port.link.now ≤ before.link.now + count)
+  pub rest : (i : ℕ) → n ≤ i → slice_get new.ports i ≡ slice_get old.ports i
   pub served : EachRun old (λ setup M K. (journal : List Entry)
       × Serves setup new (M ++ each_of n (Ticks count)) journal
       × ((t : ℕ) → sent_to setup (M ++ each_of n (Ticks count)) journal t ≡ sent_to setup M K t))

@@ -4,8 +4,8 @@ use Rattle.diag_can.specs.declared.frame.Event.{Event}
 use Rattle.diag_tp.specs.declared.sent.Sent.{Sent}
 use Rattle.diag_setup.specs.declared.raw.RawSetup.{RawSetup}
 use Rattle.diag_ecu.specs.State.{opening}
-use Rattle.diag_desk.specs.declared.entry.Entry.{Entry}
 use Rattle.diag_desk.specs.Legal.{Run, Legal, after}
+use Rattle.diag_desk.specs.Timed.{Timed, entries_of, timed}
 use Rattle.diag_world.specs.Channel.{ChannelState, GoesOn}
 use Rattle.diag_world.specs.Server.{ServerState, Serves, sent_to}
 
@@ -30,17 +30,18 @@ world_of desk channels = record {
   desk = desk;
   server = record {
     ecu = after desk.opening desk.journal;
-    links = map (λ channel. channel.link) channels;
+    ports = map (λ channel. channel.port) channels;
   };
   sent = map (λ channel. channel.sent) channels;
 }
 
--- A tester's event was taken: the desk has the entries that it gives more, still a legal run, and with them the tester's
--- channel went on.
+-- A tester's event was taken: the desk has the entries that it gives more, still a legal run, and with them and the delays
+-- of their replies the tester's channel went on.
 pub record Took (old new : Run) (who : ℕ) (e : Event) (channel channel' : ChannelState)
     : Type 0 where
-  pub entries : List Entry
-  pub grown : new ≡ record { opening = old.opening; journal = old.journal ++ entries }
+  pub entries : List Timed
+  pub delays : entries ≡ timed (after old.opening old.journal) (entries_of entries)
+  pub grown : new ≡ record { opening = old.opening; journal = old.journal ++ entries_of entries }
   pub legal : Legal new.opening new.journal
   pub goes_on : GoesOn who channel channel' e entries
 

@@ -1,4 +1,4 @@
-//! One tester's channel: its link, and what it was sent.
+//! One tester's channel: its port, and what it was sent.
 
 ghost use Rattle.std.specs.Prelude.{
   ◌≡◌,
@@ -11,45 +11,41 @@ ghost use Rattle.std.specs.Prelude.{
   ◌↔◌,
 };
 ghost use Rattle.diag_tp.specs.Gives.{gives};
-ghost use Rattle.diag_world.specs.Channel.{due, channel_of, ChannelTook, EachChannelRun, ChannelStands};
+ghost use Rattle.diag_world.specs.Channel.{channel_of, IsResting, ChannelTook, EachChannelRun, ChannelStands};
 
-use crate::port;
-use crate::stepping::TakeSteps;
 use diag_can::Event;
 use diag_desk::StepFault;
 use diag_pdu::LinkSetup;
+use diag_port::{Pace, Port, TakeSteps, take};
 use diag_setup::TesterId;
-use diag_tp::{Link, Sent};
+use diag_tp::Sent;
 use std::alloc::Global;
 
-/// One tester's link, and the frames that the tester was sent.
+/// One tester's port, and the frames that the tester was sent.
 #[derive(Drop)]
 pub struct Channel {
-    link: Link,
+    port: Port,
     sent: Vec<Sent>,
 }
 
 impl Channel {
     /// The channel of a tester to whom nothing has happened.
-    pub fn new(alloc: Global, setup: LinkSetup) -> Channel
-        ensures stands { ChannelStands setup (channel_of result) [] [] }
-        ensures drained { due (channel_of result) ≡ 0 }
+    pub fn new(alloc: Global, setup: LinkSetup, pace: Pace) -> Channel
+        ensures stands { ChannelStands setup pace (channel_of result) [] [] }
+        ensures rest { IsResting result }
     {
-        let link = Link::new(alloc, setup);
-        let drained = link.is_drained();
-        prove!(drained);
         Channel {
-            link,
+            port: Port::new(alloc, setup, pace),
             sent: Vec::new(alloc),
         }
     }
 
     /// Whether an event gives a step.
     pub(crate) fn gives_step(&self, event: &Event) -> bool
-        ensures { EachChannelRun (channel_of self.now) (λ s E K.
+        ensures { EachChannelRun (channel_of self.now) (λ s pace E T.
             IsTrue result ↔ IsSome (gives s E event.now)) }
     {
-        port::gives_step(&self.link, event)
+        self.port.gives_step(event)
     }
 
     /// Takes an event of its tester: has the step that it gives taken, and sends what is due. Refused, nothing has changed.
@@ -59,19 +55,19 @@ impl Channel {
         event: &Event,
         taker: &mut T,
     ) -> Result<(), StepFault>
-        requires drained { due (channel_of self.old) ≡ 0 }
-        requires allows { T.allows taker.old who (channel_of self.old).link.now }
+        requires rest { IsResting self.old }
+        requires allows { T.allows taker.old who (channel_of self.old).port.link.now }
         ensures took { OnOk result (ChannelTook T.takes (channel_of self.old) (channel_of self.new)
             taker.old taker.new who event.now) }
-        ensures drained { due (channel_of self.new) ≡ 0 }
+        ensures rest { IsResting self.new }
         ensures refused { OnErr result
             ((channel_of self.new ≡ channel_of self.old) × T.refuses taker.old taker.new) }
         ensures full { result ≡ Err StepFault.JournalFull
             → T.is_full taker.old
-            × EachChannelRun (channel_of self.old) (λ s E K. IsSome (gives s E event.now)) }
+            × EachChannelRun (channel_of self.old) (λ s pace E T. IsSome (gives s E event.now)) }
         ensures stays { T.stays taker.old taker.new }
     {
-        port::take(&mut self.link, who, event, taker, &mut self.sent)
+        take(&mut self.port, who, event, taker, &mut self.sent)
     }
 
     /// The frames that were sent, in order.
@@ -85,7 +81,7 @@ impl Channel {
     pub fn into_sent(self) -> Vec<Sent>
         ensures { result.items ≡ (channel_of self).sent }
     {
-        let Channel { link: _, sent } = self;
+        let Channel { port: _, sent } = self;
         sent
     }
 }

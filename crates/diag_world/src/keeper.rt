@@ -2,7 +2,7 @@
 
 ghost use Rattle.std.specs.Prelude.{◌≡◌, ◌≤◌, Err, OnOk, OnErr, option_copied};
 ghost use Rattle.diag_desk.specs.Entries.{asks};
-ghost use Rattle.diag_world.specs.Port.{entry_of_ticks};
+ghost use Rattle.diag_port.specs.Standing.{entry_of_ticks};
 ghost use Rattle.diag_world.specs.Server.{closing_time};
 
 use diag_can::TickCount;

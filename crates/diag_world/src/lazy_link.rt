@@ -1,30 +1,31 @@
-//! A tester's link that takes ticks late in which it does nothing.
+//! A tester's port that takes ticks late in which it does nothing.
 
 ghost use Rattle.std.specs.Prelude.{◌≡◌, ◌≤◌, []};
-ghost use Rattle.diag_tp.specs.Link.{quiet, StandsFor};
+ghost use Rattle.diag_port.specs.Port.{port_of, port_quiet};
+ghost use Rattle.diag_port.specs.Standing.{PortStands};
 ghost use Rattle.diag_world.specs.Lazy.{caught_up, IsLazy};
 
 use diag_pdu::LinkSetup;
-use diag_tp::Link;
+use diag_port::{Pace, Port};
 use std::alloc::Global;
 
-/// A tester's link, and how many of the ticks it has taken that have passed for all links.
+/// A tester's port, and how many of the ticks it has taken that have passed for all testers.
 ///
 /// In the others it does nothing, so it stands for what it is once it has caught up, in one move.
 #[derive(Drop)]
 pub(crate) struct LazyLink {
-    pub(crate) link: Link,
+    pub(crate) port: Port,
     pub(crate) taken: u64,
 }
 
 impl LazyLink {
-    /// A link with these settings, on which nothing has happened.
-    pub(crate) fn new(alloc: Global, setup: LinkSetup) -> LazyLink
+    /// A port whose link has these settings, on which nothing has happened.
+    pub(crate) fn new(alloc: Global, setup: LinkSetup, pace: Pace) -> LazyLink
         ensures lazy { IsLazy 0 result }
-        ensures stands { StandsFor setup (caught_up 0 result).state [] [] [] }
+        ensures stands { PortStands setup pace (port_of (caught_up 0 result)) [] [] }
     {
         LazyLink {
-            link: Link::new(alloc, setup),
+            port: Port::new(alloc, setup, pace),
             taken: 0,
         }
     }
@@ -33,14 +34,14 @@ impl LazyLink {
     #[inline(always)]
     pub(crate) fn catch_up(&mut self, passed: u64)
         requires lazy { IsLazy passed self.old }
-        ensures link { self.new.link ≡ caught_up passed self.old }
+        ensures port { self.new.port ≡ caught_up passed self.old }
         ensures taken { self.new.taken ≡ passed }
         ensures lazy { IsLazy passed self.new }
     {
         if self.taken == passed {
             return;
         }
-        self.link.advance_quietly(passed - self.taken);
+        self.port.advance_quietly(passed - self.taken);
         self.taken = passed;
     }
 
@@ -48,9 +49,9 @@ impl LazyLink {
     #[inline(always)]
     pub(crate) fn quiet(&self, passed: u64) -> u64
         requires lazy { IsLazy passed self.now }
-        ensures is { result ≡ quiet (caught_up passed self.now).state }
+        ensures is { result ≡ port_quiet (port_of (caught_up passed self.now)) }
         ensures some { 1 ≤ result }
     {
-        self.link.quiet_after(passed - self.taken)
+        self.port.quiet_after(passed - self.taken)
     }
 }

@@ -1,15 +1,12 @@
-//! All testers' links and the desk on one thread; the laws.
+//! All testers' ports and the desk on one thread; the laws.
 #![tactic(auto)]
 
 mod channel;
 mod keeper;
 mod laws;
 mod lazy_link;
-mod passing;
-mod port;
 mod serial_play;
 mod server;
-mod stepping;
 mod taking;
 mod world;
 
@@ -18,6 +15,5 @@ pub use keeper::{Keeper, NoJournal};
 pub use laws::{interleaving_law, turns_law, weaving_law};
 pub use serial_play::{Played, serial};
 pub use server::{CLOSING_TIME, Server, ServerFault};
-pub use stepping::TakeSteps;
 pub use taking::{TakeEvents, take_turns};
 pub use world::World;

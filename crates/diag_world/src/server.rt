@@ -1,4 +1,4 @@
-//! The server as it streams: the ECU and the testers' links, and neither a journal nor the frames that were sent.
+//! The server as it streams: the ECU and the testers' ports, and neither a journal nor the frames that were sent.
 
 ghost use Rattle.std.specs.Prelude.{
   ℕ,
@@ -24,23 +24,22 @@ ghost use Rattle.std.specs.Prelude.{
   IsSome,
 };
 ghost use Rattle.diag_tp.specs.Gives.{gives};
-ghost use Rattle.diag_tp.specs.Link.{pending, quiet};
 ghost use Rattle.diag_tp.specs.Moments.{last_time};
 ghost use Rattle.diag_setup.specs.Setup.{link_of};
 ghost use Rattle.diag_world.specs.Weaving.{items_of};
-ghost use Rattle.diag_world.specs.Port.{GivesStep};
-ghost use Rattle.diag_world.specs.Server.{closing_time, quiet_of, server_of, AreEarly, EachRun, IsClosed, LinkTook, Serves, ServerTook, TookNothing, Waited};
+ghost use Rattle.diag_port.specs.Port.{IsAtRest, port_of, port_quiet};
+ghost use Rattle.diag_port.specs.Standing.{GivesStep};
+ghost use Rattle.diag_world.specs.Server.{closing_time, quiet_of, server_of, AreEarly, EachRun, IsClosed, TesterTook, Serves, ServerTook, TookNothing, Waited};
 
 use crate::keeper::Keeper;
 use crate::lazy_link::LazyLink;
-use crate::port;
-use crate::stepping::TakeSteps;
 use diag_can::{Event, TickCount};
 use diag_desk::StepFault;
 use diag_ecu::Ecu;
 use diag_pdu::{Message, Request};
+use diag_port::{Pace, Port, TakeSteps, take};
 use diag_setup::{Setup, TesterId};
-use diag_tp::{Link, Sent};
+use diag_tp::Sent;
 use std::alloc::{AllocError, Global};
 use std::marker::Model;
 use thiserror::Error;
@@ -62,9 +61,9 @@ pub enum ServerFault {
 /// The last time of a link, in ticks, at which an event is taken.
 pub const CLOSING_TIME: u64 = 1 << 63;
 
-/// The ECU and each tester's link.
+/// The ECU and each tester's port.
 ///
-/// Ticks in which no link does anything are counted, and a link takes them with its next event.
+/// Ticks in which no port does anything are counted, and a port takes them with its next event.
 ///
 /// It keeps no history: its contract is the relation `Serves`, from each interleaving and journal that it stands for to
 /// those with one event more. `take` makes all growths, has the event answered and its entry kept by whoever keeps the
@@ -95,7 +94,7 @@ impl Model for Server {
     ghost Value = { ServerView };
 
     ghost view = { λ s.
-        record { ecu = s.ecu; links = map (λ lazy. caught_up s.passed lazy) s.links.items } };
+        record { ecu = s.ecu; ports = map (λ lazy. caught_up s.passed lazy) s.links.items } };
 
     ghost invariant = { λ s. AreLazy s.passed s.links.items };
 }
@@ -111,7 +110,7 @@ impl Server {
             let Some(who) = setup.who(index) else {
                 unreachable!()
             };
-            links.push_reserved(LazyLink::new(alloc, setup.link(who)));
+            links.push_reserved(LazyLink::new(alloc, setup.link(who), Pace::of(setup)));
         }
         Ok(Server {
             ecu,
@@ -133,7 +132,7 @@ impl Server {
         keeper: &mut K,
         out: &mut Vec<Sent>,
     ) -> Result<(), ServerFault>
-        requires in_setup { who ≤ length self.old.links }
+        requires in_setup { who ≤ length self.old.ports }
         ensures took { OnOk result (ServerTook K.keeps (server_of self.old) (server_of self.new)
             keeper.old keeper.new who event.now out.old.items out.new.items) }
         ensures place { K.place keeper.new ≡ K.place keeper.old }
@@ -148,32 +147,32 @@ impl Server {
             → EachRun (server_of self.old) (λ setup M journal.
             closing_time < last_time (items_of M who)) }
         ensures closed { result ≡ Err ServerFault.Clock
-            → IsClosed (server_of self.old).links (who - 1) }
+            → IsClosed (server_of self.old).ports (who - 1) }
     {
         let index = who.index();
         let lazy = &mut self.links[index];
         lazy.catch_up(self.passed);
-        take_at(&mut lazy.link, &mut self.ecu, who, event, keeper, out)
+        take_at(&mut lazy.port, &mut self.ecu, who, event, keeper, out)
     }
 
-    /// Takes so many ticks of each tester, in order, in which no link does anything. The entries that they give have no
+    /// Takes so many ticks of each tester, in order, in which no port does anything. The entries that they give have no
     /// reply, and aren't made.
     #[inline(always)]
     pub fn pass_quietly(&mut self, setup: &Setup, count: TickCount)
-        requires in_setup { length self.old.links ≡ length setup.now.testers }
-        requires quiet { count < quiet_of (server_of self.old).links }
-        requires early { AreEarly (server_of self.old).links }
+        requires in_setup { length self.old.ports ≡ length setup.now.testers }
+        requires quiet { count < quiet_of (server_of self.old).ports }
+        requires early { AreEarly (server_of self.old).ports }
         ensures waited { Waited (server_of self.old) (server_of self.new) (length setup.now.testers) count }
-        ensures rest { quiet_of (server_of self.old).links ≤ quiet_of (server_of self.new).links + count }
+        ensures rest { quiet_of (server_of self.old).ports ≤ quiet_of (server_of self.new).ports + count }
     {
         self.passed = self.passed.saturating_add(u64::from(count.get()));
         self.ecu.ticks_each(setup, count);
     }
 
-    /// For how many ticks of every tester no frame falls due and no reception or wait ends, before the last of them: the
-    /// least of the links; at least 1, and 2^64 - 1 where nothing is waited for.
+    /// For how many ticks of every tester no frame and no held reply falls due and no reception or wait ends, before the last
+    /// of them: the least of the ports; at least 1, and 2^64 - 1 where nothing is waited for.
     pub fn quiet(&self) -> u64
-        ensures is { result ≡ quiet_of (server_of self.now).links }
+        ensures is { result ≡ quiet_of (server_of self.now).ports }
         ensures some { 1 ≤ result }
     {
         let mut least = u64::MAX;
@@ -183,11 +182,11 @@ impl Server {
         least
     }
 
-    /// For how many ticks a tester's link does nothing before the last of them; at least 1.
+    /// For how many ticks a tester's port does nothing before the last of them; at least 1.
     #[inline(always)]
     pub fn quiet_at(&self, who: TesterId) -> u64
-        requires in_setup { who ≤ length self.now.links }
-        ensures is { IfSome (slice_get self.now.links (who - 1)) (λ link. result ≡ quiet link.state) }
+        requires in_setup { who ≤ length self.now.ports }
+        ensures is { IfSome (slice_get self.now.ports (who - 1)) (λ port. result ≡ port_quiet (port_of port)) }
         ensures some { 1 ≤ result }
     {
         let index = who.index();
@@ -210,13 +209,15 @@ struct Answering<'a, K> {
 }
 
 impl<'a, K: Keeper> TakeSteps for Answering<'a, K> {
-    ghost use Rattle.std.specs.Prelude.{◌≡◌, ◌≤◌, refl};
+    ghost use Rattle.std.specs.Prelude.{◌≡◌, ◌≤◌, false, refl};
     ghost use Rattle.diag_world.specs.Server.{Answered, closing_time};
 
     ghost allows = { λ _ _ before. before ≤ closing_time };
 
-    ghost takes = { λ old before k new.
-        Answered K.keeps old.ecu.now new.ecu.now old.keeper.now new.keeper.now before k };
+    ghost takes = { λ old before x new.
+        Answered K.keeps old.ecu.now new.ecu.now old.keeper.now new.keeper.now before x };
+
+    ghost can_delay = { λ _. false };
 
     ghost is_full = { λ answering. K.is_full answering.keeper.now };
 
@@ -228,19 +229,24 @@ impl<'a, K: Keeper> TakeSteps for Answering<'a, K> {
         × (K.place new.keeper.now ≡ K.place old.keeper.now) };
 
     #[inline(always)]
+    fn can_delay(&self) -> bool {
+        false
+    }
+
+    #[inline(always)]
     fn take_request(
         &mut self,
         before: u64,
         who: TesterId,
         request: &Request,
         reply: &mut Option<Message>,
-    ) -> Result<(), StepFault> {
+    ) -> Result<u32, StepFault> {
         let bytes = request.message.bytes();
         let effect = self.ecu.put_reply(who, request.functional, bytes, reply)?;
         self.keeper
             .keep_request(before, who, request, reply.as_ref())?;
         self.ecu.apply(who, bytes, effect);
-        Ok(())
+        Ok(0)
     }
 
     #[inline(always)]
@@ -260,31 +266,32 @@ impl<'a, K: Keeper> TakeSteps for Answering<'a, K> {
     ghost stays_itself = { λ _. (refl, refl, refl) };
 }
 
-/// Takes an event at a link, and has its entry kept. Refused, link, ECU and frames are as before.
+/// Takes an event at a port, and has its entry kept. Refused, port, ECU and frames are as before.
 #[inline(always)]
 fn take_at<K: Keeper>(
-    link: &mut Link,
+    port: &mut Port,
     ecu: &mut Ecu,
     who: TesterId,
     event: &Event,
     keeper: &mut K,
     out: &mut Vec<Sent>,
 ) -> Result<(), ServerFault>
-    requires drained { pending link.old.state ≡ 0 }
-    ensures took { OnOk result (LinkTook K.keeps ecu.old ecu.new link.old.state link.new.state
+    requires rest { IsAtRest port.old }
+    ensures took { OnOk result (TesterTook K.keeps ecu.old ecu.new (port_of port.old) (port_of port.new)
         keeper.old keeper.new who event.now out.old.items out.new.items) }
+    ensures rest { IsAtRest port.new }
     ensures place { K.place keeper.new ≡ K.place keeper.old }
     ensures err { OnErr result
-        (TookNothing K.unkept ecu.old ecu.new link.old.state link.new.state keeper.old keeper.new
+        (TookNothing K.unkept ecu.old ecu.new (port_of port.old) (port_of port.new) keeper.old keeper.new
         out.old.items out.new.items) }
     ensures full { result ≡ Err ServerFault.JournalFull
-        → K.is_full keeper.old × GivesStep link.old.state event.now }
-    ensures clock { result ≡ Err ServerFault.Clock → closing_time < link.old.state.now }
+        → K.is_full keeper.old × GivesStep port.old.link.state event.now }
+    ensures clock { result ≡ Err ServerFault.Clock → closing_time < port.old.link.state.now }
 {
-    if link.now() > CLOSING_TIME {
+    if port.now() > CLOSING_TIME {
         return Err(ServerFault::Clock);
     }
-    match take_early(link, ecu, who, event, keeper, out) {
+    match take_early(port, ecu, who, event, keeper, out) {
         Ok(()) => Ok(()),
         Err(StepFault::Memory) => Err(ServerFault::Memory),
         Err(StepFault::JournalFull) => Err(ServerFault::JournalFull),
@@ -294,24 +301,25 @@ fn take_at<K: Keeper>(
 /// The same before the link's closing time.
 #[inline(always)]
 fn take_early<K: Keeper>(
-    link: &mut Link,
+    port: &mut Port,
     ecu: &mut Ecu,
     who: TesterId,
     event: &Event,
     keeper: &mut K,
     out: &mut Vec<Sent>,
 ) -> Result<(), StepFault>
-    requires drained { pending link.old.state ≡ 0 }
-    requires early { link.old.state.now ≤ closing_time }
-    ensures took { OnOk result (LinkTook K.keeps ecu.old ecu.new link.old.state link.new.state
+    requires rest { IsAtRest port.old }
+    requires early { port.old.link.state.now ≤ closing_time }
+    ensures took { OnOk result (TesterTook K.keeps ecu.old ecu.new (port_of port.old) (port_of port.new)
         keeper.old keeper.new who event.now out.old.items out.new.items) }
+    ensures rest { IsAtRest port.new }
     ensures place { K.place keeper.new ≡ K.place keeper.old }
     ensures err { OnErr result
-        (TookNothing K.unkept ecu.old ecu.new link.old.state link.new.state keeper.old keeper.new
+        (TookNothing K.unkept ecu.old ecu.new (port_of port.old) (port_of port.new) keeper.old keeper.new
         out.old.items out.new.items) }
     ensures full { result ≡ Err StepFault.JournalFull
-        → K.is_full keeper.old × GivesStep link.old.state event.now }
+        → K.is_full keeper.old × GivesStep port.old.link.state event.now }
 {
     let mut answering = Answering { ecu, keeper };
-    port::take(link, who, event, &mut answering, out)
+    take(port, who, event, &mut answering, out)
 }

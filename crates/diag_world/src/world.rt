@@ -15,12 +15,13 @@ ghost use Rattle.std.specs.Prelude.{
   IsSome,
 };
 ghost use Rattle.diag_tp.specs.Gives.{gives};
-ghost use Rattle.diag_tp.specs.Placing.{drawn};
 ghost use Rattle.diag_setup.specs.Setup.{link_of};
-ghost use Rattle.diag_desk.specs.Entries.{own, replies};
 ghost use Rattle.diag_desk.specs.Entry.{IsJournal, most_entries};
 ghost use Rattle.diag_desk.specs.Legal.{IsOpening, Legal, after};
-ghost use Rattle.diag_world.specs.Channel.{due, channel_of, EachChannelRun};
+ghost use Rattle.diag_desk.specs.Timed.{own_timed, timed};
+ghost use Rattle.diag_port.specs.Late.{pace_of};
+ghost use Rattle.diag_port.specs.Placing.{drawn};
+ghost use Rattle.diag_world.specs.Channel.{channel_of, IsResting, EachChannelRun};
 ghost use Rattle.diag_world.specs.Weaving.{items_of};
 ghost use Rattle.diag_world.specs.World.{EachInterleaving, Stands, Took};
 
@@ -30,12 +31,13 @@ use crate::taking::TakeEvents;
 use diag_can::Event;
 use diag_desk::{Desk, Journal, StepFault};
 use diag_ecu::Ecu;
+use diag_port::Pace;
 use diag_setup::{Setup, TesterId};
 use diag_tp::Sent;
 use std::alloc::{AllocError, Global};
 use std::marker::Model;
 
-/// A desk with a channel for each tester. Contracts see its ECU and links as a server.
+/// A desk with a channel for each tester. Contracts see its ECU and ports as a server.
 #[derive(Drop)]
 pub struct World {
     desk: Desk,
@@ -44,14 +46,14 @@ pub struct World {
 
 impl Model for World {
     ghost use Rattle.std.specs.Prelude.{map};
-    ghost use Rattle.diag_world.specs.Channel.{channel_of, NoneDue};
+    ghost use Rattle.diag_world.specs.Channel.{channel_of, AreResting};
     ghost use Rattle.diag_world.specs.World.{WorldState, world_of};
 
     ghost Value = { WorldState };
 
     ghost view = { λ w. world_of w.desk (map channel_of w.channels.items) };
 
-    ghost invariant = { λ w. NoneDue (map channel_of w.channels.items) };
+    ghost invariant = { λ w. AreResting w.channels.items };
 }
 
 impl World {
@@ -65,7 +67,7 @@ impl World {
             let Some(who) = setup.who(index) else {
                 unreachable!()
             };
-            channels.push_reserved(Channel::new(alloc, setup.link(who)));
+            channels.push_reserved(Channel::new(alloc, setup.link(who), Pace::of(setup)));
         }
         Ok(World { desk, channels })
     }
@@ -115,7 +117,8 @@ impl World {
     pub fn sent(&self, who: TesterId) -> &[Sent]
         requires in_setup { who ≤ length self.now.sent }
         ensures { EachInterleaving self.now (λ setup M. result.now ≡ drawn
-            (link_of setup who) (items_of M who) (replies (own self.now.desk.journal who))) }
+            (link_of setup who) (pace_of setup) (items_of M who)
+            (own_timed (timed self.now.desk.opening self.now.desk.journal) who)) }
     {
         let index = who.index();
         self.channels[index].sent()
@@ -167,18 +170,18 @@ fn take(
     who: TesterId,
     event: &Event,
 ) -> Result<(), StepFault>
-    requires drained { due (channel_of channel.old) ≡ 0 }
+    requires rest { IsResting channel.old }
     ensures ok { OnOk result
         (Took desk.old desk.new who event.now (channel_of channel.old) (channel_of channel.new)) }
     ensures journal { IsJournal desk.old.journal }
-    ensures drained { due (channel_of channel.new) ≡ 0 }
+    ensures rest { IsResting channel.new }
     ensures err { OnErr result
         ((desk.new ≡ desk.old) × (channel_of channel.new ≡ channel_of channel.old)) }
     ensures full { result ≡ Err StepFault.JournalFull
         → (length desk.old.journal ≡ most_entries)
-        × EachChannelRun (channel_of channel.old) (λ s E K. IsSome (gives s E event.now)) }
+        × EachChannelRun (channel_of channel.old) (λ s pace E T. IsSome (gives s E event.now)) }
     ensures first { length desk.old.journal ≡ most_entries
-        → EachChannelRun (channel_of channel.old) (λ s E K.
+        → EachChannelRun (channel_of channel.old) (λ s pace E T.
         IsSome (gives s E event.now) → result ≡ Err StepFault.JournalFull) }
 {
     if desk.journal().is_full() && channel.gives_step(event) {

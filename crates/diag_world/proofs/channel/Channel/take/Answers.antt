@@ -7,6 +7,6 @@ pub returns-clause-took : goal.returns-clause-took
 returns-clause-took g c = on_ok_weaker c.take.result (λ took. record {
   asked = took.asked;
   kept = took.kept;
-  goes_on = channel_goes_on (channel_of c.args.self.now) (channel_of (record { link = c.take.new.link; sent = c.take.new.out })) c.args.who
+  goes_on = channel_goes_on (channel_of c.args.self.now) (channel_of (record { port = c.take.new.port; sent = c.take.new.out })) c.args.who
       c.args.event.now took.asked took.sent.more took.sent.holds took.sent.grown;
 }) c.take.ensures.took

@@ -1,8 +1,8 @@
 use Rattle.std.proofs.Common.{◌≡◌, ◌≤◌, ◌+◌, min, length, map, ap, subst, sym, ◌∙◌, arith}
 use Rattle.diag_ecu.specs.Elapse.{elapse_each}
 use Rattle.diag_ecu.specs.State.{State}
-use Rattle.diag_tp.specs.Link.{last_tick, view_later}
-use Rattle.diag_tp.specs.State.{LinkView}
+use Rattle.diag_tp.specs.Link.{last_tick}
+use Rattle.diag_port.specs.Port.{port_of, whole_later}
 use Rattle.diag_world.specs.Server.{ServerView, Waited, quiet_of, server_of, state_at}
 use Rattle.diag_world.proofs.Lazy.{all_passed, are_quiet, rest_all, seen_links, seen_passed, waited_all}
 use Rattle.diag_world.proofs.server.Server.pass_quietly.Goals as goal
@@ -16,7 +16,7 @@ invariant_of-self c =
     let sum : passed' ≡ min (passed + count) last_tick = omega (arith, c.saturating_add-self-inside.ensures, c.from.ensures, c.get.ensures.value) in
     let some : 1 ≤ count = omega (arith, c.get.ensures.value, c.get.ensures.in_range.0) in
     let most : count ≤ 60000 = omega (arith, c.get.ensures.value, c.get.ensures.in_range.1) in
-    let quiet = are_quiet passed count links c.args.self.now.links (ap (λ (v : ServerView). v.links) c.self.view_is) c.self.invariant c.requires.quiet c.requires.early in
+    let quiet = are_quiet passed count links c.args.self.now.ports (ap (λ (v : ServerView). v.ports) c.self.view_is) c.self.invariant c.requires.quiet c.requires.early in
     λ i lazy at. (all_passed passed passed' count links sum c.self.invariant some most quiet i lazy at).after
 
 pub returns-clause-waited : goal.returns-clause-waited
@@ -28,13 +28,13 @@ returns-clause-waited c =
     let ecu = c.self.inside.ecu in
     let n = length c.args.setup.now.testers in
     let seen = seen_links passed links in
-    let later = map (λ l. view_later count l) seen in
+    let later = map (λ l. whole_later count l) seen in
     let sum : passed' ≡ min (passed + count) last_tick = omega (arith, c.saturating_add-self-inside.ensures, c.from.ensures, c.get.ensures.value) in
     let some : 1 ≤ count = omega (arith, c.get.ensures.value, c.get.ensures.in_range.0) in
     let most : count ≤ 60000 = omega (arith, c.get.ensures.value, c.get.ensures.in_range.1) in
-    let quiet = are_quiet passed count links c.args.self.now.links (ap (λ (v : ServerView). v.links) c.self.view_is) c.self.invariant c.requires.quiet c.requires.early in
+    let quiet = are_quiet passed count links c.args.self.now.ports (ap (λ (v : ServerView). v.ports) c.self.view_is) c.self.invariant c.requires.quiet c.requires.early in
     let next = all_passed passed passed' count links sum c.self.invariant some most quiet in
-    let many : length seen ≡ n = ap (λ (v : ServerView). length v.links) c.self.view_is ∙ c.requires.in_setup in
+    let many : length seen ≡ n = ap (λ (v : ServerView). length v.ports) c.self.view_is ∙ c.requires.in_setup in
     let waited : Waited (state_at ecu seen) (state_at (elapse_each ecu n count) later) n count =
     subst (λ m. Waited (state_at ecu seen) (state_at (elapse_each ecu m count) later) m count) many (waited_all ecu count seen some most quiet) in
     let gone : Waited (state_at ecu seen) (state_at c.ticks_each.new.self later) n count =
@@ -49,13 +49,12 @@ returns-clause-rest c =
     let passed' = c.saturating_add-self-inside.result in
     let links = c.self.inside.links.items in
     let count = c.args.count in
-    let state = λ (l : LinkView). l.state in
     let seen = seen_links passed links in
     let sum : passed' ≡ min (passed + count) last_tick = omega (arith, c.saturating_add-self-inside.ensures, c.from.ensures, c.get.ensures.value) in
     let some : 1 ≤ count = omega (arith, c.get.ensures.value, c.get.ensures.in_range.0) in
     let most : count ≤ 60000 = omega (arith, c.get.ensures.value, c.get.ensures.in_range.1) in
-    let quiet = are_quiet passed count links c.args.self.now.links (ap (λ (v : ServerView). v.links) c.self.view_is) c.self.invariant c.requires.quiet c.requires.early in
+    let quiet = are_quiet passed count links c.args.self.now.ports (ap (λ (v : ServerView). v.ports) c.self.view_is) c.self.invariant c.requires.quiet c.requires.early in
     let next = all_passed passed passed' count links sum c.self.invariant some most quiet in
-    let rest : quiet_of (map state seen) ≤ quiet_of (map state (seen_links passed' links)) + count =
-    subst (λ ls. quiet_of (map state seen) ≤ quiet_of (map state ls) + count) (sym (seen_passed passed passed' count links next)) (rest_all count seen quiet.drained) in
-    subst (λ (v : ServerView). quiet_of (map state v.links) ≤ quiet_of (map state (seen_links passed' links)) + count) c.self.view_is rest
+    let rest : quiet_of (map port_of seen) ≤ quiet_of (map port_of (seen_links passed' links)) + count =
+    subst (λ ls. quiet_of (map port_of seen) ≤ quiet_of (map port_of ls) + count) (sym (seen_passed passed passed' count links next)) (rest_all count seen quiet.rest) in
+    subst (λ (v : ServerView). quiet_of (map port_of v.ports) ≤ quiet_of (map port_of (seen_links passed' links)) + count) c.self.view_is rest

@@ -1,9 +1,9 @@
 use Rattle.std.proofs.Common.{◌≡◌, refl, subst, sym}
 use Rattle.std.specs.Prelude.{IfSome}
-use Rattle.diag_tp.specs.Link.{quiet}
-use Rattle.diag_tp.specs.State.{LinkView}
+use Rattle.diag_port.specs.declared.port.Port.{Port}
+use Rattle.diag_port.specs.Port.{port_of, port_quiet}
 use Rattle.diag_world.specs.Lazy.{caught_up}
-use Rattle.diag_world.proofs.Tester.{lazy_at, link_at, seen_there}
+use Rattle.diag_world.proofs.Tester.{lazy_at, port_there, seen_there}
 use Rattle.diag_world.proofs.server.Server.quiet_at.Goals as goal
 
 pub quiet-requires : goal.quiet-requires
@@ -15,6 +15,6 @@ quiet-requires c =
 
 pub returns-clause-is : goal.returns-clause-is
 returns-clause-is c =
-    let here = link_at c.self.inside.links.items c.self.inside.passed _ c.self.view_is c.requires.in_setup c.index-index.ensures.from_one
+    let here = port_there c.self.inside.links.items c.self.inside.passed _ c.self.view_is c.requires.in_setup c.index-index.ensures.from_one
     c.index.ensures (caught_up c.self.inside.passed c.index.result.now) refl in
-    subst (λ o. IfSome o (λ (link : LinkView). c.quiet.result ≡ quiet link.state)) (sym (seen_there here)) c.quiet.ensures.is
+    subst (λ o. IfSome o (λ (port : Port). c.quiet.result ≡ port_quiet (port_of port))) (sym (seen_there here)) c.quiet.ensures.is

@@ -20,12 +20,12 @@ loop-index-preserved c =
       stand = λ i channel at. elim (push_cases (map channel_of before) i (channel_of one) channel (rw seen at at)) [
         | inl p ↦ (
             let here : i + 1 ≡ c.in-Some.who = omega (arith, p.0, many, inv.count, place) in
-            rw (p.1, here, sym c.link.ensures) c.new-in-loop-index.ensures.stands)
+            rw (p.1, here, sym c.link.ensures, sym c.of.ensures) c.new-in-loop-index.ensures.stands)
         | inr p ↦ inv.stand i channel p
       ];
-      drained = λ i channel at. elim (push_cases (map channel_of before) i (channel_of one) channel (rw seen at at)) [
-        | inl p ↦ rw p.1 c.new-in-loop-index.ensures.drained
-        | inr p ↦ inv.drained i channel p
+      rest = λ i channel at. elim (push_cases before i one channel (rw grown at at)) [
+        | inl p ↦ rw p.1 c.new-in-loop-index.ensures.rest
+        | inr p ↦ inv.rest i channel p
       ];
       room = omega (arith, inv.room, c.push_reserved.ensures.capacity);
     }
