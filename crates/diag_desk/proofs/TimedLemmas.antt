@@ -1,9 +1,9 @@
 -- The delays of a run that goes on, and of one tester's entries.
-use Rattle.std.proofs.Common.{◌≡◌, ℕ, ◌==◌, Bool, true, false, List, [], ◌∷◌, ◌++◌, refl, ap, map, cond}
+use Rattle.std.proofs.Common.{◌≡◌, ℕ, ◌==◌, true, false, List, [], ◌∷◌, ◌++◌, refl, ap, sym, ◌∙◌, cond}
 use Rattle.diag_desk.specs.declared.entry.Entry.{Entry}
 use Rattle.diag_desk.specs.Entries.{own}
 use Rattle.diag_desk.specs.Legal.{after, after_step}
-use Rattle.diag_desk.specs.Timed.{Timed, entries_of, own_timed, timed, timed_entry}
+use Rattle.diag_desk.specs.Timed.{Timed, delay_to, entries_of, last_after, last_delay, own_timed, timed, timed_entry}
 use Rattle.diag_ecu.specs.State.{State}
 
 -- further entries leave the delays of those before, and theirs are told by the state that those make
@@ -33,3 +33,17 @@ own_timed-append (x ∷ xs) ys t =
       | true ↦ ap (λ w. x ∷ w) rest
       | false ↦ rest
     ]
+
+-- the delay of the last step is that of the entry that was added last
+last_of : (n : ℕ) (xs : List Timed) (x : Timed) → last_after n (xs ++ x ∷ []) ≡ x.after
+last_of n [] x = refl
+last_of n (y ∷ xs) x = last_of y.after xs x
+
+pub last_entered : (s : State) (J : List Entry) (e : Entry) → last_delay (timed s (J ++ e ∷ [])) ≡ delay_to (after s J) e.who e.step
+last_entered s J e = ap last_delay (timed-append s J (e ∷ [])) ∙ last_of 0 (timed s J) (timed_entry (after s J) e)
+
+-- a desk after a step: now is the state before it
+pub keeps_delay : (s : State) (J K : List Entry) (e : Entry) (now : State) (n : ℕ) → now ≡ after s J → K ≡ J ++ e ∷ []
+    → n ≡ delay_to now e.who e.step → n ≡ last_delay (timed s K)
+keeps_delay s J K e now n at is delay =
+    delay ∙ ap (λ x. delay_to x e.who e.step) at ∙ sym (ap (λ (L : List Entry). last_delay (timed s L)) is ∙ last_entered s J e)

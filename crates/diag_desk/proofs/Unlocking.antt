@@ -1,5 +1,5 @@
 -- A level is unlocked by its key alone, and stays unlocked only while its tester is the holder: of the runs of a desk.
-use Rattle.std.proofs.Common.{◌≡◌, ℕ, zero, suc, ◌<◌, ◌≤◌, ◌⊎◌, inl, inr, List, [], ◌∷◌, length, take, slice_get, Some, None, refl, sym, ap, ◌∙◌, arith}
+use Rattle.std.proofs.Common.{◌≡◌, ℕ, zero, suc, ◌<◌, ◌≤◌, ◌⊎◌, inl, inr, List, [], ◌∷◌, length, take, slice_get, Some, None, refl, sym, ap, subst, ◌∙◌, arith}
 use Rattle.diag_ecu.specs.State.{State}
 use Rattle.diag_ecu.specs.Elapse.{elapse}
 use Rattle.diag_ecu.specs.Bytes.{bytes_16}
@@ -7,7 +7,7 @@ use Rattle.diag_ecu.specs.Respond.{write_level}
 use Rattle.diag_ecu.specs.Unlocking.{HasUnlocked, write_level_of}
 use Rattle.diag_ecu.proofs.Unlocking as ecu
 use Rattle.diag_desk.specs.Legal.{after_step, after, Legal, reply_to}
-use Rattle.diag_desk.specs.Unlocking.{SendsKey, UnlockedBefore, UnlockLaw}
+use Rattle.diag_desk.specs.Unlocking.{IsOwn, SendsKey, UnlockedBefore, UnlockLaw}
 use Rattle.diag_pdu.specs.declared.step.Step.{Step}
 use Rattle.diag_pdu.specs.declared.step.Step.TheVariants.{Request, Ticks}
 use Rattle.diag_desk.specs.declared.entry.Entry.{Entry}
@@ -26,7 +26,13 @@ step_unlocks s e holder level h =
       | Request request ↦ λ is u.
           elim (ecu.request_unlocks s e.who request.message holder level u) [
             | inl before ↦ inl before
-            | inr key ↦ inr (record { sender = key.0; request = request; is_request = is; is_key = key.1 })
+            | inr key ↦ inr (record {
+              sender = key.0.0;
+              request = request;
+              is_request = is;
+              is_key = key.0.1;
+              is_own = subst (λ n. IsOwn s n (Request request)) key.0.0 key.1;
+            })
           ]
       | Ticks n ↦ λ is u. inl (ecu.unlocked_before s (elapse s e.who n) holder level (ecu.elapse_keeps s e.who n) u)
     ] refl h
@@ -98,17 +104,17 @@ legal_at s [] i e legal at = cc
 legal_at s (x ∷ entries) zero e legal at = let same = same_Some x e at in rw (← same) legal.0
 legal_at s (x ∷ entries) (suc i) e legal at = legal_at (after_entry s x) entries i e legal.1 at
 
-reply_open : (s : State) (who id : ℕ) (step : Step) → reply_to s who step ≡ Some (0x6E ∷ bytes_16 id) → 0 < write_level_of s id
+reply_open : (s : State) (who id : ℕ) (step : Step) → IsOwn s who step → reply_to s who step ≡ Some (0x6E ∷ bytes_16 id) → 0 < write_level_of s id
     → HasUnlocked s who (write_level_of s id)
-reply_open s who id (Ticks n) e above = cc e
-reply_open s who id (Request request) e above = ecu.reply_open s who id request.functional request.message e above
+reply_open s who id (Ticks n) own e above = cc e
+reply_open s who id (Request request) own e above = ecu.reply_open s who id request.functional request.message own e above
 
 -- the law
 pub unlock : UnlockLaw
-unlock s entries locked legal i e id at written above =
+unlock s entries locked legal i e id at own written above =
     let now = after s (take i entries) in
     let rules : write_level_of now id ≡ write_level_of s id = ap write_level (run_rules s (take i entries) id) in
     let reply = sym (legal_at s entries i e legal at) ∙ written in
-    let opened = reply_open now e.who id e.step reply (rw rules above) in
+    let opened = reply_open now e.who id e.step own reply (rw rules above) in
     let below = slice_get_within entries i e at in
     since s entries i e.who (write_level_of s id) locked (omega arith) (rw rules at opened)

@@ -8,6 +8,7 @@ pub mod Line
 pub mod Clocks
 pub mod PartRead
 pub mod Legal
+pub mod Timed
 pub mod Replay
 pub mod Following
 pub mod Unlocking

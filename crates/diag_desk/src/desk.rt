@@ -5,6 +5,7 @@ ghost use Rattle.diag_ecu.specs.State.{opening};
 ghost use Rattle.diag_desk.specs.Entries.{asks, entry};
 ghost use Rattle.diag_desk.specs.Entry.{IsJournal, most_entries};
 ghost use Rattle.diag_desk.specs.Legal.{IsOpening, Legal, after, entered, is_ticks};
+ghost use Rattle.diag_desk.specs.Timed.{last_delay, timed};
 
 use crate::entry::StepRef;
 use crate::flat::bytes_of;
@@ -46,6 +47,8 @@ pub struct Desk {
     opening: Ecu,
     ecu: Ecu,
     journal: Journal,
+    /// How long after the last step its reply goes.
+    after_ms: u32,
 }
 
 // Written out, so that a function which lets a desk go makes one call, and doesn't go through all that it owns.
@@ -55,6 +58,7 @@ impl Drop for Desk {
             opening: _,
             ecu: _,
             journal: _,
+            after_ms: _,
         } = self;
     }
 }
@@ -63,6 +67,7 @@ impl Model for Desk {
     ghost use Rattle.std.specs.Prelude.{◌≡◌};
     ghost use Rattle.diag_desk.specs.Entry.{IsJournal};
     ghost use Rattle.diag_desk.specs.Legal.{IsOpening, Run, Legal, after};
+    ghost use Rattle.diag_desk.specs.Timed.{last_delay, timed};
 
     ghost Value = { Run };
 
@@ -71,7 +76,8 @@ impl Model for Desk {
     ghost invariant = { λ d. Legal d.opening d.journal.entries
         × (d.ecu ≡ after d.opening d.journal.entries)
         × IsJournal d.journal.entries
-        × IsOpening d.opening };
+        × IsOpening d.opening
+        × (d.after_ms ≡ last_delay (timed d.opening d.journal.entries)) };
 }
 
 impl Desk {
@@ -88,6 +94,7 @@ impl Desk {
             opening: ecu.try_copy()?,
             ecu,
             journal: Journal::new(alloc),
+            after_ms: 0,
         })
     }
 
@@ -110,6 +117,14 @@ impl Desk {
         ensures { result.now ≡ after self.now.opening self.now.journal }
     {
         &self.ecu
+    }
+
+    /// How long after the last step its reply goes, in milliseconds of its tester: 0 before the first, and of ticks.
+    #[inline(always)]
+    pub fn after_ms(&self) -> u32
+        ensures { result ≡ last_delay (timed self.now.opening self.now.journal) }
+    {
+        self.after_ms
     }
 
     /// Takes a step: a request, or ticks.
@@ -151,12 +166,13 @@ impl Desk {
         let bytes = request.message.bytes();
         self.journal.open(bytes.len())?;
         let mut reply = None;
-        let effect = self
+        let decided = self
             .ecu
             .put_reply(who, request.functional, bytes, &mut reply)?;
         let step = StepRef::of_request(request);
         self.journal.add(who, &step, bytes_of(reply.as_ref()));
-        self.ecu.apply(who, bytes, effect);
+        self.ecu.apply(who, bytes, decided);
+        self.after_ms = decided.after_ms;
         Ok(reply)
     }
 
@@ -173,6 +189,7 @@ impl Desk {
         self.journal.open(0)?;
         self.journal.add(who, &StepRef::of_ticks(count), None);
         self.ecu.ticks(who, count);
+        self.after_ms = 0;
         Ok(())
     }
 }

@@ -27,7 +27,7 @@ use crate::usual::{
     read_front, read_request, short_front,
 };
 use crate::version::JournalVersion;
-use diag_ecu::{Ecu, Effect};
+use diag_ecu::{Decision, Ecu, Effect};
 use diag_pdu::Message;
 use diag_setup::{Setup, TesterId};
 use std::alloc::{AllocError, Global};
@@ -150,13 +150,13 @@ impl Play {
         read_into(&mut self.bytes, message)?;
         let message = Message::of(alloc, self.bytes.as_slice())?;
         let mut said = None;
-        let effect = self
+        let decided = self
             .ecu
             .put_reply(who, functional, message.bytes(), &mut said)?;
         if !is_said(&mut self.bytes, reply, said.as_ref())? {
             return Ok(false);
         }
-        self.ecu.apply(who, message.bytes(), effect);
+        self.ecu.apply(who, message.bytes(), decided);
         Ok(true)
     }
 
@@ -230,6 +230,9 @@ fn answers_read<'a>(
     ensures none { IfNone result (ecu.new ≡ ecu.old) }
 {
     tell_read(front.high, front.low);
+    if ecu.has_answers() {
+        return None;
+    }
     let lent = ecu.lent_reply(who, functional, front.high, front.low);
     let Some(text) = behind_lent(lent, front.rest) else {
         return None;
@@ -237,7 +240,11 @@ fn answers_read<'a>(
     let Some(rest) = behind(b'\n', text) else {
         return None;
     };
-    ecu.apply(who, &[0x22, front.high, front.low], Effect::Nothing);
+    let nothing = Decision {
+        effect: Effect::Nothing,
+        after_ms: 0,
+    };
+    ecu.apply(who, &[0x22, front.high, front.low], nothing);
     Some(rest)
 }
 
@@ -272,7 +279,7 @@ fn answers_bytes<'a>(
     ensures none { IfNone result (ecu.new ≡ ecu.old) }
 {
     let mut said = None;
-    let Ok(effect) = ecu.put_reply(who, functional, bytes, &mut said) else {
+    let Ok(decided) = ecu.put_reply(who, functional, bytes, &mut said) else {
         return None;
     };
     let Some(text) = behind_reply(said.as_ref(), text) else {
@@ -281,7 +288,7 @@ fn answers_bytes<'a>(
     let Some(rest) = behind(b'\n', text) else {
         return None;
     };
-    ecu.apply(who, bytes, effect);
+    ecu.apply(who, bytes, decided);
     Some(rest)
 }
 

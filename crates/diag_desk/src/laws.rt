@@ -13,8 +13,9 @@ pub fn one_journal_law()
     ensures { OneJournalLaw }
 {}
 
-/// A value that needs a security level is written only after its tester has sent the level's key, and has stayed the
-/// holder with the level unlocked since (ISO 14229-1:2013, 9.4).
+/// A value that needs a security level is written by the services only after its tester has sent the level's key, or a
+/// key of the length of the level's keys where it takes any, and has stayed the holder with the level unlocked since (ISO
+/// 14229-1:2013, 9.4). What a row of answers says in their place is no such value.
 pub fn unlock_law()
     ensures { UnlockLaw }
 {}

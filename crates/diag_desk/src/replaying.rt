@@ -79,10 +79,10 @@ fn play(ecu: &mut Ecu, entry: &EntryRef<'_>) -> Result<bool, AllocError>
     match entry.step {
         StepRef::Request { functional, bytes } => {
             let mut reply = None;
-            let effect = ecu.put_reply(entry.who, functional, bytes, &mut reply)?;
+            let decided = ecu.put_reply(entry.who, functional, bytes, &mut reply)?;
             let same = is_same(entry.reply, reply.as_ref());
             if same {
-                ecu.apply(entry.who, bytes, effect);
+                ecu.apply(entry.who, bytes, decided);
             }
             Ok(same)
         }

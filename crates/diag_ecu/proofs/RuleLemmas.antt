@@ -1,5 +1,5 @@
 -- Where a row of answers decides, and where none does.
-use Rattle.std.proofs.Common.{◌≡◌, ℕ, Bool, true, false, cond, List, [], Option, Some, None, refl, ap, sym, ◌∙◌}
+use Rattle.std.proofs.Common.{◌≡◌, ℕ, Bool, true, false, cond, List, [], Option, Some, None, refl, ap}
 use Rattle.std.specs.Prelude.{unwrap_or, if◌then◌else◌}
 use Rattle.diag_setup.specs.declared.setup.ServerParameters.{ServerParameters}
 use Rattle.diag_store.specs.Answers as answers
@@ -8,7 +8,6 @@ use Rattle.diag_store.specs.declared.dids.DidRow.{DidRow}
 use Rattle.diag_store.specs.declared.dtcs.Dtc.{Dtc}
 use Rattle.diag_store.specs.declared.routines.Routine.{Routine}
 use Rattle.diag_store.specs.declared.security.SecurityState.{SecurityState}
-use Rattle.diag_ecu.specs.declared.effect.Decision.{Decision}
 use Rattle.diag_ecu.specs.declared.effect.Effect.{Effect}
 use Rattle.diag_ecu.specs.declared.effect.Effect.TheVariants.{Nothing, Answer}
 use Rattle.diag_ecu.specs.State.{State}

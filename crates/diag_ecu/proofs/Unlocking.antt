@@ -9,8 +9,7 @@ use Rattle.diag_store.specs.Routines as routines
 use Rattle.diag_store.specs.Security as security
 use Rattle.diag_store.specs.declared.dids.DidRow.{DidRow}
 use Rattle.diag_store.specs.declared.security.SecurityState.{SecurityState}
-use Rattle.diag_ecu.specs.declared.effect.Effect.{Effect}
-use Rattle.diag_ecu.specs.declared.effect.Effect.TheVariants.{Nothing, CountWrongKey, Answer}
+use Rattle.diag_ecu.specs.declared.effect.Effect.TheVariants.{Nothing, CountWrongKey}
 use Rattle.diag_ecu.specs.declared.service.Service.{Service}
 use Rattle.diag_ecu.specs.declared.service.Service.TheVariants.{DiagnosticSessionControl, EcuReset, ReadDtcInformation, SecurityAccess, WriteDataByIdentifier, RoutineControl}
 use Rattle.diag_ecu.specs.declared.service.Nrc.{Nrc}
