@@ -1,5 +1,5 @@
 -- The texts that a run writes.
-use Rattle.std.specs.Prelude.{ℕ, ◌+◌, nat_le, codes, decimal, if◌then◌else◌, List, [], ◌∷◌, ◌++◌, length, Option, Some, None}
+use Rattle.std.specs.Prelude.{ℕ, ◌+◌, ◌==◌, nat_le, codes, decimal, if◌then◌else◌, List, [], ◌∷◌, ◌++◌, length, Option, Some, None}
 use Rattle.std.specs.List.{flat_map}
 use Rattle.hex.specs.Hex.{encode_upper}
 use Rattle.diag_can.specs.Reply.{reply_line}
@@ -10,7 +10,7 @@ use Rattle.diag_setup.specs.Setup.{name_of}
 use Rattle.diag_setup.specs.declared.raw.RawSetup.{RawSetup}
 use Rattle.diag_store.specs.declared.dtcs.Dtc.{Dtc}
 use Rattle.diag_ecu.specs.Bytes.{bytes_24}
-use Rattle.diag_ecu.specs.State.{State}
+use Rattle.diag_ecu.specs.State.{State, session_of}
 use Rattle.diag_desk.specs.declared.entry.Entry.{Entry}
 use Rattle.diag_desk.specs.Legal.{Run, after}
 use Rattle.diag_desk.specs.Text.{journal_text, journal_text_at}
@@ -35,15 +35,22 @@ abbrev pub holder_name : RawSetup → ℕ → List ℕ
 holder_name setup who =
     if nat_le who (length setup.testers) then name_of setup who else (48 + who) ∷ []
 
-unfoldable pub extended_session : List ℕ
-extended_session = codes "session extended\nholder "
+-- the name of a session other than the default one (ISO 14229-1:2013, 9.2); its number in hex, where it has none
+abbrev pub session_name : ℕ → List ℕ
+session_name n =
+    if n == 0x02 then codes "programming"
+    else if n == 0x03 then codes "extended"
+    else if n == 0x04 then codes "safety"
+    else encode_upper (n ∷ [])
 
-abbrev pub extended_lines : RawSetup → ℕ → List ℕ
-extended_lines setup who = extended_session ++ (holder_name setup who ++ codes "\n")
+abbrev pub held_lines : RawSetup → ℕ → ℕ → List ℕ
+held_lines setup who session =
+    codes "session "
+    ++ (session_name session ++ (codes "\nholder " ++ (holder_name setup who ++ codes "\n")))
 
-abbrev pub holder_lines : RawSetup → Option ℕ → List ℕ
-holder_lines setup None = codes "session default\nholder none\n"
-holder_lines setup (Some who) = extended_lines setup who
+abbrev pub holder_lines : RawSetup → State → Option ℕ → List ℕ
+holder_lines setup s None = codes "session default\nholder none\n"
+holder_lines setup s (Some who) = held_lines setup who (session_of s who)
 
 -- a trouble code in three bytes, and its status
 abbrev pub code_line : ℕ → ℕ → List ℕ
@@ -56,7 +63,7 @@ code_lines dtcs = flat_map (λ dtc. code_line dtc.code dtc.status) dtcs
 
 -- the end of a run
 unfoldable pub end_text : RawSetup → State → List ℕ
-end_text setup s = holder_lines setup s.holder ++ code_lines s.dtcs
+end_text setup s = holder_lines setup s s.holder ++ code_lines s.dtcs
 
 -- all that a play writes, which left this desk and these frames
 abbrev pub whole_text : Timing → RawSetup → Run → List (List Sent) → List ℕ

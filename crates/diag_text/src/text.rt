@@ -3,7 +3,7 @@
 ghost use Rattle.std.specs.Prelude.{◌≡◌, ◌+◌, ◌++◌, ◌≤◌, length, map, IfOk, OnOk};
 ghost use Rattle.std.specs.List.{concat};
 ghost use Rattle.std.specs.Thread.{IsSync};
-ghost use Rattle.diag_text.specs.Text.{lines_of, lines_from, journal_part, holder_name, extended_session, extended_lines, holder_lines, code_line, code_lines, end_text, whole_text, replay_text};
+ghost use Rattle.diag_text.specs.Text.{lines_of, lines_from, journal_part, holder_name, held_lines, holder_lines, session_name, code_line, code_lines, end_text, whole_text, replay_text};
 
 use diag_can::{LineWriter, Timing, write_hex};
 use diag_desk::{Journal, journal_text, journal_text_at};
@@ -280,36 +280,44 @@ pub fn end_text(alloc: Global, setup: &Setup, ecu: &Ecu) -> Result<Vec<u8>, Allo
     ensures { IfOk result (λ text. text.items ≡ end_text setup.now ecu.now) }
 {
     let mut text = Vec::new(alloc);
-    add_holder(&mut text, setup, ecu.holder())?;
+    add_holder(&mut text, setup, ecu)?;
     add_codes(&mut text, ecu.dtcs())?;
     Ok(text)
 }
 
 /// Adds the lines of the session and of its holder.
-fn add_holder(text: &mut Vec<u8>, setup: &Setup, holder: Option<TesterId>) -> Result<(), AllocError>
-    ensures { OnOk result (text.new.items ≡ text.old.items ++ holder_lines setup.now holder) }
+fn add_holder(text: &mut Vec<u8>, setup: &Setup, ecu: &Ecu) -> Result<(), AllocError>
+    ensures { OnOk result
+        (text.new.items ≡ text.old.items ++ holder_lines setup.now ecu.now ecu.now.holder) }
 {
-    match holder {
+    match ecu.holder() {
         None => text.extend_from_slice(b"session default\nholder none\n"),
-        Some(who) => add_extended(text, setup, who),
+        Some(who) => add_held(text, setup, who, ecu.session_of(who)),
     }
 }
 
-/// Adds the lines of the extended session and of its holder.
-fn add_extended(text: &mut Vec<u8>, setup: &Setup, who: TesterId) -> Result<(), AllocError>
-    ensures { OnOk result (text.new.items ≡ text.old.items ++ extended_lines setup.now who) }
+/// Adds the lines of the session that this tester holds, and of the tester.
+fn add_held(text: &mut Vec<u8>, setup: &Setup, who: TesterId, session: u8) -> Result<(), AllocError>
+    ensures { OnOk result
+        (text.new.items ≡ text.old.items ++ held_lines setup.now who session) }
 {
-    add_session(text)?;
+    text.extend_from_slice(b"session ")?;
+    add_session(text, session)?;
+    text.extend_from_slice(b"\nholder ")?;
     add_name(text, setup, who)?;
     text.extend_from_slice(b"\n")
 }
 
-/// Adds the line of the extended session, and what stands before its holder.
-#[tactic(auto, unfolding(crate::specs::Text::extended_session))]
-fn add_session(text: &mut Vec<u8>) -> Result<(), AllocError>
-    ensures { OnOk result (text.new.items ≡ text.old.items ++ extended_session) }
+/// Adds the name of a session other than the default one (ISO 14229-1:2013, 9.2); its number, where it has none.
+fn add_session(text: &mut Vec<u8>, session: u8) -> Result<(), AllocError>
+    ensures { OnOk result (text.new.items ≡ text.old.items ++ session_name session) }
 {
-    text.extend_from_slice(b"session extended\nholder ")
+    match session {
+        0x02 => text.extend_from_slice(b"programming"),
+        0x03 => text.extend_from_slice(b"extended"),
+        0x04 => text.extend_from_slice(b"safety"),
+        _ => write_hex(text, &[session]),
+    }
 }
 
 /// Adds a tester's name; its place, where the setup has no such tester.

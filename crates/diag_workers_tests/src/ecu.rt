@@ -2,7 +2,7 @@
 
 use crate::trouble::{Trouble, holds};
 use diag_can::TickCount;
-use diag_ecu::{Ecu, Session};
+use diag_ecu::{DEFAULT_SESSION, Ecu};
 use diag_pdu::Message;
 use diag_setup::TesterId;
 use diag_store::Security;
@@ -92,9 +92,9 @@ fn leaves(alloc: Global, ecu: &mut Ecu, who: TesterId) -> Result<bool, Trouble> 
         Some(reply) => reply.bytes() == b"\x50\x01\x00\x32\x01\xF4".as_slice(),
         None => false,
     };
-    let stays = ecu.session_of(who) == Session::Extended;
+    let stays = ecu.session_of(who) == 0x03;
     ecu.settle(who, false, &request);
-    Ok(told && stays && ecu.session_of(who) == Session::Default)
+    Ok(told && stays && ecu.session_of(who) == DEFAULT_SESSION)
 }
 
 /// Whether a copy goes on where the first stands, and what it does leaves the first as it was.
