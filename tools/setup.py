@@ -7,6 +7,7 @@ the program refuses the setup, and 0 else. That goes for TOML 1.0 which isn't ne
 (docs/FORMATS.md), for these aren't looked at; what TOML 1.1 has besides, and a date or time that Python can't hold, is
 'syntax' here, and the program takes it. Needs Python 3.11 or later and its standard library alone."""
 import math
+import re
 import sys
 import tomllib
 from dataclasses import dataclass, replace
@@ -17,12 +18,18 @@ MOST_NUMBER = 0xFFFFFFFF
 MOST_BYTES = 1 << 20
 # the whole numbers of the program's TOML
 WHOLE = range(-(1 << 63), 1 << 63)
+# the items of an answer's pattern and of its templates, of two characters each
+PATTERN = re.compile(r"((?:[0-9A-Fa-f]{2}|\.\.)+)\*?")
+TEMPLATE = re.compile(r"(?:[0-9A-Fa-f]{2}|\$[0-9A-Fa-f]|\?\?)*")
+MOST_TEMPLATES = 65536
+MOST_PENDING = 255
 
 
 @dataclass(frozen=True)
 class Key:
-    """A key: how its value is read (a number, a truth value, a name or hex text), what it may be, and whether it has to
-    be there. `may` is a test of the value (of a name or hex text: of its characters or bytes), and `range` its words."""
+    """A key: how its value is read (a number, a truth value, a name, hex text, a pattern or templates), what it may be,
+    and whether it has to be there. `may` is a test of the value (of a name or hex text: of its characters or bytes; of a
+    pattern: of the number of its items; of templates: of their texts), and `range` its words."""
 
     read: str
     may: object = None
@@ -61,17 +68,21 @@ UNIT = {
     "attempts": number(1, 255),
     "delay_ms": number(1, 600000),
 }
+SESSION = number(0, 126)
 NAME = Key("text", lambda s: 1 <= len(s) <= 16 and s.isascii() and s.replace("_", "a").isalnum(), "1 to 16 letters, digits or _", True)
-SEED = Key("hex", lambda data: 1 <= len(data) <= 16 and any(data), "1 to 16 bytes, not all zero", True)
-ROWS = {"seed": SEED, "key": hex_text(1, 16)}
+SEED = Key("hex", lambda data: 1 <= len(data) <= 255 and any(data), "1 to 255 bytes, not all zero", True)
+ROWS = {"seed": SEED, "key": hex_text(1, 255)}
+REQUEST = Key("pattern", lambda items: items <= 64, "1 to 64 items", True)
+REPLY = Key("templates", lambda texts: 1 <= len(texts) <= 4096 and all(len(it) <= 2 * 4095 for it in texts), "1 to 4096 templates of at most 4095 items each")
 LISTS = {
     "tester": {"name": NAME, "request": identifier(0x7FF), "response": identifier(0x7FF)},
     "did": {"id": identifier(0xFFFF), "value": hex_text(1, 255), "read_level": REFERENCE, "write": TRUTH, "write_level": REFERENCE},
     "code": {"code": identifier(0xFFFFFE), "status": number(0, 255, True)},
     "routine": {"id": identifier(0xFFFF), "time_ms": number(1, 600000, True), "result": hex_text(0, 32, False), "level": REFERENCE, "code": REFERENCE, "status": number(0, 255)},
-    "level": {"sub": Key("number", lambda n: 1 <= n <= 65 and n % 2 == 1, "an odd number from 1 to 65", True)},
+    "level": {"sub": Key("number", lambda n: 1 <= n <= 65 and n % 2 == 1, "an odd number from 1 to 65", True), "any_key": TRUTH, "varies": TRUTH},
+    "answer": {"request": REQUEST, "reply": REPLY, "session": SESSION, "level": REFERENCE, "enter": SESSION, "after_ms": number(0, 600000)},
 }
-MOST_ROWS = {"tester": 8, "did": 64, "code": 256, "routine": 16, "level": 4, "level.row": 64}
+MOST_ROWS = {"tester": 8, "did": 1024, "code": 4096, "routine": 256, "level": 4, "level.row": 64, "answer": 1024}
 
 
 class Wrong(Exception):
@@ -88,13 +99,35 @@ def value_of(key, value):
         if not isinstance(value, int) or isinstance(value, bool) or not 0 <= value <= MOST_NUMBER:
             raise Wrong("it is a whole number, 0 or above")
         return value
+    if key.read == "templates":
+        return templates_of(value)
     if not isinstance(value, str):
         raise Wrong("it is a text in quotes")
     if key.read == "text":
         return value
+    if key.read == "pattern":
+        return items_of(value)
     if len(value) % 2 or any(c not in "0123456789abcdefABCDEF" for c in value):
         raise Wrong("it is bytes in hex, two digits each, and nothing between them")
     return bytes.fromhex(value)
+
+
+def items_of(value):
+    """How many items a pattern has."""
+    found = PATTERN.fullmatch(value)
+    if not found:
+        raise Wrong("it is a pattern: items of two hex digits or .. each, and maybe one * at its end")
+    return len(found[1]) // 2
+
+
+def templates_of(value):
+    """The texts of templates."""
+    if not isinstance(value, list):
+        raise Wrong("it is a list of templates, also where it is one alone")
+    for at, it in enumerate(value, 1):
+        if not isinstance(it, str) or not TEMPLATE.fullmatch(it):
+            raise Wrong(f"number {at} is no template: items of two hex digits, $ and one hex digit, or ?? each")
+    return value
 
 
 class Look:
@@ -146,7 +179,10 @@ class Look:
 
 
 def shown(value):
-    return f"{value} (0x{value:X})" if isinstance(value, int) and not isinstance(value, bool) and value > 9 else repr(value)
+    if isinstance(value, int) and not isinstance(value, bool) and value > 9:
+        return f"{value} (0x{value:X})"
+    text = repr(value)
+    return text if len(text) <= 80 else f"{text[:60]}.."
 
 
 def level_rows(look, table, row):
@@ -161,6 +197,24 @@ def level_rows(look, table, row):
         look.tell("empty", f"[[level]] {row} has no [[level.row]]")
 
 
+def answer_row(look, known, row, is_plain, most_after):
+    """What of a row of answers depends on more than one key. `is_plain`: it has no reply of its own; `most_after`: the
+    most that an answer may wait, for the pending responses before it are counted."""
+    place = f"of [[answer]] {row}"
+    if is_plain and known.get("enter", 0) > 0:
+        look.tell("range", f"enter {place} is {shown(known['enter'])}: it is 0 where there is no reply")
+    names = [int(it[at + 1], 16) for it in known.get("reply", []) for at in range(0, len(it), 2) if it[at] == "$"]
+    if "request" in known and max(names, default=-1) >= known["request"]:
+        look.tell("range", f"reply {place} names byte ${max(names):X}: the pattern has {known['request']}, from $0 on")
+    if known.get("after_ms", 0) > most_after:
+        look.tell("range", f"after_ms {place} is {shown(known['after_ms'])}: at most p2_ms and {MOST_PENDING} times p2_star_10ms, which is {most_after}")
+
+
+def most_after(unit):
+    """The most milliseconds after which an answer goes, by the times of the unit."""
+    return unit.get("p2_ms", 50) + MOST_PENDING * max(1, 10 * unit.get("p2_star_10ms", 500))
+
+
 def keys_of(path, table, keys):
     """The keys that count in a table: the status of a routine does beside its code alone, and has to be there then."""
     if path != "routine":
@@ -168,8 +222,8 @@ def keys_of(path, table, keys):
     return {name: replace(key, required=key.required or name == "status") for name, key in keys.items() if name != "status" or "code" in table}
 
 
-def read_lists(look, tree):
-    """The tables of all lists, as they are read."""
+def read_lists(look, tree, unit):
+    """The tables of all lists, as they are read, beside the keys of the whole unit."""
     lists = {}
     for path, keys in LISTS.items():
         lists[path] = []
@@ -177,6 +231,11 @@ def read_lists(look, tree):
             lists[path].append(look.table(table, keys_of(path, table, keys), path, row, ("row",) if path == "level" else ()))
             if path == "level":
                 level_rows(look, table, row)
+            if path == "answer":
+                answer_row(look, lists[path][-1], row, "reply" not in table, most_after(unit))
+    count = sum(len(it.get("reply", [])) for it in lists["answer"])
+    if count > MOST_TEMPLATES:
+        look.tell("range", f"the replies of [[answer]] are {count} in all: at most {MOST_TEMPLATES}")
     if tree.get("tester", []) == []:
         look.tell("empty", "there is no [[tester]]")
     return lists
@@ -209,7 +268,7 @@ def look_for_references(look, lists):
     for row, routine in enumerate(lists["routine"], 1):
         if "code" in routine and routine["code"] not in codes:
             look.tell("unknown code", f"code of [[routine]] {row} is 0x{routine['code']:06X}, which no [[code]] has")
-    for path, name in (("did", "read_level"), ("did", "write_level"), ("routine", "level")):
+    for path, name in (("did", "read_level"), ("did", "write_level"), ("routine", "level"), ("answer", "level")):
         for row, known in enumerate(lists[path], 1):
             if known.get(name, 0) not in levels:
                 look.tell("unknown level", f"{name} of [[{path}]] {row} is {shown(known[name])}, which no [[level]] has as its sub")
@@ -258,7 +317,7 @@ def look_at(data):
     if tree is None:
         return look
     unit = look.table(tree, UNIT, "", 0, LISTS)
-    lists = read_lists(look, tree)
+    lists = read_lists(look, tree, unit)
     look_for_doubles(look, lists, unit.get("functional", 0x7DF))
     look_for_references(look, lists)
     look.found.sort(key=lambda it: PHASES[it[0]])

@@ -23,11 +23,21 @@ GOOD = {
     "did": [{"id": 0xF190, "value": "4142", "read_level": 1, "write": True, "write_level": 3}, {"id": 1, "value": "00"}],
     "code": [{"code": 0x012345, "status": 0x2F}, {"code": 5, "status": 0}],
     "routine": [{"id": 0x0203, "time_ms": 100, "result": "01", "level": 1, "code": 0x012345, "status": 1}, {"id": 4, "time_ms": 1}],
-    "level": [{"sub": 1, "row": [{"seed": "11", "key": "2222"}, {"seed": "33", "key": "4444"}]}, {"sub": 3, "row": [{"seed": "1100", "key": "22"}]}],
+    "level": [
+        {"sub": 1, "any_key": True, "varies": True, "row": [{"seed": "11", "key": "2222"}, {"seed": "33", "key": "4444"}]},
+        {"sub": 3, "row": [{"seed": "1100", "key": "22"}]},
+    ],
+    "answer": [
+        {"request": "28..*", "reply": ["68$1", "7F$078", "??", ""], "session": 3, "level": 1, "enter": 2, "after_ms": 3000},
+        {"request": "3E00", "after_ms": 1},
+        {"request": "22F40C", "reply": ["62F40C0b"]},
+    ],
 }
+# the number of a table in `places`: a level with two rows of seeds and keys, and the rows of answers
+LEVEL, ANSWER, PLAIN_ANSWER = 9, 14, 15
 # values of a wrong kind, and numbers at the borders of the ranges
 ODD = (-1, 4294967296, 1.5, "text", "0", "0 ", True, [], [1], {"a": 1})
-BORDERS = (0, 1, 2, 7, 8, 64, 65, 66, 67, 127, 128, 240, 241, 249, 250, 255, 256, 2047, 2048, 60000, 60001, 65535, 65536, 600000, 600001, 16777214, 16777215, 4294967295)
+BORDERS = (0, 1, 2, 7, 8, 64, 65, 66, 67, 127, 128, 126, 240, 241, 249, 250, 255, 256, 2047, 2048, 60000, 60001, 65535, 65536, 600000, 600001, 16777214, 16777215, 4294967295)
 # spoilt as texts: what stands before the good setup
 BEFORE = {
     "a byte order mark": b"\xef\xbb\xbf",
@@ -62,6 +72,37 @@ APART = {
     "a key of 81 parts": (b"a" + b".a" * 80 + b" = 1\n", "syntax", ""),
 }
 TEXTS = ("", "A", "a_1", "a b", "é", "abcdefghijklmnop", "abcdefghijklmnopq", "00", "00" * 16, "01" * 16, "01" * 17, "01" * 32, "01" * 33, "01" * 255, "01" * 256, "Ff", "0g")
+# patterns and templates, well or not
+PATTERNS = (
+    "", "*", "2", "2*2", "2G", "$1", "??", ".", "....", "..*", "22.", "22*..", "22**", "22 F1", "2é", "ff", "28.._", "..\\n",
+    ".." * 64, ".." * 64 + "*", ".." * 65, "00" * 65 + "*", "00" * 65 + "0",
+)
+REPLIES = (
+    "", "68", [""], ["", ""], ["6"], ["$G"], ["$"], ["?"], ["..", "00"], ["00", "0"], ["*"], ["00", 1], [["00"]], [{"a": 1}], ["$0$1"], ["$2"],
+    ["00", "$2"], ["$F"], ["$a"], ["7F$078??"], ["$1é"], ["00\\n"], ["00" * 4095], ["$0" * 4095], ["??" * 4096], ["00"] * 4096, ["00"] * 4097,
+)
+# the values of a key that isn't a number
+VALUES = {**dict.fromkeys(("name", "value", "seed", "key", "result"), TEXTS), "request": PATTERNS, "reply": REPLIES}
+# several keys that are well or not by each other
+TOGETHER = {
+    "after_ms at its most": [(0, "p2_star_10ms", 0), (ANSWER, "after_ms", 305)],
+    "after_ms above it": [(0, "p2_star_10ms", 0), (ANSWER, "after_ms", 306)],
+    "after_ms at its most, no p2_ms": [(0, "p2_star_10ms", 1), (0, "p2_ms", 0), (ANSWER, "after_ms", 2550)],
+    "after_ms above it, no p2_ms": [(0, "p2_star_10ms", 1), (0, "p2_ms", 0), (PLAIN_ANSWER, "after_ms", 2551)],
+    "enter without reply": [(PLAIN_ANSWER, "enter", 2)],
+    "enter 0 without reply": [(PLAIN_ANSWER, "enter", 0)],
+    "enter beside a bad reply": [(PLAIN_ANSWER, "enter", 2), (PLAIN_ANSWER, "reply", "68")],
+    "a session and a level that never meet": [(ANSWER, "session", 1), (ANSWER, "level", 3)],
+    "the last byte that a template may name": [(ANSWER, "request", "28" + ".." * 15), (ANSWER, "reply", ["$F"])],
+    "one beyond it": [(ANSWER, "request", "28" + ".." * 14 + "*"), (ANSWER, "reply", ["$f"])],
+    "level 0 without levels": [(0, "level", []), (0, "answer", [{"request": "00", "level": 0}])],
+    "a level of a routine and one of an answer": [(7, "level", 5), (ANSWER, "level", 7)],
+    "a bad pattern behind a bad template": [(ANSWER, "reply", ["6"]), (PLAIN_ANSWER, "request", "6")],
+    "a bad pattern and a bad template": [(ANSWER, "reply", ["6"]), (ANSWER, "request", "6")],
+    "a pattern that isn't there, and a bad one": [(ANSWER, "request", None), (PLAIN_ANSWER, "request", "6")],
+    "the most templates": [(0, "answer", [{"request": "00", "reply": [""] * 4096}] * 16)],
+    "one more": [(0, "answer", [{"request": "00", "reply": [""] * 4096}] * 16 + [{"request": "00", "reply": [""]}])],
+}
 counts = {True: 0, False: 0}
 
 
@@ -93,19 +134,19 @@ def changes():
     """Each way to spoil a setup: the number of a table, a key, and its new value; None leaves the key out."""
     for at, (_, keys) in enumerate(places(GOOD)):
         for key in keys:
-            for value in (None, *ODD, *(BORDERS if key not in ("name", "value", "seed", "key", "result") else TEXTS)):
+            for value in (None, *ODD, *(VALUES.get(key, BORDERS) if at >= ANSWER or key != "request" else BORDERS)):
                 yield at, key, value
         yield at, "other", 1
     for path in LISTS:
         for count in (0, 1, MOST_ROWS[path], MOST_ROWS[path] + 1):
             yield 0, path, [other_row(path, n) for n in range(count)]
     for count in (0, 1, 64, 65):
-        yield 9, "row", [{"seed": "01", "key": "00"}] * count
+        yield LEVEL, "row", [{"seed": "01", "key": "00"}] * count
 
 
 def other_row(path, n):
     row = {key: value for key, value in GOOD[path][-1].items() if key not in ("read_level", "write_level", "level")}
-    row.update({"tester": {"name": f"T{n}", "request": 2 * n, "response": 2 * n + 1}, "did": {"id": n}, "code": {"code": n}, "routine": {"id": n}, "level": {"sub": 2 * n + 1}}[path])
+    row.update({"tester": {"name": f"T{n}", "request": 2 * n, "response": 2 * n + 1}, "did": {"id": n}, "code": {"code": n}, "routine": {"id": n}, "level": {"sub": 2 * n + 1}, "answer": {}}[path])
     return row
 
 
@@ -160,6 +201,8 @@ def main():
             compare(folder, name, before + toml_of(GOOD))
         for name, (before, *apart) in APART.items():
             compare(folder, name, before + toml_of(GOOD), tuple(apart))
+        for name, some in TOGETHER.items():
+            compare(folder, name, spoilt(some))
         for change in every:
             compare(folder, change, spoilt([change]))
         for _ in range(SEVERAL):
