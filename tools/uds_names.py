@@ -66,6 +66,7 @@ NEGATIVE = {
     0x35: "invalidKey",
     0x36: "exceedNumberOfAttempts",
     0x37: "requiredTimeDelayNotExpired",
+    0x78: "requestCorrectlyReceived-ResponsePending",
     0x7F: "serviceNotSupportedInActiveSession",
 }
 

@@ -1,14 +1,16 @@
 """Reads a setup and what the program wrote of a run, and follows the session through the journal: who holds it, which
-level is unlocked, which routines run. For tools/view.py; no part of what is proved."""
+session it is, which level is unlocked, which routines run, and which row of answers decides. For tools/view.py and the
+slow twin; no part of what is proved."""
 import re
 import tomllib
 from dataclasses import dataclass, field
 
 from uds_names import SERVICES
+from uds_rules import rows_of, times_of
 
 REPLY_LINE = re.compile(r"\((\d{10,})\.(\d{3})000\) (\S+) ([0-9A-F]{3})#((?:[0-9A-F]{2}){0,8})")
 ENTRY = re.compile(r"(?:(\d+) )?([1-8]) (?:T (\d+)|([PF]) ((?:[0-9A-F]{2})+) (-|(?:[0-9A-F]{2})+))")
-END = re.compile(r"session (default|extended)|holder \S+|code [0-9A-F]{6} [0-9A-F]{2}|entries \d+")
+END = re.compile(r"session (default|programming|extended|safety|[0-9A-F]{2})|holder \S+|code [0-9A-F]{6} [0-9A-F]{2}|entries \d+")
 
 
 class Wrong(Exception):
@@ -21,7 +23,8 @@ class Wrong(Exception):
 @dataclass
 class Setup:
     """What of a setup the pages name: the testers' names and response identifiers, in order, the time of S3, the length
-    of each data identifier's value, the time of each routine, and the levels. Times are milliseconds."""
+    of each data identifier's value, the time of each routine, the levels, the rows of answers, and the times of response
+    pending. Times are milliseconds."""
 
     names: list
     responses: list
@@ -29,6 +32,8 @@ class Setup:
     lengths: dict
     routines: dict
     levels: set
+    rows: list
+    times: object
 
 
 def read_setup(text):
@@ -42,8 +47,10 @@ def read_setup(text):
             {it["id"]: len(bytes.fromhex(it["value"])) for it in tree.get("did", [])},
             {it["id"]: int(it["time_ms"]) for it in tree.get("routine", [])},
             {it["sub"] for it in tree.get("level", [])},
+            rows_of(tree),
+            times_of(tree),
         )
-    except (KeyError, TypeError, ValueError, AttributeError, RecursionError) as fault:
+    except (KeyError, IndexError, TypeError, ValueError, AttributeError, RecursionError) as fault:
         raise Wrong(f"config: {type(fault).__name__}: {fault}") from None
 
 
@@ -214,42 +221,77 @@ def messages(frames):
 
 @dataclass(frozen=True)
 class Held:
-    """The session at a point of a run: its holder's place or None, the unlocked level or None, the running routines."""
+    """The session at a point of a run: its holder's place or None, the unlocked level or None, the running routines, and
+    the holder's session by its number."""
 
     holder: int = None
     level: int = None
     routines: tuple = ()
+    session: int = 1
 
 
 class Session:
-    """The session through a journal, entry by entry, as docs/FORMATS.md tells it under Services."""
+    """The session through a journal, entry by entry, as docs/FORMATS.md tells it under Services and Answers by rules."""
 
     def __init__(self, setup):
         self.setup = setup
-        self.left = 0
+        self.next = [0] * len(setup.rows)
         self.clean()
 
     def clean(self):
-        self.holder, self.level, self.routines = None, None, {}
+        """As it is while nobody holds it."""
+        self.holder, self.session, self.left, self.level, self.routines = None, 1, 0, None, {}
+
+    def enter(self, place, session):
+        """The tester of this place begins this session."""
+        self.holder, self.session, self.left, self.level = place, session, 0, None
 
     def held(self):
-        return Held(self.holder, self.level, tuple(sorted(self.routines)))
+        return Held(self.holder, self.level, tuple(sorted(self.routines)), self.session)
+
+    def deciding(self, entry):
+        """The number of the row of answers that decides about a request, from 0; None where none does."""
+        is_holder = entry.place == self.holder
+        sessions, levels = (0, self.session if is_holder else 1), (0, self.level if is_holder else 0)
+        fit = (at for at, it in enumerate(self.setup.rows) if it.session in sessions and it.level in levels and it.fits(entry.request))
+        return next(fit, None)
+
+    def wait(self, entry):
+        """After how many milliseconds the answer to a request goes, if there is one."""
+        at = self.deciding(entry)
+        return 0 if at is None else self.setup.rows[at].after
+
+    def is_past(self, row, entry):
+        """Whether a row leads into a session that another tester holds."""
+        return row.enter > 1 and self.holder not in (None, entry.place)
+
+    def row_reply(self, at, entry):
+        """What the row of this number answers to a request, of one with templates of its own."""
+        row = self.setup.rows[at]
+        if self.is_past(row, entry):
+            return bytes([0x7F, entry.request[0], 0x21])
+        return row.filled(self.next[at], entry.request)
 
     def take(self, entry):
-        """Takes an entry in; says of a request what became of it: `done`, `refused`, `suppressed` or `silent`, which is
-        a refusal that isn't sent; of ticks `passed`."""
+        """Takes an entry in; says of a request what became of it: `done`, `refused`, `suppressed`, `silent`, which is a
+        refusal that isn't sent, or `empty`, to which a row answers nothing; of ticks `passed`."""
         if entry.kind == "T":
             if entry.place == self.holder:
-                self.wait(entry.ticks)
+                self.pass_time(entry.ticks)
             return "passed"
-        outcome = self.outcome(entry)
-        if outcome in ("done", "suppressed"):
-            self.work(entry)
+        at, after = self.deciding(entry), self.wait(entry)
+        if at is None or self.setup.rows[at].reply is None:
+            outcome = self.outcome(entry)
+            if outcome in ("done", "suppressed"):
+                self.work(entry)
+        else:
+            outcome = "empty" if entry.reply is None else self.outcome(entry)
+            self.work_by_row(at, entry)
         if entry.place == self.holder:
-            self.left = self.setup.s3
+            self.left = max(self.left, self.setup.s3 + after)
         return outcome
 
-    def wait(self, ticks):
+    def pass_time(self, ticks):
         """The holder's ticks."""
         self.routines = {it: left - ticks for it, left in self.routines.items() if left > ticks}
         self.left -= ticks
@@ -282,19 +324,39 @@ class Session:
         return SERVICES[sid].subs if sid in SERVICES else {}
 
     def work(self, entry):
-        """What a request that was taken does to the session."""
+        """What a request that the server itself took does to the session."""
         sid, sub = entry.request[0], (entry.request[1:2] or b"\0")[0] & 0x7F
         if sid == 0x11 or (sid == 0x10 and sub == 1 and entry.place == self.holder):
             self.clean()
         elif sid == 0x10 and sub == 3:
-            self.holder, self.level = entry.place, None
+            self.enter(entry.place, 3)
         elif sid == 0x27 and sub % 2 == 0:
             self.level = sub - 1
         elif sid == 0x31:
             self.control(int.from_bytes(entry.request[2:4], "big"), sub)
+
+    def work_by_row(self, at, entry):
+        """What a row with templates of its own does to the session, and to its next template."""
+        row = self.setup.rows[at]
+        if self.is_past(row, entry):
+            return
+        self.next[at] += 1
+        if row.enter > 1:
+            self.enter(entry.place, row.enter)
+        elif row.enter == 1 and entry.place == self.holder:
+            self.clean()
 
     def control(self, routine, sub):
         if sub == 1:
             self.routines[routine] = self.setup.routines.get(routine, 0)
         elif sub == 2:
             self.routines.pop(routine, None)
+
+
+def waits(setup, entries):
+    """Of each entry after how many milliseconds its answer goes, 0 of ticks."""
+    session, found = Session(setup), []
+    for entry in entries:
+        found.append(0 if entry.kind == "T" else session.wait(entry))
+        session.take(entry)
+    return found

@@ -11,7 +11,9 @@ REQUEST_PARTS = {
 }
 REPLY_PARTS = {0x50: (1, 2, 2), 0x51: (1,), 0x67: (1,), 0x6E: (2,), 0x71: (1, 2, 1), 0x7E: (1,), 0xC5: (1,)}
 # what became of a request, where no reply stands
-WITHOUT_REPLY = {"suppressed": "no reply (suppressed)", "silent": "no reply (refused)"}
+WITHOUT_REPLY = {"suppressed": "no reply (suppressed)", "silent": "no reply (refused)", "empty": "no reply (by its row)"}
+# the sessions that have a name besides the default one
+SESSIONS = {2: "programming session", 3: "extended session", 4: "safety session"}
 
 
 def digits(data):
@@ -126,11 +128,16 @@ def seconds(time):
     return f"{time // 1000}.{time % 1000:03d}"
 
 
+def session_words(session):
+    """A holder's session by its name; without one by its number."""
+    return SESSIONS.get(session, f"session {session:02X}")
+
+
 def held_words(held, setup):
     """Who holds the session, with what is unlocked and runs."""
     if held.holder is None:
         return ""
-    found = [f"session {setup.names[held.holder]}"]
+    found = [f"{'session' if held.session == 3 else session_words(held.session)} {setup.names[held.holder]}"]
     found += [] if held.level is None else [f"level {held.level:02X}"]
     return ", ".join(found + [f"routine {it:04X}" for it in held.routines])
 
@@ -140,8 +147,11 @@ def changes(before, after, setup):
     if after.holder is None:
         return ["the session ends"] if before.holder is not None else []
     found = []
-    if after.holder != before.holder:
-        found.append(f"{setup.names[after.holder]} holds the session")
+    if (after.holder, after.session) != (before.holder, before.session):
+        is_usual = after.session == 3 and after.holder != before.holder
+        name = "session" if is_usual else session_words(after.session)
+        article = "the " if is_usual or after.session in SESSIONS else ""
+        found.append(f"{setup.names[after.holder]} holds {article}{name}")
     if after.level != before.level:
         found.append(f"level {before.level:02X} is locked" if after.level is None else f"level {after.level:02X} is unlocked")
     found += [f"routine {it:04X} runs" for it in after.routines if it not in before.routines]

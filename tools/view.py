@@ -15,14 +15,16 @@ import os
 import signal
 import sys
 from bisect import bisect_left
+from dataclasses import dataclass
 
 from uds_names import service_name
-from uds_run import Held, Session, Wrong, messages, read_run, read_setup
+from uds_rules import pending
+from uds_run import Held, Session, Wrong, messages, read_run, read_setup, waits
 from uds_words import answer_words, changes, held_words, message_words, request_words, seconds
 
 PARTS = os.path.join(os.path.dirname(os.path.abspath(__file__)), "view")
 KINDS = {"T": 0, "P": 1, "F": 2}
-OUTCOMES = {"passed": 0, "done": 1, "refused": 2, "suppressed": 3, "silent": 4}
+OUTCOMES = {"passed": 0, "done": 1, "refused": 2, "suppressed": 3, "silent": 4, "empty": 5}
 # a message of more bytes has several frames
 ONE_FRAME = 7
 
@@ -99,31 +101,43 @@ def columns(setup, run, words):
     return found, list(states)
 
 
-def pair(run, sent):
-    """The entry of each message, None of flow control: a tester's replies are sent in the order of the journal."""
-    waiting = {}
-    for at, entry in enumerate(run.entries):
+@dataclass
+class Due:
+    """A message that the unit sends for the entry at this place: its bytes, the milliseconds after the request at which it
+    is due, and whether it is the reply, else it says response pending."""
+
+    at: int
+    data: bytes
+    after: int
+    is_reply: bool
+
+
+def due(setup, run):
+    """What the unit sends to each tester, by its place, in order: for each entry with a reply each response pending, and
+    then the reply."""
+    found = {}
+    for at, (entry, after) in enumerate(zip(run.entries, waits(setup, run.entries))):
         if entry.reply is not None:
-            waiting.setdefault(entry.place, []).append(at)
-    queues = {place: iter(found) for place, found in waiting.items()}
+            own = found.setdefault(entry.place, [])
+            own += [Due(at, pending(entry.request), it, False) for it in setup.times.pendings(after)]
+            own.append(Due(at, entry.reply, after, True))
+    return found
+
+
+def pair(setup, run, sent):
+    """For what each message was sent, None of flow control: a tester's replies are sent in the order of the journal."""
+    queues = {place: iter(own) for place, own in due(setup, run).items()}
     found = [None if it.length is None else next(queues.get(it.place, iter(())), None) for it in sent]
-    for it, at in zip(sent, found):
-        if it.length is not None and not is_of(it, run.entries, at):
+    for it, of in zip(sent, found):
+        if it.length is not None and (of is None or len(of.data) != it.length or not of.data.startswith(it.carried)):
             raise Wrong("the frames aren't those of the journal")
     return found
 
 
-def is_of(message, entries, at):
-    """Whether the message is the reply of this entry, so far as it was sent."""
-    if at is None:
-        return False
-    reply = entries[at].reply
-    return len(reply) == message.length and reply.startswith(message.carried)
-
-
 def offset(run, sent, pairs):
-    """What the stamps of the frames are ahead of the journal's times: the first reply of a run goes at once."""
-    return min((it.frames[0].time - run.entries[at].time for it, at in zip(sent, pairs) if at is not None), default=0)
+    """What the stamps of the frames are ahead of the journal's times: the first message of a run goes when it is due."""
+    ahead = (it.frames[0].time - run.entries[of.at].time - of.after for it, of in zip(sent, pairs) if of is not None)
+    return min(ahead, default=0)
 
 
 class Order:
@@ -146,6 +160,16 @@ class Order:
         )
         return found[at] if at < len(found) else len(self.entries)
 
+    def behind(self, message, at, ahead):
+        """The entry before which a response pending to the request at this place is shown: the tester's next one later
+        than it; without one, the end."""
+        time = message.frames[0].time - ahead
+        for number in range(at + 1, len(self.entries)):
+            entry = self.entries[number]
+            if entry.place == message.place and (entry.time > time or entry.time == time and entry.kind != "T"):
+                return number
+        return len(self.entries)
+
 
 def shown_frames(message, base):
     """A message's frames for the page: the stamp, the milliseconds since `base`, the bytes."""
@@ -163,7 +187,9 @@ def service_of(message):
 def lone(message, before, ahead, setup):
     """A message without an entry, for the page; its stamp is so much ahead of the journal's times."""
     data = message.carried
-    kind = "flow" if message.length is None else "refused" if data[0] == 0x7F else "done"
+    kind = "flow" if message.length is None else "done" if data[0] != 0x7F else "refused"
+    if len(data) == 3 and data[0] == 0x7F and data[2] == 0x78:
+        kind = "pending"
     return {
         "before": before,
         "time": max(message.frames[0].time - ahead, 0),
@@ -181,16 +207,18 @@ def chart(setup, run):
     sent = messages(run.frames)
     if "journal" not in run.shows:
         return {}, [], [lone(it, 0, 0, setup) for it in sent]
-    pairs, order = pair(run, sent), Order(run)
+    pairs, order = pair(setup, run, sent), Order(run)
     ahead = offset(run, sent, pairs)
     replies, cut, rest = {}, [], []
-    for it, at in zip(sent, pairs):
-        if at is None:
+    for it, of in zip(sent, pairs):
+        if of is None:
             rest.append(lone(it, order.before(it, ahead), ahead, setup))
+        elif not of.is_reply:
+            rest.append(lone(it, order.behind(it, of.at, ahead), ahead, setup))
         else:
-            replies[at] = shown_frames(it, run.entries[at].time + ahead)
-            order.last[it.place] = at
-            cut += [] if it.is_whole() else [at]
+            replies[of.at] = shown_frames(it, run.entries[of.at].time + ahead)
+            order.last[it.place] = of.at
+            cut += [] if it.is_whole() else [of.at]
     return replies, cut, sorted(rest, key=lambda it: it["before"])
 
 

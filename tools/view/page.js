@@ -9,7 +9,8 @@ const HAS_JOURNAL = run.shows.includes("journal"), HAS_FRAMES = run.shows.includ
 // the entries of whose replies not all frames were sent
 const cut = new Set(run.cut);
 const [TICKS, , FUNCTIONAL] = [0, 1, 2];
-const OUTCOMES = ["passed", "done", "refused", "suppressed", "silent"];
+const OUTCOMES = ["passed", "done", "refused", "suppressed", "silent", "empty"];
+const WITHOUT_REPLY = ["suppressed", "silent", "empty"];
 const COLOURS = ["#1f6fb4", "#b5541c", "#2b8a3e", "#8a3ea8", "#0b7f8a", "#7a6a00", "#5a52c4", "#8c3b5e"];
 const SVG = "http://www.w3.org/2000/svg";
 // heights of the chart's rows and of the journal's lines, in pixels
@@ -54,6 +55,7 @@ function sentInWords(item) {
   const frames = framesOf(item);
   if (isUnsent(item)) return "not sent";
   if (cut.has(item) && frames.length === 1) return "the first frame alone was sent";
+  if (isEntry(item) && frames.length === 1 && frames[0][1] > 0) return `after ${frames[0][1]} ms`;
   if (frames.length < 2) return "";
   const took = `${frames.length} frames in ${frames[frames.length - 1][1] - frames[0][1]} ms`;
   return cut.has(item) ? `${took}, the rest wasn't sent` : took;
@@ -275,7 +277,7 @@ function drawStep(group, row, y) {
     arrow(x, UNIT, y + 18, { class: `request${functional}`, stroke: colour(place) }),
     label(askOf(item) + opening(item, "ask"), y + 14, "request"),
   );
-  if (kind === "suppressed" || kind === "silent") {
+  if (WITHOUT_REPLY.includes(kind)) {
     group.append(element("path", { d: `M${UNIT} ${y + 38}H${UNIT + 60}`, class: `none ${kind}` }));
   } else {
     const style = isUnsent(item) ? " unsent" : "";
@@ -519,9 +521,9 @@ function countsInWords() {
   const frames = Object.values(replies).concat(lone.map((it) => it.frames)).reduce((sum, it) => sum + it.length, 0);
   const words = [];
   if (HAS_JOURNAL) {
-    const [, done, refused, suppressed, silent] = outcomes;
+    const [, done, refused, suppressed, silent, empty] = outcomes;
     words.push(`${COUNT} journal lines`, `${asked} requests`, `${done} done`, `${refused} refused`);
-    words.push(`${suppressed + silent} without a reply`);
+    words.push(`${suppressed + silent + empty} without a reply`);
   }
   if (run.shows.includes("frames")) words.push(`${frames} frames of the unit`);
   if (!HAS_JOURNAL) words.push("no journal was given: no requests and no session are shown");
