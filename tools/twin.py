@@ -1,8 +1,8 @@
 #!/usr/bin/env python3
-"""Runs the built program over random logs and captures of up to eight testers with random settings of the links, and
-compares what it sends and journals with the slow twin of tools/uds_link.py, which computes both from the whole logs by
-the definitions: `serial` with ticks and with stamps, `play`, and `bus`. The replies' bytes are the journal's own. The
-logs are the same each time. The last line is 'N passed, M failed'.
+"""Runs the built program over random logs and captures of up to eight testers with random settings of the links and
+random rows of answers, and compares what it sends and journals with the slow twin of tools/uds_link.py, which computes
+both from the whole logs by the definitions: `serial` with ticks and with stamps, `play`, and `bus`. The replies' bytes are
+the journal's own, but for those that a row gives. The logs are the same each time. The last line is 'N passed, M failed'.
 Usage: tools/twin.py [RUNS [FIRST]]     so many runs of each kind (default 60), the first with this seed (default 1)"""
 import os
 import random
@@ -19,6 +19,9 @@ LINES = 100
 FUNCTIONAL = 0x7DF
 # the lengths of the values that may be read, each under its place from 0x0100 on
 SIZES = [1, 2, 3, 4, 5, 8, 11, 12, 18, 19, 25, 26, 32, 40, 110, 255]
+# what rows of answers are for, and what they answer: nothing, one template, or some round and round
+PATTERNS = ["22*", "2201....", "2201000100", "22....*", "3E00", "3E80", "..*", "1003", "1002", "22010001000100*"]
+TEMPLATES = ["", "62$0$1", "7F$078", "7F$021", "??$1", "62" + "5A" * 5, "62$0" + "5A" * 6, "62" + "$1??" * 10, "62" + "A5" * 120]
 counts = {True: 0, False: 0}
 
 
@@ -42,9 +45,26 @@ def setup_text(chance, testers):
         f"n_bs_ms = {chance.randint(1, 12)}",
         f"n_cr_ms = {chance.randint(1, 12)}",
     ]
+    keys += answer_keys(chance) if chance.random() < 0.7 else []
     tables = [f'[[tester]]\nname = "T{it}"\nrequest = {0x700 + it}\nresponse = {0x710 + it}\n' for it in range(testers)]
     tables += [f'[[did]]\nid = {0x100 + at}\nvalue = "{"5A" * size}"\n' for at, size in enumerate(SIZES)]
     return "\n".join([*keys, *tables])
+
+
+def answer_keys(chance):
+    """Rows of answers, and short times of response pending. A row without templates leaves the answer to the server."""
+    p2, p2_star = chance.choice([0, 1, 2, 5, 20]), chance.choice([0, 0, 1])
+    return [f"p2_ms = {p2}", f"p2_star_10ms = {p2_star}", f"answer = [{', '.join(answer_row(chance) for _ in range(chance.randint(1, 4)))}]"]
+
+
+def answer_row(chance):
+    pattern = chance.choice(PATTERNS)
+    keys = [f'request = "{pattern}"', f"session = {chance.choice([0, 0, 0, 1, 2, 3])}"]
+    if chance.random() < 0.5:
+        has_second = len(pattern) > 3
+        texts = [it for it in chance.sample(TEMPLATES, chance.randint(1, 4)) if has_second or "$1" not in it]
+        keys += [f"reply = {texts or ['7F']}".replace("'", '"'), f"enter = {chance.choice([0, 0, 0, 1, 2, 3, 96])}"]
+    return f"{{ {', '.join([*keys, f'after_ms = {chance.choice([0, 0, 1, 3, 7, 20, 60])}'])} }}"
 
 
 class Tester:
@@ -107,7 +127,8 @@ class Tester:
         kind = self.chance.choices(["flow", "begin", "single", "functional", "any"], [10, 8, 1, 2, 1])[0]
         if kind == "functional":
             return FUNCTIONAL, self.chance.choice([self.bytes(8), cut(self.setup, b"\x22\x01\x00\x01\x01")[0], b"\x02\x3E\x80"])
-        frames = {"flow": self.flow, "begin": self.begin, "single": lambda: b"\x02\x3E\x00"}
+        singles = [b"\x02\x3E\x00", b"\x02\x3E\x00", b"\x02\x3E\x80", b"\x02\x10\x03", b"\x02\x10\x02"]
+        frames = {"flow": self.flow, "begin": self.begin, "single": lambda: self.chance.choice(singles)}
         return self.request, frames.get(kind, lambda: self.bytes(self.chance.randint(0, 8)))()
 
     def span(self):
@@ -208,7 +229,7 @@ def captures(room, seed):
 
 # ---- what the logs brought about: a comparison of nothing would show nothing
 
-had = dict.fromkeys(["requests", "requests of several frames", "replies", "first frames", "consecutive frames", "grants"], 0)
+had = dict.fromkeys(["requests", "requests of several frames", "replies", "first frames", "consecutive frames", "grants", "response pending"], 0)
 
 
 def count(out):
@@ -217,7 +238,8 @@ def count(out):
     kinds = [data[0] >> 4 for _, _, _, data in sent]
     many = sum(len(it[1]) > 7 for it in asked)
     replies = sum(reply is not None for *_, reply in entries)
-    for name, more in zip(had, (len(asked), many, replies, kinds.count(1), kinds.count(2), kinds.count(3))):
+    waits = sum(data[:2] == b"\x03\x7f" and data[3] == 0x78 for *_, data in sent)
+    for name, more in zip(had, (len(asked), many, replies, kinds.count(1), kinds.count(2), kinds.count(3), waits)):
         had[name] += more
 
 

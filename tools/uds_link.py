@@ -1,9 +1,13 @@
 """The slow twin of a link: what receptions, flow control and time make of a tester's log, looked up in whole lists each
 time. It says what docs/DEFINITIONS.md, Transport, says, by another way: no function goes on from what another call has
-kept. For tools/twin.py and tools/examples.py, which compare it with what the program sends; no part of what is proved."""
+kept. But which row of answers decides about a request is followed through the journal (tools/uds_run.py). For
+tools/twin.py and tools/examples.py, which compare it with what the program sends; no part of what is proved."""
 import re
 import tomllib
 from dataclasses import dataclass
+
+import uds_run
+from uds_rules import pending
 
 SINGLE, FIRST, OVERFLOW, CONSECUTIVE, FLOW = "single", "first", "overflow", "consecutive", "flow"
 LINE = re.compile(r"\((\d+)\.(\d{3})\d*\) +\S+ +([0-9A-Fa-f]{3})#((?:[0-9A-Fa-f]{2}){0,8})(?:_[0-9A-Fa-f])?(?: .*)?$")
@@ -15,7 +19,8 @@ LONGEST = 60000
 
 @dataclass
 class Setup:
-    """What links need of a setup: the testers as name, request and response identifier, and each link's settings."""
+    """What links need of a setup: the testers as name, request and response identifier, and each link's settings; and
+    the rows of answers, with the times of response pending, in `unit`."""
 
     testers: list
     functional: int
@@ -25,6 +30,7 @@ class Setup:
     pad: int
     n_bs: int
     n_cr: int
+    unit: uds_run.Setup
 
 
 def read_setup(text):
@@ -38,6 +44,7 @@ def read_setup(text):
         tree.get("pad_byte", 0xCC) if tree.get("pad", True) else None,
         tree.get("n_bs_ms", 1000),
         tree.get("n_cr_ms", 1000),
+        uds_run.read_setup(text),
     )
 
 
@@ -258,19 +265,47 @@ def moment_after(moments, at, least, ticks):
     return next((it for it in range(least, len(moments)) if moments[it][0] >= moments[at][0] + ticks), None)
 
 
-def wire(setup, log, replies):
-    """All frames of a link: the moment, the time and the bytes of each. `replies` has pairs of an event's place and what
-    is answered to it, in order."""
-    moments, places = moments_of(setup, log)
+def wire(setup, log, messages):
+    """All frames of a link: the moment, the time and the bytes of each. `messages` has pairs of the moment at which a
+    message is placed and its bytes, in order."""
+    moments, _ = moments_of(setup, log)
     found = [(at, 0, 0, grant(setup, moments, at)) for at, (_, it) in enumerate(moments) if it]
     free = 0
-    for number, (event, reply) in enumerate(replies, 1):
+    for number, (start, message) in enumerate(messages, 1):
         if free is None:
             break
-        frames = cut(setup, reply)
-        goes, free = draw(setup, moments, len(frames), max(free, places[event]))
+        frames = cut(setup, message)
+        goes, free = draw(setup, moments, len(frames), max(free, start))
         found += [(at, number, it, frames[it]) for it, at in enumerate(goes)]
     return [(at, moments[at][0], frame) for at, _, _, frame in sorted(it for it in found if it[3] is not None)]
+
+
+# ---- answers that take their time
+
+
+def due(setup, request, reply, after):
+    """The messages that a request brings, each with how long after it: response pending as often as it is due before the
+    reply, and the reply, which goes `after` so many milliseconds; none where nothing is sent."""
+    if reply is None:
+        return []
+    return [*((it, pending(request)) for it in setup.unit.times.pendings(after)), (after, reply)]
+
+
+def placed(setup, log, steps_of, answers):
+    """The messages of a tester, each with the moment at which it is placed, in order. `answers` has for each of its steps
+    the reply, or None, and after how many milliseconds it goes. A message is placed at the first moment from that of its
+    request and from that of the message before it on, whose time is at least its due time; behind one that isn't due by
+    the log's end none is."""
+    moments, places = moments_of(setup, log)
+    asked = [(at, step) for at, step in zip(places, steps_of) if step]
+    found, last = [], 0
+    for (at, (_, request)), (reply, after) in zip(asked, answers):
+        for wait, message in due(setup, request, reply, after):
+            last = moment_after(moments, at, max(at, last), wait)
+            if last is None:
+                return found
+            found.append((last, message))
+    return found
 
 
 # ---- what the program wrote
@@ -291,11 +326,33 @@ def read_output(text):
     return sent, entries
 
 
-def placed(steps_of, entries, place):
-    """Each reply of a tester beside the place of the event that gave its request, in order."""
-    own = [reply for _, who, _, reply in entries if who == place]
-    at = [it for it, step in enumerate(steps_of) if step]
-    return [(event, reply) for event, reply in zip(at, own) if reply is not None]
+def rows_say(setup, entries):
+    """Of each entry after how many milliseconds its answer goes, and whether a row of answers that decides about it, with
+    templates of its own, says another answer: of all entries in the order of the journal."""
+    if not setup.unit.rows:
+        return [(0, False)] * len(entries)
+    session, found = uds_run.Session(setup.unit), []
+    for _, place, (way, it), reply in entries:
+        is_tick = way == "T"
+        entry = uds_run.Entry(0, place, way, it if is_tick else 0, b"" if is_tick else it, reply)
+        at = None if is_tick else session.deciding(entry)
+        row = None if at is None else setup.unit.rows[at]
+        is_other = row is not None and row.reply is not None and session.row_reply(at, entry) != reply
+        found.append((row.after if row else 0, is_other))
+        session.take(entry)
+    return found
+
+
+def answers_of(entries, said, place):
+    """The replies of a tester's entries, with None where nothing is sent, and after how many milliseconds each goes;
+    `said` is what the rows say."""
+    return [(reply, after) for (_, who, _, reply), (after, _) in zip(entries, said) if who == place]
+
+
+def other_answer(said):
+    """The first entry that a row of answers answers otherwise; None where there is none."""
+    found = (number for number, (_, is_other) in enumerate(said, 1) if is_other)
+    return next((f"entry {it} isn't what its row says" for it in found), None)
 
 
 def differs(setup, logs, text, in_turn, stamps):
@@ -315,11 +372,12 @@ def differs(setup, logs, text, in_turn, stamps):
             return f"tester {place + 1}: the journal's times"
     if in_turn and [(who, it) for _, who, it, _ in entries] != [it for it in turns(all_steps) if it[1]]:
         return "the journal's order"
-    wanted = []
+    said, wanted = rows_say(setup, entries), []
     for place, (log, of) in enumerate(zip(logs, all_steps)):
         name, _, response = setup.testers[place]
-        wanted += [(at, name, response, data) for _, at, data in wire(setup, log, placed(of, entries, place))]
-    return None if sent == wanted else first_apart(sent, wanted)
+        messages = placed(setup, log, of, answers_of(entries, said, place))
+        wanted += [(at, name, response, data) for _, at, data in wire(setup, log, messages)]
+    return other_answer(said) if sent == wanted else first_apart(sent, wanted)
 
 
 def bus_differs(setup, lines, text, journal):
@@ -336,15 +394,15 @@ def bus_differs(setup, lines, text, journal):
         asked += [(place, step)] if step else []
     if [(who, it) for _, who, it, _ in entries] != asked:
         return "the journal's steps"
-    drawn = []
+    said, drawn = rows_say(setup, entries), []
     for place, log in enumerate(logs):
         line_of = [line for who, _, line in pairs if who == place]
         _, places = moments_of(setup, log)
-        frames = wire(setup, log, placed(all_steps[place], entries, place))
+        frames = wire(setup, log, placed(setup, log, all_steps[place], answers_of(entries, said, place)))
         drawn += [(line_at(places, line_of, moment), at, place, data) for moment, at, data in frames]
     start, before = beginning(lines)
     wanted = [(at - before + start, *setup.testers[place][::2], data) for _, at, place, data in sorted(drawn, key=lambda it: it[:3])]
-    return None if sent == wanted else first_apart(sent, wanted)
+    return other_answer(said) if sent == wanted else first_apart(sent, wanted)
 
 
 def line_at(places, line_of, moment):
