@@ -52,9 +52,11 @@ def setup_text(chance, testers):
 
 
 def answer_keys(chance):
-    """Rows of answers, and short times of response pending. A row without templates leaves the answer to the server."""
-    p2, p2_star = chance.choice([0, 1, 2, 5, 20]), chance.choice([0, 0, 1])
-    return [f"p2_ms = {p2}", f"p2_star_10ms = {p2_star}", f"answer = [{', '.join(answer_row(chance) for _ in range(chance.randint(1, 4)))}]"]
+    """Rows of answers, and short times of response pending and of sessions. A row without templates leaves the answer to
+    the server."""
+    times = {"p2_ms": [0, 1, 2, 5, 20], "p2_star_10ms": [0, 0, 1], "s3_ms": [9, 40, 5000]}
+    keys = [f"{key} = {chance.choice(values)}" for key, values in times.items()]
+    return [*keys, f"answer = [{', '.join(answer_row(chance) for _ in range(chance.randint(1, 4)))}]"]
 
 
 def answer_row(chance):
