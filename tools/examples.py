@@ -1,8 +1,8 @@
 #!/usr/bin/env python3
-"""Runs the worked examples by the built program, and compares whole outputs and statuses: those of runs/examples.txt,
-those of runs/refusals.txt, and those whose logs or journals are built here. Of a play that ends well the slow twin of
-tools/uds_link.py has to agree, too. The last line is 'N passed, M failed'. With `--files NAME FOLDER` it only writes the
-files of that example of runs/examples.txt."""
+"""Runs the worked examples by the built program, and compares whole outputs and statuses: those of runs/examples.txt and
+runs/answers.txt, those of runs/refusals.txt, and those whose logs or journals are built here. Of a play that ends well the
+slow twin of tools/uds_link.py has to agree, too. The last line is 'N passed, M failed'. With `--files NAME FOLDER` it only
+writes the files of that example of runs/examples.txt or runs/answers.txt."""
 import os
 import subprocess
 import sys
@@ -15,6 +15,8 @@ TOP = os.path.dirname(os.path.dirname(os.path.abspath(__file__)))
 PROGRAM = f"{TOP}/crates/uds_play/out/uds_play"
 with open(f"{TOP}/runs/setup.toml") as it:
     SETUP = it.read()
+with open(f"{TOP}/runs/answers.toml") as it:
+    ANSWERS = it.read()
 DEFAULT = "session default\nholder none\ncode 012345 2F\n"
 HELD = "session extended\nholder A\ncode 012345 2F\n"
 GRANT = "(0000000000.000000) A 7E8#300000CCCCCCCCCC\n"
@@ -63,19 +65,23 @@ def plays(name, a, prints="", keys="", tables="", **fault):
         check(name, [job], [keys + SETUP + tables, a, ""], prints, **fault)
 
 
-def of_file():
-    """The examples of runs/examples.txt, each by its parts."""
+def of_file(name, setup):
+    """The examples of a file of runs/, each by its parts, among them this setup, but for one with rows of its own."""
     found, part = [], None
-    with open(f"{TOP}/runs/examples.txt") as it:
+    with open(f"{TOP}/runs/{name}") as it:
         for line in it.read().split("\n"):
             if line.startswith("== "):
-                found.append({"name": line[3:]})
+                found.append({"name": line[3:], "setup": setup})
             elif line.startswith("-- "):
                 part = line[3:]
                 found[-1][part] = []
             elif line and found:
                 found[-1][part].append(line)
     return found
+
+
+def of_files():
+    return [*of_file("examples.txt", SETUP), *of_file("answers.txt", ANSWERS)]
 
 
 def text(parts, name):
@@ -85,19 +91,20 @@ def text(parts, name):
 def files_of(parts):
     """An example's setup and its two logs."""
     a = text(parts, "log") or log(parts.get("a", []))
-    return [text(parts, "keys") + SETUP, a, log(parts.get("b", []))]
+    setup = f"{SETUP}\n{text(parts, 'rows')}" if "rows" in parts else parts["setup"]
+    return [text(parts, "keys") + setup, a, log(parts.get("b", []))]
 
 
 def write_example(name, room):
-    """Writes the files of an example of runs/examples.txt into a folder: its setup, its logs, and what it prints."""
-    parts = next(it for it in of_file() if it["name"] == name)
+    """Writes the files of an example into a folder: its setup, its logs, and what it prints."""
+    parts = next(it for it in of_files() if it["name"] == name)
     for file, what in zip(("setup", "a", "b", "prints"), [*files_of(parts), text(parts, "prints")]):
         with open(f"{room}/{file}", "w") as it:
             it.write(what)
 
 
 def run_file():
-    for parts in of_file():
+    for parts in of_files():
         files = files_of(parts)
         for job in ("serial",) if "b" in parts else ("serial", "play"):
             words = [job, *parts.get("flags", [])]
@@ -255,22 +262,37 @@ def refusals():
 def largest_setup():
     """Each table of the setup as long as it may be; the last tester unlocks a level and looks at them."""
     rows = [f'[[tester]]\nname = "{chr(97 + it) * 16}"\nrequest = {0x700 + 2 * it}\nresponse = {0x701 + 2 * it}\n' for it in range(8)]
-    rows += [f'[[did]]\nid = {0xFFFF - it}\nvalue = "{"5A" * 255}"\nread_level = 65\nwrite = true\nwrite_level = 63\n' for it in range(64)]
-    rows += [f"[[code]]\ncode = {0xFFFFFE - it}\nstatus = {it}\n" for it in range(256)]
+    value = 'value = "{}"\nread_level = 65\nwrite = true\nwrite_level = 63\n'
+    rows += [f"[[did]]\nid = {0xFFFF - it}\n" + value.format("5A" * (1 if 255 < it < 1023 else 255)) for it in range(1024)]
+    rows += [f"[[code]]\ncode = {0xFFFFFE - it}\nstatus = {it % 256}\n" for it in range(4096)]
     routine = 'time_ms = 600000\nresult = "{}"\nlevel = 61\ncode = {}\nstatus = 255\n'
-    rows += [f"[[routine]]\nid = {0xFFFF - it}\n" + routine.format("33" * 32, 0xFFFFFE - it) for it in range(16)]
-    pair = f'[[level.row]]\nseed = "{"11" * 16}"\nkey = "{"22" * 16}"\n'
+    rows += [f"[[routine]]\nid = {0xFFFF - it}\n" + routine.format("33" * 32, 0xFFFFFE - it) for it in range(256)]
+    pair = f'[[level.row]]\nseed = "{"11" * 255}"\nkey = "{"22" * 255}"\n'
     rows += [f"[[level]]\nsub = {65 - 2 * it}\n{pair * 64}" for it in range(4)]
+    rows += [f'[[answer]]\nrequest = "BA{it:04X}"\nreply = ["FA$1$2"]\n' for it in range(1024)]
     asked = [
-        ("1003", "5003003201F4"), ("22FFC0", "7F2233"), ("2741", "6741" + "11" * 16), ("2742" + "22" * 16, "6742"),
-        ("22FFC0", "62FFC0" + "5A" * 255), ("22FFFF", "62FFFF" + "5A" * 255), ("22FFBF", "7F2231"),
-        ("190180", "5901FF010080"), ("3101FFF0", "7F3133"), ("3101FFEF", "7F3131"),
-        ("273B", "673B" + "11" * 16), ("2739", "7F2712"),
+        ("1003", "5003003201F4"), ("22FC00", "7F2233"), ("2741", "6741" + "11" * 255), ("2742" + "22" * 255, "6742"),
+        ("22FC00", "62FC00" + "5A" * 255), ("22FFFF", "62FFFF" + "5A" * 255), ("22FBFF", "7F2231"),
+        ("190180", "5901FF010800"), ("3101FF00", "7F3133"), ("3101FEFF", "7F3131"),
+        ("273B", "673B" + "11" * 255), ("2739", "7F2712"), ("BA03FF", "FA03FF"), ("BA0400", "7FBA11"),
     ]
     setup = read_setup("".join(rows))
     lines = [it.replace("7E0#", "70E#") for it in of_requests(setup, [it for it, _ in asked])]
     journal = "".join(f"8 P {one} {other}\n" for one, other in asked)
     check("the largest setup", ["serial", "--journal"], ["".join(rows), *[""] * 7, log(lines)], f"diag-journal 1\n{journal}")
+
+
+def any_key():
+    """A level whose every key of the right length is right, where a seed is outstanding."""
+    setup = SETUP.replace("sub = 1\n", "sub = 1\nany_key = true\n")
+    asked = [
+        ("1003", "5003003201F4"), ("270200000000", "7F2724"), ("2701", "670111223344"), ("27020000", "7F2713"),
+        ("270200000000", "6702"), ("2701", "670100000000"), ("2EF19041", "7F2E13"),
+    ]
+    lines = of_requests(read_setup(setup), [it for it, _ in asked])
+    journal = "".join(f"1 P {one} {other}\n" for one, other in asked)
+    for job in ("serial", "play"):
+        check("any-key", [job, "--journal"], [setup, log(lines), ""], f"diag-journal 1\n{journal}")
 
 
 def a_million_events():
@@ -389,7 +411,7 @@ def main():
     if not os.access(PROGRAM, os.X_OK):
         print(f"examples: {PROGRAM} isn't built\n0 passed, 1 failed")
         return 1
-    groups = [run_file, refusals, long_requests, long_replies, many_reads, two_routines, largest_setup, log_faults, a_million_events]
+    groups = [run_file, refusals, long_requests, long_replies, many_reads, two_routines, largest_setup, any_key, log_faults, a_million_events]
     for group in [*groups, replays, config_faults, read_while_written]:
         group()
     print(f"{counts[True]} passed, {counts[False]} failed")

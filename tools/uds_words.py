@@ -124,6 +124,13 @@ def flow_words(data):
     return f"{data[:3].hex(' ').upper()} flow control: too long"
 
 
+def due_words(after, setup):
+    """When an answer is due that doesn't go at once, and how often response pending is before it."""
+    count = len(setup.times.pendings(after))
+    often = {0: "", 1: ", response pending once before"}.get(count, f", response pending {count} times before")
+    return [f"due after {after} ms{often}"] if after else []
+
+
 def seconds(time):
     return f"{time // 1000}.{time % 1000:03d}"
 

@@ -20,7 +20,7 @@ from dataclasses import dataclass
 from uds_names import service_name
 from uds_rules import pending
 from uds_run import Held, Session, Wrong, messages, read_run, read_setup, waits
-from uds_words import answer_words, changes, held_words, message_words, request_words, seconds
+from uds_words import answer_words, changes, due_words, held_words, message_words, request_words, seconds
 
 PARTS = os.path.join(os.path.dirname(os.path.abspath(__file__)), "view")
 KINDS = {"T": 0, "P": 1, "F": 2}
@@ -46,14 +46,16 @@ def step_words(entry, outcome, setup):
 
 
 def journal_text(setup, run):
-    """The journal, a line a step, with what it changes about the session behind `*`."""
+    """The journal, a line a step, with when its answer is due, where that is later, and what it changes about the session
+    behind `*`."""
     wide = max((len(seconds(it.time)) for it in run.entries), default=0)
     names = max(map(len, setup.names))
     session, before = Session(setup), Held()
     for entry in run.entries:
+        late = [] if entry.reply is None else due_words(session.wait(entry), setup)
         outcome = session.take(entry)
         held = session.held()
-        notes = "".join(f"  * {it}" for it in changes(before, held, setup))
+        notes = "".join(f"  * {it}" for it in [*late, *changes(before, held, setup)])
         step = step_words(entry, outcome, setup)
         yield f"{seconds(entry.time):>{wide}} {plain(setup.names[entry.place]):<{names}}  {step}{notes}\n"
         before = held

@@ -173,7 +173,47 @@ SCRIPTS = [
     ["021083", "022701", "06278201020304", "022701", "0431810203", "028582", "021081"],
     ["021003", "022701", "062702AABBCCDD", "022701", "021003", "022701", "0431010203", "021101"],
     ["0322F190", "300000"], ["0522F190F190", "30000A"], ["031902FF"], ["0414FFFFFF"], ["023E80"],
+    ["021003", "021002", "022701", "0431010203", "021003"], ["021002", "021083"], ["021060"], ["022801", "021003", "021004"],
 ]
+# the service that a row with a template enters a session by, one that it answers with nothing, and answers that are late
+ANSWERS = """
+[[answer]]
+request = "1002"
+reply = ["5002003201F4"]
+session = 3
+enter = 2
+after_ms = 700
+
+[[answer]]
+request = "1004"
+reply = ["5004003201F4"]
+enter = 4
+
+[[answer]]
+request = "1060"
+reply = ["", "5060003201F4"]
+session = 3
+level = 1
+enter = 96
+
+[[answer]]
+request = "28*"
+reply = [""]
+
+[[answer]]
+request = "1081"
+reply = ["5001", "7F1022"]
+enter = 1
+
+[[answer]]
+request = "3E80"
+after_ms = 900
+
+[[answer]]
+request = "3101...."
+after_ms = 6000
+"""
+NAMES = {1: "default", 2: "programming", 3: "extended", 4: "safety"}
 EVERYONE = [
     "023E80", "021083", "021082", "021081", "0227FF", "0227810000", "0431810203", "0431830203", "0431810204", "028582",
     "058582000000", "058582FFFFFF", "0322FFFF", "0239AA", "021181", "02198A", "0431010203",
@@ -216,6 +256,12 @@ def against(entry, before, outcome):
     return ""
 
 
+def ends(session, setup):
+    """What the program's end says of this session, without the codes."""
+    holder = "none" if session.holder is None else setup.names[session.holder]
+    return f"session {NAMES.get(session.session, f'{session.session:02X}')}\nholder {holder}\n"
+
+
 def session_of(setup, run_):
     """Each entry's outcome, the session at the end, what speaks against it, and how much was seen."""
     session, wrong, outcomes, seen = uds_run.Session(setup), [], [], set()
@@ -230,21 +276,21 @@ def session_of(setup, run_):
 
 
 def sessions(room):
-    """The session that the tool follows is that by which the program answers; at the end its holder is the program's."""
-    config, seen = put(f"{room}/setup", eight_testers()), set()
-    setup = uds_run.read_setup(eight_testers())
-    for seed in range(12):
-        chance = random.Random(seed)
+    """The session that the tool follows is that by which the program answers; at the end it and its holder are the
+    program's."""
+    seen = set()
+    for seed in range(24):
+        chance, text = random.Random(seed), eight_testers() + ANSWERS * (seed % 2)
+        config, setup = put(f"{room}/setup", text), uds_run.read_setup(text)
         capture = put(f"{room}/capture", traffic(chance, chance.choice([1, 2, 8]), 300))
         text = run("bus", "--journal", config, capture)
         found = uds_run.read_run(setup, [("journal", text)])
         outcomes, held, wrong, more = session_of(setup, found)
-        holder = "none" if held.holder is None else setup.names[held.holder]
-        end = run("bus", "--end", config, capture).split("\n")[1]
-        told(end == f"holder {holder}" and not wrong, f"the session of a capture, {seed}", f"{end}, {holder}, {wrong[:5]}")
+        end, want = run("bus", "--end", config, capture), ends(held, setup)
+        told(end.startswith(want) and not wrong, f"the session of a capture, {seed}", f"{end}, {want}, {wrong[:5]}")
         refusals(room, config, text, outcomes, seed)
         seen |= more | set(outcomes)
-    all_kinds = {"holder", "level", "routine", "done", "refused", "suppressed", "silent"}
+    all_kinds = {"holder", "level", "routine", "done", "refused", "suppressed", "silent", "empty"}
     told(seen >= all_kinds, "the captures have all that is followed", seen)
 
 
@@ -284,6 +330,22 @@ def silence(room):
     told(outcomes[1::2] == list(SILENCE.values()), "the holder's requests without a reply", outcomes[1::2])
     told(outcomes[2::2] == others, "another tester's requests without a reply", outcomes[2::2])
     refusals(room, config, text, outcomes, "both", len(outcomes))
+
+
+# ---- answers that take their time
+
+
+def late(_):
+    """Of frames with their journal, each response pending stands alone, and a reply is that of its entry."""
+    folder = f"{TOP}/runs/bus_rule_slow_twice"
+    setup = uds_run.read_setup(whole(f"{folder}/setup.toml"))
+    found = uds_run.read_run(setup, [(it, whole(f"{it}/stdout")) for it in (folder, f"{folder}_journal")])
+    replies, cut, rest = view.chart(setup, found)
+    pending = [(it["kind"], it["time"], it["before"], it["words"][:5]) for it in rest]
+    want = [("pending", 50, 2, "7F 14"), ("pending", 250, 6, "7F 3E"), ("pending", 400, 7, "7F 3E")]
+    told(pending == want and not cut, "response pending beside the journal", f"{pending}, {cut}")
+    after = {at: [it[1] for it in frames] for at, frames in replies.items()}
+    told(after == {0: [400], 1: [400], 4: [100]}, "how long each answer took", after)
 
 
 # ---- faults
@@ -532,7 +594,7 @@ def main():
     if not os.access(PROGRAM, os.X_OK):
         print(f"view: {PROGRAM} isn't built\n0 passed, 1 failed")
         return 1
-    for group in (names, texts, lines_a_step, sessions, silence, faults, pages):
+    for group in (names, texts, lines_a_step, sessions, silence, late, faults, pages):
         with tempfile.TemporaryDirectory() as room:
             group(room)
     print(f"{counts[True]} passed, {counts[False]} failed")
