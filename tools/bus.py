@@ -15,6 +15,32 @@ PROGRAM = f"{TOP}/crates/uds_play/out/uds_play"
 with open(f"{TOP}/runs/setup.toml", encoding="ascii") as it:
     SETUP = it.read()
 THIRD = '\n[[tester]]\nname = "C"\nrequest = 0x7E2\nresponse = 0x7EA\n'
+# rows of answers for some of FRAMES: of a service of its maker's own, at once and later, in a session of its own
+ANSWERS = """
+[[answer]]
+request = "23"
+reply = ["63", "7F2310", "", "63??112233445566"]
+
+[[answer]]
+request = "22F190"
+after_ms = 40
+
+[[answer]]
+request = "14*"
+after_ms = 5600
+
+[[answer]]
+request = "3E80"
+reply = ["7E80"]
+after_ms = 5
+
+[[answer]]
+request = "1101..*"
+reply = ["51$1"]
+session = 3
+enter = 2
+after_ms = 60
+"""
 FLAGS = ([], ["--journal"], ["--end"])
 # the most seconds that the program may take to write what is due
 PATIENCE = 20
@@ -171,7 +197,7 @@ def streams(room):
     for seed in range(24):
         chance = random.Random(seed)
         testers = chance.choice([1, 2, 3])
-        config = put(f"{room}/setup", (SETUP + THIRD).encode())
+        config = put(f"{room}/setup", (SETUP + THIRD + ANSWERS * (seed % 2)).encode())
         lines = capture(chance, testers, chance.randint(5, 60))
         text = text_of(chance, lines)
         if seed % 4 == 1:
@@ -247,9 +273,9 @@ def with_others(chance, lines):
 def one_tester(room):
     """A tester's own frames draw what `serial --stamps` draws from them; other traffic among them changes nothing."""
     one = SETUP.replace('[[tester]]\nname = "B"\nrequest = 0x7E1\nresponse = 0x7E9\n', "")
-    config = put(f"{room}/setup", one.encode())
     for seed in range(20):
         chance = random.Random(2000 + seed)
+        config = put(f"{room}/setup", (one + ANSWERS * (seed // 2 % 2)).encode())
         lines = [it for it in capture(chance, 1, 80, falls=seed % 2 == 0) if re.match(r"tick|\(.*(7E0|7DF)#[^#R]|\(.*7E0#$", it)]
         own = put(f"{room}/own", "".join(f"{it}\n" for it in lines).encode())
         status, out, _ = run(["serial", "--stamps", config, own])
@@ -262,9 +288,9 @@ def one_tester(room):
 
 def several_testers(room):
     """The journal of a capture replays to the capture's end; a capture is answered alike each time and in each way."""
-    config = put(f"{room}/setup", (SETUP + THIRD).encode())
     for seed in range(20):
         chance = random.Random(3000 + seed)
+        config = put(f"{room}/setup", (SETUP + THIRD + ANSWERS * (seed % 2)).encode())
         text = text_of(chance, capture(chance, 3, 200))
         path = put(f"{room}/capture", text)
         _, journal, _ = run(["bus", "--journal", config, path])

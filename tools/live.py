@@ -32,6 +32,9 @@ MOST_MEMORY = 16 * 1024
 SESSION, BUSY, PRESENT = "065003003201F4CC", "037F1021CCCCCCCC", "027E00CCCCCCCCCC"
 # so many frames come at once, and so many while nobody reads what they draw
 MANY, UNREAD = 100_000, 60_000
+# a row by which an answer takes its time, and how much sooner and later than it is due a frame may be seen, in seconds
+SLOW = '\n[[answer]]\nrequest = "14FFFFFF"\nafter_ms = 700\n'
+SOONER, LATER = 0.002, 0.5
 LONG = ["101462F190544553", "215456494E303132", "2233343536373839"]
 counts = {True: 0, False: 0}
 numbers = itertools.count()
@@ -212,6 +215,23 @@ def separation(room):
         wrong += run.ends_well()
         told(not wrong, "a long reply by its separation time", wrong)
         note(f"separation time 10 ms, seen from outside: {min(gaps):.1f} to {max(gaps):.1f} ms, the middle one {sorted(gaps)[len(gaps) // 2]:.1f}")
+
+
+def slow_answer(room):
+    """An answer that takes its time, behind response pending, with no further line; another tester is answered at once."""
+    with running(room, "p2_ms = 100\n" + SETUP + SLOW) as run:
+        wrong, late = "", []
+        for _ in range(3):
+            begun = time.monotonic()
+            run.send("7E0", "0414FFFFFF")
+            wrong += run.asks(1, "023E00", PRESENT)
+            for want, due in (("037F1478CCCCCCCC", 0.1), ("0154CCCCCCCCCCCC", 0.7)):
+                at, found = run.next("7E8")
+                late.append(at - begun - due)
+                wrong += "" if found == want and -SOONER <= late[-1] <= LATER else f"{found} {late[-1]:.3f} s late; "
+        wrong += run.ends_well()
+        told(not wrong, "an answer that takes its time, behind response pending", wrong)
+        note(f"answers that take their time, seen from outside: {1000 * min(late):.1f} to {1000 * max(late):.1f} ms late")
 
 
 def two_at_once(room):
@@ -433,8 +453,8 @@ def silence(room):
 
 
 GROUPS = [
-    session, key_delay, separation, two_at_once, no_flow_control, file_as_input, many_frames, unread_output, bad_lines,
-    closed_output, killed_reader, records, full_record,
+    session, key_delay, separation, slow_answer, two_at_once, no_flow_control, file_as_input, many_frames, unread_output,
+    bad_lines, closed_output, killed_reader, records, full_record,
 ]
 
 
