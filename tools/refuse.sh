@@ -136,8 +136,11 @@ sweep_program() {
     sweep_example "$program" trouble-codes
     sweep_example "$program" routine-and-setting
     sweep_example "$program" "many-identifiers, one of them unknown"
+    sweep_example "$program" rule-pending-many
     sweep_run "replay" 0 "$room/replayed" '' "$program" replay "$room/config" "$room/journal"
     writes_as_it_goes=1 sweep_run "bus" 0 runs/bus_merge/stdout '' "$program" bus runs/setup.toml runs/bus_merge/capture.log
+    writes_as_it_goes=1 sweep_run "bus with later answers" 0 runs/bus_rule_slow_twice/stdout '' \
+      "$program" bus runs/bus_rule_slow_twice/setup.toml runs/bus_rule_slow_twice/capture.log
     writes_as_it_goes=1 sweep_run "the journal of a bus" 0 runs/bus_functional_journal/stdout '' \
       "$program" bus --journal runs/setup.toml runs/bus_functional/capture.log
     writes_as_it_goes=1 sweep_run "the end of a bus" 0 runs/bus_order_end/stdout '' \
