@@ -37,7 +37,7 @@ GOOD = {
 LEVEL, ANSWER, PLAIN_ANSWER = 9, 14, 15
 # values of a wrong kind, and numbers at the borders of the ranges
 ODD = (-1, 4294967296, 1.5, "text", "0", "0 ", True, [], [1], {"a": 1})
-BORDERS = (0, 1, 2, 7, 8, 64, 65, 66, 67, 127, 128, 126, 240, 241, 249, 250, 255, 256, 2047, 2048, 60000, 60001, 65535, 65536, 600000, 600001, 16777214, 16777215, 4294967295)
+BORDERS = (0, 1, 2, 7, 8, 64, 65, 66, 67, 126, 127, 128, 240, 241, 249, 250, 255, 256, 2047, 2048, 60000, 60001, 65535, 65536, 600000, 600001, 16777214, 16777215, 4294967295)
 # spoilt as texts: what stands before the good setup
 BEFORE = {
     "a byte order mark": b"\xef\xbb\xbf",

@@ -433,21 +433,24 @@ def is_quiet(page):
 
 
 def whole_pages(room, page):
-    """A page has an arrow for each request, reply and flow control frame, and a line for each entry."""
+    """A page has an arrow for each request, reply, response pending and flow control frame, and a line for each entry."""
     demo, config = whole(f"{TOP}/demo/setup.toml"), f"{TOP}/demo/setup.toml"
     serial, frames = whole(f"{TOP}/demo/output.txt"), whole(f"{TOP}/demo/bus_output.txt")
     journal = run("bus", "--journal", config, f"{TOP}/demo/bus.log")
     eight, capture = put(f"{room}/eight", eight_testers()), put(f"{room}/capture", traffic(random.Random(1), 8, 120))
     of_eight, frames_of_eight = run("bus", "--journal", eight, capture), run("bus", eight, capture)
+    slow = f"{TOP}/runs/bus_rule_slow_twice"
     for name, setup, given, flow in [
         ("the demo's logs", demo, [serial], grants_in(serial)),
         ("the demo's bus", demo, [journal], 0),
         ("the demo's bus with its frames", demo, [journal, frames], grants_in(frames)),
         ("eight testers", eight_testers(), [of_eight], 0),
         ("eight testers with their frames", eight_testers(), [frames_of_eight, of_eight], grants_in(frames_of_eight)),
+        ("answers that take their time", whole(f"{slow}/setup.toml"), [whole(f"{it}/stdout") for it in (slow, f"{slow}_journal")], 0),
     ]:
         page.open(page_of(room, setup, *given), 1600, HIGH)
         found, want = drawn(page), {**in_text("".join(given)), "flow": flow}
+        want["replies"] += len(re.findall("#037F..78", "".join(given)))
         told(found == want and is_quiet(page), f"the page of {name}: {want}", f"{found}, {page.wrongs()}, {page.asked()}")
 
 
