@@ -7,7 +7,7 @@ use Rattle.diag_can.specs.declared.bus.BusLine.{BusLine}
 use Rattle.diag_can.specs.declared.fault.LineFault.{LineFault}
 use Rattle.diag_can.specs.declared.fault.LineFault.TheVariants.{BadLine}
 use Rattle.diag_can.proofs.BusLines.{begun_line-begun, begun_line-line, bus_lines-begin, bus_lines-first, bus_lines-more, ended_lines-begun, ended_lines-line, no_feed_in_begun}
-use Rattle.diag_world.specs.Port.{Grew}
+use Rattle.diag_port.specs.Port.{Grew}
 use Rattle.diag_live.specs.Live.{AreGood, Heard, Taken, capture_of, record_text, restamped, with_feed}
 use Rattle.diag_live.specs.Hearing.{EndsBefore, HasHeard, HeardLines, IsNextBad, IsLineTooLong, Refuses}
 use Rattle.diag_live.specs.declared.hearing.HearFault.{HearFault}

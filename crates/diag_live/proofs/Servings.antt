@@ -27,7 +27,7 @@ use Rattle.diag_live.specs.Stops.{AreFront, IsBadLine, IsFaulty, IsLiveCutShort,
 use Rattle.diag_live.specs.Serving.{Delivered, ServingGoesOn, ServingHalts, ServingStands, Undelivered, input_number, last_feed, numbered}
 use Rattle.diag_live.specs.declared.serving.Serving.{Serving}
 use Rattle.diag_live.specs.declared.hearing.Hearing.{Hearing}
-use Rattle.diag_world.specs.Port.{Grew}
+use Rattle.diag_port.specs.Port.{Grew}
 use Rattle.diag_live.proofs.Records.{capture_of-append, capture_says, good_join, lines_more, lines_of-append, plain_capture, record_text-append}
 use Rattle.diag_live.proofs.Numbers.{AreTicks, all_heard, fault_behind, heard_before, nothing_heard, passed_ticks}
 

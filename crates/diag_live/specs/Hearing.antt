@@ -3,7 +3,7 @@ use Rattle.std.specs.Prelude.{◌≡◌, ◌<◌, ℕ, ◌+◌, List, ◌∷◌,
 use Rattle.diag_can.specs.Bus.{begun_line, bus_line, bus_lines, ended_lines}
 use Rattle.diag_can.specs.declared.fault.LineFault.{LineFault}
 use Rattle.diag_can.specs.declared.fault.LineFault.TheVariants.{BadLine}
-use Rattle.diag_world.specs.Port.{Grew}
+use Rattle.diag_port.specs.Port.{Grew}
 use Rattle.diag_live.specs.Live.{AreGood, Heard, record_text, capture_of}
 use Rattle.diag_live.specs.declared.hearing.HearFault.{HearFault}
 use Rattle.diag_live.specs.declared.hearing.HearFault.TheVariants.{Line, Memory}

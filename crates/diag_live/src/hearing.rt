@@ -2,7 +2,7 @@
 
 ghost use Rattle.std.specs.Prelude.{◌<◌, ◌↔◌, IsTrue, ◌≡◌, ◌≤◌, ◌∷◌, [], ◌++◌, length, vec_len, IfErr, OnOk};
 ghost use Rattle.diag_can.specs.Bus.{HasNoFeed};
-ghost use Rattle.diag_world.specs.Port.{Grew};
+ghost use Rattle.diag_port.specs.Port.{Grew};
 
 use crate::restamp::add_restamped;
 use diag_can::{LONGEST_LINE, LineFault, read_bus_line};

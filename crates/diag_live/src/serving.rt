@@ -48,7 +48,7 @@ impl Serving {
     /// The moment at which something falls due or ends; 2^64 - 1 where nothing is waited for.
     pub(crate) fn due(&self) -> u64
         ensures { result
-            ≡ min (self.now.told + quiet_of self.now.capture.bus.server.links) (2 ^ 64 - 1) }
+            ≡ min (self.now.told + quiet_of self.now.capture.bus.server.ports) (2 ^ 64 - 1) }
     {
         self.told.saturating_add(self.capture.quiet())
     }

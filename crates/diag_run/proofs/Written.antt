@@ -16,10 +16,8 @@ use Rattle.diag_setup.specs.Setup.{link_of, name_of}
 use Rattle.diag_pdu.proofs.CutFrames.{length-counted}
 use Rattle.diag_pdu.proofs.Lists.{map-at}
 use Rattle.diag_pdu.specs.Cut.{counted_from}
-use Rattle.diag_tp.specs.State.{LinkState}
 use Rattle.diag_tp.specs.declared.sent.Sent.{Sent}
 use Rattle.diag_pdu.specs.declared.setup.LinkSetup.{LinkSetup}
-use Rattle.diag_tp.specs.Placing.{drawn}
 use Rattle.diag_tp.specs.Wire.{grant, sendings, wire}
 use Rattle.diag_ecu.specs.State.{State, opening}
 use Rattle.diag_desk.specs.declared.entry.Entry.{Entry}
@@ -27,7 +25,11 @@ use Rattle.diag_desk.specs.Entry.{most_entries}
 use Rattle.diag_desk.specs.Legal.{after}
 use Rattle.diag_desk.specs.Text.{ended, entry_line, stamped_line, text_of, ticks_in}
 use Rattle.diag_desk.proofs.ReadLemmas.{text_one}
-use Rattle.diag_world.specs.Port.{Grew, HasKept}
+use Rattle.diag_port.specs.declared.pace.Pace.{Pace}
+use Rattle.diag_port.specs.Late.{pace_of}
+use Rattle.diag_port.specs.Placing.{drawn}
+use Rattle.diag_port.specs.Port.{Grew, PortState}
+use Rattle.diag_port.specs.Standing.{HasKept}
 use Rattle.diag_world.specs.Server.{IsClosed, ServerState, ServerTook, ServerView, Serves, Settled, sent_to, server_of}
 use Rattle.diag_world.specs.World.{Stands, WorldState}
 use Rattle.diag_world.proofs.Worlds.{other_place, set_cases}
@@ -74,20 +76,20 @@ module _ (old new : JournalLines) (now : ℕ) where
 pub paced_more : (old new : ServerView) (who n m : ℕ) (e : Event) (asked : Option Entry) (more : List Sent)
     → Settled (server_of old) (server_of new) who e asked more → IsBy old (60000 * n) → m ≡ n + length (option_to_list asked)
     → IsBy new (60000 * m)
-paced_more old new who n m e asked more settled by count = λ i link at.
+paced_more old new who n m e asked more settled by count = λ i port at.
     let moved = settled.moved in
-    elim (set_cases (server_of old).links (who - 1) i moved.after link (subst (λ ls. slice_get ls i ≡ Some link) moved.set at)) [
+    elim (set_cases (server_of old).ports (who - 1) i moved.after port (subst (λ ps. slice_get ps i ≡ Some port) moved.set at)) [
       | inl p ↦ (
-          let same : link.now ≡ moved.after.now = ap (λ (l : LinkState). l.now) p.1 in
+          let same : port.link.now ≡ moved.after.link.now = ap (λ (q : PortState). q.link.now) p.1 in
           let low = by (who - 1) moved.before moved.found in
           omega (arith, same, moved.pace, low, count))
-      | inr p ↦ (let low = by i link p.1 in omega (arith, low, count))
+      | inr p ↦ (let low = by i port p.1 in omega (arith, low, count))
     ]
 
 -- so no clock runs out
-pub not_closed : (server : ServerView) (n i : ℕ) → n ≤ most_entries → IsBy server (60000 * n) → IsClosed (server_of server).links i → ⊥
+pub not_closed : (server : ServerView) (n i : ℕ) → n ≤ most_entries → IsBy server (60000 * n) → IsClosed (server_of server).ports i → ⊥
 not_closed server n i few by closed =
-    let low = by i closed.link closed.found in
+    let low = by i closed.port closed.found in
     absurd (omega (arith, low, few, closed.late))
 
 -- ---- an event
@@ -204,9 +206,9 @@ plays_more old mid new who e some took lines server journal wrote terms M h =
 -- ---- the beginning
 
 -- before the first event nothing is drawn
-nothing_drawn : (s : LinkSetup) → drawn s [] [] ≡ []
+nothing_drawn : (s : LinkSetup) (pace : Pace) → drawn s pace [] [] ≡ []
 unfolding wire grant sendings
-nothing_drawn s = refl
+nothing_drawn s pace = refl
 
 pub plays_begin : (terms : Terms) (playing : Playing) → Serves terms.setup (server_of playing.server) [] []
     → Enters playing.journal (version_of terms.timing) []
@@ -219,7 +221,7 @@ plays_begin terms playing serves enters none many = record {
   many = many;
   each = λ i tester at.
       let first = none i tester at in
-      record { named = first.named; text = first.text ∙ ap (lines_of (name_of terms.setup (i + 1))) (sym (nothing_drawn (link_of terms.setup (i + 1)))) };
+      record { named = first.named; text = first.text ∙ ap (lines_of (name_of terms.setup (i + 1))) (sym (nothing_drawn (link_of terms.setup (i + 1)) (pace_of terms.setup))) };
 }
 
 pub ready_begins : (setup : RawSetup) (playing : Playing) → Serves setup (server_of playing.server) [] [] → playing.journal.count ≡ 0 → playing.out.items ≡ []

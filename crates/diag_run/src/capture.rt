@@ -89,7 +89,7 @@ impl Capture {
 
     /// For how many milliseconds of ticks nothing falls due and nothing ends before the last of them.
     pub fn quiet(&self) -> u64
-        ensures is { result ≡ quiet_of self.now.bus.server.links }
+        ensures is { result ≡ quiet_of self.now.bus.server.ports }
         ensures some { 1 ≤ result }
     {
         self.bus.quiet()

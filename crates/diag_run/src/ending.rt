@@ -4,7 +4,7 @@ ghost use Rattle.std.specs.Prelude.{◌≡◌, ℕ, List, IfErr, OnOk, OnErr};
 ghost use Rattle.diag_bus.specs.Bus.{TookLines};
 ghost use Rattle.diag_run.specs.Capture.{IsBorneOut, closing};
 ghost use Rattle.diag_run.specs.Ending.{IsEndFault};
-ghost use Rattle.diag_world.specs.Port.{Grew};
+ghost use Rattle.diag_port.specs.Port.{Grew};
 
 use crate::capture::CaptureFault;
 use diag_bus::{Bus, Output, Verdict};

@@ -53,12 +53,12 @@ impl Playing {
 
     /// Has the server take an event of a tester, and writes the entry that it gives.
     fn take(&mut self, who: TesterId, event: &Event) -> Result<(), StepFault>
-        requires in_setup { (1 ≤ who) × (who ≤ length self.old.server.links) }
+        requires in_setup { (1 ≤ who) × (who ≤ length self.old.server.ports) }
         requires ready { IsReady self.old }
         ensures took { OnOk result (Took self.old self.new who event.now) }
         ensures paced { OnOk result (IsPaced self.new) }
         ensures links { OnOk result
-            (length self.new.server.links ≡ length self.old.server.links) }
+            (length self.new.server.ports ≡ length self.old.server.ports) }
         ensures lines { self.new.lines ≡ self.old.lines }
         ensures full { result ≡ Err StepFault.JournalFull → IsFull self.old who event.now }
     {

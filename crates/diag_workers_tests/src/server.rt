@@ -28,8 +28,8 @@ fn take(
     event: &Event,
     out: &mut Vec<Sent>,
 ) -> Result<(), ServerFault>
-    requires { who ≤ length server.old.links }
-    ensures { length server.new.links ≡ length server.old.links }
+    requires { who ≤ length server.old.ports }
+    ensures { length server.new.ports ≡ length server.old.ports }
 {
     server.take(who, event, &mut NoJournal, out)
 }
@@ -41,8 +41,8 @@ fn take_frame(
     frame: &Frame,
     out: &mut Vec<Sent>,
 ) -> Result<(), ServerFault>
-    requires { length server.old.links ≡ length setup.now.testers }
-    ensures { length server.new.links ≡ length server.old.links }
+    requires { length server.old.ports ≡ length setup.now.testers }
+    ensures { length server.new.ports ≡ length server.old.ports }
 {
     for index in 0..setup.testers() {
         let Some(who) = setup.who(index) else {
@@ -62,8 +62,8 @@ fn pass(
     count: TickCount,
     out: &mut Vec<Sent>,
 ) -> Result<(), ServerFault>
-    requires { length server.old.links ≡ length setup.now.testers }
-    ensures { length server.new.links ≡ length server.old.links }
+    requires { length server.old.ports ≡ length setup.now.testers }
+    ensures { length server.new.ports ≡ length server.old.ports }
 {
     for index in 0..setup.testers() {
         let Some(who) = setup.who(index) else {
@@ -117,8 +117,8 @@ fn hear(
     heard: &Heard,
     out: &mut Vec<Sent>,
 ) -> Result<(), Trouble>
-    requires { length server.old.links ≡ length setup.now.testers }
-    ensures { length server.new.links ≡ length server.old.links }
+    requires { length server.old.ports ≡ length setup.now.testers }
+    ensures { length server.new.ports ≡ length server.old.ports }
 {
     let (count, id, bytes) = *heard;
     let count = TickCount::new(count).ok_or(Trouble::Wrong)?;
@@ -129,7 +129,7 @@ fn hear(
 }
 
 fn hear_all(server: &mut Server, setup: &Setup, out: &mut Vec<Sent>) -> Result<(), Trouble>
-    requires { length server.old.links ≡ length setup.now.testers }
+    requires { length server.old.ports ≡ length setup.now.testers }
 {
     for heard in &HEARD {
         hear(server, setup, heard, out)?;
@@ -153,7 +153,7 @@ fn are_sent(out: &[Sent]) -> bool {
 }
 
 fn all_are_sent(alloc: Global, server: &mut Server, setup: &Setup) -> Result<bool, Trouble>
-    requires { length server.old.links ≡ length setup.now.testers }
+    requires { length server.old.ports ≡ length setup.now.testers }
 {
     let mut out = Vec::new(alloc);
     hear_all(server, setup, &mut out)?;

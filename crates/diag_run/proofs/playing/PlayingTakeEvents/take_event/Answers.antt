@@ -2,7 +2,8 @@ use Rattle.std.proofs.Common.{Err, ap, sym, ◌∙◌, arith, rules}
 use Rattle.std.proofs.lemmas.List.{length-map}
 use Rattle.std.proofs.lemmas.Result.{err_from_is_err_and}
 use Rattle.diag_setup.specs.Setup.{link_of}
-use Rattle.diag_tp.specs.State.{LinkView}
+use Rattle.diag_port.specs.declared.port.Port.{Port}
+use Rattle.diag_port.specs.Port.{port_of}
 use Rattle.diag_world.proofs.Headlines.{too_many}
 use Rattle.diag_run.specs.Playing.{IsReady}
 use Rattle.diag_run.proofs.Written.{plays_more}
@@ -11,7 +12,7 @@ use Rattle.diag_run.proofs.playing.PlayingTakeEvents.take_event.Goals as goal
 pub take-requires : goal.take-requires
 take-requires c =
     let begun = c.requires.in_setup in
-    let many = sym (length-map c.args.self.now.server.links (λ (l : LinkView). l.state)) ∙ begun.2.1.serves.testers in
+    let many = sym (length-map c.args.self.now.server.ports (λ (p : Port). port_of p)) ∙ begun.2.1.serves.testers in
     record { in_setup = (begun.3, omega (arith, many, begun.4)); ready = begun.2.0 }
 
 pub returns-clause-took : goal.returns-clause-took
