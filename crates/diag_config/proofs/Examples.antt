@@ -1,8 +1,11 @@
--- The texts of patterns and templates, computed.
-use Rattle.std.proofs.Common.{◌≡◌, true, false, [], ◌∷◌, Some, None, refl, codes}
-use Rattle.diag_setup.specs.ExampleSetup.{echo_row, rounds_row}
-use Rattle.diag_setup.specs.declared.raw.TemplateItem.TheVariants as template
+-- Patterns, templates and a row of answers as they are read, computed.
+use Rattle.std.proofs.Common.{◌≡◌, true, false, [], ◌∷◌, Some, None, Ok, Err, pos, refl, codes}
+use Rattle.diag_setup.specs.ExampleSetup.{echo_row, rounds_row, enter_row}
+use Rattle.diag_setup.specs.declared.raw.TemplateItem.TheVariants as items
+use Rattle.toml.specs.Data.{string, integer, array, no_items, item, no_members, member}
 use Rattle.diag_config.specs.Answer.{pattern_of, template_of}
+use Rattle.diag_config.specs.Key.{bad_value}
+use Rattle.diag_config.specs.Setup.{template, list, required, optional, with_default, answer_at}
 
 echo_pattern : pattern_of (codes "28....*") ≡ Some (record { items = echo_row.pattern; more = true })
 echo_pattern = refl
@@ -31,10 +34,10 @@ no_digit = refl
 one_dot : pattern_of (codes "2.") ≡ None
 one_dot = refl
 
-echo_template : template_of (codes "68$1") ≡ Some (template.Byte 0x68 ∷ template.OfRequest 1 ∷ [])
+echo_template : template_of (codes "68$1") ≡ Some (items.Byte 0x68 ∷ items.OfRequest 1 ∷ [])
 echo_template = refl
 
-varying_template : template_of (codes "62??$a") ≡ Some (template.Byte 0x62 ∷ template.Varies ∷ template.OfRequest 10 ∷ [])
+varying_template : template_of (codes "62??$a") ≡ Some (items.Byte 0x62 ∷ items.Varies ∷ items.OfRequest 10 ∷ [])
 varying_template = refl
 
 empty_template : template_of [] ≡ Some []
@@ -48,3 +51,17 @@ no_index = refl
 
 star_behind_a_template : template_of (codes "68*") ≡ None
 star_behind_a_template = refl
+
+reply_is_no_list : list template (codes "answer.reply") (string (codes "68")) ≡ Err (bad_value (codes "answer.reply"))
+reply_is_no_list = refl
+
+reply_of_half_an_item : list template (codes "answer.reply") (array (item (string (codes "6")) no_items)) ≡ Err (bad_value (codes "answer.reply"))
+reply_of_half_an_item = refl
+
+the_row : answer_at (
+    member (codes "request") (string (codes "1002"))
+    (member (codes "reply") (array (item (string (codes "5002003201F4")) no_items))
+    (member (codes "session") (integer (pos 3)) (member (codes "enter") (integer (pos 2)) no_members)))
+    ) ≡ Ok enter_row
+unfolding answer_at required optional with_default
+the_row = refl
