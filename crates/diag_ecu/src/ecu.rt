@@ -146,7 +146,7 @@ impl Ecu {
         if self.answers.is_empty() {
             return 0;
         }
-        self.ruled_decision(who, message.bytes()).after_ms
+        self.ruled_delay(who, message.bytes())
     }
 
     /// Whether there are rows of answers, which are looked at before the services.

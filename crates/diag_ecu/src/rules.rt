@@ -2,7 +2,7 @@
 //! has no row.
 ghost use Rattle.std.specs.Prelude.{◌≡◌, ◌≤◌, length, option_map, Some, IfOk, OnOk};
 ghost use Rattle.diag_store.specs.Answers.{row_reply};
-ghost use Rattle.diag_ecu.specs.Respond.{access_of, answered, decision, effect_by, is_barred, place_for, reply, reply_by, rule_for};
+ghost use Rattle.diag_ecu.specs.Respond.{access_of, answered, decision, delay, effect_by, is_barred, place_for, reply, reply_by, rule_for};
 
 use crate::ecu::{Ecu, negative_reply};
 use crate::effect::{Decision, Effect};
@@ -61,6 +61,19 @@ impl Ecu {
                 effect: self.effect(who, p),
                 after_ms: 0,
             },
+        }
+    }
+
+    /// How long after a request its answer goes, where a row may decide.
+    #[cold]
+    #[inline(never)]
+    pub(crate) fn ruled_delay(&self, who: TesterId, p: &[u8]) -> u32
+        requires { 1 ≤ length p.now }
+        ensures { result ≡ delay self.now who p.now }
+    {
+        match self.rule_for(who, p) {
+            Some((_, row)) => row.after_ms,
+            None => 0,
         }
     }
 
