@@ -12,4 +12,3 @@ pub mod Timed
 pub mod Replay
 pub mod Following
 pub mod Unlocking
-pub mod Timed

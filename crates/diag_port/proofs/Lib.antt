@@ -7,3 +7,4 @@ pub mod Standing
 pub mod AtOnce
 pub mod Examples
 pub mod Quiet
+pub mod Delays

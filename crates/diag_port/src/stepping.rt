@@ -76,17 +76,18 @@ pub trait TakeSteps {
 }
 
 impl TakeSteps for Desk {
-    ghost use Rattle.std.specs.Prelude.{◌≡◌, ⊤, false, length, refl};
+    ghost use Rattle.std.specs.Prelude.{◌≡◌, ⊤, length, refl};
     ghost use Rattle.diag_desk.specs.Entry.{most_entries};
     ghost use Rattle.diag_desk.specs.Legal.{after, entered};
     ghost use Rattle.diag_desk.specs.Timed.{timed_entry};
+    ghost use Rattle.diag_port.specs.Standing.{may_delay};
 
     ghost allows = { λ _ _ _. ⊤ };
 
     ghost takes = { λ old _ x new.
         (new ≡ entered old x.entry) × (x ≡ timed_entry (after old.opening old.journal) x.entry) };
 
-    ghost can_delay = { λ _. false };
+    ghost can_delay = { λ desk. may_delay (after desk.opening desk.journal) };
 
     ghost is_full = { λ desk. length desk.journal ≡ most_entries };
 
@@ -95,7 +96,7 @@ impl TakeSteps for Desk {
     ghost stays = { λ _ _. ⊤ };
 
     fn can_delay(&self) -> bool {
-        false
+        self.ecu().has_answers()
     }
 
     fn take_request(
@@ -106,7 +107,7 @@ impl TakeSteps for Desk {
         reply: &mut Option<Message>,
     ) -> Result<u32, StepFault> {
         *reply = self.request(who, request)?;
-        Ok(0)
+        Ok(self.after_ms())
     }
 
     fn take_ticks(

@@ -1,14 +1,9 @@
-use Rattle.std.proofs.Common.{◌≡◌, ◌<◌, ◌+◌, List, ℕ, ◌∷◌, [], ◌++◌, map, ap, subst, sym, ◌∙◌, arith}
+use Rattle.std.proofs.Common.{◌≡◌, ◌<◌, ◌+◌, ◌∷◌, [], ◌++◌, ap, subst, sym, ◌∙◌, arith}
 use Rattle.std.proofs.lemmas.List.{append-nil}
-use Rattle.diag_pdu.proofs.Lists.{length-zero}
-use Rattle.diag_can.specs.declared.frame.Event.{Event}
 use Rattle.diag_can.specs.declared.frame.Event.TheVariants.{Ticks}
-use Rattle.diag_pdu.specs.declared.setup.LinkSetup.{LinkSetup}
-use Rattle.diag_tp.specs.declared.sent.Sent.{Sent}
 use Rattle.diag_tp.specs.Moments.{history, last_time}
-use Rattle.diag_tp.specs.State.{LinkState, due}
-use Rattle.diag_tp.specs.Wire.{Placed, stamped, wire}
-use Rattle.diag_tp.specs.Link.{StandsFor, pending}
+use Rattle.diag_tp.specs.Wire.{wire}
+use Rattle.diag_tp.specs.Link.{StandsFor}
 use Rattle.diag_port.specs.Held.{until_due}
 use Rattle.diag_port.specs.Late.{placed_late}
 use Rattle.diag_port.specs.Port.{HandedOut, PortState}
