@@ -209,7 +209,8 @@ struct Answering<'a, K> {
 }
 
 impl<'a, K: Keeper> TakeSteps for Answering<'a, K> {
-    ghost use Rattle.std.specs.Prelude.{◌≡◌, ◌≤◌, false, refl};
+    ghost use Rattle.std.specs.Prelude.{◌≡◌, ◌≤◌, refl};
+    ghost use Rattle.diag_port.specs.Standing.{may_delay};
     ghost use Rattle.diag_world.specs.Server.{Answered, closing_time};
 
     ghost allows = { λ _ _ before. before ≤ closing_time };
@@ -217,7 +218,7 @@ impl<'a, K: Keeper> TakeSteps for Answering<'a, K> {
     ghost takes = { λ old before x new.
         Answered K.keeps old.ecu.now new.ecu.now old.keeper.now new.keeper.now before x };
 
-    ghost can_delay = { λ _. false };
+    ghost can_delay = { λ answering. may_delay answering.ecu.now };
 
     ghost is_full = { λ answering. K.is_full answering.keeper.now };
 
@@ -230,7 +231,7 @@ impl<'a, K: Keeper> TakeSteps for Answering<'a, K> {
 
     #[inline(always)]
     fn can_delay(&self) -> bool {
-        false
+        self.ecu.has_answers()
     }
 
     #[inline(always)]
@@ -242,11 +243,11 @@ impl<'a, K: Keeper> TakeSteps for Answering<'a, K> {
         reply: &mut Option<Message>,
     ) -> Result<u32, StepFault> {
         let bytes = request.message.bytes();
-        let effect = self.ecu.put_reply(who, request.functional, bytes, reply)?;
+        let decided = self.ecu.put_reply(who, request.functional, bytes, reply)?;
         self.keeper
             .keep_request(before, who, request, reply.as_ref())?;
-        self.ecu.apply(who, bytes, effect);
-        Ok(0)
+        self.ecu.apply(who, bytes, decided);
+        Ok(decided.after_ms)
     }
 
     #[inline(always)]
