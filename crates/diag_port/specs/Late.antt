@@ -29,9 +29,9 @@ pendings pace t d sid (suc n) i =
     then pending_at pace t sid i ∷ pendings pace t d sid n (suc i)
     else []
 
--- the most times; a checked setup has no row whose answer has more before it
+-- the most times: no row of a checked setup has an answer that has more before it
 abbrev pub most_pendings : ℕ
-most_pendings = 256
+most_pendings = 255
 
 -- a reply to a request at time t that goes d ticks later, behind its response pending
 abbrev pub laters : Pace → ℕ → ℕ → ℕ → Option (List ℕ) → List Later

@@ -10,7 +10,6 @@ ghost use Rattle.std.specs.Prelude.{
   [],
   ◌++◌,
   length,
-  map,
   sum_by,
   OnOk,
   IfSome,
@@ -35,7 +34,7 @@ use std::marker::Model;
 const MOST_HELD: usize = 1 << 40;
 
 /// How many times *response pending* goes before an answer at most.
-pub(crate) const MOST_PENDINGS: u32 = 256;
+pub(crate) const MOST_PENDINGS: u32 = 255;
 
 /// A message, and the time from which on it may go.
 #[derive(Drop)]

@@ -1,7 +1,6 @@
 //! The server as it streams: the ECU and the testers' ports, and neither a journal nor the frames that were sent.
 
 ghost use Rattle.std.specs.Prelude.{
-  ℕ,
   ◌≡◌,
   ◌≤◌,
   ◌<◌,
@@ -12,14 +11,11 @@ ghost use Rattle.std.specs.Prelude.{
   map,
   Option,
   Some,
-  None,
   Err,
   IfOk,
   IfSome,
   OnOk,
   OnErr,
-  vec_len,
-  vec_capacity,
   slice_get,
   IsSome,
 };
