@@ -22,9 +22,9 @@ use Rattle.std.specs.List.{flat_map}
 use Rattle.diag_can.specs.declared.frame.Frame.{Frame}
 use Rattle.diag_bus.specs.Batch.{Drew, Gave, SameShape, entered, entry_added, lists_of}
 use Rattle.diag_bus.specs.declared.mid_line.MidLine.{MidLine}
+use Rattle.diag_port.specs.Port.{PortState}
 use Rattle.diag_bus.proofs.Entries.{entered_more}
 use Rattle.diag_desk.specs.Text.{ticks_of}
-use Rattle.diag_tp.specs.State.{LinkState}
 use Rattle.diag_tp.specs.Link.{last_tick}
 use Rattle.diag_world.specs.Weaving.{items_of}
 use Rattle.diag_world.proofs.Times.{ticks_served}
@@ -71,10 +71,10 @@ pub gave_none : (a : MidLine) → Gave a a []
 gave_none a = λ setup base before N d. subst (λ w. Drew setup a base before w) (sym (append-nil N)) d
 
 pub same_more : (a b c : MidLine) → SameShape a b → SameShape b c → SameShape a c
-same_more a b c h k = record { links = k.links ∙ h.links; lists = k.lists ∙ h.lists; output = k.output ∙ h.output; filled = λ known. k.filled (h.filled known); rest = λ known. k.rest (h.rest known) }
+same_more a b c h k = record { ports = k.ports ∙ h.ports; lists = k.lists ∙ h.lists; output = k.output ∙ h.output; filled = λ known. k.filled (h.filled known); rest = λ known. k.rest (h.rest known) }
 
 pub same_none : (a : MidLine) → SameShape a a
-same_none a = record { links = refl; lists = refl; output = refl; filled = λ known. known; rest = λ known. known }
+same_none a = record { ports = refl; lists = refl; output = refl; filled = λ known. known; rest = λ known. known }
 
 pub frames_more : (setup : RawSetup) (frame : Option Frame) (n who : ℕ) → who ≡ n + 1
     → flat_map (frame_to setup frame) (counted_from 1 (n + 1)) ≡ flat_map (frame_to setup frame) (counted_from 1 n) ++ frame_to setup frame who
@@ -138,15 +138,15 @@ whose None who now K by is = tt
 whose (Some k) who now K by is = is ∙ ap (λ t. ticks_of t K) (sym by)
 
 -- a link's clock tells the ticks that its tester has in the journal
-pub clock_told : (setup : RawSetup) (server : ServerState) (M : List (ℕ × Event)) (K : List Entry) (who i : ℕ) (link : LinkState)
+pub clock_told : (setup : RawSetup) (server : ServerState) (M : List (ℕ × Event)) (K : List Entry) (who i : ℕ) (port : PortState)
     (asked : Option Entry)
-    → Serves setup server M K → who ≡ i + 1 → slice_get server.links i ≡ Some link → link.now ≤ closing_time → IfSome asked (λ k. k.who ≡ who)
-    → IfSome asked (λ k. link.now ≡ ticks_of k.who K)
-clock_told setup server M K who i link asked h is found early by =
-    let time : link.now ≡ min (last_time (items_of M who)) last_tick =
-    subst (λ t. link.now ≡ min (last_time (items_of M t)) last_tick) (sym is) (h.ports i link found).stands.now in
-    let exact : link.now ≡ last_time (items_of M who) = under link.now (last_time (items_of M who)) early time in
-    whose asked who link.now K by (exact ∙ sym (ticks_served setup server M K who h))
+    → Serves setup server M K → who ≡ i + 1 → slice_get server.ports i ≡ Some port → port.link.now ≤ closing_time → IfSome asked (λ k. k.who ≡ who)
+    → IfSome asked (λ k. port.link.now ≡ ticks_of k.who K)
+clock_told setup server M K who i port asked h is found early by =
+    let time : port.link.now ≡ min (last_time (items_of M who)) last_tick =
+    subst (λ t. port.link.now ≡ min (last_time (items_of M t)) last_tick) (sym is) (h.ports i port found).stands.stands.now in
+    let exact : port.link.now ≡ last_time (items_of M who) = under port.link.now (last_time (items_of M who)) early time in
+    whose asked who port.link.now K by (exact ∙ sym (ticks_served setup server M K who h))
   where
     under : (now time : ℕ) → now ≤ closing_time → now ≡ min time last_tick → now ≡ time
     under now time early is = omega (arith, early, is)

@@ -10,12 +10,12 @@ use Rattle.std.specs.Option.{option_map}
 use Rattle.std.proofs.lemmas.Option.{none-some, slice_get-map}
 use Rattle.diag_can.specs.declared.frame.Event.{Event}
 use Rattle.diag_pdu.proofs.Lists.{length-zero}
-use Rattle.diag_tp.specs.Link.{quiet}
-use Rattle.diag_tp.specs.State.{LinkState, LinkView}
 use Rattle.diag_tp.specs.declared.sent.Sent.{Sent}
 use Rattle.diag_setup.specs.Rows.{in_order}
 use Rattle.diag_setup.specs.declared.raw.RawSetup.{RawSetup}
 use Rattle.diag_desk.specs.declared.entry.Entry.{Entry}
+use Rattle.diag_port.specs.declared.port.Port.{Port}
+use Rattle.diag_port.specs.Port.{PortState, port_of, port_quiet}
 use Rattle.diag_world.specs.Server.{ServerState, ServerView, Settled, quiet_of, server_of}
 use Rattle.diag_world.proofs.Worlds.{set_cases}
 use Rattle.diag_bus.specs.Batch.{IsRest, SameShape, lists_of}
@@ -68,65 +68,62 @@ filled_after filled new lists new_lists i frames false within set is none h =
 none_in : (list : Vec Sent Global) → (vec_len list == 0) ≡ true → list.items ≡ []
 none_in list h = length-zero list.items (omega (arith, eqb-true (vec_len list) 0 h, list.ok.0))
 
-pub links_moved : (old new : ServerView) (who : ℕ) (e : Event) (asked : Option Entry) (more : List Sent)
-    → Settled (server_of old) (server_of new) who e asked more → length new.links ≡ length old.links
-links_moved old new who e asked more settled =
-    let state = λ (l : LinkView). l.state in
-    sym (length-map new.links state) ∙ (ap length settled.moved.set
-    ∙ (length-set (map state old.links) (who - 1) settled.moved.after ∙ length-map old.links state))
+pub ports_moved : (old new : ServerView) (who : ℕ) (e : Event) (asked : Option Entry) (more : List Sent)
+    → Settled (server_of old) (server_of new) who e asked more → length new.ports ≡ length old.ports
+ports_moved old new who e asked more settled =
+    sym (length-map new.ports port_of) ∙ (ap length settled.moved.set
+    ∙ (length-set (map port_of old.ports) (who - 1) settled.moved.after ∙ length-map old.ports port_of))
 
-pub links_same : (old new : ServerView) → server_of new ≡ server_of old → length new.links ≡ length old.links
-links_same old new same =
-    let state = λ (l : LinkView). l.state in
-    sym (length-map new.links state) ∙ (ap (λ (s : ServerState). length s.links) same ∙ length-map old.links state)
+pub ports_same : (old new : ServerView) → server_of new ≡ server_of old → length new.ports ≡ length old.ports
+ports_same old new same =
+    sym (length-map new.ports port_of) ∙ (ap (λ (s : ServerState). length s.ports) same ∙ length-map old.ports port_of)
 
--- ---- how long no link does anything
+-- ---- how long no port does anything
 
 pub rest_stays : (old new : ServerView) (rest : ℕ) → server_of new ≡ server_of old → IsRest old rest → IsRest new rest
-rest_stays old new rest same known = subst (λ (s : ServerState). rest ≤ quiet_of s.links) (sym same) known
+rest_stays old new rest same known = subst (λ (s : ServerState). rest ≤ quiet_of s.ports) (sym same) known
 
-quiet_set : (links : List LinkState) (i : ℕ) (link : LinkState) → min (quiet_of links) (quiet link) ≤ quiet_of (slice_set links i link)
-quiet_set [] i link = omega arith
-quiet_set (first ∷ links) zero link = omega arith
-quiet_set (first ∷ links) (suc i) link = omega (arith, quiet_set links i link)
+quiet_set : (ports : List PortState) (i : ℕ) (port : PortState) → min (quiet_of ports) (port_quiet port) ≤ quiet_of (slice_set ports i port)
+quiet_set [] i port = omega arith
+quiet_set (first ∷ ports) zero port = omega arith
+quiet_set (first ∷ ports) (suc i) port = omega (arith, quiet_set ports i port)
 
-get_set : (links : List LinkState) (i : ℕ) (link before : LinkState) → slice_get links i ≡ Some before → slice_get (slice_set links i link) i ≡ Some link
-get_set [] i link before at = absurd (none-some before at)
-get_set (first ∷ links) zero link before at = refl
-get_set (first ∷ links) (suc i) link before at = get_set links i link before at
+get_set : (ports : List PortState) (i : ℕ) (port before : PortState) → slice_get ports i ≡ Some before → slice_get (slice_set ports i port) i ≡ Some port
+get_set [] i port before at = absurd (none-some before at)
+get_set (first ∷ ports) zero port before at = refl
+get_set (first ∷ ports) (suc i) port before at = get_set ports i port before at
 
-quiet_found : (o : Option LinkView) (link : LinkState) (q : ℕ) → option_map (λ (l : LinkView). l.state) o ≡ Some link
-    → IfSome o (λ (l : LinkView). q ≡ quiet l.state) → q ≡ quiet link
-quiet_found None link q found is = cc
-quiet_found (Some l) link q found is = let same : l.state ≡ link = cc in rw (sym same) is
+quiet_found : (o : Option Port) (port : PortState) (q : ℕ) → option_map port_of o ≡ Some port
+    → IfSome o (λ (p : Port). q ≡ port_quiet (port_of p)) → q ≡ port_quiet port
+quiet_found None port q found is = cc
+quiet_found (Some p) port q found is = let same : port_of p ≡ port = cc in rw (sym same) is
 
--- a link that took an event may do something sooner
+-- a port that took an event may do something sooner
 pub rest_after : (old new : ServerView) (who : ℕ) (e : Event) (asked : Option Entry) (more : List Sent) (rest q rest' : ℕ)
     → Settled (server_of old) (server_of new) who e asked more
-    → IfSome (slice_get new.links (who - 1)) (λ (l : LinkView). q ≡ quiet l.state) → rest' ≡ min rest q → IsRest old rest → IsRest new rest'
+    → IfSome (slice_get new.ports (who - 1)) (λ (p : Port). q ≡ port_quiet (port_of p)) → rest' ≡ min rest q → IsRest old rest → IsRest new rest'
 rest_after old new who e asked more rest q rest' settled is least known =
-    let state = λ (l : LinkView). l.state in
     let moved = settled.moved in
-    let before = map state old.links in
-    let found : option_map state (slice_get new.links (who - 1)) ≡ Some moved.after =
-    sym (slice_get-map state new.links (who - 1)) ∙ (ap (λ ls. slice_get ls (who - 1)) moved.set
+    let before = map port_of old.ports in
+    let found : option_map port_of (slice_get new.ports (who - 1)) ≡ Some moved.after =
+    sym (slice_get-map port_of new.ports (who - 1)) ∙ (ap (λ ls. slice_get ls (who - 1)) moved.set
     ∙ get_set before (who - 1) moved.after moved.before moved.found) in
-    let here = quiet_found (slice_get new.links (who - 1)) moved.after q found is in
+    let here = quiet_found (slice_get new.ports (who - 1)) moved.after q found is in
     let most = quiet_set before (who - 1) moved.after in
-    let now : quiet_of (map state new.links) ≡ quiet_of (slice_set before (who - 1) moved.after) = ap quiet_of moved.set in
+    let now : quiet_of (map port_of new.ports) ≡ quiet_of (slice_set before (who - 1) moved.after) = ap quiet_of moved.set in
     omega (arith, least, known, here, most, now)
 
 -- frames were added to the list at this place
-pub shape_after : (old new : MidLine) (i : ℕ) (list : Vec Sent Global) (is_empty : Bool) → length new.server.links ≡ length old.server.links
+pub shape_after : (old new : MidLine) (i : ℕ) (list : Vec Sent Global) (is_empty : Bool) → length new.server.ports ≡ length old.server.ports
     → i < length old.drawn.items
     → new.drawn.items ≡ slice_set old.drawn.items i list → new.output ≡ old.output
     → new.filled ≡ (if is_empty then old.filled else filled_at old.filled i) → is_empty ≡ (vec_len list == 0)
     → (IsRest old.server old.rest → IsRest new.server new.rest) → SameShape old new
-shape_after old new i list is_empty links within set output filled tested rest =
+shape_after old new i list is_empty ports within set output filled tested rest =
     let items = λ (f : Vec Sent Global). f.items in
     let lists : lists_of new ≡ slice_set (lists_of old) i list.items = ap (map items) set ∙ map-set items old.drawn.items i list in
     record {
-      links = links;
+      ports = ports;
       lists = ap length set ∙ length-set old.drawn.items i list;
       output = output;
       filled = filled_after old.filled new.filled (lists_of old) (lists_of new) i list.items is_empty
@@ -135,15 +132,15 @@ shape_after old new i list is_empty links within set output filled tested rest =
     }
 
 -- the list at this place is as it was
-pub shape_same : (old new : MidLine) (i : ℕ) (list before : Vec Sent Global) → length new.server.links ≡ length old.server.links
+pub shape_same : (old new : MidLine) (i : ℕ) (list before : Vec Sent Global) → length new.server.ports ≡ length old.server.ports
     → new.drawn.items ≡ slice_set old.drawn.items i list
     → before ≡ get_or old.drawn.items i before → list.items ≡ before.items → new.output ≡ old.output → new.filled ≡ old.filled
     → (IsRest old.server old.rest → IsRest new.server new.rest) → SameShape old new
-shape_same old new i list before links set was same output filled rest =
+shape_same old new i list before ports set was same output filled rest =
     let items = λ (f : Vec Sent Global). f.items in
     let lists : lists_of new ≡ lists_of old = ap (map items) set ∙ map-set_same items old.drawn.items i list before (same ∙ ap items was) in
     record {
-      links = links;
+      ports = ports;
       lists = ap length set ∙ length-set old.drawn.items i list;
       output = output;
       filled = λ known. subst (λ (f : Filled). AreFilled f (lists_of new)) (sym filled) (subst (AreFilled old.filled) (sym lists) known);

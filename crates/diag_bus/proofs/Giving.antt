@@ -8,7 +8,7 @@ use Rattle.std.specs.Vec.{with_item}
 use Rattle.diag_can.specs.declared.frame.Event.{Event}
 use Rattle.diag_tp.specs.declared.sent.Sent.{Sent}
 use Rattle.diag_desk.specs.declared.entry.Entry.{Entry}
-use Rattle.diag_world.specs.Port.{HasKept}
+use Rattle.diag_port.specs.Standing.{HasKept}
 use Rattle.diag_world.specs.Server.{IsClosed, ServerView, Settled, closing_time, server_of}
 use Rattle.diag_bus.specs.Batch.{Gave, IsEarly, IsRest, Lasts, OneSentIn, SameShape, entry_added, lists_of}
 use Rattle.diag_bus.specs.Entering.{EntersLine}
@@ -19,7 +19,7 @@ use Rattle.diag_bus.specs.declared.entering.LineEntries.{LineEntries}
 use Rattle.diag_bus.specs.declared.filled.Filled.{Filled}
 use Rattle.diag_bus.specs.declared.mid_line.MidLine.{MidLine}
 use Rattle.diag_bus.proofs.Batches.{clock_told, drew_more}
-use Rattle.diag_bus.proofs.Filling.{links_moved, links_same, rest_stays, shape_after, shape_same}
+use Rattle.diag_bus.proofs.Filling.{ports_moved, ports_same, rest_stays, shape_after, shape_same}
 use Rattle.diag_bus.proofs.Paces.{sent_one}
 
 -- the line with this list at a place
@@ -40,7 +40,7 @@ pub record IsListAt (old : MidLine) (who i : ℕ) (list : Vec Sent Global) : Typ
   pub read : list ≡ get_or old.drawn.items i list
 
 -- the tester's list stands where it was read
-pub list_at : (old : MidLine) {who i : ℕ} {list : Vec Sent Global} → who ≤ length old.server.links → length old.drawn.items ≡ length old.server.links
+pub list_at : (old : MidLine) {who i : ℕ} {list : Vec Sent Global} → who ≤ length old.server.ports → length old.drawn.items ≡ length old.server.ports
     → who ≡ i + 1 → list ≡ get_or old.drawn.items i list → IsListAt old who i list
 list_at old in_setup lists is read = record { is = is; within = omega (arith, in_setup, lists, is); read = read }
 
@@ -58,10 +58,10 @@ entered_asked old new now None kept =
     none_added output.End = refl
     none_added output.Verdict = refl
 
--- a link that is early isn't closed
-pub never_closed : (server : ServerView) (place : ℕ) → IsEarly server place → IsClosed (server_of server).links place → ⊥
+-- a port that is early isn't closed
+pub never_closed : (server : ServerView) (place : ℕ) → IsEarly server place → IsClosed (server_of server).ports place → ⊥
 never_closed server place early closed =
-    let told = early closed.link closed.found in
+    let told = early closed.port closed.found in
     omega (arith, told, closed.late)
 
 -- a line with another list in its place
@@ -83,7 +83,7 @@ module _ {old : MidLine} {who i : ℕ} {list : Vec Sent Global} (here : IsListAt
   pub shape_refused : (server : ServerView) (list' : Vec Sent Global) (text : Vec ℕ Global) → server_of server ≡ server_of old.server
       → list'.items ≡ list.items → SameShape old (line_with old server i list' old.filled text old.rest)
   shape_refused server list' text same kept =
-      shape_same old (line_with old server i list' old.filled text old.rest) i list' list (links_same old.server server same) refl here.read kept refl refl
+      shape_same old (line_with old server i list' old.filled text old.rest) i list' list (ports_same old.server server same) refl here.read kept refl refl
       (rest_stays old.server server old.rest same)
 
 -- a line in which the server took the event
@@ -91,12 +91,12 @@ module _ {old : MidLine} {who i : ℕ} {list : Vec Sent Global} (here : IsListAt
     (filled : Filled) (text : Vec ℕ Global) (rest : ℕ) {e : Event} {asked : Option Entry} {more : List Sent}
     (settled : Settled (server_of old.server) (server_of server) who e asked more) where
   -- its entry is entered with what the tester's clock told, and the frames that the server handed out are drawn
-  pub gave_one : list'.items ≡ list.items ++ more → settled.moved.before.now ≤ closing_time → IfSome asked (λ k. k.who ≡ who)
-      → text.items ≡ old.text.items ++ entry_added old.output settled.moved.before.now asked
+  pub gave_one : list'.items ≡ list.items ++ more → settled.moved.before.link.now ≤ closing_time → IfSome asked (λ k. k.who ≡ who)
+      → text.items ≡ old.text.items ++ entry_added old.output settled.moved.before.link.now asked
       → Gave old (line_with old server i list' filled text rest) ((who, e) ∷ [])
   gave_one grew early by entered = λ setup base before M h.
       let place : who ≡ (who - 1) + 1 = omega (arith, here.is) in
-      drew_more setup old (line_with old server i list' filled text rest) base before M who i settled.moved.before.now e asked list.items more
+      drew_more setup old (line_with old server i list' filled text rest) base before M who i settled.moved.before.link.now e asked list.items more
       settled here.is (found here) (grown here list' more grew) refl entered
       (λ K served. clock_told setup (server_of old.server) M K who (who - 1) settled.moved.before asked served place settled.moved.found early by)
       h
@@ -112,5 +112,5 @@ module _ {old : MidLine} {who i : ℕ} {list : Vec Sent Global} (here : IsListAt
   pub shape_one : (is_empty : Bool) → filled ≡ (if is_empty then old.filled else filled_at old.filled i) → is_empty ≡ (vec_len list' == 0)
       → (IsRest old.server old.rest → IsRest server rest) → SameShape old (line_with old server i list' filled text rest)
   shape_one is_empty fill tested known =
-      shape_after old (line_with old server i list' filled text rest) i list' is_empty (links_moved old.server server who e asked more settled)
+      shape_after old (line_with old server i list' filled text rest) i list' is_empty (ports_moved old.server server who e asked more settled)
       here.within refl refl fill tested known

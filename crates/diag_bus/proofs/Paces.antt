@@ -7,9 +7,8 @@ use Rattle.diag_can.specs.declared.bus.BusLine.{BusLine}
 use Rattle.diag_can.specs.declared.frame.Event.{Event}
 use Rattle.diag_can.specs.declared.frame.Event.TheVariants.{Physical, Functional, Ticks}
 use Rattle.diag_tp.specs.declared.sent.Sent.{Sent}
-use Rattle.diag_tp.specs.State.{LinkState}
 use Rattle.diag_desk.specs.declared.entry.Entry.{Entry}
-use Rattle.diag_world.specs.Port.{AreWithin, time_after}
+use Rattle.diag_port.specs.Port.{AreWithin, PortState, time_after}
 use Rattle.diag_world.specs.Server.{MovedOn, ServerState, ServerView, server_of}
 use Rattle.diag_world.proofs.Worlds.{set_cases}
 use Rattle.diag_bus.specs.Batch.{AreSentBy, GoesOn, HasTime, IsBy, Lasts, OneSentIn, OneWentOn, SentIn, TookTime, lists_of}
@@ -30,35 +29,35 @@ lasts (Ticks n) = (n, ticks_time n)
 
 -- a server that took an event of the tester
 pub went_on : (old new : ServerView) (place span : ℕ) (e : Event) (asked : Option Entry) (more : List Sent)
-    → MovedOn (server_of old).links (server_of new).links place e asked more
+    → MovedOn (server_of old).ports (server_of new).ports place e asked more
     → ((now : ℕ) → time_after now e ≤ now + span) → OneWentOn old new place span
 went_on old new place span e asked more moved most =
-    λ i link at. elim (set_cases (server_of old).links place i moved.after link (subst (λ ls. slice_get ls i ≡ Some link) moved.set at)) [
+    λ i port at. elim (set_cases (server_of old).ports place i moved.after port (subst (λ ls. slice_get ls i ≡ Some port) moved.set at)) [
       | inl p ↦ (
-          let same : link.now ≡ moved.after.now = ap (λ (l : LinkState). l.now) p.1 in
-          let fits : link.now ≤ moved.before.now + span = omega (arith, same, moved.time, most moved.before.now) in
-          (moved.before, subst (λ k. slice_get (server_of old).links k ≡ Some moved.before) (sym p.0) moved.found, inl (p.0, fits)))
-      | inr p ↦ (let same : link.now ≤ link.now = omega arith in (link, p.1, inr same))
+          let same : port.link.now ≡ moved.after.link.now = ap (λ (p : PortState). p.link.now) p.1 in
+          let fits : port.link.now ≤ moved.before.link.now + span = omega (arith, same, moved.time, most moved.before.link.now) in
+          (moved.before, subst (λ k. slice_get (server_of old).ports k ≡ Some moved.before) (sym p.0) moved.found, inl (p.0, fits)))
+      | inr p ↦ (let same : port.link.now ≤ port.link.now = omega arith in (port, p.1, inr same))
     ]
 
 -- a server that is as it was
 pub stays : (old new : ServerView) (place span : ℕ) → server_of new ≡ server_of old → OneWentOn old new place span
-stays old new place span is = λ i link at.
-    (let same : link.now ≤ link.now = omega arith in (link, subst (λ (s : ServerState). slice_get s.links i ≡ Some link) is at, inr same))
+stays old new place span is = λ i port at.
+    (let same : port.link.now ≤ port.link.now = omega arith in (port, subst (λ (s : ServerState). slice_get s.ports i ≡ Some port) is at, inr same))
 
 -- ---- one tester behind the other
 
 -- the clocks of so many testers went on by at most so much, and no others
 abbrev pub SomeWentOn : ServerView → ServerView → ℕ → ℕ → Type 0
-SomeWentOn old new count span = (time : ℕ) → IsBy old time → (i : ℕ) (link : LinkState)
-    → slice_get (server_of new).links i ≡ Some link → (link.now ≤ time + span) × (count ≤ i → link.now ≤ time)
+SomeWentOn old new count span = (time : ℕ) → IsBy old time → (i : ℕ) (port : PortState)
+    → slice_get (server_of new).ports i ≡ Some port → (port.link.now ≤ time + span) × (count ≤ i → port.link.now ≤ time)
 
 pub some_none : (a : ServerView) (span : ℕ) → SomeWentOn a a 0 span
-some_none a span = λ time by i link at. (let low = by i link at in (omega (arith, low), λ above. low))
+some_none a span = λ time by i port at. (let low = by i port at in (omega (arith, low), λ above. low))
 
 pub some_more : (a b c : ServerView) (n place span : ℕ) → place ≡ n → SomeWentOn a b n span → OneWentOn b c place span → SomeWentOn a c (n + 1) span
-some_more a b c n place span is some one = λ time by i link at.
-    let went = one i link at in
+some_more a b c n place span is some one = λ time by i port at.
+    let went = one i port at in
     let before = some time by i went.0 went.1 in
     elim went.2 [
       | inl p ↦ (
@@ -68,20 +67,20 @@ some_more a b c n place span is some one = λ time by i link at.
     ]
 
 pub some_all : (a b : ServerView) (n span : ℕ) → SomeWentOn a b n span → TookTime a b span
-some_all a b n span some = λ time by i link at. (some time by i link at).0
+some_all a b n span some = λ time by i port at. (some time by i port at).0
 
 -- ---- all testers
 
 pub took_none : (a : ServerView) (span : ℕ) → TookTime a a span
-took_none a span = λ time by i link at. (let low = by i link at in omega (arith, low))
+took_none a span = λ time by i port at. (let low = by i port at in omega (arith, low))
 
 pub took_more : (a b c : ServerView) (n m all : ℕ) → n + m ≤ all → TookTime a b n → TookTime b c m → TookTime a c all
-took_more a b c n m all fits first second = λ time by i link at. (let low = second (time + n) (first time by) i link at in omega (arith, low, fits))
+took_more a b c n m all fits first second = λ time by i port at. (let low = second (time + n) (first time by) i port at in omega (arith, low, fits))
 
 -- one tester's clock went on
 pub took_one : (a b c : ServerView) (n place m all : ℕ) → n + m ≤ all → TookTime a b n → OneWentOn b c place m → TookTime a c all
-took_one a b c n place m all fits first one = λ time by i link at.
-    let went = one i link at in
+took_one a b c n place m all fits first one = λ time by i port at.
+    let went = one i port at in
     let before = first time by i went.0 went.1 in
     elim went.2 [ inl p ↦ omega (arith, p.1, before, fits) | inr p ↦ omega (arith, p, before, fits) ]
 
@@ -92,7 +91,7 @@ has_left a b all n m fits h took = record { time = h.time + n; by = took h.time 
 -- the bus's clock goes on by as much
 pub line_paced : (old new : ServerView) (clock clock' : Clock) (said : BusLine) → GoesOn clock said clock' → IsBy old clock.time
     → TookTime old new (span_said clock.reference (Ok said)) → IsBy new clock'.time
-line_paced old new clock clock' said on by took = λ i link at. (let low = took clock.time by i link at in omega (arith, low, on.time))
+line_paced old new clock clock' said on by took = λ i port at. (let low = took clock.time by i port at in omega (arith, low, on.time))
 
 -- ---- frames
 
@@ -101,15 +100,15 @@ within_sent from to last more h fits = λ k d less. (let one = h k d less in ome
 
 -- the tester's list has grown by frames that were sent up to what its clock tells
 pub sent_one : (old new : MidLine) (place i span : ℕ) (e : Event) (asked : Option Entry) (frames more : List Sent)
-    → MovedOn (server_of old.server).links (server_of new.server).links place e asked more
+    → MovedOn (server_of old.server).ports (server_of new.server).ports place e asked more
     → ((now : ℕ) → time_after now e ≤ now + span) → slice_get (lists_of old) i ≡ Some frames
     → lists_of new ≡ slice_set (lists_of old) i (frames ++ more) → OneSentIn old new place span
 sent_one old new place i span e asked frames more moved most found lists = λ last early by j fs at.
     let told = early moved.before moved.found in
-    let fits : moved.after.now ≤ last = omega (arith, moved.time, most moved.before.now, told) in
+    let fits : moved.after.link.now ≤ last = omega (arith, moved.time, most moved.before.link.now, told) in
     elim (set_cases (lists_of old) i j (frames ++ more) fs (subst (λ ls. slice_get ls j ≡ Some fs) lists at)) [
       | inl p ↦ subst (λ (ss : List Sent). All (λ f. f.at ≤ last) ss) (sym p.1)
-          (All-append (λ (f : Sent). f.at ≤ last) frames more (by i frames found) (within_sent moved.before.now moved.after.now last more moved.within fits))
+          (All-append (λ (f : Sent). f.at ≤ last) frames more (by i frames found) (within_sent moved.before.link.now moved.after.link.now last more moved.within fits))
       | inr p ↦ by j fs p.1
     ]
 
@@ -120,12 +119,12 @@ sent_none a span = λ time last by fits old. old
 pub sent_some : (a b c : MidLine) (n place span : ℕ) → place ≡ n → SomeWentOn a.server b.server n span → SentIn a b span → OneSentIn b c place span
     → SentIn a c span
 sent_some a b c n place span is some sent one = λ time last by fits old.
-    one last (λ link at. (let low = (some time by place link at).1 (omega (arith, is)) in omega (arith, low, fits))) (sent time last by fits old)
+    one last (λ port at. (let low = (some time by place port at).1 (omega (arith, is)) in omega (arith, low, fits))) (sent time last by fits old)
 
 -- one tester more behind them
 pub sent_then : (a b c : MidLine) (n place m all : ℕ) → n + m ≤ all → TookTime a.server b.server n → SentIn a b n → OneSentIn b c place m → SentIn a c all
 sent_then a b c n place m all less took sent one = λ time last by fits old.
-    one last (λ link at. (let low = took time by place link at in omega (arith, low, fits, less))) (sent time last by (omega (arith, fits, less)) old)
+    one last (λ port at. (let low = took time by place port at in omega (arith, low, fits, less))) (sent time last by (omega (arith, fits, less)) old)
 
 pub sent_more : (a b c : MidLine) (n m all : ℕ) → n + m ≤ all → TookTime a.server b.server n → SentIn a b n → SentIn b c m → SentIn a c all
 sent_more a b c n m all less took first second = λ time last by fits old.

@@ -108,7 +108,7 @@ pub sound_taken : {said : BusLine} {old begun taken : MidLine} {clock clock' : C
     → length compared'.testers.items ≡ length compared.testers.items
     → AreSound setup taken compared' clock'
 sound_taken {said} {old} {begun} {taken} {clock} {clock'} setup line compared compared' h is on start server first second took count = (
-  second.links ∙ (first.links ∙ h.0),
+  second.ports ∙ (first.ports ∙ h.0),
   second.lists ∙ (first.lists ∙ h.1),
   omega (arith, count, h.2),
   line_paced begun.server taken.server clock clock' said on (subst (λ (s : ServerView). IsBy s clock.time) (sym server) h.3) took,
@@ -124,7 +124,7 @@ pub kept_written : {setup : RawSetup} {ids : RequestIds} {taken done : MidLine} 
     → AreSound setup done compared clock × AreRequestsOf setup ids × AreNamesOf setup names'
 kept_written {setup} clock compared h requests named server shape same = (
   (
-    shape.links ∙ h.0,
+    shape.ports ∙ h.0,
     shape.lists ∙ h.1,
     h.2,
     subst (λ (s : ServerView). IsBy s clock.time) (sym server) h.3,
@@ -149,7 +149,7 @@ module _ (setup : RawSetup) (old begun : MidLine) (clock : Clock) (compared : Co
 
   -- the line that begins is ready for it
   pub is_ready : SameShape old begun → IsReady begun (length setup.testers) span
-  is_ready shape = record { in_setup = shape.links ∙ sound.0; lists = shape.lists ∙ sound.1; early = has_time; rest = shape.rest sound.6 }
+  is_ready shape = record { in_setup = shape.ports ∙ sound.0; lists = shape.lists ∙ sound.1; early = has_time; rest = shape.rest sound.6 }
 
   -- and what that draws is sent in time
   pub sent_in_time : (taken : MidLine) → ((i : ℕ) (frames : List Sent) → slice_get (lists_of begun) i ≡ Some frames → frames ≡ []) → SentIn begun taken span

@@ -9,6 +9,7 @@ use Rattle.diag_tp.specs.Reception.{open_at}
 use Rattle.diag_tp.specs.Sending.{course}
 use Rattle.diag_tp.specs.Wire.{wire, sendings, grant}
 use Rattle.diag_can.specs.Bus.{bus_lines}
+use Rattle.diag_port.specs.Late.{pendings}
 use Rattle.diag_setup.specs.ExampleSetup.{two_testers}
 use Rattle.diag_bus.specs.Text.{text_of}
 use Rattle.diag_bus.proofs.Examples.{order}
@@ -22,7 +23,7 @@ bus_order : written order ≡
     ++ codes "(0000000100.010000) B 7E9#037F1021CCCCCCCC\n"
     ++ codes "(0000000100.020000) A 7E8#065001003201F4CC\n"
     ++ codes "(0000000100.030000) B 7E9#065003003201F4CC\n"
-unfolding hex_on_literals digits wire sendings grant course cut open_at kind gives
+unfolding hex_on_literals digits wire sendings grant course cut open_at kind gives pendings
 bus_order = refl
 
 -- A reads 17 bytes, with 10 ms between Consecutive frames: a frame is written at the first line that comes when it has
@@ -38,7 +39,7 @@ bus_separation : written separation ≡
     codes "(0000000100.000000) A 7E8#101462F190544553\n"
     ++ codes "(0000000100.020000) A 7E8#215456494E303132\n"
     ++ codes "(0000000100.030000) A 7E8#2233343536373839\n"
-unfolding hex_on_literals digits wire sendings grant course cut open_at kind gives
+unfolding hex_on_literals digits wire sendings grant course cut open_at kind gives pendings
 bus_separation = refl
 
 -- both wait, and a silence draws the frames of both: by time
@@ -57,12 +58,12 @@ bus_merge : written merged ≡
     ++ codes "(0000000100.025000) B 7E9#215456494E303132\n"
     ++ codes "(0000000100.030000) A 7E8#2233343536373839\n"
     ++ codes "(0000000100.035000) B 7E9#2233343536373839\n"
-unfolding hex_on_literals digits wire sendings grant course cut open_at kind gives
+unfolding hex_on_literals digits wire sendings grant course cut open_at kind gives pendings
 bus_merge = refl
 
 -- a functional request is answered to both
 bus_functional : written (codes "(100.000000) can0 7DF#023E80\n(100.001000) can0 7DF#0322F190\n") ≡
     codes "(0000000100.001000) A 7E8#101462F190544553\n"
     ++ codes "(0000000100.001000) B 7E9#101462F190544553\n"
-unfolding hex_on_literals digits wire sendings grant course cut open_at kind gives
+unfolding hex_on_literals digits wire sendings grant course cut open_at kind gives pendings
 bus_functional = refl

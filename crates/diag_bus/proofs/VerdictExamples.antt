@@ -9,6 +9,7 @@ use Rattle.diag_tp.specs.Reception.{open_at}
 use Rattle.diag_tp.specs.Sending.{course}
 use Rattle.diag_tp.specs.Wire.{wire, sendings, grant}
 use Rattle.diag_can.specs.Bus.{bus_lines}
+use Rattle.diag_port.specs.Late.{pendings}
 use Rattle.diag_setup.specs.ExampleSetup.{two_testers}
 use Rattle.diag_bus.specs.Verdict.{agreement_text, verdict, verdict_text}
 use Rattle.diag_bus.specs.declared.verdict.Verdict.{Verdict}
@@ -26,7 +27,7 @@ agreed text = agreement_text two_testers (bus_lines text)
 
 -- the recording has the first of A's two frames, and none of B's
 missing : told order ≡ codes "A sent 1 frames, expected 065001003201F4CC next"
-unfolding hex_on_literals digits wire sendings grant course cut open_at kind gives
+unfolding hex_on_literals digits wire sendings grant course cut open_at kind gives pendings
 missing = refl
 
 -- all four frames, B's late and A's with response pending before it, filled and not: the two agree
@@ -44,17 +45,17 @@ whole =
     ++ codes "(0000000100.041000) can0 7E9#065003003201F4CC\n"
 
 agree : said whole ≡ Agrees
-unfolding hex_on_literals digits wire sendings grant course cut open_at kind gives
+unfolding hex_on_literals digits wire sendings grant course cut open_at kind gives pendings
 agree = refl
 
 agree_told : agreed whole ≡ codes "A 2 frames agree\nB 2 frames agree\n"
-unfolding hex_on_literals digits wire sendings grant course cut open_at kind gives
+unfolding hex_on_literals digits wire sendings grant course cut open_at kind gives pendings
 agree_told = refl
 
 -- a frame that differs in its last byte, a filling
 filling : told (codes "(100.000000) can0 7E0#021003\n(100.001000) can0 7E8#065003003201F4AA\n")
     ≡ codes "line 2: A sent 065003003201F4AA, expected 065003003201F4CC"
-unfolding hex_on_literals digits wire sendings grant course cut open_at kind gives
+unfolding hex_on_literals digits wire sendings grant course cut open_at kind gives pendings
 filling = refl
 
 -- a frame that nothing asked for; B's line is the first that differs, though A is the first tester
@@ -62,7 +63,7 @@ nothing : told (
     codes "(100.000000) can0 7E0#021003\n(100.001000) can0 7E9#0250\n"
     ++ codes "(100.002000) can0 7E8#0250\n")
     ≡ codes "line 2: B sent 0250, expected nothing"
-unfolding hex_on_literals digits wire sendings grant course cut open_at kind gives
+unfolding hex_on_literals digits wire sendings grant course cut open_at kind gives pendings
 nothing = refl
 
 -- by its stamp in milliseconds the second Consecutive frame comes before the server sends it, and a later line settles it
@@ -75,10 +76,10 @@ early =
     ++ codes "(100.029990) can0 7E8#2233343536373839\n"
 
 early_settled : said (early ++ codes "(100.031000) can0 123#00\n") ≡ Agrees
-unfolding hex_on_literals digits wire sendings grant course cut open_at kind gives
+unfolding hex_on_literals digits wire sendings grant course cut open_at kind gives pendings
 early_settled = refl
 
 -- at the capture's end it is a difference
 early_at_the_end : told early ≡ codes "line 5: A sent 2233343536373839, expected nothing"
-unfolding hex_on_literals digits wire sendings grant course cut open_at kind gives
+unfolding hex_on_literals digits wire sendings grant course cut open_at kind gives pendings
 early_at_the_end = refl

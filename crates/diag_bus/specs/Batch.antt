@@ -6,12 +6,11 @@ use Rattle.diag_can.specs.declared.bus.BusLine.TheVariants.{Empty, Ticks, Stampe
 use Rattle.diag_can.specs.declared.frame.Event.{Event}
 use Rattle.diag_can.specs.Reading.{later}
 use Rattle.diag_tp.specs.declared.sent.Sent.{Sent}
-use Rattle.diag_tp.specs.State.{LinkState}
 use Rattle.diag_setup.specs.declared.raw.RawSetup.{RawSetup}
 use Rattle.diag_desk.specs.declared.entry.Entry.{Entry}
 use Rattle.diag_desk.specs.declared.version.JournalVersion.TheVariants as version
 use Rattle.diag_desk.specs.Text.{ended, entry_line, journal_text_at, stamped_line, ticks_in}
-use Rattle.diag_world.specs.Port.{time_after}
+use Rattle.diag_port.specs.Port.{PortState, time_after}
 use Rattle.diag_world.specs.Server.{ServerState, ServerView, Serves, closing_time, quiet_of, sent_to, server_of}
 use Rattle.diag_bus.specs.Events.{clock_of, events_of, moment_said, reference, span_said}
 use Rattle.diag_bus.specs.Requests.{AreFilled, AreNamesOf}
@@ -73,7 +72,7 @@ Gave old new more = (setup : RawSetup) (base : ℕ → List Sent) (before : List
 
 -- no tester's clock tells more than this
 abbrev pub IsBy : ServerView → ℕ → Type 0
-IsBy server time = (i : ℕ) (link : LinkState) → slice_get (server_of server).links i ≡ Some link → link.now ≤ time
+IsBy server time = (i : ℕ) (port : PortState) → slice_get (server_of server).ports i ≡ Some port → port.link.now ≤ time
 
 -- so much may pass before a tester's clock runs out
 pub record HasTime (server : ServerView) (span : ℕ) : Type 0 where
@@ -87,11 +86,11 @@ TookTime old new span = (time : ℕ) → IsBy old time → IsBy new (time + span
 
 -- the clock at this place went on by at most so much, and no other did
 abbrev pub OneWentOn : ServerView → ServerView → ℕ → ℕ → Type 0
-OneWentOn old new place span = (i : ℕ) (link : LinkState)
-    → slice_get (server_of new).links i ≡ Some link
-    → (before : LinkState)
-    × (slice_get (server_of old).links i ≡ Some before)
-    × (((i ≡ place) × (link.now ≤ before.now + span)) ⊎ (link.now ≤ before.now))
+OneWentOn old new place span = (i : ℕ) (port : PortState)
+    → slice_get (server_of new).ports i ≡ Some port
+    → (before : PortState)
+    × (slice_get (server_of old).ports i ≡ Some before)
+    × (((i ≡ place) × (port.link.now ≤ before.link.now + span)) ⊎ (port.link.now ≤ before.link.now))
 
 -- the event lets at most so much pass
 abbrev pub Lasts : Event → ℕ → Type 0
@@ -99,9 +98,9 @@ Lasts e span = (now : ℕ) → time_after now e ≤ now + span
 
 -- the clock at this place hasn't run out
 abbrev pub IsEarly : ServerView → ℕ → Type 0
-IsEarly server place = (link : LinkState)
-    → slice_get (server_of server).links place ≡ Some link
-    → link.now ≤ closing_time
+IsEarly server place = (port : PortState)
+    → slice_get (server_of server).ports place ≡ Some port
+    → port.link.now ≤ closing_time
 
 -- no frame of the testers' lists was sent later than this
 abbrev pub AreSentBy : List (List Sent) → ℕ → Type 0
@@ -110,7 +109,7 @@ AreSentBy lists time = (i : ℕ) (frames : List Sent) → slice_get lists i ≡ 
 -- the tester's event sent no frame later than so much behind what its clock told
 abbrev pub OneSentIn : MidLine → MidLine → ℕ → ℕ → Type 0
 OneSentIn old new place span = (last : ℕ)
-    → ((link : LinkState) → slice_get (server_of old.server).links place ≡ Some link → link.now + span ≤ last)
+    → ((port : PortState) → slice_get (server_of old.server).ports place ≡ Some port → port.link.now + span ≤ last)
     → AreSentBy (lists_of old) last
     → AreSentBy (lists_of new) last
 
@@ -122,22 +121,22 @@ SentIn old new span = (time last : ℕ)
     → AreSentBy (lists_of old) last
     → AreSentBy (lists_of new) last
 
--- so many ticks at least no link does anything before the last of them
+-- so many ticks at least no port does anything before the last of them
 abbrev pub IsRest : ServerView → ℕ → Type 0
-IsRest server rest = rest ≤ quiet_of (server_of server).links
+IsRest server rest = rest ≤ quiet_of (server_of server).ports
 
--- as many testers as before, and the same output; where the lists have frames is known as before, and so is how long no link
+-- as many testers as before, and the same output; where the lists have frames is known as before, and so is how long no port
 -- does anything
 pub record SameShape (old new : MidLine) : Type 0 where
-  pub links : length new.server.links ≡ length old.server.links
+  pub ports : length new.server.ports ≡ length old.server.ports
   pub lists : length new.drawn.items ≡ length old.drawn.items
   pub output : new.output ≡ old.output
   pub filled : AreFilled old.filled (lists_of old) → AreFilled new.filled (lists_of new)
   pub rest : IsRest old.server old.rest → IsRest new.server new.rest
 
--- the line is that of so many testers, so much may pass, and for how long no link does anything is known
+-- the line is that of so many testers, so much may pass, and for how long no port does anything is known
 pub record IsReady (line : MidLine) (testers span : ℕ) : Type 0 where
-  pub in_setup : length line.server.links ≡ testers
+  pub in_setup : length line.server.ports ≡ testers
   pub lists : length line.drawn.items ≡ testers
   pub early : HasTime line.server span
   pub rest : IsRest line.server line.rest

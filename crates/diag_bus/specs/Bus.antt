@@ -1,7 +1,7 @@
 -- What a bus stands for: the lines of a capture that it took.
 use Rattle.std.specs.Prelude.{◌≡◌, ◌≢◌, ◌≤◌, ℕ, List, [], ◌∷◌, ◌++◌, length, Some, None, IfSome, OnOk, OnErr, Result, Err}
 use Rattle.diag_setup.specs.declared.raw.RawSetup.{RawSetup}
-use Rattle.diag_world.specs.Port.{Grew}
+use Rattle.diag_port.specs.Port.{Grew}
 use Rattle.diag_world.specs.Server.{ServerState}
 use Rattle.diag_bus.specs.Batch.{BusStands, IsBy, IsRest, StartsBelow, lists_of, moment_end}
 use Rattle.diag_bus.specs.Events.{first_fault, line_fault}
@@ -26,7 +26,7 @@ pub record BusState : Type 0 where
 
 -- what holds of the parts of a bus, whatever it took, also where a line was refused
 abbrev pub AreSound : RawSetup → MidLine → Comparisons → Clock → Type 0
-AreSound setup line compared clock = (length line.server.links ≡ length setup.testers)
+AreSound setup line compared clock = (length line.server.ports ≡ length setup.testers)
     × (length line.drawn.items ≡ length setup.testers)
     × (length compared.testers.items ≤ length setup.testers)
     × IsBy line.server clock.time

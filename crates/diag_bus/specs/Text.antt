@@ -11,15 +11,17 @@ use Rattle.diag_tp.specs.declared.sent.Sent.{Sent}
 use Rattle.diag_pdu.specs.declared.step.Step.{Step}
 use Rattle.diag_tp.specs.Gives.{steps}
 use Rattle.diag_pdu.specs.Cut.{counted_from}
-use Rattle.diag_tp.specs.Placing.{drawn}
 use Rattle.diag_setup.specs.declared.raw.RawSetup.{RawSetup}
 use Rattle.diag_setup.specs.Rows.{in_order}
 use Rattle.diag_setup.specs.Setup.{link_of, name_of}
 use Rattle.diag_ecu.specs.State.{State, opening}
 use Rattle.diag_desk.specs.declared.entry.Entry.{Entry}
-use Rattle.diag_desk.specs.Entries.{asked, asked_by, entry, own, replies}
+use Rattle.diag_desk.specs.Entries.{asked, asked_by, entry, own}
 use Rattle.diag_desk.specs.Legal.{Legal, after, after_step, reply_to}
 use Rattle.diag_desk.specs.Text.{journal_text_at}
+use Rattle.diag_desk.specs.Timed.{own_timed, timed}
+use Rattle.diag_port.specs.Late.{pace_of}
+use Rattle.diag_port.specs.Placing.{drawn}
 use Rattle.diag_world.specs.Server.{sent_to}
 use Rattle.diag_world.specs.Weaving.{items_of, steps_of}
 use Rattle.diag_bus.specs.Events.{events_of}
@@ -125,7 +127,7 @@ ecu_after setup lines = after (opening setup) (run_of setup (events_of setup lin
 
 -- The journal is one legal run of the sequential server from the opening, and no other is the run of M; its steps of
 -- each tester are what that tester's events give; each tester's frames are what its flow control draws from those
--- replies, each placed at the moment that gave its step.
+-- replies, each placed when the setup's rows of answers let it go, behind its response pending and behind the replies before.
 pub record IsRun (setup : RawSetup) (M : List (ℕ × Event)) (journal : List Entry)
     (sent : ℕ → List Sent) : Type 0 where
   pub legal : Legal (opening setup) journal
@@ -135,7 +137,8 @@ pub record IsRun (setup : RawSetup) (M : List (ℕ × Event)) (journal : List En
       → asked_by other ≡ steps_of (link_of setup) M
       → other ≡ journal
   pub asks : (t : ℕ) → asked (own journal t) ≡ steps (link_of setup t) (items_of M t)
-  pub frames : (t : ℕ) → sent t ≡ drawn (link_of setup t) (items_of M t) (replies (own journal t))
+  pub frames : (t : ℕ) → sent t ≡ drawn (link_of setup t) (pace_of setup) (items_of M t)
+      (own_timed (timed (opening setup) journal) t)
 
 -- of every interleaving the journal and the frames that are computed are its run
 abbrev pub RunLaw : Type 0

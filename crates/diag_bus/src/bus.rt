@@ -2,7 +2,7 @@
 
 ghost use Rattle.std.specs.Prelude.{◌≡◌, ◌≤◌, [], ◌++◌, ℕ, List, length, IfOk, OnOk, OnErr, Ok};
 ghost use Rattle.diag_can.specs.Bus.{bus_line};
-ghost use Rattle.diag_world.specs.Port.{Grew};
+ghost use Rattle.diag_port.specs.Port.{Grew};
 ghost use Rattle.diag_world.specs.Server.{quiet_of};
 ghost use Rattle.diag_bus.specs.Batch.{lists_of};
 ghost use Rattle.diag_bus.specs.Bus.{AnswersLine, IsItsFault, IsRefused, Judges, TookLine, TookLines};
@@ -174,10 +174,10 @@ impl Bus {
         Ok(())
     }
 
-    /// For how many milliseconds of ticks no link does anything before the last of them: no frame falls due, and no
-    /// reception or wait ends. At least 1, and 2^64 - 1 where nothing is waited for.
+    /// For how many milliseconds of ticks no port does anything before the last of them: no frame and no held reply falls
+    /// due, and no reception or wait ends. At least 1, and 2^64 - 1 where nothing is waited for.
     pub fn quiet(&self) -> u64
-        ensures is { result ≡ quiet_of self.now.server.links }
+        ensures is { result ≡ quiet_of self.now.server.ports }
         ensures some { 1 ≤ result }
     {
         self.line.server.quiet()

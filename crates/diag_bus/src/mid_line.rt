@@ -30,7 +30,7 @@ const LONGEST_COUNT: u64 = TickCount::MAX as u64;
 /// The server in the midst of a line, with what the line has drawn and entered so far.
 #[derive(Drop)]
 pub struct MidLine {
-    /// The ECU and each tester's link.
+    /// The ECU and each tester's port.
     pub server: Server,
     /// What is wanted.
     pub output: Output,
@@ -40,7 +40,7 @@ pub struct MidLine {
     pub filled: Filled,
     /// The entries of this line, where they are wanted.
     pub text: Vec<u8>,
-    /// So many ticks at least no link does anything before the last of them.
+    /// So many ticks at least no port does anything before the last of them.
     pub rest: u64,
 }
 
@@ -116,8 +116,8 @@ impl MidLine {
     /// Gives the server an event of a tester.
     #[inline(never)]
     fn give(&mut self, who: TesterId, event: &Event) -> Result<(), AllocError>
-        requires in_setup { who ≤ length self.old.server.links }
-        requires lists { length self.old.drawn.items ≡ length self.old.server.links }
+        requires in_setup { who ≤ length self.old.server.ports }
+        requires lists { length self.old.drawn.items ≡ length self.old.server.ports }
         requires early { IsEarly self.old.server (who - 1) }
         ensures ok { OnOk result (Gave self.old self.new ((who, event.now) ∷ [])) }
         ensures shape { SameShape self.old self.new }
@@ -144,7 +144,7 @@ impl MidLine {
         }
     }
 
-    /// For how many ticks no link does anything before the last of them, where these are more than so many, and no entry of
+    /// For how many ticks no port does anything before the last of them, where these are more than so many, and no entry of
     /// those is wanted.
     #[inline(always)]
     fn rest_after(&self, count: TickCount) -> Option<u64>
@@ -165,7 +165,7 @@ impl MidLine {
         }
     }
 
-    /// The same, where the links have to be looked at.
+    /// The same, where the ports have to be looked at.
     #[inline(never)]
     fn quiet_after(&self, count: u64) -> Option<u64>
         ensures more { IfSome result (λ rest. count < rest) }
@@ -230,7 +230,7 @@ impl MidLine {
         owner: Owner,
         frame: &FrameText,
     ) -> Result<(), AllocError>
-        requires in_setup { length self.old.server.links ≡ length setup.now.testers }
+        requires in_setup { length self.old.server.ports ≡ length setup.now.testers }
         requires lists { length self.old.drawn.items ≡ length setup.now.testers }
         requires owner { (id : ℕ) × IsOwner setup.now id (length setup.now.testers) owner }
         requires early { HasTime self.old.server 0 }
@@ -246,7 +246,7 @@ impl MidLine {
 
     /// Gives the server an event of each tester, in order.
     fn give_to_each(&mut self, setup: &Setup, event: &Event) -> Result<(), AllocError>
-        requires in_setup { length self.old.server.links ≡ length setup.now.testers }
+        requires in_setup { length self.old.server.ports ≡ length setup.now.testers }
         requires lists { length self.old.drawn.items ≡ length setup.now.testers }
         requires early { HasTime self.old.server 0 }
         ensures ok { OnOk result

@@ -2,7 +2,7 @@ use Rattle.std.proofs.Common.{◌≡◌, ℕ, List, Some, None, length, ap, refl
 use Rattle.std.proofs.lemmas.List.{nil_from_length}
 use Rattle.std.proofs.lemmas.Option.{slice_get_read}
 use Rattle.std.specs.Prelude.{slice_get}
-use Rattle.diag_world.proofs.Channels.{none_of}
+use Rattle.diag_port.proofs.Within.{none_of}
 use Rattle.diag_bus.proofs.Apart.{differs_by}
 use Rattle.diag_bus.proofs.Ends.{ahead_is, none_ahead, settled_is}
 use Rattle.diag_bus.proofs.comparing.Comparison.difference.Goals as goal

@@ -2,7 +2,7 @@ use Rattle.std.proofs.Common.{◌≡◌, ◌<◌, ◌+◌, ◌++◌, List, Optio
 use Rattle.std.proofs.lemmas.Option.{slice_get_read}
 use Rattle.std.specs.Option.{option_to_list}
 use Rattle.std.specs.Prelude.{option_map, slice_get}
-use Rattle.diag_world.proofs.Channels.{none_of}
+use Rattle.diag_port.proofs.Within.{none_of}
 use Rattle.diag_world.proofs.Worlds.{who_found}
 use Rattle.diag_bus.specs.Verdict.{expected, lack_of, recorded}
 use Rattle.diag_bus.specs.declared.comparing.Comparison.{Comparison}

@@ -10,7 +10,7 @@ returns-in-Ok-clause-ok c =
     let here = list_at c.args.self.now c.requires.in_setup c.requires.lists c.index-index.ensures.from_one c.index_mut-out.ensures.value in
     let took = c.in-Ok.ensures.took in
     gave_one here c.take.new.self c.take.new.out c.after-self.result c.take.new.keeper.text.now c.min-self.result took.sent.holds
-    took.sent.grown took.early took.by (entered_asked _ c.take.new.keeper took.sent.holds.moved.before.now took.asked took.kept)
+    took.sent.grown took.early took.by (entered_asked _ c.take.new.keeper took.sent.holds.moved.before.link.now took.asked took.kept)
 
 pub returns-in-Ok-clause-pace : goal.returns-in-Ok-clause-pace
 returns-in-Ok-clause-pace c = λ span lasts.

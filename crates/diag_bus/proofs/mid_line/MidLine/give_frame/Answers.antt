@@ -21,9 +21,9 @@ give-requires-clause-in_setup c =
     omega (arith, owns.among.1, c.requires.in_setup)
 
 pub give-requires-clause-early : goal.give-requires-clause-early
-give-requires-clause-early c = λ link at.
+give-requires-clause-early c = λ port at.
     let time = c.requires.early in
-    let low = time.by (c.in-Tester.who - 1) link at in
+    let low = time.by (c.in-Tester.who - 1) port at in
     omega (arith, low, time.early)
 
 pub returns-in-Tester : goal.returns-in-Tester

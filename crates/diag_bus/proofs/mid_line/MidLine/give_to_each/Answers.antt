@@ -18,18 +18,18 @@ loop-index-init c = record {
 pub give-requires-clause-in_setup : goal.give-requires-clause-in_setup
 give-requires-clause-in_setup c =
     let who = who_found c.args.setup.now c.loop-index.index c.in-Some.who c.in-Some.ensures in
-    omega (arith, who, c.loop-index.invariant.shape.links, c.requires.in_setup, c.testers-index-end.ensures.same)
+    omega (arith, who, c.loop-index.invariant.shape.ports, c.requires.in_setup, c.testers-index-end.ensures.same)
 
 pub give-requires-clause-lists : goal.give-requires-clause-lists
 give-requires-clause-lists c = omega
-    (arith, c.loop-index.invariant.shape.links, c.loop-index.invariant.shape.lists, c.requires.in_setup, c.requires.lists)
+    (arith, c.loop-index.invariant.shape.ports, c.loop-index.invariant.shape.lists, c.requires.in_setup, c.requires.lists)
 
 pub give-requires-clause-early : goal.give-requires-clause-early
-give-requires-clause-early c = λ link at.
+give-requires-clause-early c = λ port at.
     let who = who_found c.args.setup.now c.loop-index.index c.in-Some.who c.in-Some.ensures in
     let time = c.requires.early in
     let span = lasts c.args.event.now in
-    let low = (c.loop-index.invariant.pace span.0 span.1 time.time time.by (c.in-Some.who - 1) link at).1 (omega (arith, who)) in
+    let low = (c.loop-index.invariant.pace span.0 span.1 time.time time.by (c.in-Some.who - 1) port at).1 (omega (arith, who)) in
     omega (arith, low, time.early)
 
 pub loop-index-preserved : goal.loop-index-preserved

@@ -22,7 +22,7 @@ give_each-requires c =
     let inv = c.loop-part.invariant in
     let fits = parts_fit c.loop-part.part c.args.ms (omega (arith, c.loop-part-test.true)) in
     record {
-      in_setup = inv.shape.links ∙ c.requires.in_setup;
+      in_setup = inv.shape.ports ∙ c.requires.in_setup;
       lists = inv.shape.lists ∙ c.requires.lists;
       early = has_left c.args.self.now.server c.loop-part.self.server c.args.ms (60000 * c.loop-part.part) c.longest.result
           (omega (arith, c.longest.ensures, fits)) c.requires.early inv.pace;
@@ -39,7 +39,7 @@ give_each-requires-in-Some c =
     let ended : c.loop-part.part ≡ c.args.ms / 60000 = omega (arith, c.loop-part.auto.part-end, c.loop-part-test.false) in
     let fits = rest_fits c.loop-part.part c.args.ms ended in
     record {
-      in_setup = inv.shape.links ∙ c.requires.in_setup;
+      in_setup = inv.shape.ports ∙ c.requires.in_setup;
       lists = inv.shape.lists ∙ c.requires.lists;
       early = has_left c.args.self.now.server c.loop-part.self.server c.args.ms (60000 * c.loop-part.part) c.in-Some.rest
           (omega (arith, c.in-Some.ensures.value, fits)) c.requires.early inv.pace;
