@@ -1,8 +1,10 @@
 -- A recording with a line more, of all testers.
-use Rattle.std.proofs.Common.{◌≡◌, ◌<◌, ◌≤◌, ℕ, zero, suc, ◌+◌, Some, Ok, List, [], ◌∷◌, ◌++◌, length, map, inl, inr, refl, ap, subst, sym, ◌∙◌, append_assoc, arith}
+use Rattle.std.proofs.Common.{◌≡◌, ◌<◌, ◌≤◌, Bool, ℕ, zero, suc, ◌+◌, Some, Ok, List, [], ◌∷◌, ◌++◌, length, map, inl, inr, refl, ap, subst, sym, ◌∙◌, append_assoc, arith}
 use Rattle.std.proofs.lemmas.List.{append-nil, map-append, length-append, length-set}
+use Rattle.std.proofs.lemmas.List.Elements.{filter-append}
 use Rattle.std.proofs.lemmas.Option.{none-some, same_Some, slice_get_within}
-use Rattle.std.specs.Prelude.{option_map, slice_get, slice_set}
+use Rattle.std.specs.List.{filter}
+use Rattle.std.specs.Prelude.{not, option_map, slice_get, slice_set}
 use Rattle.std.specs.Option.{option_to_list}
 use Rattle.diag_can.specs.declared.bus.BusLine.{BusLine}
 use Rattle.diag_tp.specs.declared.sent.Sent.{Sent}
@@ -13,7 +15,7 @@ use Rattle.diag_world.proofs.Worlds.{set_cases}
 use Rattle.diag_bus.specs.Comparing.{Compares, ComparesLines, Takes, TakesLine}
 use Rattle.diag_bus.specs.Events.{events_of}
 use Rattle.diag_bus.specs.Text.{sent_of}
-use Rattle.diag_bus.specs.Verdict.{at_line, expected, line_has, recorded, recorded_from, reply_said, sent_bytes}
+use Rattle.diag_bus.specs.Verdict.{at_line, expected, expected_of, is_pending, line_has, recorded, recorded_from, reply_said, sent_bytes}
 use Rattle.diag_bus.specs.declared.comparing.Comparison.{Comparison}
 use Rattle.diag_bus.specs.declared.comparing.Comparisons.{Comparisons}
 use Rattle.diag_bus.specs.declared.verdict.Recorded.{Recorded}
@@ -33,6 +35,13 @@ recorded_push setup t n (first ∷ lines) line =
     ∙ ap (λ k. recorded_from setup t (n + 1) lines ++ line_has setup t k line) next)
     ∙ sym (append_assoc (line_has setup t n first) (recorded_from setup t (n + 1) lines) (line_has setup t (n + length (first ∷ lines)) line))
 
+-- ---- what is expected
+
+pub expected_more : (frames more : List Sent) → expected_of (frames ++ more) ≡ expected_of frames ++ expected_of more
+expected_more frames more =
+    let shown : List ℕ → Bool = λ bytes. not (is_pending bytes) in
+    ap (filter shown) (map-append sent_bytes frames more) ∙ filter-append shown (map sent_bytes frames) (map sent_bytes more)
+
 -- ---- of all testers
 
 -- what a line that says this has of the unit's frames to the tester at an index
@@ -44,11 +53,11 @@ pub record TookEach (setup : RawSetup) (n : ℕ) (said : BusLine) (drawn : List 
   pub lists : length new ≡ length old
   pub left : (k : ℕ) → index ≤ k → slice_get new k ≡ slice_get old k
   pub done : (k : ℕ) (before after : Comparison) (frames : List Sent) → k < index → slice_get old k ≡ Some before → slice_get new k ≡ Some after
-      → slice_get drawn k ≡ Some frames → Takes before after (said_has setup n said k) (map sent_bytes frames)
+      → slice_get drawn k ≡ Some frames → Takes before after (said_has setup n said k) (expected_of frames)
 
 module _ (setup : RawSetup) (n : ℕ) (said : BusLine) (drawn : List (List Sent)) (old : List Comparison) where
   pub took_one : (new : List Comparison) (i : ℕ) → TookEach setup n said drawn old new i → (before after : Comparison) (own : List Sent)
-      → slice_get new i ≡ Some before → slice_get drawn i ≡ Some own → Takes before after (said_has setup n said i) (map sent_bytes own)
+      → slice_get new i ≡ Some before → slice_get drawn i ≡ Some own → Takes before after (said_has setup n said i) (expected_of own)
       → TookEach setup n said drawn old (slice_set new i after) (i + 1)
   took_one new i h before after own here drew takes = record {
     lists = length-set new i after ∙ h.lists;
@@ -58,10 +67,10 @@ module _ (setup : RawSetup) (n : ℕ) (said : BusLine) (drawn : List (List Sent)
           let same : k ≡ i = p.0 in
           let was_here : before ≡ first = same_Some _ _ (sym here ∙ (h.left i (omega arith) ∙ (ap (slice_get old) (sym same) ∙ was))) in
           let drew_here : own ≡ frames = same_Some _ _ (sym drew ∙ (ap (slice_get drawn) (sym same) ∙ at)) in
-          subst (λ j. Takes first last (said_has setup n said j) (map sent_bytes frames)) (sym same)
-          (subst (λ (f : List Sent). Takes first last (said_has setup n said i) (map sent_bytes f)) drew_here
-          (subst (λ (c : Comparison). Takes first c (said_has setup n said i) (map sent_bytes own)) (sym p.1)
-          (subst (λ (c : Comparison). Takes c after (said_has setup n said i) (map sent_bytes own)) was_here takes))))
+          subst (λ j. Takes first last (said_has setup n said j) (expected_of frames)) (sym same)
+          (subst (λ (f : List Sent). Takes first last (said_has setup n said i) (expected_of f)) drew_here
+          (subst (λ (c : Comparison). Takes first c (said_has setup n said i) (expected_of own)) (sym p.1)
+          (subst (λ (c : Comparison). Takes c after (said_has setup n said i) (expected_of own)) was_here takes))))
       | inr p ↦ (let below : k < i = omega (arith, less, p.0) in h.done k first last frames below was p.1 at)
     ];
   }
@@ -86,8 +95,8 @@ took_all setup old new said drawn count each many lines line is drew h = record 
       (expected setup lines (i + 1)) (h.each i before.0 before.1) in
       let seen : recorded setup lines (i + 1) ++ said_has setup (old.lines + 1) said i ≡ recorded setup (lines ++ line ∷ []) (i + 1) =
       ap (λ w. recorded setup lines (i + 1) ++ w) has ∙ sym (recorded_push setup (i + 1) 1 lines line) in
-      let due : expected setup lines (i + 1) ++ map sent_bytes frames.0 ≡ expected setup (lines ++ line ∷ []) (i + 1) =
-      sym (map-append sent_bytes (sent_of setup (events_of setup lines) (i + 1)) frames.0) ∙ ap (map sent_bytes) (sym (drew i frames.0 frames.1)) in
+      let due : expected setup lines (i + 1) ++ expected_of frames.0 ≡ expected setup (lines ++ line ∷ []) (i + 1) =
+      sym (expected_more (sent_of setup (events_of setup lines) (i + 1)) frames.0) ∙ ap expected_of (sym (drew i frames.0 frames.1)) in
       subst (λ (r : List Recorded). Compares own r (expected setup (lines ++ line ∷ []) (i + 1))) seen
       (subst (λ (e : List (List ℕ)). Compares own (recorded setup lines (i + 1) ++ said_has setup (old.lines + 1) said i) e) due took);
 }
@@ -111,5 +120,5 @@ pub nothing_yet : (setup : RawSetup) (kept : Comparisons) → kept.lines ≡ 0 �
 nothing_yet setup kept count many each = record {
   count = count;
   many = many;
-  each = λ i own at. subst (λ (frames : List Sent). Compares own [] (map sent_bytes frames)) (sym (sent_none setup (i + 1))) (each i own at);
+  each = λ i own at. subst (λ (frames : List Sent). Compares own [] (expected_of frames)) (sym (sent_none setup (i + 1))) (each i own at);
 }

@@ -1,5 +1,5 @@
 -- The verdict on a recording, computed.
-use Rattle.std.proofs.Common.{◌≡◌, ℕ, List, ◌++◌, codes, refl}
+use Rattle.std.proofs.Common.{◌≡◌, ℕ, Some, List, [], ◌∷◌, ◌++◌, codes, refl}
 use Rattle.std.specs.Fmt.{digits}
 use Rattle.hex.proofs.OnLiterals.{hex_on_literals}
 use Rattle.diag_tp.specs.Gives.{gives}
@@ -10,7 +10,8 @@ use Rattle.diag_tp.specs.Sending.{course}
 use Rattle.diag_tp.specs.Wire.{wire, sendings, grant}
 use Rattle.diag_can.specs.Bus.{bus_lines}
 use Rattle.diag_port.specs.Late.{pendings}
-use Rattle.diag_setup.specs.ExampleSetup.{two_testers}
+use Rattle.diag_setup.specs.ExampleSetup.{answer, pattern_bytes, template_bytes, two_testers}
+use Rattle.diag_setup.specs.declared.raw.RawSetup.{RawSetup}
 use Rattle.diag_bus.specs.Verdict.{agreement_text, verdict, verdict_text}
 use Rattle.diag_bus.specs.declared.verdict.Verdict.{Verdict}
 use Rattle.diag_bus.specs.declared.verdict.Verdict.TheVariants.{Agrees}
@@ -83,3 +84,22 @@ early_settled = refl
 early_at_the_end : told early ≡ codes "line 5: A sent 2233343536373839, expected nothing"
 unfolding hex_on_literals digits wire sendings grant course cut open_at kind gives pendings
 early_at_the_end = refl
+
+-- response pending is left out of what the server sends, too: here a row of answers says it
+abbrev waiting : RawSetup
+waiting = record two_testers {
+  answers = answer (pattern_bytes (0x14 ∷ 0xFF ∷ 0xFF ∷ 0xFF ∷ [])) (Some (template_bytes (0x7F ∷ 0x14 ∷ 0x78 ∷ []) ∷ [])) ∷ [];
+}
+
+abbrev waited : List (List ℕ)
+waited = bus_lines (
+    codes "(100.000000) can0 7E0#0414FFFFFF\n(100.010000) can0 7E0#021003\n"
+    ++ codes "(100.011000) can0 7E8#065003003201F4CC\n")
+
+left_out : verdict waiting waited ≡ Agrees
+unfolding hex_on_literals digits wire sendings grant course cut open_at kind gives pendings
+left_out = refl
+
+left_out_told : agreement_text waiting waited ≡ codes "A 1 frames agree\nB 0 frames agree\n"
+unfolding hex_on_literals digits wire sendings grant course cut open_at kind gives pendings
+left_out_told = refl

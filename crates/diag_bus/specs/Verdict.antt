@@ -1,7 +1,7 @@
 -- What a recording has of the unit's replies, beside what the server sends; and the verdict on it.
 use Rattle.std.specs.Prelude.{◌≡◌, ◌≢◌, ◌≤◌, ◌<◌, ℕ, ◌+◌, ◌==◌, ◌&&◌, codes, nat_lt, not, bytes_eq, Bool, if◌then◌else◌, List, [], ◌∷◌, ◌++◌, length, map, Option, Some, None, Result, Ok, Err, option_map, slice_get, slice_index}
 use Rattle.std.specs.Fmt.{decimal}
-use Rattle.std.specs.List.{filter_map, flat_map, reduce}
+use Rattle.std.specs.List.{filter, filter_map, flat_map, reduce}
 use Rattle.std.specs.Option.{option_to_list}
 use Rattle.hex.specs.Hex.{encode_upper}
 use Rattle.diag_can.specs.Bus.{bus_line}
@@ -62,9 +62,13 @@ bytes_of frame = frame.bytes
 abbrev pub sent_bytes : Sent → List ℕ
 sent_bytes sent = sent.frame.bytes
 
--- the frames that the server sends to a tester up to the end of the lines
+-- what is to be recorded of frames that the server sends: those that say response pending are left out
+abbrev pub expected_of : List Sent → List (List ℕ)
+expected_of frames = filter (λ bytes. not (is_pending bytes)) (map sent_bytes frames)
+
+-- of those that the server sends to a tester up to the end of the lines
 abbrev pub expected : RawSetup → List (List ℕ) → ℕ → List (List ℕ)
-expected setup lines t = map sent_bytes (sent_of setup (events_of setup lines) t)
+expected setup lines t = expected_of (sent_of setup (events_of setup lines) t)
 
 -- ---- the verdict
 

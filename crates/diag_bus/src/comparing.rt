@@ -3,7 +3,7 @@
 ghost use Rattle.std.specs.Prelude.{◌≡◌, ◌≤◌, ℕ, List, [], ◌∷◌, ◌++◌, ◌+◌, ◌≤◌, length, map, option_map, slice_get, Ok, OnOk, IfOk};
 ghost use Rattle.std.specs.Option.{option_to_list};
 ghost use Rattle.diag_bus.specs.Comparing.{Compared, Compares, ComparesLines, Takes, TakesLine};
-ghost use Rattle.diag_bus.specs.Verdict.{at_line, difference, first_difference, is_pending, recorded, reply_said, sent_bytes, verdict};
+ghost use Rattle.diag_bus.specs.Verdict.{at_line, difference, expected_of, first_difference, is_pending, recorded, reply_said, verdict};
 ghost use Rattle.diag_bus.specs.declared.comparing.Comparison.{Comparison as AComparison};
 ghost use Rattle.diag_bus.specs.declared.verdict.Recorded.{Recorded as ARecorded};
 ghost use Rattle.diag_setup.specs.declared.raw.RawSetup.{RawSetup};
@@ -92,13 +92,16 @@ impl Comparison {
         Ok(())
     }
 
-    /// Takes the frames that the server sends with a line, and then the line's own, where it has one.
+    /// Takes the frames that the server sends with a line, those left out that say response pending, and then the line's
+    /// own, where it has one.
     fn take(&mut self, sent: &[Sent], frame: Option<Recorded>) -> Result<(), AllocError>
         ensures { OnOk result
-            (Takes self.old self.new (option_to_list frame) (map sent_bytes sent.now)) }
+            (Takes self.old self.new (option_to_list frame) (expected_of sent.now)) }
     {
         for next in sent {
-            self.expect(next.frame.bytes.copy())?;
+            if !is_pending(next.frame.bytes.as_slice()) {
+                self.expect(next.frame.bytes.copy())?;
+            }
         }
         match frame {
             Some(frame) => self.record(frame),

@@ -8,7 +8,7 @@ use Rattle.diag_tp.specs.declared.sent.Sent.{Sent}
 use Rattle.diag_setup.specs.Setup.{ids_of}
 use Rattle.diag_world.proofs.Worlds.{who_found}
 use Rattle.diag_bus.specs.Comparing.{Takes}
-use Rattle.diag_bus.specs.Verdict.{at_line, reply_said, sent_bytes}
+use Rattle.diag_bus.specs.Verdict.{at_line, expected_of, reply_said}
 use Rattle.diag_bus.specs.declared.comparing.Comparison.{Comparison}
 use Rattle.diag_bus.specs.declared.verdict.Recorded.{Recorded}
 use Rattle.diag_bus.proofs.Recordings.{TookEach, said_has, took_all, took_one}
@@ -35,9 +35,9 @@ loop-index-preserved c =
     let has : option_to_list c.reply_in-frame.result ≡ said_has setup n said i =
     ap option_to_list (c.reply_in-frame.ensures
     ∙ (ap (λ (ids : Ids). option_map (at_line n) (reply_said ids.response (Ok said))) (c.ids.ensures ∙ ap (ids_of setup) who))) in
-    let takes : Takes own c.take.new.self (said_has setup n said i) (map sent_bytes list.items) =
-    subst (λ (r : List Recorded). Takes own c.take.new.self r (map sent_bytes list.items)) has
-    (subst (λ (f : List Sent). Takes own c.take.new.self (option_to_list c.reply_in-frame.result) (map sent_bytes f)) c.as_slice.ensures.value
+    let takes : Takes own c.take.new.self (said_has setup n said i) (expected_of list.items) =
+    subst (λ (r : List Recorded). Takes own c.take.new.self r (expected_of list.items)) has
+    (subst (λ (f : List Sent). Takes own c.take.new.self (option_to_list c.reply_in-frame.result) (expected_of f)) c.as_slice.ensures.value
     c.in_ok-take.ensures) in
     took_one setup n said (map (λ (f : Vec Sent Global). f.items) drawn) c.args.self.now.testers.items now i c.loop-index.invariant own
     c.take.new.self list.items here frames takes
