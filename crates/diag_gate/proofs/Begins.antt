@@ -1,9 +1,12 @@
 -- Beginnings of a journal, the entries of one tester, and lists read by `get_elem?`.
-use Rattle.std.proofs.Common.{◌≡◌, ◌⊎◌, inl, inr, ℕ, zero, suc, ◌+◌, ◌≤◌, ◌<◌, eqb, leb, true, false, cond, List, [], ◌∷◌, ◌++◌, length, get_or, set, refl, sym, ap, ◌∙◌, arith, append_assoc, append-nil, eq-eqb, Some, None}
-use Rattle.std.proofs.lemmas.List.Elements.{filter-append}
+use Rattle.std.proofs.Common.{◌≡◌, ◌⊎◌, inl, inr, ℕ, zero, suc, ◌+◌, ◌≤◌, ◌<◌, leb, true, false, cond, List, [], ◌∷◌, ◌++◌, length, get_or, set, refl, sym, ap, ◌∙◌, arith, append_assoc, append-nil, eq-eqb, Some, None}
 use mathlib.Core.Option.{some, some-ne-none}
 use lib.ListN.{get_elem?}
-use Rattle.diag_desk.specs.Entries.{BeginsWith}
+use Rattle.diag_ecu.specs.State.{State}
+use Rattle.diag_desk.specs.Entries.{BeginsWith, own}
+use Rattle.diag_desk.specs.Legal.{Run, after}
+use Rattle.diag_desk.specs.Timed.{Timed, entries_of, own_timed, timed, timed_entry}
+use Rattle.diag_desk.proofs.TimedLemmas.{own_timed-append, own_timed_entries, timed-append, timed_entries}
 use Rattle.diag_desk.specs.declared.entry.Entry.{Entry}
 use Rattle.diag_gate.proofs.Owned.{owned}
 use Rattle.diag_gate.specs.Views.{owns_from, longer, shorter}
@@ -47,20 +50,30 @@ longer_begins journal xs ys a b = elim (leb (length xs) (length ys)) as (λ t. B
 pub shorter_begins : (journal xs ys : List Entry) → BeginsWith journal xs → BeginsWith journal ys → BeginsWith journal (shorter xs ys)
 shorter_begins journal xs ys a b = elim (leb (length xs) (length ys)) as (λ t. BeginsWith journal (cond t xs ys)) [ true ↦ a | false ↦ b ]
 
-pub own-append : (t : ℕ) (xs ys : List Entry) → owned t (xs ++ ys) ≡ owned t xs ++ owned t ys
-own-append t xs ys = filter-append (λ (e : Entry). eqb e.who t) xs ys
+pub own-append : (s : State) (t : ℕ) (xs ys : List Entry) → owned s t (xs ++ ys) ≡ owned s t xs ++ owned (after s xs) t ys
+own-append s t xs ys =
+    ap (λ (l : List Timed). own_timed l t) (timed-append s xs ys) ∙ own_timed-append (timed s xs) (timed (after s xs) ys) t
 
-pub own_same : (t : ℕ) (e : Entry) → e.who ≡ t → owned t (e ∷ []) ≡ e ∷ []
-own_same t e is = ap (λ b. cond b (e ∷ []) []) (eq-eqb e.who t is)
+pub own_same : (s : State) (t : ℕ) (e : Entry) → e.who ≡ t → owned s t (e ∷ []) ≡ timed_entry s e ∷ []
+own_same s t e is = ap (λ b. cond b (timed_entry s e ∷ []) []) (eq-eqb e.who t is)
 
-pub owns_read : (k n t : ℕ) (journal l : List Entry) → get_or (owns_from k n journal) t None ≡ Some l → owned (k + t) journal ≡ l
-owns_read k zero t journal l e = absurd (cc)
-owns_read k (suc n) zero journal l e = let same : k + 0 ≡ k = omega arith in ap (λ (u : ℕ). owned u journal) same ∙ (let f = e in cc)
-owns_read k (suc n) (suc t) journal l e = let same : k + suc t ≡ suc k + t = omega arith in
-    ap (λ (u : ℕ). owned u journal) same ∙ owns_read (suc k) n t journal l e
+no_entries : (xs : List Timed) → entries_of xs ≡ [] → xs ≡ []
+no_entries [] e = refl
+no_entries (x ∷ xs) e = absurd (cc)
 
-pub owns_there : (k n t : ℕ) (journal : List Entry) → t < n → get_or (owns_from k n journal) t None ≡ Some (owned (k + t) journal)
-owns_there k zero t journal h = absurd (omega arith)
-owns_there k (suc n) zero journal h = let same : k ≡ k + 0 = omega arith in ap (λ (u : ℕ). Some (owned u journal)) same
-owns_there k (suc n) (suc t) journal h = let same : suc k + t ≡ k + suc t = omega arith in
-    owns_there (suc k) n t journal (omega arith) ∙ ap (λ (u : ℕ). Some (owned u journal)) same
+-- who has no entry has none with a delay
+pub own_none : (s : State) (t : ℕ) (xs : List Entry) → own xs t ≡ [] → owned s t xs ≡ []
+own_none s t xs none =
+    no_entries (owned s t xs) (own_timed_entries (timed s xs) t ∙ ap (λ (l : List Entry). own l t) (timed_entries s xs) ∙ none)
+
+pub owns_read : (k n t : ℕ) (r : Run) (l : List Timed) → get_or (owns_from k n r) t None ≡ Some l → owned r.opening (k + t) r.journal ≡ l
+owns_read k zero t r l e = absurd (cc)
+owns_read k (suc n) zero r l e = let same : k + 0 ≡ k = omega arith in ap (λ (u : ℕ). owned r.opening u r.journal) same ∙ (let f = e in cc)
+owns_read k (suc n) (suc t) r l e = let same : k + suc t ≡ suc k + t = omega arith in
+    ap (λ (u : ℕ). owned r.opening u r.journal) same ∙ owns_read (suc k) n t r l e
+
+pub owns_there : (k n t : ℕ) (r : Run) → t < n → get_or (owns_from k n r) t None ≡ Some (owned r.opening (k + t) r.journal)
+owns_there k zero t r h = absurd (omega arith)
+owns_there k (suc n) zero r h = let same : k ≡ k + 0 = omega arith in ap (λ (u : ℕ). Some (owned r.opening u r.journal)) same
+owns_there k (suc n) (suc t) r h = let same : suc k + t ≡ k + suc t = omega arith in
+    owns_there (suc k) n t r (omega arith) ∙ ap (λ (u : ℕ). Some (owned r.opening u r.journal)) same

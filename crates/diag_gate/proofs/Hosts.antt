@@ -6,7 +6,7 @@ use Rattle.atomic_table.specs.Table.{Final, Seen}
 use Rattle.atomic_table.specs.Seated.{TableId}
 use Rattle.diag_desk.specs.Entries.{BeginsWith}
 use Rattle.diag_desk.specs.Legal.{Legal, Run}
-use Rattle.diag_desk.specs.declared.entry.Entry.{Entry}
+use Rattle.diag_desk.specs.Timed.{Timed}
 use Rattle.diag_gate.specs.declared.view.View.{View}
 use Rattle.diag_gate.specs.Views.{own_if, own_of, naming, listed, host_without, new_seat}
 use Rattle.diag_gate.specs.Seats.{HostView, seat_as, of_host, was_given, AllHome, gave, fresh, Gave, Closed, IsHost}
@@ -24,7 +24,7 @@ some_of None e = absurd (cc)
 
 -- a tester that was not given out is with the host
 pub host_has : (me : Sat) (given home : List Bool) → IsHost me given home → (t : ℕ) → t < 9 → get_or given t false ≡ false
-    → (l : List Entry) × (get_or me.0.owns t None ≡ Some l)
+    → (l : List Timed) × (get_or me.0.owns t None ≡ Some l)
 host_has me given home is t h not_yet = some_of (get_or me.0.owns t None) (sym (is.here t h) ∙ is.left t h not_yet)
 
 -- the host names a tester and gives it out
@@ -39,13 +39,13 @@ module _ (me : Sat) (given home : List Bool) (is : IsHost me given home) (who na
   owns_are : me2.0.owns ≡ set me.0.owns who None
   owns_are = ap (λ (v : View). v.owns) v2_is ∙ ap (λ (t : ℕ). set me.0.owns t None) named_is
 
-  pub named_has : (l : List Entry) → get_or me.0.owns who None ≡ Some l → own_of me1.0 me1.0.who ≡ Some l
+  pub named_has : (l : List Timed) → get_or me.0.owns who None ≡ Some l → own_of me1.0 me1.0.who ≡ Some l
   named_has l e = ap (λ (v : View). own_of v v.who) v1_is ∙ ap (λ b. own_if b named me.0.own me.0.owns named) (ap (λ (m : Sat). m.0.is_seat) is.is)
       ∙ ap (λ (t : ℕ). get_or me.0.owns t None) named_is ∙ e
 
   pub gave_is : (h : HostView) (z z2 zs : TableId) (mine : Sat) → seen_as z me given ≡ h → get_or given at false ≡ false → mine ≡ (new_seat me1.0, [])
       → z2 ≡ z → zs ≡ z
-      → Gave h (seen_as z2 me2 (set given at true)) who (seat_as zs who mine)
+      → Gave h (seen_as z2 me2 (set given at true)) who (seat_as zs who 0 mine)
   gave_is h z z2 zs mine e not_yet third same2 same_s =
       let not_given : get_or given who false ≡ false = sym (ap (λ (t : ℕ). get_or given t false) at_is) ∙ not_yet in
       let has = host_has me given home is who low not_given in
@@ -56,8 +56,8 @@ module _ (me : Sat) (given home : List Bool) (is : IsHost me given home) (who na
       let opening_is : mine.0.opening ≡ me.0.opening = ap (λ (v : View). v.opening) m_is ∙ ap (λ (v : View). v.opening) v1_is in
       let seen_is : mine.0.seen ≡ me.0.seen = ap (λ (v : View). v.seen) m_is ∙ ap (λ (v : View). v.seen) v1_is in
       let missed_is : mine.0.missed ≡ 0 = ap (λ (v : View). v.missed) m_is in
-      let s_is : seat_as zs who mine ≡ fresh old who l =
-      λ i. record { gate = same_s i; who = who; opening = opening_is i; own = own_is i; seen = seen_is i; missed = missed_is i } in
+      let s_is : seat_as zs who 0 mine ≡ fresh old who l =
+      λ i. record { gate = same_s i; who = who; opening = opening_is i; own = own_is i; seen = seen_is i; delay = 0; missed = missed_is i } in
       let n_is : seen_as z2 me2 (set given at true) ≡ gave old who = λ i. record {
         gate = same2 i;
         opening = ap (λ (v : View). v.opening) v2_is i;
@@ -83,7 +83,7 @@ pub left_is : (h : HostView) (z : TableId) (id : ℕ) (me : Sat) (given home : L
     → Final (Seen Kept id me.0) words slots → get_elem? slots 0 ≡ some desk → Left h desk
 left_is h z id me given home words slots desk e is all final taken =
     let host = ap (λ (m : Sat). m.0.is_seat) is.is in
-    let has : (t : ℕ) → t < 9 → (l : List Entry) × (own_of me.0 t ≡ Some l) = λ t low. let o = some_of (of_host h t) (all t low) in
+    let has : (t : ℕ) → t < 9 → (l : List Timed) × (own_of me.0 t ≡ Some l) = λ t low. let o = some_of (of_host h t) (all t low) in
     (o.0, ap (λ b. own_if b me.0.who me.0.own me.0.owns t) host ∙ ap (λ (x : HostView). of_host x t) e ∙ o.1) in
     let at_end = closes id me.0 final.0 final.1 (ap (λ (m : Sat). m.0.live) is.is) (ap (λ (m : Sat). m.0.holds) is.is) has in
     let there : desk ≡ Some (run me.0.opening at_end.journal) = some-injective _ _ (sym taken ∙ final.4 0 _ at_end.desk) in record {

@@ -9,15 +9,16 @@ use lib.ListN.{get_elem?}
 use Rattle.atomic_table.specs.Table.{State as Board, Me, step, keeps, takes, gives, stepped, Allows, Splits, Joins, opening as table_opening, Seen}
 use Rattle.atomic_table.proofs.Lists.{at_set, set_here, set_else, at_longer, at_snoc}
 use Rattle.diag_ecu.specs.State.{State}
-use Rattle.diag_desk.specs.Entries.{BeginsWith}
-use Rattle.diag_desk.specs.Legal.{Legal, Run}
+use Rattle.diag_desk.specs.Entries.{BeginsWith, own}
+use Rattle.diag_desk.specs.Legal.{Legal, Run, after}
+use Rattle.diag_desk.specs.Timed.{Timed}
 use Rattle.diag_desk.specs.declared.entry.Entry.{Entry}
 use Rattle.diag_gate.proofs.Owned.{owned}
 use Rattle.diag_gate.specs.declared.view.View.{View}
 use Rattle.diag_gate.specs.Views.{IsLegal, own_if, own_of, starting, holding, missing, letting_go, naming, listed, host_without, new_seat, host_with, spent}
 use Rattle.diag_gate.specs.Rule.{run, Knows, AtHome, Out, Placed, Kept}
 use Rattle.diag_gate.specs.Plays.{took, released, named, learned}
-use Rattle.diag_gate.proofs.Begins.{set_there, read_set, begins_whole, begins_more, begins_shorter, longer_begins, shorter_begins, own-append, owns_read, owns_there}
+use Rattle.diag_gate.proofs.Begins.{set_there, read_set, begins_whole, begins_more, begins_shorter, longer_begins, shorter_begins, own-append, own_none, owns_read, owns_there}
 
 -- Of all views after one was written
 
@@ -67,7 +68,7 @@ out_set journal views id v w at was off h =
 
 -- the view that was written has each tester that was there
 placed_set : (place : ℕ → ℕ) (views : List View) (id : ℕ) (v w : View) (t : ℕ) → get_elem? views id ≡ some v
-    → ((l : List Entry) → own_of v t ≡ Some l → (m : List Entry) × (own_of w t ≡ Some m)) → Placed place views t → Placed place (set views id w) t
+    → ((l : List Timed) → own_of v t ≡ Some l → (m : List Timed) × (own_of w t ≡ Some m)) → Placed place views t → Placed place (set views id w) t
 placed_set place views id v w t at like h = dite (ℕ_discrete (place t) id)
     (λ is.
     let same : h.view ≡ v = some-injective h.view v (sym h.there ∙ ap (λ j. get_elem? views j) is ∙ at) in
@@ -78,7 +79,7 @@ placed_set place views id v w t at like h = dite (ℕ_discrete (place t) id)
 -- a step of a view that does not hold the slot, which leaves the word and the slots
 pub stays : (s : Board (Option Run) View) (k : Kept s) (id : ℕ) (v w : View) → get_elem? s.views id ≡ some v → v.holds ≡ false → w.holds ≡ false
     → ((o : State) (journal : List Entry) (place : ℕ → ℕ) → Knows o journal place id v → Knows o journal place id w)
-    → ((t : ℕ) (l : List Entry) → own_of v t ≡ Some l → own_of w t ≡ Some l)
+    → ((t : ℕ) (l : List Timed) → own_of v t ≡ Some l → own_of w t ≡ Some l)
     → (n : ℕ) → n ≡ get_or s.words 0 0 → Kept record { words = set s.words 0 n; homes = s.homes; views = set s.views id w }
 stays s k id v w at was off like has n is =
     let same : get_or (set s.words 0 n) 0 0 ≡ get_or s.words 0 0 = word_set s.words n k.one_word ∙ is in record {
@@ -103,7 +104,7 @@ begins r legal = record {
   one_word = refl;
   legal = legal;
   knows = one;
-  placed = λ t small. record { view = starting r; own = owned (0 + t) r.journal; there = refl; has = owns_there 0 9 t r.journal small };
+  placed = λ t small. record { view = starting r; own = owned r.opening (0 + t) r.journal; there = refl; has = owns_there 0 9 t r small };
   home = λ _. record { desk = refl; free = none_holds };
   out = λ nz. absurd (nz refl);
 }
@@ -114,7 +115,7 @@ begins r legal = record {
       seen = begins_whole r.journal;
       told = (r.journal, refl);
       owns =
-          λ t l e. (refl, (let same : t ≡ 0 + t = omega arith in ap (λ (u : ℕ). owned u r.journal) same) ∙ owns_read 0 9 t r.journal l e);
+          λ t l e. (refl, (let same : t ≡ 0 + t = omega arith in ap (λ (u : ℕ). owned r.opening u r.journal) same) ∙ owns_read 0 9 t r l e);
     }
 
     one : (by : ℕ) (v : View) → get_elem? (starting r ∷ []) by ≡ some v → Knows r.opening r.journal (λ _. 0) by v
@@ -173,7 +174,7 @@ takes_or_misses slots id m live off empty seat tester s k wide at small =
           after = after;
           legal = subst (λ o. Legal o k.journal) (sym same) k.legal;
           begins = known.seen;
-          owns = λ t l e. (known.owns t l e).1;
+          owns = λ t l e. ap (λ (o : State). owned o t k.journal) same ∙ (known.owns t l e).1;
         }),
         λ no. absurd (no is),
       ),
@@ -223,21 +224,23 @@ learns slots id m off s k wide at small =
     )
 
 -- the entries that a step adds are the seat's alone
-own_kept : (t : ℕ) (journal next more : List Entry) → next ≡ journal ++ more → owned t more ≡ [] → owned t next ≡ owned t journal
-own_kept t journal next more is none_of = ap (owned t) is ∙ own-append t journal more ∙ ap (λ l. owned t journal ++ l) none_of ∙ append-nil (owned t journal)
+own_kept : (s : State) (t : ℕ) (journal next more : List Entry) → next ≡ journal ++ more → own more t ≡ [] → owned s t next ≡ owned s t journal
+own_kept s t journal next more is none_of =
+    ap (owned s t) is ∙ own-append s t journal more ∙ ap (λ l. owned s t journal ++ l) (own_none (after s journal) t more none_of)
+    ∙ append-nil (owned s t journal)
 
-own_if_mine : (t who : ℕ) (own l : List Entry) → own_if true who own [] t ≡ Some l → (t ≡ who) × (own ≡ l)
+own_if_mine : (t who : ℕ) (own l : List Timed) → own_if true who own [] t ≡ Some l → (t ≡ who) × (own ≡ l)
 own_if_mine t who own l e = dite (ℕ_discrete t who)
     (λ is. (is, (let f : cond (eqb t who) (Some own) None ≡ Some l = e in let g = sym (ap (λ b. cond b (Some own) None) (eq-eqb t who is)) ∙ f in cc)))
     (λ not. let f : cond (eqb t who) (Some own) None ≡ Some l = e in let g = sym (ap (λ b. cond b (Some own) None) (ne_eqb t who not)) ∙ f in absurd (cc))
 
-own_if_here : (who : ℕ) (own : List Entry) (owns : List (Option (List Entry))) → own_if true who own owns who ≡ Some own
+own_if_here : (who : ℕ) (own : List Timed) (owns : List (Option (List Timed))) → own_if true who own owns who ≡ Some own
 own_if_here who own owns = ap (λ b. cond b (Some own) None) (eq-eqb who who refl)
 
 pub own_of_seat : (v : View) → v.is_seat ≡ true → own_of v v.who ≡ Some v.own
 own_of_seat v seat = ap (λ b. own_if b v.who v.own v.owns v.who) seat ∙ own_if_here v.who v.own v.owns
 
-own_of_mine : (v : View) (t : ℕ) (l : List Entry) → v.is_seat ≡ true → own_of v t ≡ Some l → (t ≡ v.who) × (v.own ≡ l)
+own_of_mine : (v : View) (t : ℕ) (l : List Timed) → v.is_seat ≡ true → own_of v t ≡ Some l → (t ≡ v.who) × (v.own ≡ l)
 own_of_mine v t l seat e = own_if_mine t v.who v.own l (sym (ap (λ b. own_if b v.who v.own v.owns t) seat) ∙ e)
 
 desk_in : Run → Option Run → Run
@@ -254,7 +257,7 @@ unfolding desk_of desk_in
 carried_same d d' e = ap (desk_of d) e
 
 module _ (id : ℕ) (v : View) (d : Run) (more : List Entry) (seat : v.is_seat ≡ true) (on : v.holds ≡ true) (same : d.opening ≡ v.opening)
-    (live : v.live ≡ true) (legal : IsLegal d) (grown : d.journal ≡ v.seen ++ more) (mine : (t : ℕ) → t ≢ v.who → owned t more ≡ []) where
+    (live : v.live ≡ true) (legal : IsLegal d) (grown : d.journal ≡ v.seen ++ more) (mine : (t : ℕ) → t ≢ v.who → own more t ≡ []) where
   pub puts_back : (slots : ℕ) → slots ≡ 1 → Allows Kept slots id (v, (0, Some d) ∷ []) 0 (λ _. 0)
       (λ _. released (step slots 0 0 0 none) (v, (0, Some d) ∷ []) 0)
   puts_back slots one s k wide at small =
@@ -275,13 +278,14 @@ module _ (id : ℕ) (v : View) (d : Run) (more : List Entry) (seat : v.is_seat �
         opened = h.opened;
         seen = begins_more k.journal d.journal u.seen more grows h.seen;
         told = begins_more k.journal d.journal u.told more grows h.told;
-        owns = λ t l f. let g = h.owns t l f in (g.0, own_kept t k.journal d.journal more grows (mine t (λ e'. apart (sym g.0 ∙ ap k.place e' ∙ here))) ∙ g.1);
+        owns = λ t l f. let g = h.owns t l f in (g.0, own_kept k.opening t k.journal d.journal more grows (mine t (λ e'. apart (sym g.0 ∙ ap k.place e' ∙ here))) ∙ g.1);
       } in
       let w_knows : Knows k.opening d.journal k.place id w = record {
         opened = known.opened;
         seen = begins_whole d.journal;
         told = begins_more k.journal d.journal v.told more grows known.told;
-        owns = λ t l f. let g = own_of_mine w t l seat f in (ap k.place g.0 ∙ here, ap (λ (u : ℕ). owned u d.journal) g.0 ∙ g.1);
+        owns = λ t l f. let g = own_of_mine w t l seat f in
+            (ap k.place g.0 ∙ here, ap (λ (u : ℕ). owned k.opening u d.journal) g.0 ∙ ap (λ (z : State). owned z v.who d.journal) (sym o) ∙ g.1);
       } in (
         w,
         gives,
@@ -310,7 +314,7 @@ module _ (id : ℕ) (v : View) (d : Run) (more : List Entry) (seat : v.is_seat �
 -- the same at a seat that is known to be so
 pub puts_back_as : (slots id : ℕ) (m : Me (Option Run) View) (v : View) (d : Run) (more : List Entry) → m ≡ (v, (0, Some d) ∷ []) → v.is_seat ≡ true
     → v.holds ≡ true → d.opening ≡ v.opening → v.live ≡ true → IsLegal d → d.journal ≡ v.seen ++ more
-    → ((t : ℕ) → t ≢ v.who → owned t more ≡ []) → slots ≡ 1 → Allows Kept slots id m 0 (λ _. 0) (λ _. released (step slots 0 0 0 none) m 0)
+    → ((t : ℕ) → t ≢ v.who → own more t ≡ []) → slots ≡ 1 → Allows Kept slots id m 0 (λ _. 0) (λ _. released (step slots 0 0 0 none) m 0)
 puts_back_as slots id m v d more is seat on same live legal grown mine one =
     subst (λ x. Allows Kept slots id x 0 (λ _. 0) (λ _. released (step slots 0 0 0 none) x 0)) (sym is)
     (puts_back id v d more seat on same live legal grown mine slots one)
@@ -337,7 +341,7 @@ placed_moved place who to t views not h =
     record { view = h.view; own = h.own; there = ap (λ j. get_elem? views j) (moved_else place who to t not) ∙ h.there; has = h.has }
 
 -- a host has each tester as before but the one that was given or taken in
-own_else : (v : View) (who t : ℕ) (x : Option (List Entry)) → v.is_seat ≡ false → t ≢ who → own_if v.is_seat v.who v.own (set v.owns who x) t ≡ own_of v t
+own_else : (v : View) (who t : ℕ) (x : Option (List Timed)) → v.is_seat ≡ false → t ≢ who → own_if v.is_seat v.who v.own (set v.owns who x) t ≡ own_of v t
 own_else v who t x host not = ap (λ b. own_if b v.who v.own (set v.owns who x) t) host ∙ get_or-set_other v.owns who t x None not ∙ sym (own_of_host v t host)
 
 -- a view that has not the tester whose place is changed
@@ -350,7 +354,7 @@ knows_moved o journal place who to by u away h = record {
   owns = λ t l f. let g = h.owns t l f in (moved_else place who to t (λ e. away (sym (ap place e) ∙ g.0)) ∙ g.0, g.1);
 }
 
-none_read : (owns : List (Option (List Entry))) (i : ℕ) (x : List Entry) → get_or (set owns i None) i None ≡ Some x → ⊥
+none_read : (owns : List (Option (List Timed))) (i : ℕ) (x : List Timed) → get_or (set owns i None) i None ≡ Some x → ⊥
 none_read [] i x e = absurd (cc)
 none_read (y ∷ ys) zero x e = absurd (cc)
 none_read (y ∷ ys) (suc i) x e = none_read ys i x e
@@ -376,7 +380,7 @@ snoc_knows o journal place views r new long first last j u e =
     (λ (y : (j ≡ length views) × (r ≡ u)). subst (λ (z : ℕ × View). Knows o journal place z.0 z.1) (λ i. (sym (y.0 ∙ long) i, y.1 i)) last)
     (place_snoc views r u j e)
 
-pub gives_seat : (id : ℕ) (v : View) (l : List Entry) → v.is_seat ≡ false → v.holds ≡ false → v.live ≡ true → own_of v v.who ≡ Some l
+pub gives_seat : (id : ℕ) (v : View) (l : List Timed) → v.is_seat ≡ false → v.holds ≡ false → v.live ≡ true → own_of v v.who ≡ Some l
     → Splits Kept id v (host_without v) (new_seat v)
 gives_seat id v l host off live has s k at =
     let w = host_without v in
@@ -408,7 +412,7 @@ gives_seat id v l host off live has s k at =
       seen = known.seen;
       told = (k.journal, refl);
       owns = λ t x f. let g = own_if_mine t v.who (listed (own_of v v.who)) x f in
-          (moved_here k.place v.who new t g.0, ap (λ (u : ℕ). owned u k.journal) g.0 ∙ mine.1 ∙ sym (ap listed has) ∙ g.1);
+          (moved_here k.place v.who new t g.0, ap (λ (u : ℕ). owned k.opening u k.journal) g.0 ∙ mine.1 ∙ sym (ap listed has) ∙ g.1);
     } in record {
       opening = k.opening;
       journal = k.journal;
@@ -464,7 +468,7 @@ takes_seat_in id v other w host off seat w_off deep s k at distinct there =
       told = shorter_begins k.journal v.seen w.seen known.seen theirs.seen;
       owns = λ t l f. ⊎_elim
           (λ (y : (t ≡ w.who) × (Some w.own ≡ Some l)).
-          (moved_here k.place w.who id t y.0, ap (λ (u : ℕ). owned u k.journal) y.0 ∙ mine.1 ∙ (let z = y.1 in cc)))
+          (moved_here k.place w.who id t y.0, ap (λ (u : ℕ). owned k.opening u k.journal) y.0 ∙ mine.1 ∙ (let z = y.1 in cc)))
           (λ (y : get_or v.owns t None ≡ Some l). let g = known.owns t l (own_of_host v t host ∙ y) in
           (dite (ℕ_discrete t w.who) (λ is. moved_here k.place w.who id t is) (λ not. moved_else k.place w.who id t not ∙ g.0), g.1))
           (read_set v.owns w.who t (Some w.own) None (Some l) (sym (own_of_host b t host) ∙ f));
@@ -507,11 +511,11 @@ pub record Closes (v : View) (homes : List _) : Type 0 where
   pub journal : List Entry
   pub legal : Legal v.opening journal
   pub begins : BeginsWith journal v.seen
-  pub owns : (t : ℕ) (l : List Entry) → own_of v t ≡ Some l → owned t journal ≡ l
+  pub owns : (t : ℕ) (l : List Timed) → own_of v t ≡ Some l → owned v.opening t journal ≡ l
   pub desk : get_elem? homes 0 ≡ some (some (Some (run v.opening journal)))
 
 pub closes : (id : ℕ) (v : View) (s : Board (Option Run) View) → Seen Kept id v s → v.live ≡ true → v.holds ≡ false
-    → ((t : ℕ) → t < 9 → (l : List Entry) × (own_of v t ≡ Some l)) → Closes v s.homes
+    → ((t : ℕ) → t < 9 → (l : List Timed) × (own_of v t ≡ Some l)) → Closes v s.homes
 closes id v s seen live off all =
     let k = seen.0 in
     let known = k.knows id v seen.1 in
@@ -526,6 +530,6 @@ closes id v s seen live off all =
       journal = k.journal;
       legal = subst (λ o. Legal o k.journal) (sym same) k.legal;
       begins = known.seen;
-      owns = λ t l e. (known.owns t l e).1;
+      owns = λ t l e. ap (λ (o : State). owned o t k.journal) same ∙ (known.owns t l e).1;
       desk = home.desk ∙ ap (λ o. some (some (Some (run o k.journal)))) (sym same);
     }

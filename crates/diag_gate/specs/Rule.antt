@@ -5,23 +5,26 @@ use mathlib.Core.Option as maybe
 use lib.ListN.{get_elem?}
 use Rattle.atomic_table.specs.Table.{State as Board}
 use Rattle.diag_ecu.specs.State.{State}
-use Rattle.diag_desk.specs.Entries.{own, BeginsWith}
+use Rattle.diag_desk.specs.Entries.{BeginsWith}
 use Rattle.diag_desk.specs.Legal.{Legal, Run}
+use Rattle.diag_desk.specs.Timed.{Timed}
 use Rattle.diag_desk.specs.declared.entry.Entry.{Entry}
 use Rattle.diag_gate.specs.declared.view.View.{View}
-use Rattle.diag_gate.specs.Views.{own_of}
+use Rattle.diag_gate.specs.Views.{own_in, own_of}
 
 abbrev pub run : State → List Entry → Run
 run opening journal = record { opening = opening; journal = journal }
 
 -- The view is right about the journal: it has the one opening, what it has seen begins the journal, and each own list
--- that it has is that tester's entries, and no other view has it
+-- that it has is that tester's entries with the delays of their answers, and no other view has it
 pub record Knows (opening : State) (journal : List Entry) (place : ℕ → ℕ) (by : ℕ) (v : View)
     : Type 0 where
   pub opened : v.live ≡ true → v.opening ≡ opening
   pub seen : BeginsWith journal v.seen
   pub told : BeginsWith journal v.told
-  pub owns : (t : ℕ) (l : List Entry) → own_of v t ≡ Some l → (place t ≡ by) × (own journal t ≡ l)
+  pub owns : (t : ℕ) (l : List Timed)
+      → own_of v t ≡ Some l
+      → (place t ≡ by) × (own_in opening journal t ≡ l)
 
 -- the desk is in its slot, and no view says that it holds it
 pub record AtHome (opening : State) (journal : List Entry)
@@ -43,7 +46,7 @@ pub record Out (journal : List Entry) (views : List View) : Type 0 where
 -- a view has the tester, the one at the tester's place
 pub record Placed (place : ℕ → ℕ) (views : List View) (t : ℕ) : Type 0 where
   pub view : View
-  pub own : List Entry
+  pub own : List Timed
   pub there : get_elem? views (place t) ≡ some view
   pub has : own_of view t ≡ Some own
 

@@ -1,28 +1,32 @@
--- What contracts see of a seat and of the host, and what each call leaves.
+-- What contracts see of a seat, of the host and of a door over a lock, and what each call leaves.
 use Rattle.std.specs.Prelude.{◌≡◌, ℕ, ◌+◌, ◌<◌, Bool, true, false, List, [], ◌∷◌, ◌++◌, length, replicate, slice_index_or, slice_set, Option, Some, None, is_some, Result, Ok, Err}
 use Rattle.diag_desk.specs.Entry.{most_entries}
 use Rattle.atomic_table.specs.Table.{Me}
 use Rattle.atomic_table.specs.Seated.{TableId}
 use Rattle.diag_ecu.specs.State.{State}
-use Rattle.diag_desk.specs.Entries.{own, BeginsWith, entry}
-use Rattle.diag_desk.specs.Legal.{Legal, Run}
+use Rattle.diag_desk.specs.Entries.{BeginsWith, entry}
+use Rattle.diag_desk.specs.Legal.{Legal, Run, after}
+use Rattle.diag_desk.specs.Timed.{Timed, timed_entry}
 use Rattle.diag_pdu.specs.declared.step.Step.{Step}
 use Rattle.diag_desk.specs.declared.desk.StepFault.{StepFault}
 use Rattle.diag_desk.specs.declared.desk.StepFault.TheVariants.{Memory, JournalFull}
 use Rattle.diag_desk.specs.declared.entry.Entry.{Entry}
 use Rattle.diag_gate.specs.declared.view.View.{View}
 use Rattle.diag_gate.specs.declared.fault.TryFault.{TryFault}
+use Rattle.diag_gate.specs.declared.gate.Place.{Place}
 use Rattle.diag_gate.specs.declared.fault.TryFault.TheVariants.{Memory as TryMemory, JournalFull as TryFull, Busy}
-use Rattle.diag_gate.specs.Views.{owns_from, host_view, seat_view, holding, longer, shorter}
+use Rattle.diag_gate.specs.Views.{own_in, owns_from, host_view, seat_view, holding, longer, shorter}
 use Rattle.diag_gate.specs.Rule.{run}
 
--- a seat: its gate and tester, the opening, its own entries, and the journal that it has seen
+-- a seat: its gate and tester, the opening, its own entries with the delays of their answers, the journal that it has seen, and
+-- how long after its request the answer of its last step goes, 0 before the first
 pub record SeatView : Type 0 where
   pub gate : TableId
   pub who : ℕ
   pub opening : State
-  pub own : List Entry
+  pub own : List Timed
   pub seen : List Entry
+  pub delay : ℕ
   pub missed : ℕ
 
 -- the host: its gate, the opening, the journal that it has seen, the own entries of each tester that is with it, and
@@ -31,10 +35,16 @@ pub record HostView : Type 0 where
   pub gate : TableId
   pub opening : State
   pub seen : List Entry
-  pub owns : List (Option (List Entry))
+  pub owns : List (Option (List Timed))
   pub given : List Bool
 
-abbrev pub of_host : HostView → ℕ → Option (List Entry)
+-- a door over a lock: its tester, the entries that it has answered, each with the delay of its answer, and that of the last step
+pub record LockView : Type 0 where
+  pub who : ℕ
+  pub given : List Timed
+  pub delay : ℕ
+
+abbrev pub of_host : HostView → ℕ → Option (List Timed)
 of_host h t = slice_index_or h.owns t None
 
 abbrev pub was_given : HostView → ℕ → Bool
@@ -46,7 +56,7 @@ new_host gate desk = record {
   gate = gate;
   opening = desk.opening;
   seen = desk.journal;
-  owns = owns_from 0 9 desk.journal;
+  owns = owns_from 0 9 desk;
   given = replicate 9 false;
 }
 
@@ -58,14 +68,14 @@ AllHome h = (t : ℕ) → t < 9 → is_some (of_host h t) ≡ true
 abbrev pub gave : HostView → ℕ → HostView
 gave h t = record h { owns = slice_set h.owns t None; given = slice_set h.given t true }
 
-abbrev pub fresh : HostView → ℕ → List Entry → SeatView
+abbrev pub fresh : HostView → ℕ → List Timed → SeatView
 fresh h t own =
-    record { gate = h.gate; who = t; opening = h.opening; own = own; seen = h.seen; missed = 0 }
+    record { gate = h.gate; who = t; opening = h.opening; own = own; seen = h.seen; delay = 0; missed = 0 }
 
 -- a tester that was not given out before goes to a new seat, which begins with what the host has seen and the tester's
 -- entries
 pub record Gave (h n : HostView) (t : ℕ) (s : SeatView) : Type 0 where
-  pub mine : List Entry
+  pub mine : List Timed
   pub before : was_given h t ≡ false
   pub had : of_host h t ≡ Some mine
   pub seat : s ≡ fresh h t mine
@@ -82,22 +92,30 @@ pub record Closed (h : HostView) (d : Run) : Type 0 where
   pub opening : d.opening ≡ h.opening
   pub legal : Legal h.opening d.journal
   pub begins : BeginsWith d.journal h.seen
-  pub owns : (t : ℕ) (l : List Entry) → of_host h t ≡ Some l → own d.journal t ≡ l
+  pub owns : (t : ℕ) (l : List Timed) → of_host h t ≡ Some l → own_in d.opening d.journal t ≡ l
 
 -- the journal that was found, which begins with all that the seat had seen, and has as the seat's entries its own list
 pub record Finds (s n : SeatView) : Type 0 where
   pub seat : n ≡ record s { seen = n.seen }
   pub legal : Legal s.opening n.seen
   pub begins : BeginsWith n.seen s.seen
-  pub entries : own n.seen s.who ≡ s.own
+  pub entries : own_in s.opening n.seen s.who ≡ s.own
+
+-- the seat with an entry more behind the journal that was found, and its delay in the state that this journal makes
+abbrev pub with_entry : SeatView → List Entry → Timed → SeatView
+with_entry s found x = record s {
+  own = s.own ++ x ∷ [];
+  seen = found ++ x.entry ∷ [];
+  delay = x.after;
+}
 
 -- the seat's step was entered behind a journal that was found
 pub record Enters (s n : SeatView) (e : Entry) : Type 0 where
   pub found : List Entry
   pub begins : BeginsWith found s.seen
-  pub seat : n ≡ record s { own = s.own ++ e ∷ []; seen = found ++ e ∷ [] }
+  pub seat : n ≡ with_entry s found (timed_entry (after s.opening found) e)
   pub legal : Legal s.opening n.seen
-  pub entries : own n.seen s.who ≡ n.own
+  pub entries : own_in s.opening n.seen s.who ≡ n.own
 
 abbrev pub misses : SeatView → SeatView
 misses s = record s { missed = s.missed + 1 }
@@ -134,15 +152,19 @@ as_tried (Err JournalFull) = Err TryFull
 -- What stands behind these in the table
 
 -- what a contract sees of a seat's place
-abbrev pub seat_as : TableId → ℕ → Me (Option Run) View → SeatView
-seat_as z who me = record {
+abbrev pub seat_as : TableId → ℕ → ℕ → Me (Option Run) View → SeatView
+seat_as z who delay me = record {
   gate = z;
   who = who;
   opening = me.0.opening;
   own = me.0.own;
   seen = me.0.seen;
+  delay = delay;
   missed = me.0.missed;
 }
+
+abbrev pub seat_of : ℕ → Place → SeatView
+seat_of who place = seat_as place.spot.table_id who place.after_ms place.spot.me
 
 -- a seat's place holds no slot
 pub record IsSeat (who : ℕ) (me : Me (Option Run) View) : Type 0 where
@@ -155,7 +177,7 @@ pub record IsGuard (who : ℕ) (me : Me (Option Run) View) (d : Run) : Type 0 wh
       ≡ (holding (seat_view me.0.opening who me.0.own [] me.0.missed) me.0.seen, (0, None) ∷ [])
   pub place : who < 9
   pub desk : d ≡ run me.0.opening me.0.seen
-  pub entries : own me.0.seen who ≡ me.0.own
+  pub entries : own_in me.0.opening me.0.seen who ≡ me.0.own
 
 pub record IsHost (me : Me (Option Run) View) (given home : List Bool) : Type 0 where
   pub is : me ≡ (host_view me.0.opening me.0.seen me.0.owns me.0.told me.0.who, [])

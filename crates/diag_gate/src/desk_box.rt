@@ -1,9 +1,10 @@
 //! The desk as the slot keeps it.
-ghost use Rattle.std.specs.Prelude.{◌≡◌, ◌≤◌, ◌↔◌, length, IfOk, OnErr, Err};
+ghost use Rattle.std.specs.Prelude.{◌≡◌, ◌≤◌, ◌↔◌, length, IfOk, OnOk, OnErr, Err};
 ghost use Rattle.diag_desk.specs.Entry.{HasNoReply, most_entries};
 ghost use Rattle.diag_desk.specs.Entries.{entry};
-ghost use Rattle.diag_desk.specs.Legal.{entered};
-ghost use Rattle.diag_gate.specs.Views.{IsLegal};
+ghost use Rattle.diag_desk.specs.Legal.{after, entered};
+ghost use Rattle.diag_desk.specs.Timed.{delay_to};
+ghost use Rattle.diag_gate.specs.Views.{IsLegal, has_answers};
 
 use diag_desk::{Desk, StepFault};
 use diag_pdu::{Message, Step};
@@ -50,13 +51,29 @@ impl DeskBox {
         let _journal = self.desk.journal();
     }
 
-    pub(crate) fn step(&mut self, who: TesterId, step: &Step) -> Result<Option<Message>, StepFault>
+    /// Whether an answer may go later than at once.
+    pub(crate) fn can_delay(&self) -> bool
+        ensures { result ≡ has_answers self.now.opening }
+    {
+        self.desk.ecu().has_answers()
+    }
+
+    /// The desk's step. It tells how long after its request the answer goes, where it was made.
+    pub(crate) fn step(
+        &mut self,
+        who: TesterId,
+        step: &Step,
+        after_ms: &mut u32,
+    ) -> Result<Option<Message>, StepFault>
         ensures ok { IfOk result (λ reply. self.new ≡ entered self.old (entry who step.now reply)) }
-        ensures err { OnErr result (self.new ≡ self.old) }
+        ensures delay { OnOk result
+            (after_ms.new ≡ delay_to (after self.old.opening self.old.journal) who step.now) }
+        ensures err { OnErr result ((self.new ≡ self.old) × (after_ms.new ≡ after_ms.old)) }
         ensures full { (result ≡ Err StepFault.JournalFull) ↔ (length self.old.journal ≡ most_entries) }
         ensures ticks_unanswered { IfOk result (λ reply. HasNoReply step.now reply) }
     {
         let reply = self.desk.step(who, step)?;
+        *after_ms = self.desk.after_ms();
         Ok(reply)
     }
 }

@@ -1,8 +1,8 @@
 //! What a worker steps through, and the door over a gate.
-ghost use Rattle.std.specs.Prelude.{◌≡◌, ℕ, ◌++◌, ◌∷◌, [], Some, IfOk, MatchResult};
+ghost use Rattle.std.specs.Prelude.{◌≡◌, ℕ, ◌++◌, ◌∷◌, [], false, Some, IfOk, OnOk, MatchResult};
 ghost use Rattle.diag_desk.specs.Entry.{HasNoReply};
-ghost use Rattle.diag_desk.specs.Entries.{entry};
 ghost use Rattle.diag_gate.specs.Seats.{Answered, Refused, waited};
+ghost use Rattle.diag_gate.specs.Views.{HasNoDelay, has_answers, timed_answer};
 
 use crate::gate::{Gate, Seat};
 use diag_desk::StepFault;
@@ -13,15 +13,21 @@ use std::sync::Wait;
 
 /// One tester's way to the desk.
 pub trait Door {
-    ghost use Rattle.std.specs.Prelude.{ℕ, List, Option};
+    ghost use Rattle.std.specs.Prelude.{ℕ, Bool, List, Option};
     ghost use Rattle.atomic_table.specs.Seated.{TableId};
-    ghost use Rattle.diag_desk.specs.declared.entry.Entry.{Entry};
+    ghost use Rattle.diag_desk.specs.Timed.{Timed};
 
     /// The place of its tester.
     ghost tester: { Self → ℕ };
 
-    /// The entries that it has answered, in order.
-    ghost given: { Self → List Entry };
+    /// The entries that it has answered, in order, each with the delay of its answer.
+    ghost given: { Self → List Timed };
+
+    /// How long after its request the answer of the last step goes: 0 before the first one.
+    ghost delay: { Self → ℕ };
+
+    /// Whether an answer may go later than at once.
+    ghost can_delay: { Self → Bool };
 
     /// The gate that its seat came from, if it has one.
     ghost home: { Self → Option TableId };
@@ -30,13 +36,24 @@ pub trait Door {
     fn who(&self) -> TesterId
         ensures { result ≡ tester self.now };
 
-    /// Has the desk take a step. A refusal gives nothing; ticks have no reply.
+    /// How long after its request the answer of the last step goes, in milliseconds: 0 before the first one.
+    fn after_ms(&self) -> u32
+        ensures { result ≡ delay self.now };
+
+    /// Whether an answer may go later than at once.
+    fn can_delay(&self) -> bool
+        ensures { result ≡ can_delay self.now };
+
+    /// Has the desk take a step. A refusal gives nothing; ticks have no reply, and no delay.
     fn step(&mut self, step: &Step) -> Result<Option<Message>, StepFault>
         ensures given { MatchResult result
-            (λ reply.
-            given self.new ≡ given self.old ++ entry (tester self.old) step.now reply ∷ [])
-            (λ _. given self.new ≡ given self.old) }
+            (λ reply. given self.new ≡ given self.old
+            ++ timed_answer (tester self.old) step.now reply (delay self.new) ∷ [])
+            (λ _. (given self.new ≡ given self.old) × (delay self.new ≡ delay self.old)) }
         ensures ticks_unanswered { IfOk result (λ reply. HasNoReply step.now reply) }
+        ensures ticks_at_once { OnOk result (HasNoDelay step.now (delay self.new)) }
+        ensures at_once { can_delay self.old ≡ false → OnOk result (delay self.new ≡ 0) }
+        ensures can_delay { can_delay self.new ≡ can_delay self.old }
         ensures tester { tester self.new ≡ tester self.old }
         ensures home { home self.new ≡ home self.old };
 }
@@ -89,10 +106,22 @@ impl<R: Wait> Door for GateDoor<'_, R> {
 
     ghost given = { λ d. d.own };
 
+    ghost delay = { λ d. d.delay };
+
+    ghost can_delay = { λ d. has_answers d.opening };
+
     ghost home = { λ d. Some d.gate };
 
     fn who(&self) -> TesterId {
         self.seat.who()
+    }
+
+    fn after_ms(&self) -> u32 {
+        self.seat.after_ms()
+    }
+
+    fn can_delay(&self) -> bool {
+        self.seat.can_delay()
     }
 
     /// The gate's step, by its seat. It waits until no other seat has the desk.
@@ -102,9 +131,13 @@ impl<R: Wait> Door for GateDoor<'_, R> {
             (λ reply. Answered (waited self.old missed) self.new step.now reply)
             (λ fault. Refused (waited self.old missed) self.new fault) }
         ensures given { MatchResult result
-            (λ reply. self.new.own ≡ self.old.own ++ entry self.old.who step.now reply ∷ [])
-            (λ _. self.new.own ≡ self.old.own) }
+            (λ reply. self.new.own ≡ self.old.own
+            ++ timed_answer self.old.who step.now reply self.new.delay ∷ [])
+            (λ _. (self.new.own ≡ self.old.own) × (self.new.delay ≡ self.old.delay)) }
         ensures ticks_unanswered { IfOk result (λ reply. HasNoReply step.now reply) }
+        ensures ticks_at_once { OnOk result (HasNoDelay step.now self.new.delay) }
+        ensures at_once { has_answers self.old.opening ≡ false → OnOk result (self.new.delay ≡ 0) }
+        ensures can_delay { has_answers self.new.opening ≡ has_answers self.old.opening }
         ensures tester { self.new.who ≡ self.old.who }
         ensures home { Some self.new.gate ≡ Some self.old.gate }
     {

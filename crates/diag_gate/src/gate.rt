@@ -1,6 +1,7 @@
 //! The gate, its host and its seats.
 ghost use Rattle.std.specs.Prelude.{◌≡◌, ◌↔◌, true, IfOk, IfSome, IfNone, IsTrue};
 ghost use Rattle.diag_gate.specs.Seats.{Gave, Joined, Closed, AllHome, new_host, was_given};
+ghost use Rattle.diag_gate.specs.Views.{has_answers};
 
 use crate::desk_box::DeskBox;
 use crate::view::{Give, Learn, Name, OneHistory, TakeIn, View};
@@ -11,7 +12,15 @@ use std::alloc::{AllocError, Global};
 use std::marker::Model;
 use std::snapshot::Snapshot;
 
-type Place = atomic_table::Seat<Option<DeskBox>, View>;
+type TableSeat = atomic_table::Seat<Option<DeskBox>, View>;
+
+/// A seat's place at the table.
+#[derive(Drop)]
+struct Place {
+    spot: TableSeat,
+    /// How long after its request the answer of the last step goes; 0 before the first one.
+    after_ms: u32,
+}
 
 /// A desk behind one atomic word: one seat at a time has the whole desk. Contracts see which gate it is.
 #[derive(Drop)]
@@ -34,13 +43,17 @@ impl Model for Gate {
 /// Gives the seats out and takes them back.
 #[derive(Drop)]
 pub struct Host {
-    place: Place,
+    place: TableSeat,
     given: [bool; 9],
     home: [bool; 9],
+    /// Whether an answer may go later than at once.
+    can_delay: bool,
 }
 
 impl Model for Host {
+    ghost use Rattle.std.specs.Prelude.{◌≡◌};
     ghost use Rattle.diag_gate.specs.Seats.{HostView, IsHost};
+    ghost use Rattle.diag_gate.specs.Views.{has_answers};
 
     ghost Value = { HostView };
 
@@ -52,7 +65,8 @@ impl Model for Host {
       given = h.given;
     } };
 
-    ghost invariant = { λ h. IsHost h.place.me h.given h.home };
+    ghost invariant = { λ h. IsHost h.place.me h.given h.home
+        × (h.can_delay ≡ has_answers h.place.me.0.opening) };
 }
 
 /// A tester's right to step.
@@ -60,16 +74,20 @@ impl Model for Host {
 pub struct Seat {
     place: Place,
     who: TesterId,
+    can_delay: bool,
 }
 
 impl Model for Seat {
-    ghost use Rattle.diag_gate.specs.Seats.{SeatView, IsSeat, seat_as};
+    ghost use Rattle.std.specs.Prelude.{◌≡◌};
+    ghost use Rattle.diag_gate.specs.Seats.{SeatView, IsSeat, seat_of};
+    ghost use Rattle.diag_gate.specs.Views.{has_answers};
 
     ghost Value = { SeatView };
 
-    ghost view = { λ s. seat_as s.place.table_id s.who s.place.me };
+    ghost view = { λ s. seat_of s.who s.place };
 
-    ghost invariant = { λ s. IsSeat s.who s.place.me };
+    ghost invariant = { λ s. IsSeat s.who s.place.spot.me
+        × (s.can_delay ≡ has_answers s.place.spot.me.0.opening) };
 }
 
 /// A seat that has the whole desk. It has no `Drop`: it ends by `step` or by `put_back`.
@@ -77,18 +95,22 @@ pub struct Guard<'a> {
     gate: &'a Gate,
     place: Place,
     who: TesterId,
+    can_delay: bool,
     desk: DeskBox,
 }
 
 impl<'a> Model for Guard<'a> {
     ghost use Rattle.std.specs.Prelude.{◌≡◌};
-    ghost use Rattle.diag_gate.specs.Seats.{SeatView, IsGuard, seat_as};
+    ghost use Rattle.diag_gate.specs.Seats.{SeatView, IsGuard, seat_of};
+    ghost use Rattle.diag_gate.specs.Views.{has_answers};
 
     ghost Value = { SeatView };
 
-    ghost view = { λ h. seat_as h.place.table_id h.who h.place.me };
+    ghost view = { λ h. seat_of h.who h.place };
 
-    ghost invariant = { λ h. (h.place.table_id ≡ h.gate.now) × IsGuard h.who h.place.me h.desk };
+    ghost invariant = { λ h. (h.place.spot.table_id ≡ h.gate.now)
+        × IsGuard h.who h.place.spot.me h.desk
+        × (h.can_delay ≡ has_answers h.place.spot.me.0.opening) };
 }
 
 mod steps;
@@ -100,6 +122,7 @@ impl Gate {
     {
         let desk = DeskBox::new(alloc, desk)?;
         desk.lawful();
+        let can_delay = desk.can_delay();
         let mut slots = Vec::with_capacity(alloc, 1)?;
         let key = Snapshot::of(&desk);
         slots.push_reserved(Some(desk));
@@ -109,6 +132,7 @@ impl Gate {
                     place,
                     given: [false; 9],
                     home: [true; 9],
+                    can_delay,
                 };
                 Ok((Gate { table }, host))
             }
@@ -129,10 +153,16 @@ impl Gate {
         let shared = &self.table.shared;
         let named = u64::from(who.place());
         shared.compare_exchange::<Name>(&mut host.place, 0, named, named);
-        let place = shared.split_seat::<Give>(&mut host.place);
+        let spot = shared.split_seat::<Give>(&mut host.place);
         host.given[at] = true;
         host.home[at] = false;
-        Some(Seat { place, who })
+        let place = Place { spot, after_ms: 0 };
+        let can_delay = host.can_delay;
+        Some(Seat {
+            place,
+            who,
+            can_delay,
+        })
     }
 
     /// Takes a seat back.
@@ -141,10 +171,15 @@ impl Gate {
         requires seat { seat.gate ≡ self.now }
         ensures { Joined host.old host.new seat }
     {
-        let Seat { place, who } = seat;
+        let Seat {
+            place,
+            who,
+            can_delay: _,
+        } = seat;
+        let Place { spot, after_ms: _ } = place;
         let at = usize::from(who.place());
         let shared = &self.table.shared;
-        shared.join_seat::<TakeIn>(&mut host.place, place);
+        shared.join_seat::<TakeIn>(&mut host.place, spot);
         shared.load::<Learn>(&mut host.place, 0);
         host.home[at] = true;
     }
@@ -160,6 +195,7 @@ impl Gate {
             place,
             given: _,
             home: _,
+            can_delay: _,
         } = host;
         let mut closed = table.close_with(place);
         let desk = closed.take(0);
@@ -183,5 +219,19 @@ impl Seat {
         ensures { result ≡ self.now.who }
     {
         self.who
+    }
+
+    /// How long after its request the answer of the last step goes, in milliseconds: 0 before the first step, and of ticks.
+    pub fn after_ms(&self) -> u32
+        ensures { result ≡ self.now.delay }
+    {
+        self.place.after_ms
+    }
+
+    /// Whether an answer may go later than at once.
+    pub fn can_delay(&self) -> bool
+        ensures { result ≡ has_answers self.now.opening }
+    {
+        self.can_delay
     }
 }

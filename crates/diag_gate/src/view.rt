@@ -4,7 +4,24 @@ use atomic_table::{Join, Play, Split, TableRule};
 use diag_desk::Entry;
 use diag_ecu::Ecu;
 use std::collections::LinkedList;
+use std::marker::Model;
 use std::snapshot::Snapshot;
+
+/// An entry, and how long after its step the answer goes. No value of it is made.
+pub struct TimedEntry {
+    /// The entry.
+    pub entry: Entry,
+    /// In milliseconds of its tester.
+    pub after_ms: u32,
+}
+
+impl Model for TimedEntry {
+    ghost use Rattle.diag_desk.specs.Timed.{Timed};
+
+    ghost Value = { Timed };
+
+    ghost view = { λ x. record { entry = x.entry; after = x.after_ms } };
+}
 
 /// What a seat or the host knows. No value of it is made.
 pub struct View {
@@ -20,10 +37,10 @@ pub struct View {
     pub is_seat: bool,
     /// A seat's tester. The host's is the one that it gives next.
     pub who: u64,
-    /// A seat's own entries.
-    pub own: LinkedList<Entry>,
+    /// A seat's own entries, each with the delay of its answer.
+    pub own: LinkedList<TimedEntry>,
     /// The host's: the own entries of each tester that is with it, by place.
-    pub owns: LinkedList<Option<LinkedList<Entry>>>,
+    pub owns: LinkedList<Option<LinkedList<TimedEntry>>>,
     /// Whether it has the desk.
     pub holds: bool,
     /// How many of its takes found the desk out.

@@ -3,7 +3,7 @@ ghost use Rattle.std.specs.Prelude.{◌≡◌, ◌≢◌, ℕ, [], ◌∷◌, �
 ghost use Rattle.diag_desk.specs.Entry.{HasNoReply};
 ghost use Rattle.diag_desk.specs.Entries.{entry, own};
 ghost use Rattle.diag_gate.specs.Views.{IsLegal, letting_go};
-ghost use Rattle.diag_gate.specs.Seats.{Finds, Answered, IsFull, Refused, NotMade, IsSeat, IsGuard, as_tried, seat_as, misses, waited};
+ghost use Rattle.diag_gate.specs.Seats.{Finds, Answered, IsFull, Refused, NotMade, IsSeat, IsGuard, as_tried, seat_of, misses, waited};
 
 use super::{Gate, Guard, Place, Seat};
 use crate::desk_box::DeskBox;
@@ -18,20 +18,16 @@ use std::thread;
 impl Gate {
     /// The desk, where the word was found to be 0.
     fn take(&self, place: &mut Place, who: TesterId) -> Option<DeskBox>
-        requires gate { place.old.table_id ≡ self.now }
-        requires seat { IsSeat who place.old.me }
-        ensures gate { place.new.table_id ≡ place.old.table_id }
+        requires gate { place.old.spot.table_id ≡ self.now }
+        requires seat { IsSeat who place.old.spot.me }
+        ensures gate { place.new.spot.table_id ≡ place.old.spot.table_id }
         ensures taken { MatchOption result
-            (IsSeat who place.new.me
-            × (seat_as place.new.table_id who place.new.me
-            ≡ misses (seat_as place.old.table_id who place.old.me)))
-            (λ d. IsGuard who place.new.me d
-            × Finds (seat_as place.old.table_id who place.old.me)
-            (seat_as place.new.table_id who place.new.me)) }
+            (IsSeat who place.new.spot.me × (seat_of who place.new ≡ misses (seat_of who place.old)))
+            (λ d. IsGuard who place.new.spot.me d × Finds (seat_of who place.old) (seat_of who place.new)) }
     {
         let shared = &self.table.shared;
-        if shared.compare_exchange::<Take>(place, 0, 0, 1) == 0 {
-            shared.exchange(place, 0, None)
+        if shared.compare_exchange::<Take>(&mut place.spot, 0, 0, 1) == 0 {
+            shared.exchange(&mut place.spot, 0, None)
         } else {
             None
         }
@@ -39,22 +35,23 @@ impl Gate {
 
     /// Puts the desk back, with what the seat's tester did to it.
     fn put(&self, place: &mut Place, who: TesterId, desk: DeskBox)
-        requires gate { place.old.table_id ≡ self.now }
+        requires gate { place.old.spot.table_id ≡ self.now }
         requires held { (before : _)
-            × IsGuard who place.old.me before
+            × IsGuard who place.old.spot.me before
             × (desk.opening ≡ before.opening) }
         requires grown { (more : _)
-            × (desk.journal ≡ place.old.me.0.seen ++ more)
+            × (desk.journal ≡ place.old.spot.me.0.seen ++ more)
             × ((t : ℕ) → t ≢ who → own more t ≡ []) }
-        ensures gate { place.new.table_id ≡ place.old.table_id }
-        ensures seat { IsSeat who place.new.me }
-        ensures put { place.new.me.0 ≡ letting_go place.old.me.0 desk }
+        ensures gate { place.new.spot.table_id ≡ place.old.spot.table_id }
+        ensures seat { IsSeat who place.new.spot.me }
+        ensures put { place.new.spot.me.0 ≡ letting_go place.old.spot.me.0 desk }
         ensures legal { IsLegal desk }
+        ensures delay { place.new.after_ms ≡ place.old.after_ms }
     {
         desk.lawful();
         let shared = &self.table.shared;
-        drop(shared.exchange(place, 0, Some(desk)));
-        shared.store::<Release>(place, 0, 0);
+        drop(shared.exchange(&mut place.spot, 0, Some(desk)));
+        shared.store::<Release>(&mut place.spot, 0, 0);
     }
 
     /// One step at the desk that the seat has.
@@ -65,22 +62,19 @@ impl Gate {
         mut desk: DeskBox,
         step: &Step,
     ) -> Result<Option<Message>, StepFault>
-        requires gate { place.old.table_id ≡ self.now }
-        requires held { IsGuard who place.old.me desk }
-        ensures gate { place.new.table_id ≡ place.old.table_id }
-        ensures seat { IsSeat who place.new.me }
+        requires gate { place.old.spot.table_id ≡ self.now }
+        requires held { IsGuard who place.old.spot.me desk }
+        ensures gate { place.new.spot.table_id ≡ place.old.spot.table_id }
+        ensures seat { IsSeat who place.new.spot.me }
         ensures answer { MatchResult result
-            (λ r. Answered (seat_as place.old.table_id who place.old.me)
-            (seat_as place.new.table_id who place.new.me) step.now r)
-            (λ e. (seat_as place.new.table_id who place.new.me
-            ≡ seat_as place.old.table_id who place.old.me)
-            × IsFull (seat_as place.old.table_id who place.old.me) e) }
+            (λ r. Answered (seat_of who place.old) (seat_of who place.new) step.now r)
+            (λ e. (seat_of who place.new ≡ seat_of who place.old) × IsFull (seat_of who place.old) e) }
         ensures behind { IfOk result (λ r.
-            place.new.me.0.seen ≡ place.old.me.0.seen ++ entry who step.now r ∷ []) }
+            place.new.spot.me.0.seen ≡ place.old.spot.me.0.seen ++ entry who step.now r ∷ []) }
         ensures ticks_unanswered { IfOk result (λ r. HasNoReply step.now r) }
     {
         desk.lawful();
-        let answer = desk.step(who, step);
+        let answer = desk.step(who, step, &mut place.after_ms);
         self.put(place, who, desk);
         answer
     }
@@ -90,15 +84,24 @@ impl Gate {
         requires { seat.gate ≡ self.now }
         ensures { MatchResult result (λ h. Finds seat h) (λ s. s ≡ misses seat) }
     {
-        let Seat { mut place, who } = seat;
+        let Seat {
+            mut place,
+            who,
+            can_delay,
+        } = seat;
         match self.take(&mut place, who) {
             Some(desk) => Ok(Guard {
                 gate: self,
                 place,
                 who,
+                can_delay,
                 desk,
             }),
-            None => Err(Seat { place, who }),
+            None => Err(Seat {
+                place,
+                who,
+                can_delay,
+            }),
         }
     }
 
@@ -189,10 +192,16 @@ impl Guard<'_> {
             gate,
             mut place,
             who,
+            can_delay,
             desk,
         } = self;
         let answer = gate.work(&mut place, who, desk, step);
-        (Seat { place, who }, answer)
+        let seat = Seat {
+            place,
+            who,
+            can_delay,
+        };
+        (seat, answer)
     }
 
     /// The desk goes back as it is.
@@ -203,9 +212,14 @@ impl Guard<'_> {
             gate,
             mut place,
             who,
+            can_delay,
             desk,
         } = self;
         gate.put(&mut place, who, desk);
-        Seat { place, who }
+        Seat {
+            place,
+            who,
+            can_delay,
+        }
     }
 }

@@ -7,7 +7,7 @@ use Rattle.diag_gate.proofs.gate.Gate.close.Goals as goal
 use Rattle.diag_gate.proofs.gate.Gate.close.Goals.{After-take-desk}
 
 left : (c : After-take-desk) → Left c.args.host c.take-desk.result
-left c = left_is c.args.host _ _ _ _ _ _ _ _ c.host.view_is c.host.invariant c.requires.home c.close_with-closed.ensures.values.2 c.take-desk.ensures.value
+left c = left_is c.args.host _ _ _ _ _ _ _ _ c.host.view_is c.host.invariant.0 c.requires.home c.close_with-closed.ensures.values.2 c.take-desk.ensures.value
 
 pub unwrap-requires : goal.unwrap-requires
 unwrap-requires c = let l = left (goal.at.unwrap-requires c).After-take-desk in subst IsSome (sym l.there) refl

@@ -25,9 +25,9 @@ exchange-requires c =
       c.compare_exchange.ensures.0 ∙ c.requires.gate
           ∙ sym c.self.view_is,
       (
-        Some (run c.args.place.now.me.0.opening t.journal),
+        Some (run c.args.place.now.spot.me.0.opening t.journal),
         e
-            ∙ ap (λ l. (0, Some (run c.args.place.now.me.0.opening t.journal)) ∷ rest l) (sym e),
+            ∙ ap (λ l. (0, Some (run c.args.place.now.spot.me.0.opening t.journal)) ∷ rest l) (sym e),
       ),
     )
 
@@ -35,14 +35,15 @@ pub returns-then-compare_exchange-eq0-clause-taken : goal.returns-then-compare_e
 returns-then-compare_exchange-eq0-clause-taken c =
     let t = c.compare_exchange.ensures.2.0 c.if-compare_exchange-eq0.true in
     let s = c.exchange.ensures in
-    let me = c.args.place.now.me in
+    let me = c.args.place.now.spot.me in
+    let delay = c.args.place.now.after_ms in
     let desk = run me.0.opening t.journal in
     let z = c.exchange.new.seat.table_id in
     let me2 = c.exchange.new.seat.me in
     subst (λ (o : Option Run). MatchOption o
-    (IsSeat c.args.who me2 × (seat_as z c.args.who me2 ≡ misses (seat_as c.args.place.now.table_id c.args.who me)))
-    (λ d. IsGuard c.args.who me2 d × Finds (seat_as c.args.place.now.table_id c.args.who me) (seat_as z c.args.who me2)))
+    (IsSeat c.args.who me2 × (seat_as z c.args.who delay me2 ≡ misses (seat_as c.args.place.now.spot.table_id c.args.who delay me)))
+    (λ d. IsGuard c.args.who me2 d × Finds (seat_as c.args.place.now.spot.table_id c.args.who delay me) (seat_as z c.args.who delay me2)))
     (sym (run_is c.args.who me c.compare_exchange.new.seat.me me2 c.exchange.result c.requires.seat t s.2 s.3)) (
       held_is c.args.who me c.compare_exchange.new.seat.me me2 c.exchange.result c.requires.seat t s.2 s.3,
-      finds_is c.args.who me c.compare_exchange.new.seat.me me2 c.exchange.result c.requires.seat t s.2 s.3 _ _ (s.0 ∙ c.compare_exchange.ensures.0),
+      finds_is c.args.who me c.compare_exchange.new.seat.me me2 c.exchange.result c.requires.seat t s.2 s.3 _ _ delay (s.0 ∙ c.compare_exchange.ensures.0),
     )
