@@ -1,0 +1,11 @@
+pub mod Agreements
+pub mod Courses
+mod Examples
+pub mod Few
+pub mod Finding
+pub mod Hearing
+pub mod Lists
+pub mod Loops
+pub mod Sorted
+pub mod Streams
+pub mod Taking

@@ -1,0 +1,5 @@
+pub mod Agreeing
+pub mod Asking
+pub mod Exchanges
+pub mod Streaming
+pub mod Taking

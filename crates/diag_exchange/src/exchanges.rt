@@ -1,0 +1,219 @@
+//! The exchanges of a tester that aren't over.
+
+ghost use Rattle.std.specs.Prelude.{◌≡◌, ◌≤◌, ◌+◌, ◌++◌, ◌∷◌, [], true, false, drop, slice_get, IfSome, IfNone, IfOk, IsSome, if◌then◌else◌, map, Some, None, length, vec_len, vec_capacity, OnOk, OnErr};
+ghost use Rattle.std.specs.List.{filter, list_any};
+ghost use Rattle.diag_exchange.specs.Taking.{Ended, IsUnchanged, Stands, Took, TookSilently};
+ghost use Rattle.diag_exchange.specs.Streaming.{asked_again, finish, goes_on, hear, hears_it, is_done, may_hear, told};
+ghost use Rattle.diag_exchange.specs.Streaming.{IsLast};
+ghost use Rattle.diag_exchange.specs.declared.happening.Happening.TheVariants.{Asked, Began, Came, Lost};
+
+use crate::happening::{Heard, Over, Request, Start};
+use crate::held::Open;
+use diag_pdu::Message;
+use std::alloc::{AllocError, Global};
+
+/// The exchanges of a tester that aren't over, and the message that is coming in.
+#[derive(Drop)]
+pub struct Exchanges {
+    /// The exchanges, in the order of their requests.
+    pub live: Vec<Open>,
+    /// The first frame of the message that is coming in.
+    pub coming: Option<Start>,
+}
+
+/// Hands out the exchanges that are over, where the newest happening is a request or not.
+fn take_out(live: &mut Vec<Open>, asked: bool, over: &mut Vec<Over>)
+    requires room { vec_len over.old + vec_len live.old ≤ vec_capacity over.old }
+    ensures live { live.new.items ≡ filter (goes_on asked) live.old.items }
+    ensures over { over.new.items ≡ over.old.items
+        ++ map told (filter (is_done asked) live.old.items) }
+    ensures len { vec_len over.new + vec_len live.new ≡ vec_len over.old + vec_len live.old }
+    ensures shorter { vec_len live.new ≤ vec_len live.old }
+    ensures capacity { vec_capacity over.new ≡ vec_capacity over.old }
+    ensures room { vec_capacity live.new ≡ vec_capacity live.old }
+{
+    let mut at = 0;
+    for _turn in 0..live.len() {
+        if live[at].is_done(asked) {
+            let done = live.remove(at);
+            over.push_reserved(done.tell());
+        } else {
+            at += 1;
+        }
+    }
+}
+
+/// A request is complete behind each of them.
+fn ask_again(live: &mut Vec<Open>, request: &Request)
+    ensures items { live.new.items ≡ map (asked_again request.now) live.old.items }
+    ensures len { vec_len live.new ≡ vec_len live.old }
+    ensures room { vec_capacity live.new ≡ vec_capacity live.old }
+{
+    for index in 0..live.len() {
+        live[index].ask_again(request);
+    }
+}
+
+/// The place of the latest candidate for a message that begins so, or of the latest loud one.
+fn latest(live: &[Open], loud: bool, start: &Start) -> Option<usize>
+    ensures { IsLast (may_hear loud start.now) live.now result }
+{
+    let mut index = live.len();
+    while index > 0 {
+        index -= 1;
+        if live[index].may_hear(loud, start) {
+            return Some(index);
+        }
+    }
+    None
+}
+
+/// The place of the exchange that hears the message that is coming in.
+fn hearer(live: &[Open]) -> Option<usize>
+    ensures { IsLast hears_it live.now result }
+{
+    let mut index = live.len();
+    while index > 0 {
+        index -= 1;
+        if live[index].hears {
+            return Some(index);
+        }
+    }
+    None
+}
+
+/// A message begins: the latest loud candidate hears it, or where there is none the latest silent one.
+fn hear(live: &mut Vec<Open>, start: &Start)
+    ensures items { live.new.items ≡ hear start.now live.old.items }
+    ensures len { vec_len live.new ≡ vec_len live.old }
+{
+    if let Some(index) = latest(live.as_slice(), true, start) {
+        live[index].hear();
+        return;
+    }
+    if let Some(index) = latest(live.as_slice(), false, start) {
+        live[index].hear();
+    }
+}
+
+/// The message that was coming in never will be complete.
+fn hear_no_more(live: &mut Vec<Open>)
+    ensures items { live.new.items ≡ finish None live.old.items }
+    ensures len { vec_len live.new ≡ vec_len live.old }
+{
+    if let Some(index) = hearer(live.as_slice()) {
+        live[index].hear_no_more();
+    }
+}
+
+/// The message that was coming in is complete: the exchange that heard it has it; where there is none, it is given back.
+fn answer(live: &mut Vec<Open>, heard: Heard) -> Result<Option<Heard>, AllocError>
+    ensures ok { OnOk result (live.new.items ≡ finish (Some heard) live.old.items) }
+    ensures unasked { IfOk result (λ unasked. unasked
+        ≡ if list_any hears_it live.old.items then None else Some heard) }
+    ensures err { OnErr result (live.new.items ≡ live.old.items) }
+    ensures len { vec_len live.new ≡ vec_len live.old }
+{
+    match hearer(live.as_slice()) {
+        Some(index) => {
+            live[index].take(heard)?;
+            Ok(None)
+        }
+        None => Ok(Some(heard)),
+    }
+}
+
+impl Exchanges {
+    /// Nothing has happened.
+    pub fn new(alloc: Global) -> Exchanges
+        ensures { Stands result [] }
+    {
+        Exchanges {
+            live: Vec::new(alloc),
+            coming: None,
+        }
+    }
+
+    /// A request is complete; what is over with it is put behind `over`.
+    ///
+    /// # Errors
+    /// `AllocError` where memory is refused, and then nothing has changed.
+    pub fn ask(&mut self, request: Request, over: &mut Vec<Over>) -> Result<(), AllocError>
+        ensures ok { OnOk result (Took self.old self.new over.old.items over.new.items
+            (Asked request)) }
+        ensures err { OnErr result (IsUnchanged self.old self.new) }
+        ensures out { OnErr result (over.new.items ≡ over.old.items) }
+    {
+        over.reserve(self.live.len())?;
+        self.live.reserve(1)?;
+        ask_again(&mut self.live, &request);
+        take_out(&mut self.live, true, over);
+        self.live.push_reserved(Open::new(request));
+        Ok(())
+    }
+
+    /// A message of the unit begins; nothing is over with it.
+    pub fn begin(&mut self, start: Start)
+        requires { self.old.coming ≡ None }
+        ensures { TookSilently self.old self.new (Began start) }
+    {
+        hear(&mut self.live, &start);
+        self.coming = Some(start);
+    }
+
+    /// The message that began is complete; what is over with it is put behind `over`.
+    ///
+    /// # Errors
+    /// `AllocError` where memory is refused, and then nothing has changed.
+    pub fn come(&mut self, bytes: Message, over: &mut Vec<Over>) -> Result<(), AllocError>
+        requires { IsSome self.old.coming }
+        ensures ok { OnOk result (Took self.old self.new over.old.items over.new.items
+            (Came bytes)) }
+        ensures err { OnErr result (IsUnchanged self.old self.new) }
+        ensures out { OnErr result (over.new.items ≡ over.old.items) }
+    {
+        let Some(start) = self.coming else {
+            unreachable!()
+        };
+        let most = self.live.len().checked_add(1).ok_or(AllocError)?;
+        over.reserve(most)?;
+        let unasked = answer(&mut self.live, Heard { start, bytes })?;
+        take_out(&mut self.live, false, over);
+        if let Some(heard) = unasked {
+            over.push_reserved(Over::Unasked(heard));
+        }
+        self.coming = None;
+        Ok(())
+    }
+
+    /// The message that began never will be complete; what is over with it is put behind `over`.
+    ///
+    /// # Errors
+    /// `AllocError` where memory is refused, and then nothing has changed.
+    pub fn lose(&mut self, over: &mut Vec<Over>) -> Result<(), AllocError>
+        ensures ok { OnOk result (Took self.old self.new over.old.items over.new.items Lost) }
+        ensures err { OnErr result (IsUnchanged self.old self.new) }
+        ensures out { OnErr result (over.new.items ≡ over.old.items) }
+    {
+        over.reserve(self.live.len())?;
+        hear_no_more(&mut self.live);
+        take_out(&mut self.live, false, over);
+        self.coming = None;
+        Ok(())
+    }
+
+    /// All has happened: the exchanges that aren't over are put behind `over`.
+    ///
+    /// # Errors
+    /// `AllocError` where memory is refused, and then nothing was put there.
+    pub fn end(self, over: &mut Vec<Over>) -> Result<(), AllocError>
+        ensures ok { OnOk result (Ended self over.old.items over.new.items) }
+        ensures out { OnErr result (over.new.items ≡ over.old.items) }
+    {
+        over.reserve(self.live.len())?;
+        for held in self.live {
+            over.push_reserved(held.tell());
+        }
+        Ok(())
+    }
+}

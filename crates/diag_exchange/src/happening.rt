@@ -1,0 +1,136 @@
+//! What happens to a tester, and what comes of it.
+
+ghost use Rattle.std.specs.Prelude.{◌≡◌};
+ghost use Rattle.diag_exchange.specs.Asking.{first_byte, is_loud, is_pending, replaces, says_pending};
+
+use diag_pdu::Message;
+
+/// A line of the capture.
+#[derive(Clone, Copy, Drop)]
+pub struct Place {
+    /// Its number, from 1.
+    pub line: u64,
+    /// The bus's time of it, in milliseconds.
+    pub moment: u64,
+}
+
+/// What the server makes of a request, and how a message of the unit is compared with it.
+#[derive(Drop)]
+pub struct Expected {
+    /// The reply, where there is one.
+    pub reply: Option<Message>,
+    /// A mark for each byte of the reply, where some bytes vary: other than 0 where any byte will do. Behind the last
+    /// mark all bytes count.
+    pub varies: Option<Message>,
+    /// Whether the reply is the model's own, and not that of a row.
+    pub own: bool,
+    /// Whether the exchange is ignored.
+    pub ignored: bool,
+}
+
+/// A request, complete.
+#[derive(Drop)]
+pub struct Request {
+    /// The line that completed it.
+    pub at: Place,
+    /// Whether it came to all units.
+    pub functional: bool,
+    /// Its bytes.
+    pub bytes: Message,
+    /// What the server makes of it.
+    pub expected: Expected,
+}
+
+/// The first frame of a message of the unit: a SingleFrame or a FirstFrame.
+#[derive(Clone, Copy, Drop)]
+pub struct Start {
+    /// Its line.
+    pub at: Place,
+    /// The message's first byte.
+    pub first: u8,
+    /// The byte behind it, where the message has one.
+    pub second: Option<u8>,
+}
+
+/// A message of the unit.
+#[derive(Drop)]
+pub struct Heard {
+    /// Its first frame.
+    pub start: Start,
+    /// Its bytes.
+    pub bytes: Message,
+}
+
+/// What happens to a tester, in the order of the capture.
+#[derive(Drop)]
+pub enum Happening {
+    /// A request is complete.
+    Asked(Request),
+    /// A message of the unit begins.
+    Began(Start),
+    /// The message that began is complete.
+    Came(Message),
+    /// The message that began never will be.
+    Lost,
+}
+
+/// What is over.
+#[derive(Drop)]
+pub enum Over {
+    /// A request, and what the unit sent to it.
+    Exchange {
+        /// The request.
+        request: Request,
+        /// How many times response pending came.
+        pendings: u64,
+        /// The message that isn't response pending, where there is one.
+        answer: Option<Heard>,
+    },
+    /// A message that no request asked.
+    Unasked(Heard),
+}
+
+/// Whether bytes say response pending (ISO 14229-1:2013, A.1).
+pub(crate) fn says_pending(bytes: &[u8]) -> bool
+    ensures { result ≡ says_pending bytes.now }
+{
+    matches!(bytes, [0x7F, _, 0x78])
+}
+
+impl Request {
+    /// The first byte, which is the service.
+    pub fn first_byte(&self) -> u8
+        ensures { result ≡ first_byte self.now }
+    {
+        match self.bytes.bytes() {
+            [first, ..] => *first,
+            [] => 0,
+        }
+    }
+
+    /// Whether the server replies, and not with response pending alone.
+    pub fn is_loud(&self) -> bool
+        ensures { result ≡ is_loud self.now }
+    {
+        match &self.expected.reply {
+            Some(reply) => !says_pending(reply.bytes()),
+            None => false,
+        }
+    }
+
+    /// Whether it has the first byte of an earlier request, and isn't silent behind a loud one.
+    pub fn replaces(&self, earlier: &Request) -> bool
+        ensures { result ≡ replaces self.now earlier.now }
+    {
+        self.first_byte() == earlier.first_byte() && (self.is_loud() || !earlier.is_loud())
+    }
+}
+
+impl Heard {
+    /// Whether it says response pending.
+    pub fn is_pending(&self) -> bool
+        ensures { result ≡ is_pending self.now }
+    {
+        says_pending(self.bytes.bytes())
+    }
+}

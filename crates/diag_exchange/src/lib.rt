@@ -1,0 +1,14 @@
+//! Exchanges of a recording: which messages of a unit answer which request, and whether it is what the server replies.
+#![tactic(auto)]
+
+mod agreeing;
+mod exchanges;
+mod happening;
+mod held;
+mod laws;
+mod records;
+
+pub use exchanges::Exchanges;
+pub use happening::{Expected, Happening, Heard, Over, Place, Request, Start};
+pub use held::Open;
+pub use laws::{few_law, over_law};
