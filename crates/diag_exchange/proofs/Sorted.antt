@@ -34,13 +34,13 @@ is_itself : (k : Record) → bytes_eq k k ≡ true
 is_itself k = (bytes_eq-Decides k k).1 refl
 
 -- one, where the test holds
-abbrev one_if : Bool → ℕ
+abbrev pub one_if : Bool → ℕ
 one_if b = cond b 1 0
 
-times_more : (k x : Record) (xs : List Record) → times k (x ∷ xs) ≡ one_if (bytes_eq k x) + times k xs
+pub times_more : (k x : Record) (xs : List Record) → times k (x ∷ xs) ≡ one_if (bytes_eq k x) + times k xs
 times_more k x xs = sum_by-cons (λ y. one_if (bytes_eq k y)) x xs
 
-least_itself : (k : Record) (xs : List Record) → 1 ≤ times k (k ∷ xs)
+pub least_itself : (k : Record) (xs : List Record) → 1 ≤ times k (k ∷ xs)
 least_itself k xs = omega (arith, times_more k k xs, ap one_if (is_itself k))
 
 module _ (P : Record → Type 0) (k : Record) where
@@ -97,7 +97,7 @@ where_some zero (suc n) f g = g (omega arith)
 where_some (suc m) n f g = f (omega arith)
 
 module _ (rs qs : List Record) where
-  all_often : same_records rs qs ≡ true → (k : Record) → times k rs ≡ times k qs
+  pub all_often : same_records rs qs ≡ true → (k : Record) → times k rs ≡ times k qs
   all_often e k =
       let both = and_true (list_all (as_often rs qs) rs) (list_all (as_often rs qs) qs) (sym (list_all-append (as_often rs qs) rs qs) ∙ e) in
       where_some (times k rs) (times k qs)

@@ -28,7 +28,7 @@ coming_more : (before : Option Start) (xs : List Happening) (h : Happening) → 
 coming_more before [] h = refl
 coming_more before (x ∷ xs) h = coming_more (comes_in before x) xs h
 
-courses_more : (before : Option Start) (cs : List Course) (xs : List Happening) (h : Happening)
+pub courses_more : (before : Option Start) (cs : List Course) (xs : List Happening) (h : Happening)
     → courses_after before cs (xs ++ h ∷ []) ≡ happens (coming_after before xs) h (courses_after before cs xs)
 courses_more before cs [] h = refl
 courses_more before cs (x ∷ xs) h = courses_more (comes_in before x) (happens before x cs) xs h
@@ -37,7 +37,7 @@ sound_after : (before : Option Start) (cs : List Course) (xs : List Happening) �
 sound_after before cs [] s = s
 sound_after before cs (x ∷ xs) s = sound_after (comes_in before x) (happens before x cs) xs (sound_more before x cs s)
 
-sound : (hs : List Happening) → Each IsSound (courses hs)
+pub sound : (hs : List Happening) → Each IsSound (courses hs)
 sound hs = sound_after None [] hs tt
 
 pub over_after_more : (past xs : List Happening) (h : Happening) → over_after past (xs ++ h ∷ []) ≡ over_after past xs ++ over_with (past ++ xs) h

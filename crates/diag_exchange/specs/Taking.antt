@@ -1,13 +1,15 @@
 -- What the calls of a tester's exchanges do.
-use Rattle.std.specs.Prelude.{◌≡◌, ◌≤◌, ◌+◌, ◌==◌, Bool, length, ℕ, List, ◌∷◌, [], ◌++◌}
+use Rattle.std.specs.Prelude.{◌≡◌, ◌≤◌, ◌+◌, ◌==◌, Bool, true, false, map, length, ℕ, List, ◌∷◌, [], ◌++◌}
 use Rattle.std.specs.List.{filter}
+use Rattle.std.specs.List.Sorted.{IsPermutation}
 use Rattle.std.specs.Option.{option_to_list}
-use Rattle.diag_exchange.specs.Asking.{first_byte}
-use Rattle.diag_exchange.specs.Exchanges.{left_open, over, over_with}
+use Rattle.diag_exchange.specs.Asking.{courses, first_byte}
+use Rattle.diag_exchange.specs.Exchanges.{exchange, left_open, over, over_at_end, over_with}
 use Rattle.diag_exchange.specs.Streaming.{StandsFor}
 use Rattle.diag_exchange.specs.declared.exchanges.Exchanges.{Exchanges}
 use Rattle.diag_exchange.specs.declared.happening.Happening.{Happening}
 use Rattle.diag_exchange.specs.declared.happening.Over.{Over}
+use Rattle.diag_exchange.specs.declared.happening.Over.TheVariants.{Exchange, Unasked}
 use Rattle.diag_exchange.specs.declared.held.Open.{Open}
 
 -- what a tester's exchanges stand for
@@ -34,6 +36,15 @@ Ended old out out' = (hs : List Happening) → Stands old hs → out' ≡ out ++
 -- what is over with each happening, one behind the other, is what is over
 abbrev pub OverLaw : Type 0
 OverLaw = (hs : List Happening) (h : Happening) → over (hs ++ h ∷ []) ≡ over hs ++ over_with hs h
+
+abbrev pub is_exchange : Over → Bool
+is_exchange (Exchange request pendings answer) = true
+is_exchange (Unasked heard) = false
+
+-- each request is told once, with what all that happened is to it
+abbrev pub OnceLaw : Type 0
+OnceLaw = (hs : List Happening)
+    → IsPermutation (map exchange (courses hs)) (filter is_exchange (over_at_end hs))
 
 abbrev pub has_first_byte : ℕ → Open → Bool
 has_first_byte service e = first_byte e.request == service

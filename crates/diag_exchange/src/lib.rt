@@ -11,4 +11,4 @@ mod records;
 pub use exchanges::Exchanges;
 pub use happening::{Expected, Happening, Heard, Over, Place, Request, Start};
 pub use held::Open;
-pub use laws::{few_law, over_law};
+pub use laws::{agrees_law, few_law, once_law, over_law};
