@@ -1,0 +1,156 @@
+-- What a capture has of the unit's messages to a tester, and of the tester's requests, in the order of the bus.
+use Rattle.std.specs.Prelude.{ℕ, ◌+◌, ◌==◌, ◌&&◌, not, Bool, true, false, if◌then◌else◌, List, [], ◌∷◌, ◌++◌, length, drop, filter, slice_get, slice_index, Option, Some, None, Result, Ok, Err}
+use Rattle.std.specs.List.{flat_map}
+use Rattle.diag_can.specs.Bus.{bus_line}
+use Rattle.diag_can.specs.declared.bus.BusLine.{BusLine}
+use Rattle.diag_can.specs.declared.fault.LineFault.{LineFault}
+use Rattle.diag_can.specs.declared.frame.Event.{Event}
+use Rattle.diag_can.specs.declared.frame.Event.TheVariants.{Physical, Functional, Ticks}
+use Rattle.diag_can.specs.declared.frame.Frame.{Frame}
+use Rattle.diag_pdu.specs.Kind.{kind}
+use Rattle.diag_pdu.specs.declared.pci.Pci.{Pci}
+use Rattle.diag_pdu.specs.declared.pci.Pci.TheVariants.{Single, First, Overflow, Consecutive, FlowControl, Ignored}
+use Rattle.diag_pdu.specs.declared.setup.LinkSetup.{LinkSetup}
+use Rattle.diag_pdu.specs.declared.step.Step.{Step}
+use Rattle.diag_pdu.specs.declared.step.Step.TheVariants as step
+use Rattle.diag_tp.specs.Gives.{gives}
+use Rattle.diag_tp.specs.Moments.{history}
+use Rattle.diag_tp.specs.Reception.{Reception, is_whole, open_at}
+use Rattle.diag_setup.specs.Setup.{ids_of, link_of}
+use Rattle.diag_setup.specs.declared.raw.RawSetup.{RawSetup}
+use Rattle.diag_ecu.specs.State.{State}
+use Rattle.diag_desk.specs.Legal.{after_step}
+use Rattle.diag_desk.specs.declared.entry.Entry.{Entry}
+use Rattle.diag_bus.specs.Events.{clock_of, events_of, frame_said, reference, time_said}
+use Rattle.diag_bus.specs.Text.{ecu_after, run_of}
+use Rattle.diag_exchange.specs.declared.happening.Expected.{Expected}
+use Rattle.diag_exchange.specs.declared.happening.Happening.{Happening}
+use Rattle.diag_exchange.specs.declared.happening.Happening.TheVariants.{Asked, Began, Came, Lost}
+use Rattle.diag_exchange.specs.declared.happening.Place.{Place}
+
+-- the line behind these, and the bus's time of it
+abbrev pub place_of : List (List ℕ) → List ℕ → Place
+place_of past line = record { line = length past + 1; moment = clock_of (past ++ line ∷ []) }
+
+-- ---- the unit's side
+
+-- a listener takes the longest message, and doesn't judge times
+abbrev pub unit_side : RawSetup → ℕ → LinkSetup
+unit_side setup t = record (link_of setup t) { max_request = 65535; n_cr = 60000 }
+
+abbrev pub time_of_line : List (List ℕ) → Result BusLine LineFault → List Event
+time_of_line past (Ok said) = time_said (reference past) said
+time_of_line past (Err fault) = []
+
+abbrev pub frame_with : ℕ → Option Frame → List Event
+frame_with id None = []
+frame_with id (Some frame) = if frame.id == id then Physical frame.bytes ∷ [] else []
+
+-- a frame of the unit to a tester
+abbrev pub unit_frame : RawSetup → ℕ → Result BusLine LineFault → List Event
+unit_frame setup t (Ok said) = frame_with (ids_of setup t).response (frame_said said)
+unit_frame setup t (Err fault) = []
+
+abbrev pub unit_after : RawSetup → ℕ → List (List ℕ) → List (List ℕ) → List Event
+unit_after setup t past [] = []
+unit_after setup t past (line ∷ lines) =
+    time_of_line past (bus_line line) ++ unit_frame setup t (bus_line line)
+    ++ unit_after setup t (past ++ line ∷ []) lines
+
+-- the events of the unit's side
+abbrev pub unit_events : RawSetup → ℕ → List (List ℕ) → List Event
+unit_events setup t lines = unit_after setup t [] lines
+
+-- ---- messages of the unit
+
+abbrev pub is_unfinished : Option Reception → Bool
+is_unfinished None = false
+is_unfinished (Some r) = not (is_whole r)
+
+-- a message is coming in
+abbrev pub receives : LinkSetup → List Event → Bool
+receives s E = is_unfinished (open_at s (history E))
+
+abbrev pub lost_if : Bool → List Happening
+lost_if true = Lost ∷ []
+lost_if false = []
+
+abbrev pub came : Option Step → Bool → List Happening
+came (Some (step.Request request)) broken = Came request.message ∷ []
+came (Some (step.Ticks n)) broken = lost_if broken
+came None broken = lost_if broken
+
+abbrev pub began : Place → List ℕ → Happening
+began at bytes = Began (record { at = at; first = slice_index bytes 0; second = slice_get bytes 1 })
+
+-- a reception was under way, and isn't any more
+abbrev pub breaks : LinkSetup → List Event → Event → Bool
+breaks s E e = receives s E && not (receives s (E ++ e ∷ []))
+
+abbrev pub frame_happens : LinkSetup → Place → List Event → List ℕ → Pci → List Happening
+frame_happens s at E bytes (Single payload) = lost_if (receives s E) ++ began at payload ∷ Came payload ∷ []
+frame_happens s at E bytes (First len head) = lost_if (receives s E) ++ began at head ∷ []
+frame_happens s at E bytes Overflow = lost_if (receives s E)
+frame_happens s at E bytes (Consecutive number part) =
+    came (gives s E (Physical bytes)) (breaks s E (Physical bytes))
+frame_happens s at E bytes (FlowControl status block gap) = []
+frame_happens s at E bytes Ignored = []
+
+-- what an event of the unit's side is, behind these
+abbrev pub unit_happens : LinkSetup → Place → List Event → Event → List Happening
+unit_happens s at E (Physical bytes) = frame_happens s at E bytes (kind bytes s.max_request)
+unit_happens s at E (Functional bytes) = []
+unit_happens s at E (Ticks n) = lost_if (breaks s E (Ticks n))
+
+abbrev pub all_happen : LinkSetup → Place → List Event → List Event → List Happening
+all_happen s at E [] = []
+all_happen s at E (e ∷ es) = unit_happens s at E e ++ all_happen s at (E ++ e ∷ []) es
+
+-- ---- requests
+
+-- each entry with the state before it
+abbrev pub in_states : State → List Entry → List (State × Entry)
+in_states s [] = []
+in_states s (e ∷ entries) = (s, e) ∷ in_states (after_step s e.who e.step) entries
+
+-- the entries of the journal that a line gives
+abbrev pub entries_by : RawSetup → List (List ℕ) → List ℕ → List (State × Entry)
+entries_by setup past line = in_states (ecu_after setup past)
+    (drop (length (run_of setup (events_of setup past))) (run_of setup (events_of setup (past ++ line ∷ []))))
+
+abbrev pub is_of : ℕ → State × Entry → Bool
+is_of t e = e.1.who == t
+
+abbrev pub asks : Place → Step → Expected → List Happening
+asks at (step.Request request) expected = Asked (record {
+  at = at;
+  functional = request.functional;
+  bytes = request.message;
+  expected = expected;
+}) ∷ []
+asks at (step.Ticks n) expected = []
+
+-- ---- both
+
+-- `expects` says what the server makes of a request, and how it is compared
+module _ (expects : State → Entry → Expected) (setup : RawSetup) (t : ℕ) where
+  abbrev pub entry_happens : Place → State × Entry → List Happening
+  entry_happens at e = asks at e.1.step (expects e.0 e.1)
+
+  -- what a line is to a tester: what ends by its time, the request that it completes, and what its frame is to a message
+  abbrev pub line_happens : List (List ℕ) → List ℕ → List Happening
+  line_happens past line =
+      let at = place_of past line in
+      let E = unit_events setup t past in
+      let time = time_of_line past (bus_line line) in
+      all_happen (unit_side setup t) at E time
+      ++ flat_map (entry_happens at) (filter (is_of t) (entries_by setup past line))
+      ++ all_happen (unit_side setup t) at (E ++ time) (unit_frame setup t (bus_line line))
+
+  abbrev pub happen_after : List (List ℕ) → List (List ℕ) → List Happening
+  happen_after past [] = []
+  happen_after past (line ∷ lines) = line_happens past line ++ happen_after (past ++ line ∷ []) lines
+
+  -- what the lines are to a tester
+  abbrev pub happenings : List (List ℕ) → List Happening
+  happenings lines = happen_after [] lines

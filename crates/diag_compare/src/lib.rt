@@ -1,0 +1,2 @@
+//! What `compare` writes of a capture, as a definition.
+#![tactic(auto)]
