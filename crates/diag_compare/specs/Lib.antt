@@ -1,3 +1,4 @@
 pub mod Compare
 pub mod Hearing
+pub mod Meaning
 pub mod Told

@@ -1,2 +1,6 @@
-//! What `compare` writes of a capture, as a definition.
+//! What `compare` writes of a capture, and the status that it ends with, as definitions.
 #![tactic(auto)]
+
+mod laws;
+
+pub use laws::{asks_law, status_law};
