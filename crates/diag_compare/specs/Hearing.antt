@@ -1,5 +1,5 @@
 -- What a capture has of the unit's messages to a tester, and of the tester's requests, in the order of the bus.
-use Rattle.std.specs.Prelude.{ℕ, ◌+◌, ◌==◌, ◌&&◌, not, Bool, true, false, if◌then◌else◌, List, [], ◌∷◌, ◌++◌, length, drop, filter, slice_get, slice_index, Option, Some, None, Result, Ok, Err}
+use Rattle.std.specs.Prelude.{ℕ, ◌+◌, ◌==◌, ◌&&◌, nat_lt, not, Bool, true, false, if◌then◌else◌, List, [], ◌∷◌, ◌++◌, length, drop, filter, slice_get, slice_index, Option, Some, None, Result, Ok, Err}
 use Rattle.std.specs.List.{flat_map}
 use Rattle.diag_can.specs.Bus.{bus_line}
 use Rattle.diag_can.specs.declared.bus.BusLine.{BusLine}
@@ -7,6 +7,7 @@ use Rattle.diag_can.specs.declared.fault.LineFault.{LineFault}
 use Rattle.diag_can.specs.declared.frame.Event.{Event}
 use Rattle.diag_can.specs.declared.frame.Event.TheVariants.{Physical, Functional, Ticks}
 use Rattle.diag_can.specs.declared.frame.Frame.{Frame}
+use Rattle.diag_pdu.specs.Cut.{consecutive_count}
 use Rattle.diag_pdu.specs.Kind.{kind}
 use Rattle.diag_pdu.specs.declared.pci.Pci.{Pci}
 use Rattle.diag_pdu.specs.declared.pci.Pci.TheVariants.{Single, First, Overflow, Consecutive, FlowControl, Ignored}
@@ -15,7 +16,7 @@ use Rattle.diag_pdu.specs.declared.step.Step.{Step}
 use Rattle.diag_pdu.specs.declared.step.Step.TheVariants as step
 use Rattle.diag_tp.specs.Gives.{gives}
 use Rattle.diag_tp.specs.Moments.{history}
-use Rattle.diag_tp.specs.Reception.{Reception, is_whole, open_at}
+use Rattle.diag_tp.specs.Reception.{Reception, open_at}
 use Rattle.diag_setup.specs.Setup.{ids_of, link_of}
 use Rattle.diag_setup.specs.declared.raw.RawSetup.{RawSetup}
 use Rattle.diag_ecu.specs.State.{State}
@@ -63,9 +64,10 @@ unit_events setup t lines = unit_after setup t [] lines
 
 -- ---- messages of the unit
 
+-- some part is to come
 abbrev pub is_unfinished : Option Reception → Bool
 is_unfinished None = false
-is_unfinished (Some r) = not (is_whole r)
+is_unfinished (Some r) = nat_lt (length r.parts) (consecutive_count r.len)
 
 -- a message is coming in
 abbrev pub receives : LinkSetup → List Event → Bool

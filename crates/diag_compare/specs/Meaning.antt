@@ -1,22 +1,27 @@
--- What the status of `compare` says.
-use Rattle.std.specs.Prelude.{◌≡◌, ℕ, Bool, true, List, [], ◌∷◌, map}
+-- What is compared, and what the status of `compare` says.
+use Rattle.std.specs.Prelude.{◌≡◌, ℕ, Bool, true, List, [], ◌∷◌, ◌++◌, map, Option, None}
 use Rattle.std.specs.List.{All, filter, flat_map, list_any}
+use Rattle.std.specs.Option.{option_to_list}
 use Rattle.diag_pdu.specs.declared.step.Step.{Step}
 use Rattle.diag_pdu.specs.declared.step.Step.TheVariants as step
 use Rattle.diag_setup.specs.declared.raw.RawSetup.{RawSetup}
+use Rattle.diag_tp.specs.Gives.{steps}
 use Rattle.diag_ecu.specs.State.{State, opening}
 use Rattle.diag_desk.specs.declared.entry.Entry.{Entry}
 use Rattle.diag_bus.specs.Events.{events_of}
 use Rattle.diag_bus.specs.Text.{run_of}
 use Rattle.diag_bus.specs.Verdict.{IsPlace}
 use Rattle.diag_exchange.specs.Agreeing.{is_compared}
-use Rattle.diag_exchange.specs.Asking.{Course, courses}
+use Rattle.diag_exchange.specs.Asking.{Course, comes_in, completes, courses}
 use Rattle.diag_exchange.specs.Exchanges.{exchange}
 use Rattle.diag_exchange.specs.Meaning.{Means}
 use Rattle.diag_exchange.specs.Taking.{is_exchange}
 use Rattle.diag_exchange.specs.declared.happening.Expected.{Expected}
+use Rattle.diag_exchange.specs.declared.happening.Happening.{Happening}
+use Rattle.diag_exchange.specs.declared.happening.Heard.{Heard}
+use Rattle.diag_exchange.specs.declared.happening.Start.{Start}
 use Rattle.diag_compare.specs.Compare.{all_exchanges, exchanges, status}
-use Rattle.diag_compare.specs.Hearing.{happenings, in_states, is_of}
+use Rattle.diag_compare.specs.Hearing.{happenings, in_states, is_of, unit_events, unit_side}
 
 -- a request, apart from where it stands
 abbrev pub Question : Type 0
@@ -51,3 +56,26 @@ abbrev pub StatusLaw : Type 0
 StatusLaw = (expects : State → Entry → Expected) (setup : RawSetup) (lines : List (List ℕ))
     → status expects setup lines ≡ 0
     → AllAgree expects setup lines
+
+-- ---- what was heard
+
+abbrev pub messages_after : Option Start → List Happening → List Heard
+messages_after before [] = []
+messages_after before (h ∷ hs) = option_to_list (completes before h) ++ messages_after (comes_in before h) hs
+
+-- the messages that were complete
+abbrev pub messages : List Happening → List Heard
+messages hs = messages_after None hs
+
+abbrev pub bytes_heard : Heard → List ℕ
+bytes_heard m = m.bytes
+
+abbrev pub message_given : Step → List (List ℕ)
+message_given (step.Request request) = request.message ∷ []
+message_given (step.Ticks n) = []
+
+-- the messages of the unit are what the events of its side give
+abbrev pub HeardLaw : Type 0
+HeardLaw = (expects : State → Entry → Expected) (setup : RawSetup) (lines : List (List ℕ)) (t : ℕ)
+    → map bytes_heard (messages (happenings expects setup t lines))
+    ≡ flat_map message_given (steps (unit_side setup t) (unit_events setup t lines))

@@ -1,10 +1,15 @@
 //! What holds of the definitions, as contracts.
 
-ghost use Rattle.diag_compare.specs.Meaning.{AsksLaw, StatusLaw};
+ghost use Rattle.diag_compare.specs.Meaning.{AsksLaw, HeardLaw, StatusLaw};
 
 /// The requests of a tester that are compared are those of the journal of the run.
 pub fn asks_law()
     ensures { AsksLaw }
+{}
+
+/// The messages of the unit that are compared are what the events of its side give.
+pub fn heard_law()
+    ensures { HeardLaw }
 {}
 
 /// Where the status is 0, the unit sent to each request what the server replies, and nothing unasked.
