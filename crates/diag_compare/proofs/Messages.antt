@@ -1,11 +1,11 @@
 -- The messages of the unit are what the events of its side give.
-use Rattle.std.proofs.Common.{◌≡◌, ◌≤◌, ◌<◌, ℕ, zero, suc, ◌+◌, ◌*◌, ◌/◌, ◌%◌, Bool, true, false, Option, Some, None, List, [], ◌∷◌, ◌++◌, length, length-append, map, replicate, refl, ap, ap₂, subst, sym, ◌∙◌, append_assoc, arith}
+use Rattle.std.proofs.Common.{◌≡◌, ◌≤◌, ℕ, zero, suc, ◌+◌, ◌/◌, ◌%◌, Bool, true, false, Option, Some, None, List, [], ◌∷◌, ◌++◌, length, length-append, map, replicate, refl, ap, ap₂, subst, sym, ◌∙◌, append_assoc, arith}
 use Rattle.std.proofs.lemmas.Bool.{eqb-true}
 use Rattle.std.proofs.lemmas.Bool.Decides.{nat_tests}
 use Rattle.std.proofs.lemmas.List.{append-nil, map-append}
 use Rattle.std.specs.List.{filter, flat_map}
 use Rattle.std.specs.Option.{option_to_list}
-use Rattle.std.specs.Prelude.{Result, Ok, Err, if◌then◌else◌, is_some, nat_le, nat_lt, not, option_and_then, slice_index, ◌==◌, ◌&&◌}
+use Rattle.std.specs.Prelude.{Result, Ok, Err, if◌then◌else◌, is_some, nat_lt, not, option_and_then, ◌==◌, ◌&&◌}
 use Rattle.diag_can.specs.Bus.{bus_line}
 use Rattle.diag_can.specs.Log.{silence, waited}
 use Rattle.diag_can.specs.declared.bus.BusLine.{BusLine}
@@ -16,7 +16,7 @@ use Rattle.diag_can.specs.declared.frame.Event.TheVariants.{Physical, Functional
 use Rattle.diag_can.specs.declared.frame.Frame.{Frame}
 use Rattle.diag_can.specs.declared.log.Timing.TheVariants.{Stamps}
 use Rattle.diag_pdu.specs.Cut.{consecutive_count}
-use Rattle.diag_pdu.specs.Kind.{escape_kind, escape_length, first_kind, flow_kind, kind, single_kind}
+use Rattle.diag_pdu.specs.Kind.{kind}
 use Rattle.diag_pdu.specs.Request.{request_of}
 use Rattle.diag_pdu.specs.declared.pci.Pci.{Pci}
 use Rattle.diag_pdu.specs.declared.pci.Pci.TheVariants.{Single, First, Overflow, Consecutive, FlowControl, Ignored}
@@ -40,60 +40,18 @@ use Rattle.diag_exchange.specs.declared.happening.Place.{Place}
 use Rattle.diag_exchange.specs.declared.happening.Start.{Start}
 use Rattle.diag_exchange.proofs.Lists.{Each}
 use Rattle.diag_compare.specs.Hearing.{all_happen, asks, began, breaks, came, entries_by, entry_happens, frame_happens, frame_with, happen_after, happenings, is_of, is_unfinished, line_happens, lost_if, place_of, receives, time_of_line, unit_after, unit_events, unit_frame, unit_happens, unit_side}
+use Rattle.diag_compare.proofs.FirstFrames.{IsFirst, first_of_kind}
 use Rattle.diag_compare.specs.Meaning.{bytes_heard, message_given, messages_after}
-
--- ---- a message has parts to come behind its FirstFrame
-
-abbrev IsLong : Pci → Type 0
-IsLong (Single payload) = Unit {0}
-IsLong (First len head) = nat_lt 0 (consecutive_count len) ≡ true
-IsLong Overflow = Unit {0}
-IsLong (Consecutive number part) = Unit {0}
-IsLong (FlowControl status block gap) = Unit {0}
-IsLong Ignored = Unit {0}
 
 some_parts : (len : ℕ) → 8 ≤ len → nat_lt 0 (consecutive_count len) ≡ true
 some_parts len long = grind (arith, nat_tests)
-
-long_if : (b : Bool) (x y : Pci) → (b ≡ true → IsLong x) → (b ≡ false → IsLong y) → IsLong (if b then x else y)
-long_if true x y f g = f refl
-long_if false x y f g = g refl
-
-above : (m n : ℕ) → nat_le m n ≡ false → n < m
-above m n e = grind (arith, nat_tests)
-
-not_below : (m n : ℕ) → nat_lt m n ≡ false → n ≤ m
-not_below m n e = grind (arith, nat_tests)
-
-long_escape : (len max : ℕ) (bytes : List ℕ) → IsLong (escape_kind len bytes max)
-long_escape len max bytes = long_if (nat_le len 4095) Ignored _ (λ e. tt)
-    (λ e. long_if (nat_lt max len) Overflow _ (λ f. tt) (λ f. some_parts len (let l = above len 4095 e in omega (arith, l))))
-
-long_first : (len max : ℕ) (bytes : List ℕ) → IsLong (first_kind len bytes max)
-long_first len max bytes = long_if (nat_lt (length bytes) 8) Ignored _ (λ e. tt)
-    (λ e. long_if (len == 0) (escape_kind (escape_length bytes) bytes max) _ (λ f. long_escape (escape_length bytes) max bytes)
-    (λ f. long_if (nat_lt len 8) Ignored _ (λ g. tt) (λ g. long_if (nat_lt max len) Overflow _ (λ h. tt) (λ h. some_parts len (not_below len 8 g)))))
-
-long_single : (n : ℕ) (bytes : List ℕ) → IsLong (single_kind n bytes)
-long_single n bytes = long_if (nat_le 1 n && nat_le n 7 && nat_lt n (length bytes)) _ _ (λ e. tt) (λ e. tt)
-
-long_flow : (n : ℕ) (bytes : List ℕ) → IsLong (flow_kind n bytes)
-long_flow n bytes = long_if (nat_lt (length bytes) 3) _ _ (λ e. tt) (λ e. tt)
-
-long_kind : (bytes : List ℕ) (max : ℕ) → IsLong (kind bytes max)
-unfolding kind
-long_kind [] max = tt
-long_kind (control ∷ rest) max =
-    long_if (control / 16 == 0) _ _ (λ e. long_single (control % 16) (control ∷ rest))
-    (λ e. long_if (control / 16 == 1) _ _ (λ f. long_first (control % 16 * 256 + slice_index (control ∷ rest) 1) max (control ∷ rest))
-    (λ f. long_if (control / 16 == 2) _ _ (λ g. tt) (λ g. long_if (control / 16 == 3) _ _ (λ h. long_flow (control % 16) (control ∷ rest)) (λ h. tt))))
 
 -- ---- what is heard
 
 abbrev heard : Option Start → List Happening → List (List ℕ)
 heard c hs = map bytes_heard (messages_after c hs)
 
-messages_append : (c : Option Start) (xs ys : List Happening) → messages_after c (xs ++ ys) ≡ messages_after c xs ++ messages_after (coming_after c xs) ys
+pub messages_append : (c : Option Start) (xs ys : List Happening) → messages_after c (xs ++ ys) ≡ messages_after c xs ++ messages_after (coming_after c xs) ys
 messages_append c [] ys = refl
 messages_append c (x ∷ xs) ys = ap (λ w. option_to_list (completes c x) ++ w) (messages_append (comes_in c x) xs ys)
     ∙ sym (append_assoc (option_to_list (completes c x)) (messages_after (comes_in c x) xs) (messages_after (coming_after (comes_in c x) xs) ys))
@@ -101,7 +59,7 @@ messages_append c (x ∷ xs) ys = ap (λ w. option_to_list (completes c x) ++ w)
 heard_append : (c : Option Start) (xs ys : List Happening) → heard c (xs ++ ys) ≡ heard c xs ++ heard (coming_after c xs) ys
 heard_append c xs ys = ap (map bytes_heard) (messages_append c xs ys) ∙ map-append bytes_heard (messages_after c xs) (messages_after (coming_after c xs) ys)
 
-coming_append : (c : Option Start) (xs ys : List Happening) → coming_after c (xs ++ ys) ≡ coming_after (coming_after c xs) ys
+pub coming_append : (c : Option Start) (xs ys : List Happening) → coming_after c (xs ++ ys) ≡ coming_after (coming_after c xs) ys
 coming_append c [] ys = refl
 coming_append c (x ∷ xs) ys = coming_append (comes_in c x) xs ys
 
@@ -205,7 +163,7 @@ module _ (s : LinkSetup) (at : Place) (E : List Event) (c : Option Start) (own :
     frame_gives : (k : Pci) → kind bytes s.max_request ≡ k → Steps (Physical bytes) (frame_happens s at E bytes k)
     frame_gives (Single payload) is = by_values (frame_happens s at E bytes (Single payload)) (Single payload) is (lost_single c (receives s E) at payload)
     frame_gives (First len head) is =
-        let long : nat_lt 0 (consecutive_count len) ≡ true = subst IsLong is (long_kind bytes s.max_request) in
+        let long : nat_lt 0 (consecutive_count len) ≡ true = some_parts len (subst IsFirst is (first_of_kind bytes s.max_request)).long in
         let g = lost_begins c (receives s E) at head in
         by_values (frame_happens s at E bytes (First len head)) (First len head) is (g.0, g.1 ∙ sym long)
     frame_gives Overflow is = by_values (lost_if (receives s E)) Overflow is (lost_heard c (receives s E), lost_coming c (receives s E) own)
@@ -262,7 +220,7 @@ module _ (s : LinkSetup) (at : Place) (E : List Event) (c : Option Start) (own :
 
 -- ---- all events of the unit's side
 
-abbrev IsOfUnit : Event → Type 0
+abbrev pub IsOfUnit : Event → Type 0
 IsOfUnit (Physical bytes) = Unit {0}
 IsOfUnit (Functional bytes) = ⊥
 IsOfUnit (Ticks n) = Unit {0}
@@ -315,7 +273,7 @@ each_waited ms = each_append (replicate (ms / 60000) (Ticks 60000)) _ (each_tick
     rest_case true = tt
     rest_case false = (tt, tt)
 
-each_time : (past : List (List ℕ)) (said : Result BusLine LineFault) → Each IsOfUnit (time_of_line past said)
+pub each_time : (past : List (List ℕ)) (said : Result BusLine LineFault) → Each IsOfUnit (time_of_line past said)
 each_time past (Ok said.Empty) = tt
 each_time past (Ok (said.Ticks n)) = (tt, tt)
 each_time past (Ok (said.Stamped moment frame)) = each_waited (silence Stamps (reference past) (Some moment))
@@ -329,7 +287,7 @@ each_frame id (Some frame) = frame_case (frame.id == id)
     frame_case true = (tt, tt)
     frame_case false = tt
 
-each_unit : (setup : RawSetup) (t : ℕ) (said : Result BusLine LineFault) → Each IsOfUnit (unit_frame setup t said)
+pub each_unit : (setup : RawSetup) (t : ℕ) (said : Result BusLine LineFault) → Each IsOfUnit (unit_frame setup t said)
 each_unit setup t (Ok said) = each_frame (ids_of setup t).response (frame_said said)
 each_unit setup t (Err fault) = tt
 
@@ -359,7 +317,7 @@ module _ (expects : State → Entry → Expected) (setup : RawSetup) (t : ℕ) w
   abbrev line_gives : List (List ℕ) → List ℕ → List Event
   line_gives past line = time_of_line past (bus_line line) ++ unit_frame setup t (bus_line line)
 
-  unit_push : (past lines : List (List ℕ)) (line : List ℕ) → unit_after setup t past (lines ++ line ∷ []) ≡ unit_after setup t past lines ++ line_gives (past ++ lines) line
+  pub unit_push : (past lines : List (List ℕ)) (line : List ℕ) → unit_after setup t past (lines ++ line ∷ []) ≡ unit_after setup t past lines ++ line_gives (past ++ lines) line
   unit_push past [] line = append-nil (line_gives past line) ∙ ap (λ w. line_gives w line) (sym (append-nil past))
   unit_push past (first ∷ lines) line =
       ap (λ w. line_gives past first ++ w) (unit_push (past ++ first ∷ []) lines line ∙ ap (λ w. unit_after setup t (past ++ first ∷ []) lines ++ line_gives w line) (append_assoc past (first ∷ []) lines))

@@ -1,5 +1,5 @@
 -- What is compared, and what the status of `compare` says.
-use Rattle.std.specs.Prelude.{◌≡◌, ℕ, Bool, true, List, [], ◌∷◌, ◌++◌, map, Option, None}
+use Rattle.std.specs.Prelude.{◌≡◌, ℕ, Bool, true, List, [], ◌∷◌, ◌++◌, map, slice_get, slice_index, Option, None}
 use Rattle.std.specs.List.{All, filter, flat_map, list_any}
 use Rattle.std.specs.Option.{option_to_list}
 use Rattle.diag_pdu.specs.declared.step.Step.{Step}
@@ -79,3 +79,13 @@ abbrev pub HeardLaw : Type 0
 HeardLaw = (expects : State → Entry → Expected) (setup : RawSetup) (lines : List (List ℕ)) (t : ℕ)
     → map bytes_heard (messages (happenings expects setup t lines))
     ≡ flat_map message_given (steps (unit_side setup t) (unit_events setup t lines))
+
+-- the first frame of a message has its first two bytes
+pub record IsHeaded (m : Heard) : Type 0 where
+  pub first : m.start.first ≡ slice_index m.bytes 0
+  pub second : m.start.second ≡ slice_get m.bytes 1
+
+-- so which request a message fits is told by its own bytes
+abbrev pub HeadsLaw : Type 0
+HeadsLaw = (expects : State → Entry → Expected) (setup : RawSetup) (lines : List (List ℕ)) (t : ℕ)
+    → All IsHeaded (messages (happenings expects setup t lines))

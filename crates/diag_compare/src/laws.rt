@@ -1,6 +1,6 @@
 //! What holds of the definitions, as contracts.
 
-ghost use Rattle.diag_compare.specs.Meaning.{AsksLaw, HeardLaw, StatusLaw};
+ghost use Rattle.diag_compare.specs.Meaning.{AsksLaw, HeadsLaw, HeardLaw, StatusLaw};
 
 /// The requests of a tester that are compared are those of the journal of the run.
 pub fn asks_law()
@@ -10,6 +10,11 @@ pub fn asks_law()
 /// The messages of the unit that are compared are what the events of its side give.
 pub fn heard_law()
     ensures { HeardLaw }
+{}
+
+/// The first frame of a message has its first two bytes, by which it is told which request it answers.
+pub fn heads_law()
+    ensures { HeadsLaw }
 {}
 
 /// Where the status is 0, the unit sent to each request what the server replies, and nothing unasked.
