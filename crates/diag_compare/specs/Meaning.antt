@@ -19,8 +19,9 @@ use Rattle.diag_exchange.specs.Taking.{is_exchange}
 use Rattle.diag_exchange.specs.declared.happening.Expected.{Expected}
 use Rattle.diag_exchange.specs.declared.happening.Happening.{Happening}
 use Rattle.diag_exchange.specs.declared.happening.Heard.{Heard}
+use Rattle.diag_exchange.specs.declared.happening.Over.{Over}
 use Rattle.diag_exchange.specs.declared.happening.Start.{Start}
-use Rattle.diag_compare.specs.Compare.{all_exchanges, exchanges, status}
+use Rattle.diag_compare.specs.Compare.{all_exchanges, beside, exchanges, open_for, over_by, status}
 use Rattle.diag_compare.specs.Hearing.{happenings, in_states, is_of, unit_events, unit_side}
 
 -- a request, apart from where it stands
@@ -89,3 +90,17 @@ pub record IsHeaded (m : Heard) : Type 0 where
 abbrev pub HeadsLaw : Type 0
 HeadsLaw = (expects : State → Entry → Expected) (setup : RawSetup) (lines : List (List ℕ)) (t : ℕ)
     → All IsHeaded (messages (happenings expects setup t lines))
+
+-- ---- what is told
+
+-- what is over for a tester with each of these lines, one behind the other
+abbrev pub over_after : (State → Entry → Expected) → RawSetup → ℕ → List (List ℕ) → List (List ℕ) → List (ℕ × Over)
+over_after expects setup t past [] = []
+over_after expects setup t past (line ∷ lines) =
+    over_by expects setup past line t ++ over_after expects setup t (past ++ line ∷ []) lines
+
+-- what is told with each line, and at the end, is each exchange of the tester once
+abbrev pub TellsLaw : Type 0
+TellsLaw = (expects : State → Entry → Expected) (setup : RawSetup) (lines : List (List ℕ)) (t : ℕ)
+    → over_after expects setup t [] lines ++ open_for expects setup lines t
+    ≡ map (beside t) (exchanges expects setup lines t)

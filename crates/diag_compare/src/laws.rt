@@ -1,6 +1,6 @@
 //! What holds of the definitions, as contracts.
 
-ghost use Rattle.diag_compare.specs.Meaning.{AsksLaw, HeadsLaw, HeardLaw, StatusLaw};
+ghost use Rattle.diag_compare.specs.Meaning.{AsksLaw, HeadsLaw, HeardLaw, StatusLaw, TellsLaw};
 
 /// The requests of a tester that are compared are those of the journal of the run.
 pub fn asks_law()
@@ -15,6 +15,11 @@ pub fn heard_law()
 /// The first frame of a message has its first two bytes, by which it is told which request it answers.
 pub fn heads_law()
     ensures { HeadsLaw }
+{}
+
+/// What is told with each line, and at the end, is each exchange of a tester once, in the order in which they are over.
+pub fn tells_law()
+    ensures { TellsLaw }
 {}
 
 /// Where the status is 0, the unit sent to each request what the server replies, and nothing unasked.
