@@ -98,10 +98,15 @@ came_heads (Some s) r k o = (
 )
 
 whole_heads : (c : Option Start) (r : Reception) (b w : Bool) → is_whole r ≡ w → Known c (Some r) → Heads c (came (completed (Some r)) b) (Some r)
-whole_heads c r b true e k = subst (λ (o : Option Step). Heads c (came o b) (Some r)) (sym (ap (λ (w : Bool). if w then Some (step.Request (record { functional = false; message = message_of r })) else None) e)) (came_heads c r k (Some r))
-whole_heads c r b false e k = subst (λ (o : Option Step). Heads c (came o b) (Some r)) (sym (ap (λ (w : Bool). if w then Some (step.Request (record { functional = false; message = message_of r })) else None) e)) (lost_heads c b (Some r) k)
+whole_heads c r b true e k =
+    subst (λ (o : Option Step). Heads c (came o b) (Some r))
+    (sym (ap (λ (w : Bool). if w then Some (step.Request (record { functional = false; message = message_of r })) else None) e)) (came_heads c r k (Some r))
+whole_heads c r b false e k =
+    subst (λ (o : Option Step). Heads c (came o b) (Some r))
+    (sym (ap (λ (w : Bool). if w then Some (step.Request (record { functional = false; message = message_of r })) else None) e)) (lost_heads c b (Some r) k)
 
-known_part : (c : Option Start) (r : Reception) (part : List ℕ) (t : ℕ) → Known c (Some r) → Known c (Some (record { len = r.len; head = r.head; parts = r.parts ++ part ∷ []; last = t }))
+known_part : (c : Option Start) (r : Reception) (part : List ℕ) (t : ℕ) → Known c (Some r)
+    → Known c (Some (record { len = r.len; head = r.head; parts = r.parts ++ part ∷ []; last = t }))
 known_part None r part t k = tt
 known_part (Some s) r part t k = record { has = k.has; first = k.first; second = k.second }
 
@@ -110,9 +115,12 @@ part_heads : (c : Option Start) (o : Option Reception) (t number : ℕ) (part : 
 part_heads c None t number part b k = lost_heads c b None (known_none c)
 part_heads c (Some r) t number part b k = next_case (is_next r number part)
   where
-    next_case : (n : Bool) → Heads c (came (completed (if n then Some (record { len = r.len; head = r.head; parts = r.parts ++ part ∷ []; last = t }) else None)) b)
+    next_case : (n : Bool)
+        → Heads c (came (completed (if n then Some (record { len = r.len; head = r.head; parts = r.parts ++ part ∷ []; last = t }) else None)) b)
         (if n then Some (record { len = r.len; head = r.head; parts = r.parts ++ part ∷ []; last = t }) else None)
-    next_case true = let more : Reception = record { len = r.len; head = r.head; parts = r.parts ++ part ∷ []; last = t } in whole_heads c more b (is_whole more) refl (known_part c r part t k)
+    next_case true =
+        let more : Reception = record { len = r.len; head = r.head; parts = r.parts ++ part ∷ []; last = t } in whole_heads c more b
+        (is_whole more) refl (known_part c r part t k)
     next_case false = lost_heads c b None (known_none c)
 
 -- ---- an event
@@ -132,18 +140,21 @@ module _ (s : LinkSetup) (at : Place) (E : List Event) (c : Option Start) (known
     gives_is : (number : ℕ) (part : List ℕ) → kind bytes s.max_request ≡ Consecutive number part
         → gives s E (Physical bytes) ≡ completed (option_and_then (with_part (now (history E)) number part) (open_at s (history E)))
     unfolding gives open_at
-    gives_is number part is = ap (physical_step s (Physical bytes ∷ history E)) is ∙ ap (λ k. completed (with_frame (now (history E)) k (open_at s (history E)))) is
+    gives_is number part is =
+        ap (physical_step s (Physical bytes ∷ history E)) is ∙ ap (λ k. completed (with_frame (now (history E)) k (open_at s (history E)))) is
 
     frame_heads : (k : Pci) → kind bytes s.max_request ≡ k → Then (frame_happens s at E bytes k)
     frame_heads (Single payload) is = by_kind _ (Single payload) is (single_heads c (receives s E) at payload)
-    frame_heads (First len head) is = by_kind _ (First len head) is (began_heads c (receives s E) at len (now (history E)) head (subst IsFirst is (first_of_kind bytes s.max_request)))
+    frame_heads (First len head) is =
+        by_kind _ (First len head) is (began_heads c (receives s E) at len (now (history E)) head (subst IsFirst is (first_of_kind bytes s.max_request)))
     frame_heads Overflow is = by_kind _ Overflow is (lost_heads c (receives s E) None (known_none c))
     frame_heads (FlowControl status block gap) is = by_kind [] (FlowControl status block gap) is (tt, known)
     frame_heads Ignored is = by_kind [] Ignored is (tt, known)
     frame_heads (Consecutive number part) is =
         let h = part_heads c (open_at s (history E)) (now (history E)) number part (breaks s E (Physical bytes)) known in
         by_kind _ (Consecutive number part) is
-        (subst (λ (o : Option Step). Heads c (came o (breaks s E (Physical bytes))) (option_and_then (with_part (now (history E)) number part) (open_at s (history E)))) (sym (gives_is number part is)) h)
+        (subst (λ (o : Option Step). Heads c (came o (breaks s E (Physical bytes))) (option_and_then (with_part (now (history E)) number part)
+        (open_at s (history E)))) (sym (gives_is number part is)) h)
 
   known_time : (t : ℕ) (o : Option Reception) → Known c o → Known c (option_and_then (in_time s t) o)
   known_time t None k = known_none c
@@ -171,13 +182,15 @@ each_both : (xs ys : List Heard) → Each IsHeaded xs → Each IsHeaded ys → E
 each_both [] ys p q = q
 each_both (x ∷ xs) ys p q = (p.0, each_both xs ys p.1 q)
 
-heads_then : (c : Option Start) (xs ys : List Happening) (o : Option Reception) → Each IsHeaded (messages_after c xs) → Heads (coming_after c xs) ys o → Heads c (xs ++ ys) o
+heads_then : (c : Option Start) (xs ys : List Happening) (o : Option Reception) → Each IsHeaded (messages_after c xs) → Heads (coming_after c xs) ys o
+    → Heads c (xs ++ ys) o
 heads_then c xs ys o first rest = (
   subst (Each IsHeaded) (sym (messages_append c xs ys)) (each_both (messages_after c xs) (messages_after (coming_after c xs) ys) first rest.0),
   subst (λ (d : Option Start). Known d o) (sym (coming_append c xs ys)) rest.1,
 )
 
-all_heads : (s : LinkSetup) (at : Place) (E es : List Event) (c : Option Start) → Known c (open_at s (history E)) → Each IsOfUnit es → Heads c (all_happen s at E es) (open_at s (history (E ++ es)))
+all_heads : (s : LinkSetup) (at : Place) (E es : List Event) (c : Option Start) → Known c (open_at s (history E)) → Each IsOfUnit es
+    → Heads c (all_happen s at E es) (open_at s (history (E ++ es)))
 all_heads s at E [] c k u = (tt, subst (λ (w : List Event). Known c (open_at s (history w))) (sym (append-nil E)) k)
 all_heads s at E (e ∷ es) c k u =
     let one = unit_heads s at E c k e u.0 in
@@ -196,7 +209,8 @@ module _ (expects : State → Entry → Expected) (setup : RawSetup) (t : ℕ) w
   asked_heads at (Some s) (step.Request r) e o k = (tt, k)
   asked_heads at c (step.Ticks n) e o k = (tt, k)
 
-  entries_heads : (at : Place) (c : Option Start) (es : List (State × Entry)) (o : Option Reception) → Known c o → Heads c (flat_map (entry_happens expects setup t at) es) o
+  entries_heads : (at : Place) (c : Option Start) (es : List (State × Entry)) (o : Option Reception) → Known c o
+      → Heads c (flat_map (entry_happens expects setup t at) es) o
   entries_heads at c [] o k = (tt, k)
   entries_heads at c (e ∷ es) o k =
       let hs = asks at e.1.step (expects e.0 e.1) in
@@ -221,7 +235,8 @@ module _ (expects : State → Entry → Expected) (setup : RawSetup) (t : ℕ) w
       subst (λ (w : List Event). Heads c (line_happens expects setup t past line) (open_at side (history w)))
       (append_assoc E time frame ∙ sym (unit_push expects setup t [] past line)) whole
 
-  lines_heads : (past lines : List (List ℕ)) (c : Option Start) → Known c (open_at side (history (unit_events setup t past))) → Each IsHeaded (messages_after c (happen_after expects setup t past lines))
+  lines_heads : (past lines : List (List ℕ)) (c : Option Start) → Known c (open_at side (history (unit_events setup t past)))
+      → Each IsHeaded (messages_after c (happen_after expects setup t past lines))
   lines_heads past [] c k = tt
   lines_heads past (line ∷ lines) c k =
       let here = line_happens expects setup t past line in

@@ -83,7 +83,8 @@ lost_begins (Some s) true at bytes = (refl, refl)
 lost_begins None false at bytes = (refl, refl)
 lost_begins (Some s) false at bytes = (refl, refl)
 
-lost_single : (c : Option Start) (b : Bool) (at : Place) (bytes : List ℕ) → Gives c (lost_if b ++ began at bytes ∷ Came bytes ∷ []) (Some (step.Request (request_of false bytes))) false
+lost_single : (c : Option Start) (b : Bool) (at : Place) (bytes : List ℕ) → Gives c (lost_if b ++ began at bytes ∷ Came bytes ∷ [])
+    (Some (step.Request (request_of false bytes))) false
 lost_single None true at bytes = (refl, refl)
 lost_single (Some s) true at bytes = (refl, refl)
 lost_single None false at bytes = (refl, refl)
@@ -100,8 +101,10 @@ lost_by c true false e f = (lost_heard c true, refl)
 lost_by c false false e f = (refl, e)
 lost_by c u true e f = cc
 
-whole_case : (c : Option Start) (r : Reception) (u : Bool) → is_some c ≡ true → u ≡ true → length r.parts ≤ consecutive_count r.len → (w : Bool) → is_whole r ≡ w
-    → Gives c (came (if w then Some (step.Request (request_of false (message_of r))) else None) (u && not (is_unfinished (Some r)))) (if w then Some (step.Request (request_of false (message_of r))) else None) (is_unfinished (Some r))
+whole_case : (c : Option Start) (r : Reception) (u : Bool) → is_some c ≡ true → u ≡ true → length r.parts ≤ consecutive_count r.len → (w : Bool)
+    → is_whole r ≡ w
+    → Gives c (came (if w then Some (step.Request (request_of false (message_of r))) else None) (u && not (is_unfinished (Some r))))
+    (if w then Some (step.Request (request_of false (message_of r))) else None) (is_unfinished (Some r))
 whole_case c r u e is few true whole =
     let s = some_of c e in
     let done : is_unfinished (Some r) ≡ false = grind (arith, nat_tests, eqb-true (length r.parts) (consecutive_count r.len) whole) in
@@ -114,7 +117,8 @@ whole_case c r u e is few false whole =
 next_below : (r : Reception) (number : ℕ) (part : List ℕ) → is_next r number part ≡ true → nat_lt (length r.parts) (consecutive_count r.len) ≡ true
 next_below r number part e = grind arith
 
-one_further : (r : Reception) (part : List ℕ) → nat_lt (length r.parts) (consecutive_count r.len) ≡ true → length (r.parts ++ part ∷ []) ≤ consecutive_count r.len
+one_further : (r : Reception) (part : List ℕ) → nat_lt (length r.parts) (consecutive_count r.len) ≡ true
+    → length (r.parts ++ part ∷ []) ≤ consecutive_count r.len
 one_further r part e = let more = length-append r.parts (part ∷ []) in grind (arith, nat_tests)
 
 module _ (t number : ℕ) (part : List ℕ) where
@@ -153,11 +157,13 @@ module _ (s : LinkSetup) (at : Place) (E : List Event) (c : Option Start) (own :
     unfolding open_at
     open_is k is = ap (λ k. with_frame (now (history E)) k (open_at s (history E))) is
 
-    receives_is : (k : Pci) → kind bytes s.max_request ≡ k → receives s (E ++ Physical bytes ∷ []) ≡ is_unfinished (with_frame (now (history E)) k (open_at s (history E)))
+    receives_is : (k : Pci) → kind bytes s.max_request ≡ k → receives s (E ++ Physical bytes ∷ []) ≡ is_unfinished
+        (with_frame (now (history E)) k (open_at s (history E)))
     receives_is k is = ap (λ h. is_unfinished (open_at s h)) (history-more E (Physical bytes) tt) ∙ ap is_unfinished (open_is k is)
 
     by_values : (hs : List Happening) (k : Pci) → kind bytes s.max_request ≡ k
-        → Gives c hs (physical_step s (Physical bytes ∷ history E) k) (is_unfinished (with_frame (now (history E)) k (open_at s (history E)))) → Steps (Physical bytes) hs
+        → Gives c hs (physical_step s (Physical bytes ∷ history E) k) (is_unfinished (with_frame (now (history E)) k (open_at s (history E)))) → Steps
+        (Physical bytes) hs
     by_values hs k is g = (g.0 ∙ ap (λ o. flat_map message_given (option_to_list o)) (sym (gives_is k is)), g.1 ∙ sym (receives_is k is))
 
     frame_gives : (k : Pci) → kind bytes s.max_request ≡ k → Steps (Physical bytes) (frame_happens s at E bytes k)
@@ -198,7 +204,8 @@ module _ (s : LinkSetup) (at : Place) (E : List Event) (c : Option Start) (own :
   was_open zero past e = e
   was_open (suc n) past e = was_open n past (kept_open (suc (now (replicate n (Ticks 1) ++ past))) (open_at s (replicate n (Ticks 1) ++ past)) e)
 
-  time_case : (u v : Bool) → is_some c ≡ u → (v ≡ true → u ≡ true) → (heard c (lost_if (u && not v)) ≡ []) × (is_some (coming_after c (lost_if (u && not v))) ≡ v)
+  time_case : (u v : Bool) → is_some c ≡ u → (v ≡ true → u ≡ true) → (heard c (lost_if (u && not v)) ≡ []) ×
+      (is_some (coming_after c (lost_if (u && not v))) ≡ v)
   time_case true true e f = (refl, e)
   time_case true false e f = (lost_heard c true, refl)
   time_case false true e f = cc (f refl)
@@ -206,7 +213,9 @@ module _ (s : LinkSetup) (at : Place) (E : List Event) (c : Option Start) (own :
 
   time_gives : (n : ℕ) → Steps (Ticks n) (lost_if (breaks s E (Ticks n)))
   unfolding gives
-  time_gives n = time_case (receives s E) (receives s (E ++ Ticks n ∷ [])) own (λ e. was_open n (history E) (ap (λ h. is_unfinished (open_at s h)) (sym (ticks_before n)) ∙ e))
+  time_gives n =
+      time_case (receives s E) (receives s (E ++ Ticks n ∷ [])) own
+      (λ e. was_open n (history E) (ap (λ h. is_unfinished (open_at s h)) (sym (ticks_before n)) ∙ e))
 
   abbrev IsUnits : Event → Type 0
   IsUnits (Physical bytes) = Unit {0}
@@ -239,7 +248,8 @@ flat_append f (x ∷ xs) ys = ap (λ w. f x ++ w) (flat_append f xs ys) ∙ sym 
 abbrev GivesAll : LinkSetup → Option Start → List Happening → List Event → List Event → Type 0
 GivesAll s c hs E es = (heard c hs ≡ flat_map message_given (steps_after s E es)) × (is_some (coming_after c hs) ≡ receives s (E ++ es))
 
-all_give : (s : LinkSetup) (at : Place) (E es : List Event) (c : Option Start) → is_some c ≡ receives s E → Each IsOfUnit es → GivesAll s c (all_happen s at E es) E es
+all_give : (s : LinkSetup) (at : Place) (E es : List Event) (c : Option Start) → is_some c ≡ receives s E → Each IsOfUnit es
+    → GivesAll s c (all_happen s at E es) E es
 all_give s at E [] c own u = (refl, own ∙ ap (receives s) (sym (append-nil E)))
 all_give s at E (e ∷ es) c own u =
     let one = of_unit s at E c own e u.0 in
@@ -253,7 +263,8 @@ all_give s at E (e ∷ es) c own u =
 steps_append : (s : LinkSetup) (E xs ys : List Event) → steps_after s E (xs ++ ys) ≡ steps_after s E xs ++ steps_after s (E ++ xs) ys
 steps_append s E [] ys = ap (λ w. steps_after s w ys) (sym (append-nil E))
 steps_append s E (x ∷ xs) ys =
-    ap (λ w. option_to_list (gives s E x) ++ w) (steps_append s (E ++ x ∷ []) xs ys ∙ ap (λ w. steps_after s (E ++ x ∷ []) xs ++ steps_after s w ys) (append_assoc E (x ∷ []) xs))
+    ap (λ w. option_to_list (gives s E x) ++ w) (steps_append s (E ++ x ∷ []) xs ys ∙ ap (λ w. steps_after s (E ++ x ∷ []) xs ++ steps_after s w ys)
+    (append_assoc E (x ∷ []) xs))
     ∙ sym (append_assoc (option_to_list (gives s E x)) (steps_after s (E ++ x ∷ []) xs) (steps_after s (E ++ x ∷ xs) ys))
 
 -- ---- the events of a line
@@ -317,10 +328,12 @@ module _ (expects : State → Entry → Expected) (setup : RawSetup) (t : ℕ) w
   abbrev line_gives : List (List ℕ) → List ℕ → List Event
   line_gives past line = time_of_line past (bus_line line) ++ unit_frame setup t (bus_line line)
 
-  pub unit_push : (past lines : List (List ℕ)) (line : List ℕ) → unit_after setup t past (lines ++ line ∷ []) ≡ unit_after setup t past lines ++ line_gives (past ++ lines) line
+  pub unit_push : (past lines : List (List ℕ)) (line : List ℕ) → unit_after setup t past (lines ++ line ∷ [])
+      ≡ unit_after setup t past lines ++ line_gives (past ++ lines) line
   unit_push past [] line = append-nil (line_gives past line) ∙ ap (λ w. line_gives w line) (sym (append-nil past))
   unit_push past (first ∷ lines) line =
-      ap (λ w. line_gives past first ++ w) (unit_push (past ++ first ∷ []) lines line ∙ ap (λ w. unit_after setup t (past ++ first ∷ []) lines ++ line_gives w line) (append_assoc past (first ∷ []) lines))
+      ap (λ w. line_gives past first ++ w) (unit_push (past ++ first ∷ []) lines line
+      ∙ ap (λ w. unit_after setup t (past ++ first ∷ []) lines ++ line_gives w line) (append_assoc past (first ∷ []) lines))
       ∙ sym (append_assoc (line_gives past first) (unit_after setup t (past ++ first ∷ []) lines) (line_gives (past ++ first ∷ lines) line))
 
   line_heard : (past : List (List ℕ)) (line : List ℕ) (c : Option Start) → is_some c ≡ receives side (unit_events setup t past)
@@ -340,7 +353,8 @@ module _ (expects : State → Entry → Expected) (setup : RawSetup) (t : ℕ) w
       let front : heard c (first ++ second) ≡ flat_map message_given (steps_after side E time) =
       heard_append c first second ∙ (ap₂ (λ (x y : List (List ℕ)). x ++ y) a.0 b.0 ∙ append-nil (flat_map message_given (steps_after side E time))) in (
         heard_append c (first ++ second) third ∙ (ap₂ (λ (x y : List (List ℕ)). x ++ y) front d.0
-            ∙ (sym (flat_append message_given (steps_after side E time) (steps_after side (E ++ time) frame)) ∙ ap (flat_map message_given) (sym (steps_append side E time frame)))),
+            ∙ (sym (flat_append message_given (steps_after side E time) (steps_after side (E ++ time) frame)) ∙ ap (flat_map message_given)
+            (sym (steps_append side E time frame)))),
         ap is_some (coming_append c (first ++ second) third) ∙ (d.1 ∙ ap (receives side) (append_assoc E time frame)),
       )
 

@@ -135,15 +135,18 @@ module _ (setup : RawSetup) where
   abbrev given : List (List ℕ) → List ℕ → List Entry
   given past line = answered (ecu_after setup past) (steps_of_after (link_of setup) (events_of setup past) (line_events setup past line))
 
-  run_push : (past : List (List ℕ)) (line : List ℕ) → run_of setup (events_of setup (past ++ line ∷ [])) ≡ run_of setup (events_of setup past) ++ given past line
+  run_push : (past : List (List ℕ)) (line : List ℕ) → run_of setup (events_of setup (past ++ line ∷ [])) ≡ run_of setup
+      (events_of setup past) ++ given past line
   run_push past line =
       ap (run_of setup) (events_push setup past line)
       ∙ (ap (answered (opening setup)) (steps_of_after-append (link_of setup) [] (events_of setup past) (line_events setup past line))
-      ∙ answered_append (opening setup) (steps_of (link_of setup) (events_of setup past)) (steps_of_after (link_of setup) (events_of setup past) (line_events setup past line)))
+      ∙ answered_append (opening setup) (steps_of (link_of setup) (events_of setup past)) (steps_of_after (link_of setup) (events_of setup past)
+      (line_events setup past line)))
 
   entries_are : (past : List (List ℕ)) (line : List ℕ) → entries_by setup past line ≡ in_states (ecu_after setup past) (given past line)
   entries_are past line =
-      ap (in_states (ecu_after setup past)) (ap (drop (length (run_of setup (events_of setup past)))) (run_push past line) ∙ drop_front (run_of setup (events_of setup past)) (given past line))
+      ap (in_states (ecu_after setup past)) (ap (drop (length (run_of setup (events_of setup past)))) (run_push past line)
+      ∙ drop_front (run_of setup (events_of setup past)) (given past line))
 
   states_push : (past : List (List ℕ)) (line : List ℕ) → in_states (opening setup) (run_of setup (events_of setup (past ++ line ∷ [])))
       ≡ in_states (opening setup) (run_of setup (events_of setup past)) ++ entries_by setup past line
@@ -178,7 +181,8 @@ module _ (expects : State → Entry → Expected) (setup : RawSetup) (t : ℕ) w
       let third = all_happen (unit_side setup t) at (E ++ time) (unit_frame setup t (bus_line line)) in
       flat_append asked_one (first ++ second) third
       ∙ (ap₂ (λ (x y : List Question). x ++ y)
-      (flat_append asked_one first second ∙ ap₂ (λ (x y : List Question). x ++ y) (all_ask (unit_side setup t) at E time) (entries_ask at (filter (is_of t) (entries_by setup past line))))
+      (flat_append asked_one first second ∙ ap₂ (λ (x y : List Question). x ++ y) (all_ask (unit_side setup t) at E time)
+      (entries_ask at (filter (is_of t) (entries_by setup past line))))
       (all_ask (unit_side setup t) at (E ++ time) (unit_frame setup t (bus_line line)))
       ∙ append-nil (own_of (entries_by setup past line)))
 

@@ -73,7 +73,9 @@ not_differs o e = not_false (agrees o) e
 
 all_agree : (os : List Over) → list_any differs os ≡ false → All (λ o. agrees o ≡ true) os
 all_agree [] e = All-nil (λ o. agrees o ≡ true)
-all_agree (o ∷ os) e = All-cons (λ o. agrees o ≡ true) o os (not_differs o (or_left (differs o) (list_any differs os) e)) (all_agree os (or_right (differs o) (list_any differs os) e))
+all_agree (o ∷ os) e =
+    All-cons (λ o. agrees o ≡ true) o os (not_differs o (or_left (differs o) (list_any differs os) e))
+    (all_agree os (or_right (differs o) (list_any differs os) e))
 
 is_asked : (o : Over) → agrees o ≡ true → is_exchange o ≡ true
 is_asked (Exchange request pendings answer) e = refl
@@ -98,7 +100,8 @@ module _ (expects : State → Entry → Expected) (setup : RawSetup) (lines : Li
         let hs = happenings expects setup t lines in
         let told = exchanges expects setup lines t in
         of_map (courses hs) (All-permutation (λ o. agrees o ≡ true) (filter is_exchange told) (map exchange (courses hs))
-        (IsPermutation-sym (map exchange (courses hs)) (filter is_exchange told) (told_once hs)) (All-filter is_exchange (λ o. agrees o ≡ true) told (all_of t place)));
+        (IsPermutation-sym (map exchange (courses hs)) (filter is_exchange told) (told_once hs)) (All-filter is_exchange (λ o. agrees o ≡ true) told
+        (all_of t place)));
     asked = λ t place. All-weaker (λ o. agrees o ≡ true) (λ o. is_exchange o ≡ true) is_asked (exchanges expects setup lines t) (all_of t place);
     some = something (any_differs expects setup lines) (list_any is_compared (all_exchanges expects setup lines)) tests.0 tests.1;
   }

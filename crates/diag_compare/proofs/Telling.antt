@@ -17,7 +17,8 @@ use Rattle.diag_compare.proofs.Questions.{drop_front}
 over_append : (past xs ys : List Happening) → exchanges.over_after past (xs ++ ys) ≡ exchanges.over_after past xs ++ exchanges.over_after (past ++ xs) ys
 over_append past [] ys = ap (λ w. exchanges.over_after w ys) (sym (append-nil past))
 over_append past (x ∷ xs) ys =
-    ap (λ w. over_with past x ++ w) (over_append (past ++ x ∷ []) xs ys ∙ ap (λ w. exchanges.over_after (past ++ x ∷ []) xs ++ exchanges.over_after w ys) (append_assoc past (x ∷ []) xs))
+    ap (λ w. over_with past x ++ w) (over_append (past ++ x ∷ []) xs ys
+    ∙ ap (λ w. exchanges.over_after (past ++ x ∷ []) xs ++ exchanges.over_after w ys) (append_assoc past (x ∷ []) xs))
     ∙ sym (append_assoc (over_with past x) (exchanges.over_after (past ++ x ∷ []) xs) (exchanges.over_after (past ++ x ∷ xs) ys))
 
 module _ (expects : State → Entry → Expected) (setup : RawSetup) (t : ℕ) where
@@ -43,7 +44,8 @@ module _ (expects : State → Entry → Expected) (setup : RawSetup) (t : ℕ) w
   by_line : (past : List (List ℕ)) (line : List ℕ) → over_by expects setup past line t ≡ map (beside t) (with_line past line)
   by_line past line = ap (map (beside t)) (ap (drop (length (all_over past))) (over_push past line) ∙ drop_front (all_over past) (with_line past line))
 
-  told_so_far : (past lines : List (List ℕ)) → map (beside t) (all_over past) ++ over_after expects setup t past lines ≡ map (beside t) (all_over (past ++ lines))
+  told_so_far : (past lines : List (List ℕ)) → map (beside t) (all_over past) ++ over_after expects setup t past lines ≡ map (beside t)
+      (all_over (past ++ lines))
   told_so_far past [] = append-nil (map (beside t) (all_over past)) ∙ ap (λ w. map (beside t) (all_over w)) (sym (append-nil past))
   told_so_far past (line ∷ lines) =
       let rest = over_after expects setup t (past ++ line ∷ []) lines in

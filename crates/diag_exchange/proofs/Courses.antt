@@ -80,7 +80,8 @@ module _ (c : Course) where
       (list_any-append (replaced_by c.request) c.behind (record { request = r; answered = is_answered c } ∷ [])
       ∙ ap (λ g. is_replaced c || g) (or_false (replaces r c.request)))
 
-  answer_more : (m : Heard) → is_answered c ≡ false → (o : Option Heard) → answer c ≡ o → find is_final (c.answers ++ m ∷ []) ≡ (if not (is_pending m) then Some m else None)
+  answer_more : (m : Heard) → is_answered c ≡ false → (o : Option Heard) → answer c ≡ o → find is_final (c.answers ++ m ∷ [])
+      ≡ (if not (is_pending m) then Some m else None)
   answer_more m e None is = find-append is_final c.answers (m ∷ []) ∙ ap (λ o. option_or o (find is_final (m ∷ []))) is
   answer_more m e (Some n) is = absurd (false_true (sym e ∙ ap is_some is))
 

@@ -45,12 +45,14 @@ knows_finish : (o : Option Heard) (cs : List Course) → Pairs Knows cs → Pair
 knows_finish None cs k = pairs_change Knows hears_it hears_no_more (λ c d e. e) (λ c d e. e) cs k
 knows_finish (Some m) cs k = pairs_change Knows hears_it (with_answer m) (λ c d e. e) (λ c d e. e) cs k
 
-knows_hear : (start : Start) (cs : List Course) → Pairs Knows cs → (b : Bool) → Pairs Knows (if b then change_last (is_loud_candidate start) hearing cs else change_last (is_candidate start) hearing cs)
+knows_hear : (start : Start) (cs : List Course) → Pairs Knows cs → (b : Bool)
+    → Pairs Knows (if b then change_last (is_loud_candidate start) hearing cs else change_last (is_candidate start) hearing cs)
 knows_hear start cs k true = knows_changed (is_loud_candidate start) cs k
 knows_hear start cs k false = knows_changed (is_candidate start) cs k
 
 knows_then : (before : Option Start) (h : Happening) (cs : List Course) → Pairs Knows cs → Pairs Knows (happens before h cs)
-knows_then before (Asked r) cs k = pairs_push Knows (map (and_behind r) cs) (asked r) (pairs_map Knows Knows (and_behind r) (λ c d. knows_more r c d) cs k) (each_new r cs)
+knows_then before (Asked r) cs k =
+    pairs_push Knows (map (and_behind r) cs) (asked r) (pairs_map Knows Knows (and_behind r) (λ c d. knows_more r c d) cs k) (each_new r cs)
 knows_then before (Began start) cs k = knows_hear start cs k (list_any (is_loud_candidate start) cs)
 knows_then before (Came bytes) cs k = knows_finish (completes before (Came bytes)) cs k
 knows_then before Lost cs k = knows_finish None cs k
@@ -89,7 +91,8 @@ module _ (service : ℕ) where
   Fixed e = (first_byte e.request ≡ service) × (e.replaced ≡ false)
 
   fixed_of : (e : Open) → Stays e → quiet e ≡ true → Fixed e
-  fixed_of e s q = let both = and_true (has_first_byte service e) (not e.hears) q in (eqb-true (first_byte e.request) service both.0, s (not_true e.hears both.1))
+  fixed_of e s q =
+      let both = and_true (has_first_byte service e) (not e.hears) q in (eqb-true (first_byte e.request) service both.0, s (not_true e.hears both.1))
 
   fixed_all : (es : List Open) → Each Stays es → Each (λ e. quiet e ≡ true) es → Each Fixed es
   fixed_all [] s q = tt
@@ -141,7 +144,8 @@ module _ (service : ℕ) where
 
   few_of : (es : List Open) → Each Stays es → Pairs KnowsKept es → length (filter (has_first_byte service) es) ≤ 2 + count es
   few_of es s k =
-      let most = at_most (filter quiet es) (fixed_all (filter quiet es) (each_filter Stays quiet es s) (filter_true quiet es)) (pairs_filter KnowsKept quiet es k) in
+      let most = at_most (filter quiet es) (fixed_all (filter quiet es) (each_filter Stays quiet es s) (filter_true quiet es))
+      (pairs_filter KnowsKept quiet es k) in
       let parts = split es in
       omega (arith, most, parts)
 
@@ -149,7 +153,8 @@ pub few : (es : List Open) (now : Option Start) (hs : List Happening) → Stands
     → length (filter (has_first_byte service) es) ≤ 2 + length (option_to_list now)
 few es now hs s service =
     let all = filter is_open (courses hs) in
-    let stay : Each Stays es = subst (Each Stays) (sym s.are_open) (each_map (λ c. is_open c ≡ true) Stays kept open_stays all (filter_true is_open (courses hs))) in
+    let stay : Each Stays es = subst (Each Stays) (sym s.are_open) (each_map (λ c. is_open c ≡ true) Stays kept open_stays all
+    (filter_true is_open (courses hs))) in
     let know : Pairs KnowsKept es = subst (Pairs KnowsKept) (sym s.are_open)
     (pairs_map Knows KnowsKept kept (λ c d k. k) all (pairs_filter Knows is_open (courses hs) (knows_all None [] hs tt))) in
     let most = few_of service es stay know in

@@ -29,7 +29,8 @@ module _ (p : Open → Bool) where
   any_last es i last = let e = found_in (slice_get es i) last.0 in any_at es i e.0 e.1 e.2
 
   module _ (f : Open → Open) where
-    set_change : (es : List Open) (i : ℕ) (e : Open) → slice_get es i ≡ Some e → p e ≡ true → list_any p (drop (suc i) es) ≡ false → slice_set es i (f e) ≡ change_last p f es
+    set_change : (es : List Open) (i : ℕ) (e : Open) → slice_get es i ≡ Some e → p e ≡ true → list_any p (drop (suc i) es) ≡ false
+        → slice_set es i (f e) ≡ change_last p f es
     set_change [] zero e here has none = absurd (none-some e here)
     set_change [] (suc i) e here has none = absurd (none-some e here)
     set_change (x ∷ es) zero e here has none =
@@ -39,7 +40,8 @@ module _ (p : Open → Bool) where
         ap (λ w. x ∷ w) (set_change es i e here has none) ∙ sym (change_later p f x es (any_at es i e here has))
 
     -- the code changed it there
-    pub changed_last : (es : List Open) (i : ℕ) (own new : Open) → IsLast p es (Some i) → own ≡ slice_index_or es i own → new ≡ f own → slice_set es i new ≡ change_last p f es
+    pub changed_last : (es : List Open) (i : ℕ) (own new : Open) → IsLast p es (Some i) → own ≡ slice_index_or es i own → new ≡ f own
+        → slice_set es i new ≡ change_last p f es
     changed_last es i own new last is_own is_new =
         let e = found_in (slice_get es i) last.0 in
         let here : slice_get es i ≡ Some own = slice_get_read es (length es) i own refl (slice_get_within es i e.0 e.1) is_own in

@@ -65,7 +65,9 @@ module _ (p : Open → Bool) where
 -- none hears it any more
 none_hears : (es : List Open) → list_any hears_it es ≡ false → count es ≡ 0
 none_hears [] e = refl
-none_hears (x ∷ es) e = ap (λ b. length (cond b (x ∷ filter hears_it es) (filter hears_it es))) (or_left x.hears (list_any hears_it es) e) ∙ none_hears es (or_right x.hears (list_any hears_it es) e)
+none_hears (x ∷ es) e =
+    ap (λ b. length (cond b (x ∷ filter hears_it es) (filter hears_it es))) (or_left x.hears (list_any hears_it es) e)
+    ∙ none_hears es (or_right x.hears (list_any hears_it es) e)
 
 some_case : (x : Open) (es : List Open) → (list_any hears_it es ≡ true → 1 ≤ count es) → (b : Bool) → (b || list_any hears_it es) ≡ true
     → 1 ≤ length (cond b (x ∷ filter hears_it es) (filter hears_it es))

@@ -79,12 +79,14 @@ pub pairs_filter : {X : Type 0} (P : X → X → Type 0) (t : X → Bool) (xs : 
 pairs_filter P t [] e = tt
 pairs_filter P t (x ∷ xs) e = pairs_cond P (t x) x (filter t xs) (each_filter (P x) t xs e.0) (pairs_filter P t xs e.1)
 
-pub pairs_map : {X Y : Type 0} (P : X → X → Type 0) (Q : Y → Y → Type 0) (f : X → Y) → ((x y : X) → P x y → Q (f x) (f y)) → (xs : List X) → Pairs P xs → Pairs Q (map f xs)
+pub pairs_map : {X Y : Type 0} (P : X → X → Type 0) (Q : Y → Y → Type 0) (f : X → Y) → ((x y : X) → P x y → Q (f x) (f y)) → (xs : List X)
+    → Pairs P xs → Pairs Q (map f xs)
 pairs_map P Q f go [] e = tt
 pairs_map P Q f go (x ∷ xs) e = (each_map (P x) (Q (f x)) f (go x) xs e.0, pairs_map P Q f go xs e.1)
 
 module _ {X : Type 0} (P : X → Type 0) (p : X → Bool) (f : X → X) (go : (x : X) → P x → p x ≡ true → P (f x)) where
-  each_changed : (x : X) (xs : List X) → P x → Each P xs → Each P (change_last p f xs) → (a h : Bool) → list_any p xs ≡ a → p x ≡ h → Each P (change_last p f (x ∷ xs))
+  each_changed : (x : X) (xs : List X) → P x → Each P xs → Each P (change_last p f xs) → (a h : Bool) → list_any p xs ≡ a → p x ≡ h
+      → Each P (change_last p f (x ∷ xs))
   each_changed x xs own all rest true h some here = rw (change_later p f x xs some) (own, rest)
   each_changed x xs own all rest false true none here = rw (change_last_here p f x xs none here) (go x own here, all)
   each_changed x xs own all rest false false none here = rw (change_not_here p f x xs none here) (own, all)
@@ -124,7 +126,8 @@ each_to P Q go [] e = tt
 each_to P Q go (x ∷ xs) e = (go x e.0, each_to P Q go xs e.1)
 
 module _ {X : Type 0} (P : X → X → Type 0) (p : X → Bool) (f : X → X) (left : (x y : X) → P x y → P (f x) y) (right : (x y : X) → P x y → P x (f y)) where
-  pairs_changed : (x : X) (xs : List X) → Each (P x) xs → Pairs P xs → Pairs P (change_last p f xs) → (a h : Bool) → list_any p xs ≡ a → p x ≡ h → Pairs P (change_last p f (x ∷ xs))
+  pairs_changed : (x : X) (xs : List X) → Each (P x) xs → Pairs P xs → Pairs P (change_last p f xs) → (a h : Bool) → list_any p xs ≡ a → p x ≡ h
+      → Pairs P (change_last p f (x ∷ xs))
   pairs_changed x xs own all rest true h some here = rw (change_later p f x xs some) (each_change (P x) p f (λ y q e. right x y q) xs own, rest)
   pairs_changed x xs own all rest false true none here = rw (change_last_here p f x xs none here) (each_to (P x) (P (f x)) (left x) xs own, all)
   pairs_changed x xs own all rest false false none here = rw (change_not_here p f x xs none here) (own, all)

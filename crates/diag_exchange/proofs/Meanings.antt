@@ -34,7 +34,8 @@ each_plain (x ∷ xs) (y ∷ ys) e =
     let rest = each_plain xs ys both.1 in
     (ap suc rest.0, λ i l. at i l (eqb-true x y both.0) rest.1)
   where
-    at : (i : ℕ) → i < length (y ∷ ys) → x ≡ y → ((i : ℕ) → i < length ys → slice_index xs i ≡ slice_index ys i) → slice_index (x ∷ xs) i ≡ slice_index (y ∷ ys) i
+    at : (i : ℕ) → i < length (y ∷ ys) → x ≡ y → ((i : ℕ) → i < length ys → slice_index xs i ≡ slice_index ys i) → slice_index (x ∷ xs) i
+        ≡ slice_index (y ∷ ys) i
     at zero l first more = first
     at (suc i) l first more = more i (omega (arith, l))
 
@@ -51,7 +52,8 @@ same_bytes (m ∷ ms) (x ∷ xs) (y ∷ ys) e =
     let rest = same_bytes ms xs ys both.1 in
     record { as_many = ap suc rest.as_many; each = λ i l z. at i l z both.0 rest.each }
   where
-    at : (i : ℕ) → i < length (y ∷ ys) → slice_index (m ∷ ms) i ≡ 0 → same_byte m x y ≡ true → ((i : ℕ) → i < length ys → slice_index ms i ≡ 0 → slice_index xs i ≡ slice_index ys i)
+    at : (i : ℕ) → i < length (y ∷ ys) → slice_index (m ∷ ms) i ≡ 0 → same_byte m x y ≡ true → ((i : ℕ) → i < length ys → slice_index ms i ≡ 0
+        → slice_index xs i ≡ slice_index ys i)
         → slice_index (x ∷ xs) i ≡ slice_index (y ∷ ys) i
     at zero l z first more = same_here m x y first z
     at (suc i) l z first more = more i (omega (arith, l)) z
@@ -83,7 +85,8 @@ moved_of [] (q ∷ qs) often = absurd (omega (arith, often q, least_itself q qs)
 moved_of (r ∷ rs) qs often =
     let s = stand r qs (omega (arith, often r, least_itself r rs)) in
     let others = s.front ++ s.back in
-    let to_front : IsPermutation qs (r ∷ others) = subst (λ (w : List Record). IsPermutation w (r ∷ others)) (sym s.is) (IsPermutation-middle s.front r s.back) in
+    let to_front : IsPermutation qs (r ∷ others) = subst (λ (w : List Record). IsPermutation w (r ∷ others)) (sym s.is)
+    (IsPermutation-middle s.front r s.back) in
     let less : (k : Record) → times k rs ≡ times k others =
     λ k. omega (arith, often k, times_more k r rs, times_more k r others, sum_by-IsPermutation (λ x. one_if (bytes_eq k x)) qs (r ∷ others) to_front) in
     IsPermutation-trans (r ∷ rs) (r ∷ others) qs (IsPermutation-cons r rs others (moved_of rs others less)) (IsPermutation-sym qs (r ∷ others) to_front)
@@ -102,7 +105,8 @@ same_list expected sent reply e =
 
 -- ---- an exchange
 
-same_reply_means : (expected : Expected) (sent reply : List ℕ) → same_reply expected sent reply ≡ true → SameBytes (marks expected.varies) sent reply ⊎ SameList expected sent reply
+same_reply_means : (expected : Expected) (sent reply : List ℕ) → same_reply expected sent reply ≡ true
+    → SameBytes (marks expected.varies) sent reply ⊎ SameList expected sent reply
 same_reply_means expected sent reply e = elim (or_cases (same_but (marks expected.varies) sent reply) (expected.own && same_in_any_order sent reply) e) [
   | inl a ↦ inl (same_bytes (marks expected.varies) sent reply a)
   | inr b ↦ inr (same_list expected sent reply b)

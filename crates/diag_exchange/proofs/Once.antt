@@ -40,9 +40,11 @@ true_false true e f = cc
 true_false false e f = cc
 
 module _ (p : Course → Bool) (f : Course → Course) (opens : (c : Course) → IsSound c → p c ≡ true → is_over c ≡ false) where
-  follows_case : (c : Course) (cs : List Course) → IsSound c → Follows cs (change_last p f cs) → (a h : Bool) → list_any p cs ≡ a → p c ≡ h → Follows (c ∷ cs) (change_last p f (c ∷ cs))
+  follows_case : (c : Course) (cs : List Course) → IsSound c → Follows cs (change_last p f cs) → (a h : Bool) → list_any p cs ≡ a → p c ≡ h
+      → Follows (c ∷ cs) (change_last p f (c ∷ cs))
   follows_case c cs s rest true h some here = rw (change_later p f c cs some) ((λ e. (e, refl)), rest)
-  follows_case c cs s rest false true none here = rw (change_last_here p f c cs none here) ((λ e. absurd (true_false (is_over c) e (opens c s here))), follows_itself cs)
+  follows_case c cs s rest false true none here =
+      rw (change_last_here p f c cs none here) ((λ e. absurd (true_false (is_over c) e (opens c s here))), follows_itself cs)
   follows_case c cs s rest false false none here = rw (change_not_here p f c cs none here) ((λ e. (e, refl)), follows_itself cs)
 
   follows_change : (cs : List Course) → Each IsSound cs → Follows cs (change_last p f cs)
@@ -53,8 +55,10 @@ follows_asked : (r : Request) (cs : List Course) → Each IsSound cs → Follows
 follows_asked r [] s = (refl, tt)
 follows_asked r (c ∷ cs) s = ((λ e. (over_behind c s.0 r e, refl)), follows_asked r cs s.1)
 
-follows_hear : (start : Start) (cs : List Course) → Each IsSound cs → (b : Bool) → Follows cs (if b then change_last (is_loud_candidate start) hearing cs else change_last (is_candidate start) hearing cs)
-follows_hear start cs s true = follows_change (is_loud_candidate start) hearing (λ c t e. candidate_open c t start (and_true (is_candidate start c) (is_loud c.request) e).0) cs s
+follows_hear : (start : Start) (cs : List Course) → Each IsSound cs → (b : Bool)
+    → Follows cs (if b then change_last (is_loud_candidate start) hearing cs else change_last (is_candidate start) hearing cs)
+follows_hear start cs s true =
+    follows_change (is_loud_candidate start) hearing (λ c t e. candidate_open c t start (and_true (is_candidate start c) (is_loud c.request) e).0) cs s
 follows_hear start cs s false = follows_change (is_candidate start) hearing (λ c t. candidate_open c t start) cs s
 
 follows_finish : (o : Option Heard) (cs : List Course) → Each IsSound cs → Follows cs (finish o cs)
@@ -85,12 +89,14 @@ by_tests c d cs now a b = IsPermutation (map exchange (cond b (d ∷ filter is_o
 
 parts_case : (c d : Course) (cs now : List Course) → Stays c d → Parts cs now → (a b : Bool) → is_over c ≡ a → is_over d ≡ b → by_tests c d cs now a b
 parts_case c d cs now stay rest true true e f =
-    subst (λ (o : Over). IsPermutation (o ∷ finished now) (exchange c ∷ (finished cs ++ newly cs now))) (sym (stay e).1) (IsPermutation-cons (exchange c) (finished now) (finished cs ++ newly cs now) rest)
+    subst (λ (o : Over). IsPermutation (o ∷ finished now) (exchange c ∷ (finished cs ++ newly cs now))) (sym (stay e).1)
+    (IsPermutation-cons (exchange c) (finished now) (finished cs ++ newly cs now) rest)
 parts_case c d cs now stay rest true false e f = absurd (true_false (is_over d) (stay e).0 f)
 parts_case c d cs now stay rest false true e f =
     IsPermutation-trans (exchange d ∷ finished now) (exchange d ∷ (finished cs ++ newly cs now)) (finished cs ++ exchange d ∷ newly cs now)
     (IsPermutation-cons (exchange d) (finished now) (finished cs ++ newly cs now) rest)
-    (IsPermutation-sym (finished cs ++ exchange d ∷ newly cs now) (exchange d ∷ (finished cs ++ newly cs now)) (IsPermutation-middle (finished cs) (exchange d) (newly cs now)))
+    (IsPermutation-sym (finished cs ++ exchange d ∷ newly cs now) (exchange d ∷ (finished cs ++ newly cs now))
+    (IsPermutation-middle (finished cs) (exchange d) (newly cs now)))
 parts_case c d cs now stay rest false false e f = rest
 
 parts : (cs now : List Course) → Follows cs now → Parts cs now
@@ -118,7 +124,8 @@ no_exchange cs (Some m) = no_case (list_any hears_it cs)
 told_with : (past : List Happening) (h : Happening) → filter is_exchange (over_with past h) ≡ newly (courses past) (courses (past ++ h ∷ []))
 told_with past h =
     filter-append is_exchange (newly (courses past) (courses (past ++ h ∷ []))) (unasked (courses past) (completes (coming past) h))
-    ∙ (ap₂ (λ (x y : List Over). x ++ y) (all_exchanges (newly_over (courses past) (courses (past ++ h ∷ [])))) (no_exchange (courses past) (completes (coming past) h))
+    ∙ (ap₂ (λ (x y : List Over). x ++ y) (all_exchanges (newly_over (courses past) (courses (past ++ h ∷ []))))
+    (no_exchange (courses past) (completes (coming past) h))
     ∙ append-nil (newly (courses past) (courses (past ++ h ∷ []))))
 
 one_step : (past : List Happening) (h : Happening) (told : List Over) → IsPermutation (finished (courses past)) told
@@ -128,17 +135,22 @@ one_step past h told p =
     let now = courses (past ++ h ∷ []) in
     let f : Follows cs now = subst (Follows cs) (sym (courses_more None [] past h)) (follows (coming past) h cs (sound past)) in
     subst (λ (w : List Over). IsPermutation (finished now) (told ++ w)) (sym (told_with past h))
-    (IsPermutation-trans (finished now) (finished cs ++ newly cs now) (told ++ newly cs now) (parts cs now f) (IsPermutation-append_left (newly cs now) (finished cs) told p))
+    (IsPermutation-trans (finished now) (finished cs ++ newly cs now) (told ++ newly cs now) (parts cs now f)
+    (IsPermutation-append_left (newly cs now) (finished cs) told p))
 
 told_after : (past hs : List Happening) (told : List Over) → IsPermutation (finished (courses past)) told
     → IsPermutation (finished (courses (past ++ hs))) (told ++ filter is_exchange (over_after past hs))
-told_after past [] told p = subst (λ (w : List Happening). IsPermutation (finished (courses w)) (told ++ [])) (sym (append-nil past)) (subst (IsPermutation (finished (courses past))) (sym (append-nil told)) p)
+told_after past [] told p =
+    subst (λ (w : List Happening). IsPermutation (finished (courses w)) (told ++ [])) (sym (append-nil past))
+    (subst (IsPermutation (finished (courses past))) (sym (append-nil told)) p)
 told_after past (h ∷ hs) told p =
     let rest = told_after (past ++ h ∷ []) hs (told ++ filter is_exchange (over_with past h)) (one_step past h told p) in
-    let same : (told ++ filter is_exchange (over_with past h)) ++ filter is_exchange (over_after (past ++ h ∷ []) hs) ≡ told ++ filter is_exchange (over_with past h ++ over_after (past ++ h ∷ []) hs) =
+    let same : (told ++ filter is_exchange (over_with past h)) ++ filter is_exchange (over_after (past ++ h ∷ []) hs) ≡ told ++ filter is_exchange
+    (over_with past h ++ over_after (past ++ h ∷ []) hs) =
     append_assoc told (filter is_exchange (over_with past h)) (filter is_exchange (over_after (past ++ h ∷ []) hs))
     ∙ ap (λ w. told ++ w) (sym (filter-append is_exchange (over_with past h) (over_after (past ++ h ∷ []) hs))) in
-    subst (λ (w : List Happening). IsPermutation (finished (courses w)) (told ++ filter is_exchange (over_with past h ++ over_after (past ++ h ∷ []) hs))) (append_assoc past (h ∷ []) hs)
+    subst (λ (w : List Happening). IsPermutation (finished (courses w))
+    (told ++ filter is_exchange (over_with past h ++ over_after (past ++ h ∷ []) hs))) (append_assoc past (h ∷ []) hs)
     (subst (IsPermutation (finished (courses ((past ++ h ∷ []) ++ hs)))) same rest)
 
 pub told_once : (hs : List Happening) → IsPermutation (map exchange (courses hs)) (filter is_exchange (over_at_end hs))

@@ -161,7 +161,8 @@ sorted_pairs xs s = pairs_from xs (sorted_far above (ranks_by nat_list_cmp_total
 times_moved : (k : Record) (us vs : List Ref) → IsPermutation us vs → times k (bytes_of vs) ≡ times k (bytes_of us)
 times_moved k us vs p = sum_by-IsPermutation (λ x. one_if (bytes_eq k x)) (bytes_of us) (bytes_of vs) (IsPermutation-map (λ r. r.now) us vs p)
 
-pub sorted_same : (us vs us' vs' : List Ref) → IsPermutation us us' → IsPermutation vs vs' → IsSorted (λ (x y : Ref). compare x.now y.now) us' → IsSorted (λ (x y : Ref). compare x.now y.now) vs'
+pub sorted_same : (us vs us' vs' : List Ref) → IsPermutation us us' → IsPermutation vs vs' → IsSorted (λ (x y : Ref). compare x.now y.now) us'
+    → IsSorted (λ (x y : Ref). compare x.now y.now) vs'
     → test us' vs' ≡ same_records (bytes_of us) (bytes_of vs)
 sorted_same us vs us' vs' p q s t = same_both (test us' vs') (same_records (bytes_of us) (bytes_of vs))
     (λ e. often_all (bytes_of us) (bytes_of vs) (λ k. sym (times_moved k us us' p) ∙ (ap (times k) (test_same us' vs' e) ∙ times_moved k vs vs' q)))

@@ -34,11 +34,14 @@ of_over c cs e = ap (λ (b : Bool). map kept (cond (not b) (c ∷ filter is_open
 of_open : (c : Course) (cs : List Course) → is_over c ≡ false → open_of (c ∷ cs) ≡ kept c ∷ open_of cs
 of_open c cs e = ap (λ (b : Bool). map kept (cond (not b) (c ∷ filter is_open cs) (filter is_open cs))) e
 
-of_done : (a : Bool) (c : Course) (cs : List Course) → is_over c ≡ is_done a (kept c) → open_of (c ∷ cs) ≡ cond (goes_on a (kept c)) (kept c ∷ open_of cs) (open_of cs)
-of_done a c cs e = ap (λ (b : Bool). map kept (cond (not b) (c ∷ filter is_open cs) (filter is_open cs))) e ∙ map_cond kept (goes_on a (kept c)) c (filter is_open cs)
+of_done : (a : Bool) (c : Course) (cs : List Course) → is_over c ≡ is_done a (kept c) → open_of (c ∷ cs) ≡ cond (goes_on a (kept c))
+    (kept c ∷ open_of cs) (open_of cs)
+of_done a c cs e =
+    ap (λ (b : Bool). map kept (cond (not b) (c ∷ filter is_open cs) (filter is_open cs))) e ∙ map_cond kept (goes_on a (kept c)) c (filter is_open cs)
 
 -- those that are open go on
-go_case : (c : Course) (cs : List Course) → IsSound c → Each (λ e. is_done false e ≡ false) (open_of cs) → (b : Bool) → is_over c ≡ b → Each (λ e. is_done false e ≡ false) (open_of (c ∷ cs))
+go_case : (c : Course) (cs : List Course) → IsSound c → Each (λ e. is_done false e ≡ false) (open_of cs) → (b : Bool) → is_over c ≡ b
+    → Each (λ e. is_done false e ≡ false) (open_of (c ∷ cs))
 go_case c cs s rest true e = rw (of_over c cs e) rest
 go_case c cs s rest false e = rw (of_open c cs e) (open_goes_on c s e, rest)
 
@@ -68,7 +71,8 @@ module _ (p : Course → Bool) (f : Course → Course) (q : Open → Bool) (g : 
     (opens : (c : Course) → IsSound c → p c ≡ true → is_over c ≡ false)
     (keeps : (c : Course) → IsSound c → p c ≡ true → kept (f c) ≡ g (kept c))
     (ends : (c : Course) → IsSound c → p c ≡ true → is_over (f c) ≡ is_done false (kept (f c))) where
-  any_case : (c : Course) (cs : List Course) → IsSound c → list_any p cs ≡ list_any q (open_of cs) → (b : Bool) → is_over c ≡ b → list_any p (c ∷ cs) ≡ list_any q (open_of (c ∷ cs))
+  any_case : (c : Course) (cs : List Course) → IsSound c → list_any p cs ≡ list_any q (open_of cs) → (b : Bool) → is_over c ≡ b → list_any p (c ∷ cs)
+      ≡ list_any q (open_of (c ∷ cs))
   any_case c cs s rest true e = ap (λ b. b || list_any p cs) (not_yes (p c) (is_over c) (opens c s) e) ∙ (rest ∙ ap (list_any q) (sym (of_over c cs e)))
   any_case c cs s rest false e = ap₂ (λ a b. a || b) (same c) rest ∙ ap (list_any q) (sym (of_open c cs e))
 
@@ -85,12 +89,14 @@ module _ (p : Course → Bool) (f : Course → Course) (q : Open → Bool) (g : 
   -- none has it
   left_none : (cs : List Course) → Each IsSound cs → list_any p cs ≡ false → Left cs
   left_none cs s none =
-      ap open_of (change_none p f cs none) ∙ sym (ap (filter (goes_on false)) (change_none q g (open_of cs) (sym (any_same cs s) ∙ none)) ∙ all_go (open_of cs) (none_done cs s))
+      ap open_of (change_none p f cs none) ∙ sym (ap (filter (goes_on false)) (change_none q g (open_of cs) (sym (any_same cs s) ∙ none))
+      ∙ all_go (open_of cs) (none_done cs s))
 
   gone_none : (cs : List Course) → Each IsSound cs → list_any p cs ≡ false → Gone cs
   gone_none cs s none =
       ap (λ w. map exchange (newly_over cs w)) (change_none p f cs none) ∙ (ap (map exchange) (newly_same cs)
-      ∙ sym (ap (map told) (ap (filter (is_done false)) (change_none q g (open_of cs) (sym (any_same cs s) ∙ none)) ∙ filter_none (is_done false) (open_of cs) (none_done cs s))))
+      ∙ sym (ap (map told) (ap (filter (is_done false)) (change_none q g (open_of cs) (sym (any_same cs s) ∙ none)) ∙ filter_none (is_done false)
+      (open_of cs) (none_done cs s))))
 
   module _ (c : Course) (cs : List Course) (s : Each IsSound (c ∷ cs)) where
     later : list_any p cs ≡ true → list_any q (open_of cs) ≡ true
@@ -99,12 +105,14 @@ module _ (p : Course → Bool) (f : Course → Course) (q : Open → Bool) (g : 
     -- a later one has it
     left_later : list_any p cs ≡ true → Left cs → (b : Bool) → is_over c ≡ b → Left (c ∷ cs)
     left_later some rest true e =
-        ap open_of (change_later p f c cs some) ∙ (of_over c (change_last p f cs) e ∙ (rest ∙ ap (λ w. filter (goes_on false) (change_last q g w)) (sym (of_over c cs e))))
+        ap open_of (change_later p f c cs some)
+        ∙ (of_over c (change_last p f cs) e ∙ (rest ∙ ap (λ w. filter (goes_on false) (change_last q g w)) (sym (of_over c cs e))))
     left_later some rest false e =
         ap open_of (change_later p f c cs some) ∙ (of_open c (change_last p f cs) e ∙ (ap (λ w. kept c ∷ w) rest
         ∙ sym (ap (λ w. filter (goes_on false) (change_last q g w)) (of_open c cs e)
         ∙ (ap (filter (goes_on false)) (change_later q g (kept c) (open_of cs) (later some))
-        ∙ ap (λ (b : Bool). cond (not b) (kept c ∷ filter (goes_on false) (change_last q g (open_of cs))) (filter (goes_on false) (change_last q g (open_of cs)))) (open_goes_on c s.0 e)))))
+        ∙ ap (λ (b : Bool). cond (not b) (kept c ∷ filter (goes_on false) (change_last q g (open_of cs)))
+        (filter (goes_on false) (change_last q g (open_of cs)))) (open_goes_on c s.0 e)))))
 
     gone_later : list_any p cs ≡ true → Gone cs → (b : Bool) → is_over c ≡ b → Gone (c ∷ cs)
     gone_later some rest true e =
@@ -114,14 +122,16 @@ module _ (p : Course → Bool) (f : Course → Course) (q : Open → Bool) (g : 
         ap (λ w. map exchange (newly_over (c ∷ cs) w)) (change_later p f c cs some) ∙ (ap (map exchange) (newly_first c cs (change_last p f cs))
         ∙ (rest ∙ sym (ap (λ w. map told (filter (is_done false) (change_last q g w))) (of_open c cs e)
         ∙ (ap (λ w. map told (filter (is_done false) w)) (change_later q g (kept c) (open_of cs) (later some))
-        ∙ ap (λ (b : Bool). map told (cond b (kept c ∷ filter (is_done false) (change_last q g (open_of cs))) (filter (is_done false) (change_last q g (open_of cs))))) (open_goes_on c s.0 e)))))
+        ∙ ap (λ (b : Bool). map told (cond b (kept c ∷ filter (is_done false) (change_last q g (open_of cs)))
+        (filter (is_done false) (change_last q g (open_of cs))))) (open_goes_on c s.0 e)))))
 
     module _ (none : list_any p cs ≡ false) (here : p c ≡ true) where
       unfinished : is_over c ≡ false
       unfinished = opens c s.0 here
 
       here_too : change_last q g (open_of (c ∷ cs)) ≡ g (kept c) ∷ open_of cs
-      here_too = ap (change_last q g) (of_open c cs unfinished) ∙ change_last_here q g (kept c) (open_of cs) (sym (any_same cs s.1) ∙ none) (sym (same c) ∙ here)
+      here_too =
+          ap (change_last q g) (of_open c cs unfinished) ∙ change_last_here q g (kept c) (open_of cs) (sym (any_same cs s.1) ∙ none) (sym (same c) ∙ here)
 
       -- it has it, and no later one
       left_here : Left (c ∷ cs)
@@ -187,10 +197,12 @@ module _ (r : Request) where
 
   asked_gone_case : (c : Course) (cs : List Course) → IsSound c → AskedGone cs → (b : Bool) → is_over c ≡ b → AskedGone (c ∷ cs)
   asked_gone_case c cs s rest true e =
-      ap (λ (b : Bool). map exchange (cond (not b && is_over (and_behind r c)) (and_behind r c ∷ newly_over cs (map (and_behind r) cs ++ asked r ∷ [])) (newly_over cs (map (and_behind r) cs ++ asked r ∷ [])))) e
+      ap (λ (b : Bool). map exchange (cond (not b && is_over (and_behind r c))
+      (and_behind r c ∷ newly_over cs (map (and_behind r) cs ++ asked r ∷ [])) (newly_over cs (map (and_behind r) cs ++ asked r ∷ [])))) e
       ∙ (rest ∙ ap (λ w. map told (filter (is_done true) (map (held.asked_again r) w))) (sym (of_over c cs e)))
   asked_gone_case c cs s rest false e =
-      ap₂ (λ (a b : Bool). map exchange (cond (not a && b) (and_behind r c ∷ newly_over cs (map (and_behind r) cs ++ asked r ∷ [])) (newly_over cs (map (and_behind r) cs ++ asked r ∷ [])))) e (done_behind c s r)
+      ap₂ (λ (a b : Bool). map exchange (cond (not a && b) (and_behind r c ∷ newly_over cs (map (and_behind r) cs ++ asked r ∷ []))
+      (newly_over cs (map (and_behind r) cs ++ asked r ∷ [])))) e (done_behind c s r)
       ∙ (map_cond exchange (is_done true (next c)) (and_behind r c) (newly_over cs (map (and_behind r) cs ++ asked r ∷ []))
       ∙ (ap₂ (λ (o : Open) (w : List Over). cond (is_done true (next c)) (told o ∷ w) w) (kept_behind c r) rest
       ∙ (sym (map_cond told (is_done true (next c)) (next c) (filter (is_done true) (map (held.asked_again r) (open_of cs))))
@@ -219,11 +231,13 @@ module _ (start : Start) (cs : List Course) (s : Each IsSound cs) where
   loud_same = any_same (is_loud_candidate start) hearing (held.may_hear true start) held.hearing (same_loud start) (loud_open start)
       (λ c t e. refl) (λ c t e. done_hearing c t) cs s
 
-  loud_left : open_of (change_last (is_loud_candidate start) hearing cs) ≡ filter (goes_on false) (change_last (held.may_hear true start) held.hearing (open_of cs))
+  loud_left : open_of (change_last (is_loud_candidate start) hearing cs) ≡ filter (goes_on false) (change_last (held.may_hear true start) held.hearing
+      (open_of cs))
   loud_left = left (is_loud_candidate start) hearing (held.may_hear true start) held.hearing (same_loud start) (loud_open start)
       (λ c t e. refl) (λ c t e. done_hearing c t) cs s
 
-  silent_left : open_of (change_last (is_candidate start) hearing cs) ≡ filter (goes_on false) (change_last (held.may_hear false start) held.hearing (open_of cs))
+  silent_left : open_of (change_last (is_candidate start) hearing cs) ≡ filter (goes_on false) (change_last (held.may_hear false start) held.hearing
+      (open_of cs))
   silent_left = left (is_candidate start) hearing (held.may_hear false start) held.hearing (same_candidate start) (λ c t. candidate_open c t start)
       (λ c t e. refl) (λ c t e. done_hearing c t) cs s
 
@@ -240,11 +254,13 @@ module _ (start : Start) (cs : List Course) (s : Each IsSound cs) where
   heard_case true e =
       ap (λ (b : Bool). open_of (if b then change_last (is_loud_candidate start) hearing cs else change_last (is_candidate start) hearing cs)) e
       ∙ (loud_left ∙ (all_on (held.may_hear true start)
-      ∙ ap (λ (b : Bool). if b then change_last (held.may_hear true start) held.hearing (open_of cs) else change_last (held.may_hear false start) held.hearing (open_of cs)) (sym e ∙ loud_same)))
+      ∙ ap (λ (b : Bool). if b then change_last (held.may_hear true start) held.hearing (open_of cs) else change_last
+      (held.may_hear false start) held.hearing (open_of cs)) (sym e ∙ loud_same)))
   heard_case false e =
       ap (λ (b : Bool). open_of (if b then change_last (is_loud_candidate start) hearing cs else change_last (is_candidate start) hearing cs)) e
       ∙ (silent_left ∙ (all_on (held.may_hear false start)
-      ∙ ap (λ (b : Bool). if b then change_last (held.may_hear true start) held.hearing (open_of cs) else change_last (held.may_hear false start) held.hearing (open_of cs)) (sym e ∙ loud_same)))
+      ∙ ap (λ (b : Bool). if b then change_last (held.may_hear true start) held.hearing (open_of cs) else change_last
+      (held.may_hear false start) held.hearing (open_of cs)) (sym e ∙ loud_same)))
 
   pub hear_left : open_of (hear start cs) ≡ held.hear start (open_of cs)
   hear_left = heard_case any_loud refl
@@ -283,20 +299,28 @@ hears_same = any_same hears_it hears_no_more held.hears_it held.hears_no_more sa
 
 pub finish_left : (o : Option Heard) (cs : List Course) → Each IsSound cs → open_of (finish o cs) ≡ filter (goes_on false) (held.finish o (open_of cs))
 finish_left None = left hears_it hears_no_more held.hears_it held.hears_no_more same_hears hearing_open (λ c s e. refl) done_hushed
-finish_left (Some m) = left hears_it (with_answer m) held.hears_it (held.with_message m) same_hears hearing_open (λ c s e. kept_answer c m (s.quiet e)) (λ c s e. done_answer c s m e)
+finish_left (Some m) =
+    left hears_it (with_answer m) held.hears_it (held.with_message m) same_hears hearing_open (λ c s e. kept_answer c m (s.quiet e))
+    (λ c s e. done_answer c s m e)
 
-pub finish_gone : (o : Option Heard) (cs : List Course) → Each IsSound cs → map exchange (newly_over cs (finish o cs)) ≡ map told (filter (is_done false) (held.finish o (open_of cs)))
+pub finish_gone : (o : Option Heard) (cs : List Course) → Each IsSound cs → map exchange (newly_over cs (finish o cs))
+    ≡ map told (filter (is_done false) (held.finish o (open_of cs)))
 finish_gone None = gone hears_it hears_no_more held.hears_it held.hears_no_more same_hears hearing_open (λ c s e. refl) done_hushed
-finish_gone (Some m) = gone hears_it (with_answer m) held.hears_it (held.with_message m) same_hears hearing_open (λ c s e. kept_answer c m (s.quiet e)) (λ c s e. done_answer c s m e)
+finish_gone (Some m) =
+    gone hears_it (with_answer m) held.hears_it (held.with_message m) same_hears hearing_open (λ c s e. kept_answer c m (s.quiet e))
+    (λ c s e. done_answer c s m e)
 
 -- ---- they stay sound
 
 pub sound_more : (before : Option Start) (h : Happening) (cs : List Course) → Each IsSound cs → Each IsSound (happens before h cs)
-sound_more before (Asked r) cs s = each_push IsSound (map (and_behind r) cs) (asked r) (each_map IsSound IsSound (and_behind r) (λ c t. sound_behind c t r) cs s) (sound_asked r)
+sound_more before (Asked r) cs s =
+    each_push IsSound (map (and_behind r) cs) (asked r) (each_map IsSound IsSound (and_behind r) (λ c t. sound_behind c t r) cs s) (sound_asked r)
 sound_more before (Began start) cs s = sound_by (list_any (is_loud_candidate start) cs)
   where
     sound_by : (b : Bool) → Each IsSound (if b then change_last (is_loud_candidate start) hearing cs else change_last (is_candidate start) hearing cs)
-    sound_by true = each_change IsSound (is_loud_candidate start) hearing (λ c t e. sound_hearing c t start (and_true (is_candidate start c) (is_loud c.request) e).0) cs s
+    sound_by true =
+        each_change IsSound (is_loud_candidate start) hearing
+        (λ c t e. sound_hearing c t start (and_true (is_candidate start c) (is_loud c.request) e).0) cs s
     sound_by false = each_change IsSound (is_candidate start) hearing (λ c t e. sound_hearing c t start e) cs s
 sound_more before (Came bytes) cs s = sound_finish (completes before (Came bytes))
   where

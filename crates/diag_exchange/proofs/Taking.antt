@@ -43,7 +43,8 @@ sound hs = sound_after None [] hs tt
 pub over_after_more : (past xs : List Happening) (h : Happening) → over_after past (xs ++ h ∷ []) ≡ over_after past xs ++ over_with (past ++ xs) h
 over_after_more past [] h = append-nil (over_with past h) ∙ ap (λ w. over_with w h) (sym (append-nil past))
 over_after_more past (x ∷ xs) h =
-    ap (λ w. over_with past x ++ w) (over_after_more (past ++ x ∷ []) xs h ∙ ap (λ w. over_after (past ++ x ∷ []) xs ++ over_with w h) (append_assoc past (x ∷ []) xs))
+    ap (λ w. over_with past x ++ w) (over_after_more (past ++ x ∷ []) xs h ∙ ap (λ w. over_after (past ++ x ∷ []) xs ++ over_with w h)
+    (append_assoc past (x ∷ []) xs))
     ∙ sym (append_assoc (over_with past x) (over_after (past ++ x ∷ []) xs) (over_with (past ++ x ∷ xs) h))
 
 -- ---- with a happening more
@@ -99,10 +100,15 @@ nothing_lost (Some s) = refl
 
 leaves : (now : Option Start) (h : Happening) (cs : List Course) → Each IsSound cs
     → map exchange (newly_over cs (happens now h cs)) ++ unasked cs (completes now h) ≡ leaving now h (open_of cs)
-leaves now (Asked r) cs s = ap₂ (λ (x y : List Over). x ++ y) (asked_gone r cs s) (no_unasked cs now (Asked r) (nothing_asked now r)) ∙ append-nil (leaving now (Asked r) (open_of cs))
-leaves now (Began start) cs s = ap₂ (λ (x : List Course) (y : List Over). map exchange x ++ y) (hear_gone start cs) (no_unasked cs now (Began start) (nothing_began now start))
-leaves now (Came bytes) cs s = ap₂ (λ (x y : List Over). x ++ y) (finish_gone (completes now (Came bytes)) cs s) (sym (same_unasked cs s (completes now (Came bytes))))
-leaves now Lost cs s = ap₂ (λ (x y : List Over). x ++ y) (finish_gone None cs s) (no_unasked cs now Lost (nothing_lost now)) ∙ append-nil (leaving now Lost (open_of cs))
+leaves now (Asked r) cs s =
+    ap₂ (λ (x y : List Over). x ++ y) (asked_gone r cs s) (no_unasked cs now (Asked r) (nothing_asked now r))
+    ∙ append-nil (leaving now (Asked r) (open_of cs))
+leaves now (Began start) cs s =
+    ap₂ (λ (x : List Course) (y : List Over). map exchange x ++ y) (hear_gone start cs) (no_unasked cs now (Began start) (nothing_began now start))
+leaves now (Came bytes) cs s =
+    ap₂ (λ (x y : List Over). x ++ y) (finish_gone (completes now (Came bytes)) cs s) (sym (same_unasked cs s (completes now (Came bytes))))
+leaves now Lost cs s =
+    ap₂ (λ (x y : List Over). x ++ y) (finish_gone None cs s) (no_unasked cs now Lost (nothing_lost now)) ∙ append-nil (leaving now Lost (open_of cs))
 
 few_start : (o : Option Start) → length (option_to_list o) ≤ 1
 few_start None = omega arith
@@ -129,7 +135,9 @@ one_more now Lost es may one = fewest es None (let f = few_start now in omega (a
 module _ (es : List Open) (now : Option Start) (h : Happening) (may : MayCome now h) (hs : List Happening) (s : StandsFor es now hs) where
   stands : StandsFor (staying now h es) (comes_in now h) (hs ++ h ∷ [])
   stands = record {
-    are_open = sym (ap open_of (courses_more None [] hs h) ∙ (stays (coming hs) h (courses hs) (sound hs) ∙ ap₂ (λ n w. staying n h w) (sym s.is_coming) (sym s.are_open)));
+    are_open =
+        sym (ap open_of (courses_more None [] hs h) ∙ (stays (coming hs) h (courses hs) (sound hs) ∙ ap₂ (λ n w. staying n h w) (sym s.is_coming)
+        (sym s.are_open)));
     is_coming = ap (λ n. comes_in n h) s.is_coming ∙ sym (coming_more None hs h);
     one_hears = one_more now h es may s.one_hears;
   }
@@ -144,7 +152,8 @@ pub took_as : (es : List Open) (now : Option Start) (h : Happening) (live : List
     → live ≡ staying now h es → next ≡ comes_in now h → out' ≡ out ++ leaving now h es
     → StandsFor live next (hs ++ h ∷ []) × (out' ≡ out ++ over_with hs h)
 took_as es now h live next out out' may hs s is_live is_next is_out = (
-  subst (λ (l : List Open). StandsFor l next (hs ++ h ∷ [])) (sym is_live) (subst (λ (n : Option Start). StandsFor (staying now h es) n (hs ++ h ∷ [])) (sym is_next) (stands es now h may hs s)),
+  subst (λ (l : List Open). StandsFor l next (hs ++ h ∷ [])) (sym is_live)
+      (subst (λ (n : Option Start). StandsFor (staying now h es) n (hs ++ h ∷ [])) (sym is_next) (stands es now h may hs s)),
   is_out ∙ ap (λ w. out ++ w) (left_over es now h may hs s),
 )
 

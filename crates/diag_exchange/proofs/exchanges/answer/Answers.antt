@@ -10,7 +10,9 @@ use Rattle.diag_exchange.proofs.exchanges.answer.Goals as goal
 pub returns-in_ok-take-in-Some-clause-ok : goal.returns-in_ok-take-in-Some-clause-ok
 returns-in_ok-take-in-Some-clause-ok c =
     let last = subst (λ (es : List Open). IsLast hears_it es (Some c.in-Some.index)) c.as_slice.ensures.value c.in-Some.ensures in
-    changed_last hears_it (with_message c.args.heard) c.args.live.now.items c.in-Some.index c.index_mut.result.now c.take.new.self last c.index_mut.ensures.value c.in_ok-take-in-Some.ensures.ok
+    changed_last hears_it
+    (with_message c.args.heard) c.args.live.now.items c.in-Some.index c.index_mut.result.now
+    c.take.new.self last c.index_mut.ensures.value c.in_ok-take-in-Some.ensures.ok
 
 pub returns-in_ok-take-in-Some-clause-unasked : goal.returns-in_ok-take-in-Some-clause-unasked
 returns-in_ok-take-in-Some-clause-unasked c =

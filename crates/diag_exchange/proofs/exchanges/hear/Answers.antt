@@ -30,7 +30,8 @@ returns-in-Some-latest-clause-items c =
     let silent = may_hear false c.args.start.now in
     let last = subst (λ (es : List Open). IsLast silent es (Some c.in-Some-latest.index)) c.as_slice-2.ensures.value c.in-Some-latest.ensures in
     let none : list_any loud es ≡ false = ap (list_any loud) (sym c.as_slice.ensures.value) ∙ c.in_default.ensures in
-    changed_last silent hearing es c.in-Some-latest.index c.index_mut-in-Some-latest.result.now c.hear-in-Some-latest.new.self last c.index_mut-in-Some-latest.ensures.value c.hear-in-Some-latest.ensures
+    changed_last silent hearing es c.in-Some-latest.index c.index_mut-in-Some-latest.result.now
+    c.hear-in-Some-latest.new.self last c.index_mut-in-Some-latest.ensures.value c.hear-in-Some-latest.ensures
     ∙ ap (λ (b : Bool). if b then change_last loud hearing es else change_last silent hearing es) (sym none)
 
 pub returns-in_default-latest-clause-items : goal.returns-in_default-latest-clause-items

@@ -9,7 +9,8 @@ use Rattle.diag_exchange.proofs.exchanges.hear_no_more.Goals as goal
 pub returns-in-Some-clause-items : goal.returns-in-Some-clause-items
 returns-in-Some-clause-items c =
     let last = subst (λ (es : List Open). IsLast hears_it es (Some c.in-Some.index)) c.as_slice.ensures.value c.in-Some.ensures in
-    changed_last hears_it hears_no_more c.args.live.now.items c.in-Some.index c.index_mut.result.now c.hear_no_more.new.self last c.index_mut.ensures.value c.hear_no_more.ensures
+    changed_last hears_it hears_no_more c.args.live.now.items c.in-Some.index c.index_mut.result.now
+    c.hear_no_more.new.self last c.index_mut.ensures.value c.hear_no_more.ensures
 
 pub returns-in_default-clause-items : goal.returns-in_default-clause-items
 returns-in_default-clause-items c =

@@ -46,17 +46,21 @@ loop-turn-preserved c =
     elim c.if-is_done.branch [
       | then-is_done w ↦ (
           let test : p own ≡ true = sym c.is_done.ensures ∙ w.if-is_done.true in
-          let same : w.remove-done.result ≡ own = same_Some _ _ (sym (slice_get_read now (length now) at w.remove-done.result refl less w.remove-done.ensures.value) ∙ here) in
+          let same : w.remove-done.result ≡ own = same_Some _ _
+          (sym (slice_get_read now (length now) at w.remove-done.result refl less w.remove-done.ensures.value) ∙ here) in
           record {
             live = ap (λ v. v.items) w.live-is ∙ (w.remove-done.ensures.items ∙ (ap₂ remove inv.live inv.place ∙ left_gone_more p old i own there test));
             place = w.at-is ∙ (inv.place ∙ place_gone_more p old i own there test);
             over = ap (λ v. v.items) w.over-is ∙ (w.push_reserved.ensures.items
                 ∙ (ap₂ (λ (xs : List Over) (x : Over). xs ++ x ∷ []) inv.over (w.tell.ensures ∙ ap told same)
                 ∙ (append_assoc c.args.over.now.items (map told (gone_of p i old)) (told own ∷ [])
-                ∙ ap (λ xs. c.args.over.now.items ++ xs) (sym (map-append told (gone_of p i old) (own ∷ [])) ∙ ap (map told) (sym (gone_gone_more p old i own there test))))));
+                ∙ ap (λ xs. c.args.over.now.items ++ xs) (sym (map-append told (gone_of p i old) (own ∷ []))
+                ∙ ap (map told) (sym (gone_gone_more p old i own there test))))));
             len = ap₂ (λ (v : Vec Over Global) (u : Vec Open Global). vec_len v + vec_len u) w.over-is w.live-is
                 ∙ omega (arith, w.push_reserved.ensures.len, w.remove-done.ensures.len, inv.len);
-            shorter = subst (λ (u : Vec Open Global). vec_len u ≤ vec_len c.args.live.now) (sym w.live-is) (omega (arith, w.remove-done.ensures.len, inv.shorter));
+            shorter =
+                subst (λ (u : Vec Open Global). vec_len u ≤ vec_len c.args.live.now) (sym w.live-is)
+                (omega (arith, w.remove-done.ensures.len, inv.shorter));
             capacity = ap vec_capacity w.over-is ∙ (w.push_reserved.ensures.capacity ∙ inv.capacity);
             room = ap vec_capacity w.live-is ∙ (w.remove-done.ensures.capacity ∙ inv.room);
           })
@@ -75,11 +79,13 @@ loop-turn-preserved c =
 
 pub returns-clause-live : goal.returns-clause-live
 returns-clause-live c =
-    let all : c.loop-turn._turn ≡ length c.args.live.now.items = omega (arith, c.loop-turn-test.false, c.loop-turn.auto._turn-end, c.len-turn-end.ensures, c.args.live.now.ok) in
+    let all : c.loop-turn._turn ≡ length c.args.live.now.items = omega
+    (arith, c.loop-turn-test.false, c.loop-turn.auto._turn-end, c.len-turn-end.ensures, c.args.live.now.ok) in
     c.loop-turn.invariant.live ∙ (ap (λ i. left_of (is_done c.args.asked) i c.args.live.now.items) all ∙ left_all (is_done c.args.asked) c.args.live.now.items)
 
 pub returns-clause-over : goal.returns-clause-over
 returns-clause-over c =
-    let all : c.loop-turn._turn ≡ length c.args.live.now.items = omega (arith, c.loop-turn-test.false, c.loop-turn.auto._turn-end, c.len-turn-end.ensures, c.args.live.now.ok) in
+    let all : c.loop-turn._turn ≡ length c.args.live.now.items = omega
+    (arith, c.loop-turn-test.false, c.loop-turn.auto._turn-end, c.len-turn-end.ensures, c.args.live.now.ok) in
     c.loop-turn.invariant.over ∙ ap (λ w. c.args.over.now.items ++ map told w)
     (ap (λ i. gone_of (is_done c.args.asked) i c.args.live.now.items) all ∙ gone_all (is_done c.args.asked) c.args.live.now.items)

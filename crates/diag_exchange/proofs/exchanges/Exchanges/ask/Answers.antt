@@ -12,7 +12,9 @@ returns-clause-ok c = λ hs s.
     let es = c.args.self.now.live.items in
     let moved : c.ask_again.new.live.items ≡ map (asked_again c.args.request) es =
     c.ask_again.ensures.items ∙ ap (map (asked_again c.args.request)) c.reserve-2.ensures.items in
-    took_as es c.args.self.now.coming (Asked c.args.request) c.push_reserved.new.self.items c.args.self.now.coming c.args.over.now.items c.take_out.new.over.items tt hs s
-    (c.push_reserved.ensures.items ∙ ap₂ (λ (xs : List Open) (x : Open). xs ++ x ∷ []) (c.take_out.ensures.live ∙ ap (filter (goes_on true)) moved) c.new.ensures)
+    took_as es c.args.self.now.coming
+    (Asked c.args.request) c.push_reserved.new.self.items c.args.self.now.coming c.args.over.now.items c.take_out.new.over.items tt hs s
+    (c.push_reserved.ensures.items ∙ ap₂ (λ (xs : List Open) (x : Open). xs ++ x ∷ []) (c.take_out.ensures.live
+    ∙ ap (filter (goes_on true)) moved) c.new.ensures)
     refl
     (c.take_out.ensures.over ∙ ap₂ (λ (xs ys : List Over). xs ++ ys) c.reserve.ensures.items (ap (λ xs. map told (filter (is_done true) xs)) moved))

@@ -52,4 +52,5 @@ returns-clause-ok c = λ hs s.
     took_as es now h c.take_out.new.live.items None c.args.over.now.items c.match-unasked.over.items tt hs s
     (c.take_out.ensures.live ∙ ap (filter (goes_on false)) moved)
     refl
-    (last ∙ (ap₂ (λ (xs ys : List Over). xs ++ ys) handed (sym (ap (λ (n : Option Start). unasked_of es (completes n h)) is)) ∙ append_assoc c.args.over.now.items gone (unasked_of es (completes now h))))
+    (last ∙ (ap₂ (λ (xs ys : List Over). xs ++ ys) handed (sym (ap (λ (n : Option Start). unasked_of es (completes n h)) is))
+    ∙ append_assoc c.args.over.now.items gone (unasked_of es (completes now h))))

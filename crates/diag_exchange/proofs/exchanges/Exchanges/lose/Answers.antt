@@ -11,4 +11,5 @@ returns-clause-ok c = λ hs s.
     took_as c.args.self.now.live.items c.args.self.now.coming Lost c.take_out.new.live.items None c.args.over.now.items c.take_out.new.over.items tt hs s
     (c.take_out.ensures.live ∙ ap (filter (goes_on false)) c.hear_no_more.ensures.items)
     refl
-    (c.take_out.ensures.over ∙ ap₂ (λ (xs ys : List Over). xs ++ ys) c.reserve.ensures.items (ap (λ xs. map told (filter (is_done false) xs)) c.hear_no_more.ensures.items))
+    (c.take_out.ensures.over ∙ ap₂ (λ (xs ys : List Over). xs ++ ys) c.reserve.ensures.items
+    (ap (λ xs. map told (filter (is_done false) xs)) c.hear_no_more.ensures.items))
