@@ -2,12 +2,12 @@
 use Rattle.std.specs.Prelude.{ℕ, ◌&&◌, ◌||◌, not, codes, Bool, if◌then◌else◌, List, [], ◌∷◌, ◌++◌, length, map, drop}
 use Rattle.std.specs.Fmt.{decimal}
 use Rattle.std.specs.List.{filter, flat_map, list_any}
-use Rattle.diag_pdu.specs.Cut.{counted_from}
 use Rattle.diag_setup.specs.Rows.{in_order}
 use Rattle.diag_setup.specs.Setup.{name_of}
 use Rattle.diag_setup.specs.declared.raw.RawSetup.{RawSetup}
 use Rattle.diag_ecu.specs.State.{State}
 use Rattle.diag_desk.specs.declared.entry.Entry.{Entry}
+use Rattle.diag_bus.specs.Verdict.{places}
 use Rattle.diag_exchange.specs.Agreeing.{agrees, is_compared}
 use Rattle.diag_exchange.specs.Exchanges.{left_open, over, over_at_end}
 use Rattle.diag_exchange.specs.declared.happening.Expected.{Expected}
@@ -24,10 +24,6 @@ is_told differences told = not differences || differs told.1
 
 abbrev pub beside : ℕ → Over → ℕ × Over
 beside t o = (t, o)
-
--- the testers by their places
-abbrev pub places : RawSetup → List ℕ
-places setup = counted_from 1 (length setup.testers)
 
 module _ (expects : State → Entry → Expected) (setup : RawSetup) where
   -- all exchanges of a tester, and the messages that no request of it asked
