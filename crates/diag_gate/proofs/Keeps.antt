@@ -278,7 +278,8 @@ module _ (id : ℕ) (v : View) (d : Run) (more : List Entry) (seat : v.is_seat �
         opened = h.opened;
         seen = begins_more k.journal d.journal u.seen more grows h.seen;
         told = begins_more k.journal d.journal u.told more grows h.told;
-        owns = λ t l f. let g = h.owns t l f in (g.0, own_kept k.opening t k.journal d.journal more grows (mine t (λ e'. apart (sym g.0 ∙ ap k.place e' ∙ here))) ∙ g.1);
+        owns = λ t l f. let g = h.owns t l f in
+            (g.0, own_kept k.opening t k.journal d.journal more grows (mine t (λ e'. apart (sym g.0 ∙ ap k.place e' ∙ here))) ∙ g.1);
       } in
       let w_knows : Knows k.opening d.journal k.place id w = record {
         opened = known.opened;

@@ -221,7 +221,8 @@ impl Seat {
         self.who
     }
 
-    /// How long after its request the answer of the last step goes, in milliseconds: 0 before the first step, and of ticks.
+    /// How long after its request the answer of the last step goes, in milliseconds: 0 before the first step, and of
+    /// ticks.
     pub fn after_ms(&self) -> u32
         ensures { result ≡ self.now.delay }
     {

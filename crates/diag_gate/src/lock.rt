@@ -83,8 +83,8 @@ impl<'a, R: Wait> Door for LockDoor<'a, R> {
     }
 
     /// Its own journal has room before it locks, and a full one is looked at first. The answer and its delay are the
-    /// desk's, so that they are lawful behind some legal journal of some setup; which desk gave them, the contract doesn't
-    /// say.
+    /// desk's, so that they are lawful behind some legal journal of some setup; which desk gave them, the contract
+    /// doesn't say.
     fn step(&mut self, step: &Step) -> Result<Option<Message>, StepFault>
         ensures lawful { IfOk result (λ reply. IsLawful self.old.who step.now reply self.new.delay) }
         ensures full { length self.old.given ≡ most_entries → result ≡ Err StepFault.JournalFull }

@@ -1,13 +1,16 @@
 -- One tester's entries, compared place by place.
 use Rattle.std.proofs.Common.{◌≡◌, inl, inr, ℕ, ◌+◌, true, false, cond, Some, None, List, [], ◌∷◌, ◌++◌, take, drop, ap, sym, ◌∙◌}
 use Rattle.std.proofs.lemmas.List.{append-nil, append_cancel_left, drop_all, take-append-drop}
+use Rattle.std.proofs.lemmas.List.Elements.{filter-append}
 use Rattle.std.proofs.lemmas.Option.{slice_get_cases}
 use Rattle.std.specs.Prelude.{◌==◌, slice_get}
 use Rattle.diag_pdu.proofs.Lists.{drop-next}
 use Rattle.diag_desk.specs.declared.entry.Entry.{Entry}
 use Rattle.diag_desk.specs.Entries.{own}
 use Rattle.diag_desk.proofs.Runs.{take_one}
-use Rattle.diag_world.proofs.Worlds.{own-append}
+
+own-append : (xs ys : List Entry) (t : ℕ) → own (xs ++ ys) t ≡ own xs t ++ own ys t
+own-append xs ys t = filter-append (λ (e : Entry). e.who == t) xs ys
 
 pub own_skips : (journal : List Entry) (t i : ℕ) (x : Entry) → slice_get journal i ≡ Some x → (x.who == t) ≡ false
     → own (take (i + 1) journal) t ≡ own (take i journal) t

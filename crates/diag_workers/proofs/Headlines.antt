@@ -12,22 +12,26 @@ use Rattle.diag_pdu.specs.declared.setup.LinkSetup.{LinkSetup}
 use Rattle.diag_tp.specs.declared.sent.Sent.{Sent}
 use Rattle.diag_tp.specs.Gives.{steps}
 use Rattle.diag_pdu.specs.Cut.{counted_from}
-use Rattle.diag_tp.specs.Placing.{drawn}
 use Rattle.diag_setup.specs.declared.raw.RawSetup.{RawSetup}
 use Rattle.diag_setup.specs.Setup.{link_of}
 use Rattle.diag_ecu.specs.State.{opening}
 use Rattle.diag_desk.specs.declared.entry.Entry.{Entry}
 use Rattle.diag_desk.specs.Entry.{AreEntries}
 use Rattle.diag_desk.specs.Legal.{Run, Legal}
-use Rattle.diag_desk.specs.Entries.{own, asked, replies}
+use Rattle.diag_desk.specs.Entries.{own, asked}
+use Rattle.diag_desk.specs.Timed.{Timed, entries_of, timed}
+use Rattle.diag_desk.proofs.TimedLemmas.{own_timed_entries, timed_entries}
+use Rattle.diag_port.specs.declared.pace.Pace.{Pace}
+use Rattle.diag_port.specs.Late.{pace_of}
+use Rattle.diag_port.specs.Placing.{drawn}
 use Rattle.diag_world.specs.Headline.{IsPlay}
 use Rattle.diag_world.specs.Weaving.{weave, log_at, AsksItsLog, WeavingLaw}
-use Rattle.diag_gate.specs.Views.{owns_from}
+use Rattle.diag_gate.specs.Views.{own_in, owns_from}
 use Rattle.diag_gate.specs.Seats.{SeatView, HostView, of_host, new_host, AllHome, Closed}
 use Rattle.diag_workers.specs.declared.working.WorkerRecord.{WorkerRecord}
 use Rattle.diag_workers.specs.Crew.{AllWorked, Worked}
 use Rattle.diag_workers.specs.Seating.{Out, Back}
-use Rattle.diag_gate.proofs.Begins.{owns_there}
+use Rattle.diag_gate.proofs.Begins.{own_none, owns_there}
 use Rattle.diag_workers.proofs.Recording.{asks_of}
 
 -- ---- seats of one gate, of testers in order
@@ -59,7 +63,7 @@ places_are z n (s ∷ seats) f = ap₂ (λ (x : ℕ) (xs : List ℕ). x ∷ xs) 
 
 -- ---- the logs of testers in order, and the entries that their seats have
 
-abbrev entries_at : ℕ → List SeatView → ℕ → List Entry
+abbrev entries_at : ℕ → List SeatView → ℕ → List Timed
 entries_at n [] t = []
 entries_at n (s ∷ seats) t = if n == t then s.own else entries_at (n + 1) seats t
 
@@ -73,23 +77,24 @@ entries_before : (n : ℕ) (seats : List SeatView) (t : ℕ) → t < n → entri
 entries_before n [] t h = refl
 entries_before n (s ∷ seats) t h =
     let later : t < n + 1 = omega arith in
-    past_reads n t (List Entry) s.own (entries_at (n + 1) seats t) (λ e. omega arith) ∙ entries_before (n + 1) seats t later
+    past_reads n t (List Timed) s.own (entries_at (n + 1) seats t) (λ e. omega arith) ∙ entries_before (n + 1) seats t later
 
 entries_past : (n : ℕ) (seats : List SeatView) (t : ℕ) → n + length seats ≤ t → entries_at n seats t ≡ []
 entries_past n [] t h = refl
 entries_past n (s ∷ seats) t h =
     let above : n + 1 + length seats ≤ t = omega arith in
-    past_reads n t (List Entry) s.own (entries_at (n + 1) seats t) (λ e. omega arith) ∙ entries_past (n + 1) seats t above
+    past_reads n t (List Timed) s.own (entries_at (n + 1) seats t) (λ e. omega arith) ∙ entries_past (n + 1) seats t above
 
 -- the crew's doors have seats
-abbrev Done : {D K : Type 0} → (D → SeatView) → (ℕ → LinkSetup) → (K → List Entry → Type 0) → List (List Event) → List D → List (WorkerRecord K × D) → Type 0
-Done seat links keeps logs doors done = AllWorked links (λ d. (seat d).who) (λ d. (seat d).own) (λ d. Some (seat d).gate) keeps logs doors done
+abbrev Done : {D K : Type 0} → (D → SeatView) → (ℕ → LinkSetup) → Pace → (K → List Entry → Type 0) → List (List Event) → List D
+    → List (WorkerRecord K × D) → Type 0
+Done seat links pace keeps logs doors done = AllWorked links pace (λ d. (seat d).who) (λ d. (seat d).own) (λ d. Some (seat d).gate) keeps logs doors done
 
 abbrev seats_of : {D K : Type 0} → (D → SeatView) → List (WorkerRecord K × D) → List SeatView
 seats_of seat done = map (λ r. seat r.1) done
 
-module _ {D K : Type 0} (seat : D → SeatView) (links : ℕ → LinkSetup) (keeps : K → List Entry → Type 0) (z : TableId) where
-  done_count : (logs : List (List Event)) (doors : List D) (done : List (WorkerRecord K × D)) → Done seat links keeps logs doors done
+module _ {D K : Type 0} (seat : D → SeatView) (links : ℕ → LinkSetup) (pace : Pace) (keeps : K → List Entry → Type 0) (z : TableId) where
+  done_count : (logs : List (List Event)) (doors : List D) (done : List (WorkerRecord K × D)) → Done seat links pace keeps logs doors done
       → (length done ≡ length logs) × (length doors ≡ length logs)
   done_count [] [] [] all = (refl, refl)
   done_count (log ∷ logs) (door ∷ doors) (r ∷ rs) all = let c = done_count logs doors rs all.1 in (ap suc c.0, ap suc c.1)
@@ -106,12 +111,12 @@ module _ {D K : Type 0} (seat : D → SeatView) (links : ℕ → LinkSetup) (kee
 
   -- the entries of a seat that was fresh are those that its worker asked
   own_played : (n : ℕ) (log : List Event) (door : D) (r : WorkerRecord K × D) → IsFresh z n (seat door)
-      → (w : Worked links (λ d. (seat d).who) (λ d. (seat d).own) (λ d. Some (seat d).gate) keeps log door r.0 r.1)
+      → (w : Worked links pace (λ d. (seat d).who) (λ d. (seat d).own) (λ d. Some (seat d).gate) keeps log door r.0 r.1)
       → (seat r.1).own ≡ w.played.entries
   own_played n log door r f w = w.played.given ∙ ap (λ l. l ++ w.played.entries) f.2
 
   seats_kept : (n : ℕ) (logs : List (List Event)) (doors : List D) (done : List (WorkerRecord K × D)) → FreshFrom z n (map seat doors)
-      → Done seat links keeps logs doors done
+      → Done seat links pace keeps logs doors done
       → (k : ℕ) (d : SeatView) → k < length done → Kept n k (seats_of seat done) (get_or (seats_of seat done) k d)
   seats_kept n [] [] [] f all k d h = absurd (omega arith)
   seats_kept n (log ∷ logs) (door ∷ doors) (r ∷ rs) f all zero d h =
@@ -119,7 +124,7 @@ module _ {D K : Type 0} (seat : D → SeatView) (links : ℕ → LinkSetup) (kee
       let same : n ≡ n + 0 = omega arith in record {
         gate = same_Some _ _ w.home ∙ f.0;
         who = w.tester ∙ (f.1 ∙ same);
-        own_is = sym (here_reads n (n + 0) (List Entry) (seat r.1).own (entries_at (n + 1) (seats_of seat rs) (n + 0)) same);
+        own_is = sym (here_reads n (n + 0) (List Timed) (seat r.1).own (entries_at (n + 1) (seats_of seat rs) (n + 0)) same);
       }
   seats_kept n (log ∷ logs) (door ∷ doors) (r ∷ rs) f all (suc k) d h =
       let within : k < length rs = omega arith in
@@ -129,7 +134,7 @@ module _ {D K : Type 0} (seat : D → SeatView) (links : ℕ → LinkSetup) (kee
         who = rest.who ∙ shift;
         own_is = rest.own_is
             ∙ (ap (λ (t : ℕ). entries_at (n + 1) (seats_of seat rs) t) shift
-            ∙ sym (past_reads n (n + suc k) (List Entry) (seat r.1).own (entries_at (n + 1) (seats_of seat rs) (n + suc k)) (λ e. omega arith)));
+            ∙ sym (past_reads n (n + suc k) (List Timed) (seat r.1).own (entries_at (n + 1) (seats_of seat rs) (n + suc k)) (λ e. omega arith)));
       }
   seats_kept n [] [] (r ∷ rs) f all k d h = absurd all
   seats_kept n [] (door ∷ doors) rs f all k d h = absurd all
@@ -137,8 +142,8 @@ module _ {D K : Type 0} (seat : D → SeatView) (links : ℕ → LinkSetup) (kee
   seats_kept n (log ∷ logs) (door ∷ doors) [] f all k d h = absurd all
 
   asks_at : (n : ℕ) (logs : List (List Event)) (doors : List D) (done : List (WorkerRecord K × D)) (t : ℕ) → FreshFrom z n (map seat doors)
-      → Done seat links keeps logs doors done
-      → asked (entries_at n (seats_of seat done) t) ≡ steps (links t) (log_at n logs t)
+      → Done seat links pace keeps logs doors done
+      → asked (entries_of (entries_at n (seats_of seat done) t)) ≡ steps (links t) (log_at n logs t)
   asks_at n [] [] [] t f all = refl
   asks_at n (log ∷ logs) (door ∷ doors) (r ∷ rs) t f all =
       let rest = entries_at (n + 1) (seats_of seat rs) t in
@@ -146,10 +151,10 @@ module _ {D K : Type 0} (seat : D → SeatView) (links : ℕ → LinkSetup) (kee
       let entries = (seat r.1).own in
       let played = all.0.played in
       let own = own_played n log door r (f.0, f.1, f.2) all.0 in dite (ℕ_discrete n t)
-      (λ is. ap asked (here_reads n t (List Entry) entries rest is ∙ own)
-      ∙ (asks_of (seat door).who played.entries (steps (links (seat door).who) log) played.asked
+      (λ is. ap (λ (l : List Timed). asked (entries_of l)) (here_reads n t (List Timed) entries rest is ∙ own)
+      ∙ (asks_of (seat door).who (entries_of played.entries) (steps (links (seat door).who) log) played.asked
       ∙ (ap (λ (m : ℕ). steps (links m) log) (f.1 ∙ is) ∙ ap (steps (links t)) (sym (here_reads n t (List Event) log rest_log is)))))
-      (λ not. ap asked (past_reads n t (List Entry) entries rest not)
+      (λ not. ap (λ (l : List Timed). asked (entries_of l)) (past_reads n t (List Timed) entries rest not)
       ∙ (asks_at (n + 1) logs doors rs t f.3 all.1 ∙ ap (steps (links t)) (sym (past_reads n t (List Event) log rest_log not))))
   asks_at n [] [] (r ∷ rs) t f all = absurd all
   asks_at n [] (door ∷ doors) rs t f all = absurd all
@@ -157,25 +162,25 @@ module _ {D K : Type 0} (seat : D → SeatView) (links : ℕ → LinkSetup) (kee
   asks_at n (log ∷ logs) (door ∷ doors) [] t f all = absurd all
 
   sent_at : (n : ℕ) (logs : List (List Event)) (doors : List D) (done : List (WorkerRecord K × D)) (i : ℕ) (frames : List Sent)
-      → FreshFrom z n (map seat doors) → Done seat links keeps logs doors done
+      → FreshFrom z n (map seat doors) → Done seat links pace keeps logs doors done
       → slice_get (map (λ r. r.0.sent.items) done) i ≡ Some frames
-      → frames ≡ drawn (links (n + i)) (log_at n logs (n + i)) (replies (entries_at n (seats_of seat done) (n + i)))
+      → frames ≡ drawn (links (n + i)) pace (log_at n logs (n + i)) (entries_at n (seats_of seat done) (n + i))
   sent_at n [] [] [] i frames f all at = absurd (let low = slice_get_within [] i frames at in omega arith)
   sent_at n (log ∷ logs) (door ∷ doors) (r ∷ rs) zero frames f all at =
       let same : n ≡ n + 0 = omega arith in
       let own = own_played n log door r (f.0, f.1, f.2) all.0 in
       sym (same_Some _ _ at) ∙ (all.0.played.sent
-      ∙ (ap (λ l. drawn (links (seat door).who) log (replies l)) (sym own)
-      ∙ (λ i. drawn (links ((f.1 ∙ same) i)) (sym (here_reads n (n + 0) (List Event) log (log_at (n + 1) logs (n + 0)) same) i)
-      (replies (sym (here_reads n (n + 0) (List Entry) (seat r.1).own (entries_at (n + 1) (seats_of seat rs) (n + 0)) same) i)))))
+      ∙ (ap (λ l. drawn (links (seat door).who) pace log l) (sym own)
+      ∙ (λ i. drawn (links ((f.1 ∙ same) i)) pace (sym (here_reads n (n + 0) (List Event) log (log_at (n + 1) logs (n + 0)) same) i)
+      (sym (here_reads n (n + 0) (List Timed) (seat r.1).own (entries_at (n + 1) (seats_of seat rs) (n + 0)) same) i))))
   sent_at n (log ∷ logs) (door ∷ doors) (r ∷ rs) (suc i) frames f all at =
       let shift : n + 1 + i ≡ n + suc i = omega arith in
       let t : ℕ = n + suc i in
       let not : n ≢ t = λ e. omega arith in
       sent_at (n + 1) logs doors rs i frames f.3 all.1 at
-      ∙ (ap (λ (m : ℕ). drawn (links m) (log_at (n + 1) logs m) (replies (entries_at (n + 1) (seats_of seat rs) m))) shift
-      ∙ (λ j. drawn (links t) (sym (past_reads n t (List Event) log (log_at (n + 1) logs t) not) j)
-      (replies (sym (past_reads n t (List Entry) (seat r.1).own (entries_at (n + 1) (seats_of seat rs) t) not) j))))
+      ∙ (ap (λ (m : ℕ). drawn (links m) pace (log_at (n + 1) logs m) (entries_at (n + 1) (seats_of seat rs) m)) shift
+      ∙ (λ j. drawn (links t) pace (sym (past_reads n t (List Event) log (log_at (n + 1) logs t) not) j)
+      (sym (past_reads n t (List Timed) (seat r.1).own (entries_at (n + 1) (seats_of seat rs) t) not) j)))
   sent_at n [] [] (r ∷ rs) i frames f all at = absurd all
   sent_at n [] (door ∷ doors) rs i frames f all at = absurd all
   sent_at n (log ∷ logs) [] rs i frames f all at = absurd all
@@ -189,6 +194,10 @@ own_outside (e ∷ es) t all out =
     let not : e.who ≢ t = λ is. elim out [ inl low ↦ omega (arith, low, is, all.0.0) | inr high ↦ omega (arith, high, is, all.0.1) ] in
     past_reads e.who t (List Entry) (e ∷ own es t) (own es t) not ∙ own_outside es t all.1 out
 
+-- nor one with a delay
+none_outside : (d : Run) (t : ℕ) → AreEntries d.journal → (t ≡ 0) ⊎ (8 < t) → own_in d.opening d.journal t ≡ []
+none_outside d t all out = own_none d.opening t d.journal (own_outside d.journal t all out)
+
 -- at the beginning the host has every tester, and nobody has an entry
 pub record Opened (setup : RawSetup) (h : HostView) : Type 0 where
   pub opening_is : h.opening ≡ opening setup
@@ -198,9 +207,10 @@ pub record Opened (setup : RawSetup) (h : HostView) : Type 0 where
 pub opened : (setup : RawSetup) (h : HostView) (gate : TableId) (d : Run) → d ≡ record { opening = opening setup; journal = [] } → h ≡ new_host gate d
     → Opened setup h
 opened setup h gate d is made =
-    let none : h.owns ≡ owns_from 0 9 [] = ap (λ (x : HostView). x.owns) made ∙ ap (λ (r : Run). owns_from 0 9 r.journal) is in record {
+    let fresh : Run = record { opening = opening setup; journal = [] } in
+    let none : h.owns ≡ owns_from 0 9 fresh = ap (λ (x : HostView). x.owns) made ∙ ap (λ (r : Run). owns_from 0 9 r) is in record {
       opening_is = ap (λ (x : HostView). x.opening) made ∙ ap (λ (r : Run). r.opening) is;
-      owns = λ t low. ap (λ l. get_or l t None) none ∙ owns_there 0 9 t [] low;
+      owns = λ t low. ap (λ l. get_or l t None) none ∙ owns_there 0 9 t fresh low;
       wide = ap length none;
     }
 
@@ -221,7 +231,7 @@ home_again setup h h1 h2 n out_seats seats few many o out back zero low = ap is_
 home_again setup h h1 h2 n out_seats seats few many o out back (suc k) low = elim (cases_lt k n) [ inl lt ↦ back_is lt | inr ge ↦ rest_is ge ]
   where
     nobody : SeatView
-    nobody = record { gate = h.gate; who = 0; opening = h.opening; own = []; seen = []; missed = 0 }
+    nobody = record { gate = h.gate; who = 0; opening = h.opening; own = []; seen = []; delay = 0; missed = 0 }
 
     back_is : k < n → is_some (of_host h2 (suc k)) ≡ true
     back_is lt =
@@ -239,13 +249,14 @@ home_again setup h h1 h2 n out_seats seats few many o out back (suc k) low = eli
 
 module _ {D K : Type 0} (seat : D → SeatView) (keeps : K → List Entry → Type 0) (setup : RawSetup) (h h1 : HostView) (n : ℕ) (few : n ≤ 8)
     (out_seats : List SeatView) (logs : List (List Event)) (doors : List D) (done : List (WorkerRecord K × D))
-    (o : Opened setup h) (out : Out h h1 n out_seats) (doors_are : map seat doors ≡ out_seats) (all : Done seat (link_of setup) keeps logs doors done) where
+    (o : Opened setup h) (out : Out h h1 n out_seats) (doors_are : map seat doors ≡ out_seats)
+    (all : Done seat (link_of setup) (pace_of setup) keeps logs doors done) where
   doors_fresh : FreshFrom h.gate 1 (map seat doors)
   doors_fresh = subst (FreshFrom h.gate 1) (sym doors_are) (out_is_fresh setup h h1 n out_seats few o out)
 
   done_many : length done ≡ n
   done_many =
-      let counts = done_count seat (link_of setup) keeps h.gate logs doors done all in
+      let counts = done_count seat (link_of setup) (pace_of setup) keeps h.gate logs doors done all in
       counts.0 ∙ (sym counts.1 ∙ (sym (length-map doors seat) ∙ (ap length doors_are ∙ out.many)))
 
   pub seats_many : length (seats_of seat done) ≡ n
@@ -256,13 +267,14 @@ module _ {D K : Type 0} (seat : D → SeatView) (keeps : K → List Entry → Ty
       → ((get_or (seats_of seat done) k s).gate ≡ h.gate) × ((get_or (seats_of seat done) k s).who ≡ k + 1)
   seats_home k s low =
       let within : k < length done = omega (arith, low, length-map done (λ r. seat r.1)) in
-      let kept = seats_kept seat (link_of setup) keeps h.gate 1 logs doors done doors_fresh all k s within in
+      let kept = seats_kept seat (link_of setup) (pace_of setup) keeps h.gate 1 logs doors done doors_fresh all k s within in
       let same : 1 + k ≡ k + 1 = omega arith in
       (kept.gate, kept.who ∙ same)
 
 module _ {D K : Type 0} (seat : D → SeatView) (keeps : K → List Entry → Type 0) (setup : RawSetup) (h h1 h2 : HostView) (n : ℕ) (few : n ≤ 8)
     (out_seats : List SeatView) (logs : List (List Event)) (doors : List D) (done : List (WorkerRecord K × D)) (d : Run)
-    (o : Opened setup h) (out : Out h h1 n out_seats) (doors_are : map seat doors ≡ out_seats) (all : Done seat (link_of setup) keeps logs doors done)
+    (o : Opened setup h) (out : Out h h1 n out_seats) (doors_are : map seat doors ≡ out_seats)
+    (all : Done seat (link_of setup) (pace_of setup) keeps logs doors done)
     (back : Back h1 h2 (seats_of seat done)) where
   abbrev rs : List SeatView
   rs = seats_of seat done
@@ -277,13 +289,13 @@ module _ {D K : Type 0} (seat : D → SeatView) (keeps : K → List Entry → Ty
   many_seats = seats_many seat keeps setup h h1 n few out_seats logs doors done o out doors_are all
 
   -- each tester's entries are those of its seat, and nobody else has one
-  own_is : Closed h2 d → AreEntries d.journal → (t : ℕ) → own d.journal t ≡ entries_at 1 rs t
-  own_is closed placed zero = own_outside d.journal zero placed (inl refl) ∙ sym (entries_before 1 rs zero (let low : 0 < 1 = omega arith in low))
+  own_is : Closed h2 d → AreEntries d.journal → (t : ℕ) → own_in d.opening d.journal t ≡ entries_at 1 rs t
+  own_is closed placed zero = none_outside d zero placed (inl refl) ∙ sym (entries_before 1 rs zero (let low : 0 < 1 = omega arith in low))
   own_is closed placed (suc k) = elim (cases_lt k n) [
     | inl lt ↦ (
         let within : k < length done = omega (arith, lt, many_done) in
         let low : k < length (seats_of seat done) = omega (arith, lt, many_seats) in
-        let kept = seats_kept seat (link_of setup) keeps h.gate 1 logs doors done fresh_here all k nobody within in
+        let kept = seats_kept seat (link_of setup) (pace_of setup) keeps h.gate 1 logs doors done fresh_here all k nobody within in
         let place : k + 1 ≡ suc k = omega arith in
         let same : 1 + k ≡ suc k = omega arith in
         closed.owns (suc k) (get_or (seats_of seat done) k nobody).own (ap (of_host h2) (sym place) ∙ back.each k nobody low)
@@ -298,12 +310,12 @@ module _ {D K : Type 0} (seat : D → SeatView) (keeps : K → List Entry → Ty
   ]
     where
       nobody : SeatView
-      nobody = record { gate = h.gate; who = 0; opening = h.opening; own = []; seen = []; missed = 0 }
+      nobody = record { gate = h.gate; who = 0; opening = h.opening; own = []; seen = []; delay = 0; missed = 0 }
 
-      nothing_past : (t : ℕ) → n < t → length (seats_of seat done) < t → own d.journal t ≡ []
+      nothing_past : (t : ℕ) → n < t → length (seats_of seat done) < t → own_in d.opening d.journal t ≡ []
       nothing_past t past past_seats = elim (cases_lt t 9) [
         | inl low ↦ closed.owns t [] (back.rest t (inr past_seats) ∙ ((out.rest t (inr past)).0 ∙ o.owns t low))
-        | inr high ↦ (let far : 8 < t = omega (arith, high) in own_outside d.journal t placed (inr far))
+        | inr high ↦ (let far : 8 < t = omega (arith, high) in none_outside d t placed (inr far))
       ]
 
   pub headline : WeavingLaw → Closed h2 d → AreEntries d.journal → (sent : List (List Sent)) → sent ≡ map (λ r. r.0.sent.items) done
@@ -311,9 +323,10 @@ module _ {D K : Type 0} (seat : D → SeatView) (keeps : K → List Entry → Ty
   headline law closed placed sent sent_is =
       let same = own_is closed placed in
       let asks : AsksItsLog (link_of setup) d.journal logs =
-      λ t. ap asked (same t) ∙ asks_at seat (link_of setup) keeps h.gate 1 logs doors done t fresh_here all in
+      λ t. ap asked (sym (own_timed_entries (timed d.opening d.journal) t ∙ ap (λ (l : List Entry). own l t) (timed_entries d.opening d.journal)))
+      ∙ ap (λ (l : List Timed). asked (entries_of l)) (same t) ∙ asks_at seat (link_of setup) (pace_of setup) keeps h.gate 1 logs doors done t fresh_here all in
       let woven = law (link_of setup) d.journal logs asks in
-      let counts = done_count seat (link_of setup) keeps h.gate logs doors done all in record {
+      let counts = done_count seat (link_of setup) (pace_of setup) keeps h.gate logs doors done all in record {
         opening = closed.opening ∙ (back.same.1 ∙ (out.same.1 ∙ o.opening_is));
         legal = subst (λ s. Legal s d.journal) (sym closed.opening) closed.legal;
         interleaving = woven.0;
@@ -322,9 +335,9 @@ module _ {D K : Type 0} (seat : D → SeatView) (keeps : K → List Entry → Ty
         testers = ap length sent_is ∙ (length-map done (λ r. r.0.sent.items) ∙ counts.0);
         frames = λ i frames at.
             let place : 1 + i ≡ i + 1 = omega arith in
-            sent_at seat (link_of setup) keeps h.gate 1 logs doors done i frames fresh_here all (ap (λ l. slice_get l i) (sym sent_is) ∙ at)
-            ∙ (ap (λ (t : ℕ). drawn (link_of setup t) (log_at 1 logs t) (replies (entries_at 1 rs t))) place
-            ∙ ap (λ l. drawn (link_of setup (i + 1)) (log_at 1 logs (i + 1)) (replies l)) (sym (same (i + 1))));
+            sent_at seat (link_of setup) (pace_of setup) keeps h.gate 1 logs doors done i frames fresh_here all (ap (λ l. slice_get l i) (sym sent_is) ∙ at)
+            ∙ (ap (λ (t : ℕ). drawn (link_of setup t) (pace_of setup) (log_at 1 logs t) (entries_at 1 rs t)) place
+            ∙ ap (λ (l : List Timed). drawn (link_of setup (i + 1)) (pace_of setup) (log_at 1 logs (i + 1)) l) (sym (same (i + 1))));
       }
 
 -- ---- what the calls of a play ask

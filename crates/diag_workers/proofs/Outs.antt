@@ -22,7 +22,7 @@ out_more h n m k seats s o g =
     let given : m.given ≡ set n.given (k + 1) true = ap (λ (x : HostView). x.given) g.host in
     let at = o.rest (k + 1) (inr (let lt : k < k + 1 = omega arith in lt)) in
     let s_is : s ≡ fresh h (k + 1) g.mine = g.seat
-    ∙ (λ i. record { gate = o.same.0 i; who = k + 1; opening = o.same.1 i; own = g.mine; seen = o.same.2 i; missed = 0 }) in record {
+    ∙ (λ i. record { gate = o.same.0 i; who = k + 1; opening = o.same.1 i; own = g.mine; seen = o.same.2 i; delay = 0; missed = 0 }) in record {
       same = (
         ap (λ (x : HostView). x.gate) g.host ∙ o.same.0,
         ap (λ (x : HostView). x.opening) g.host

@@ -8,8 +8,10 @@ use Rattle.diag_pdu.specs.declared.step.Step.{Step}
 use Rattle.diag_tp.specs.Gives.{gives, steps, steps_after}
 use Rattle.diag_desk.specs.declared.entry.Entry.{Entry}
 use Rattle.diag_desk.specs.Entries.{asked, asked_by}
+use Rattle.diag_desk.specs.Timed.{Timed, entries_of}
+use Rattle.diag_port.specs.declared.pace.Pace.{Pace}
+use Rattle.diag_port.specs.Standing.{HasKept}
 use Rattle.diag_world.specs.Channel.{ChannelState, ChannelTook, GoesOn}
-use Rattle.diag_world.specs.Port.{HasKept}
 use Rattle.diag_world.specs.Weaving.{all_by}
 use Rattle.diag_workers.specs.Work.{AreBy, HasAsked, PlayedLog, WorkerStands, WorkerTook}
 use Rattle.diag_world.proofs.Weaves.{steps_after-append}
@@ -60,45 +62,52 @@ at_most_one None = omega arith
 at_most_one (Some x) = omega arith
 
 -- an event more
-pub worker_more : (s : LinkSetup) (who tester : ℕ) (channel channel' : ChannelState) (E : List Event) (e : Event) (before given given' : List Entry)
-    (P P' : List Entry → Type 0)
-    → length E ≤ 1000000 → WorkerStands s who channel E before given P → tester ≡ who → WorkerTook tester channel channel' e given given' P P'
-    → WorkerStands s who channel' (E ++ e ∷ []) before given' P'
-worker_more s who tester channel channel' E e before given given' P P' few old is took' =
+pub worker_more : (s : LinkSetup) (pace : Pace) (who tester : ℕ) (channel channel' : ChannelState) (E : List Event) (e : Event)
+    (before given given' : List Timed) (P P' : List Entry → Type 0)
+    → length E ≤ 1000000 → WorkerStands s pace who channel E before given P → tester ≡ who → WorkerTook tester channel channel' e given given' P P'
+    → WorkerStands s pace who channel' (E ++ e ∷ []) before given' P'
+worker_more s pace who tester channel channel' E e before given given' P P' few old is took' =
     let took = subst (λ t. WorkerTook t channel channel' e given given' P P') is took' in
     let more = took.entries in
     let step = option_to_list (gives s E e) in
-    let next = took.goes_on s E old.entries old.stands (omega (arith, few, old.short)) in
-    let asks = asks_of who more step next.0 in
-    let mine : AreBy who more = next.0 ∙ ap (all_by who) (sym asks) in
-    let one : length more ≤ 1 = omega (arith, ap length asks, length-map more (λ (k : Entry). k.step), at_most_one (gives s E e)) in
+    let next = took.goes_on s pace E old.entries old.stands (omega (arith, few, old.short)) in
+    let asks = asks_of who (entries_of more) step next.0 in
+    let mine : AreBy who (entries_of more) = next.0 ∙ ap (all_by who) (sym asks) in
+    let one : length more ≤ 1 = omega (
+      arith,
+      ap length asks,
+      length-map (entries_of more) (λ (k : Entry). k.step),
+      length-map more (λ (x : Timed). x.entry),
+      at_most_one (gives s E e),
+    ) in
+    let both : entries_of (old.entries ++ more) ≡ entries_of old.entries ++ entries_of more = map-append (λ (x : Timed). x.entry) old.entries more in
     record {
       entries = old.entries ++ more;
       stands = next.1;
       given = took.given ∙ (ap (λ l. l ++ more) old.given ∙ append_assoc before old.entries more);
-      mine = by_append who old.entries more old.mine mine;
+      mine = rw both (by_append who (entries_of old.entries) (entries_of more) old.mine mine);
       short = omega (arith, old.short, one, length-append old.entries more, length-append E (e ∷ []));
-      kept = took.kept old.entries old.kept;
+      kept = rw both (took.kept (entries_of old.entries) old.kept);
     }
 
 -- all events were taken
-pub worker_done : (s : LinkSetup) (who : ℕ) (channel : ChannelState) (E : List Event) (before given : List Entry) (P : List Entry → Type 0)
-    → WorkerStands s who channel E before given P → PlayedLog s who E before given channel.sent P
-worker_done s who channel E before given P w = record {
+pub worker_done : (s : LinkSetup) (pace : Pace) (who : ℕ) (channel : ChannelState) (E : List Event) (before given : List Timed) (P : List Entry → Type 0)
+    → WorkerStands s pace who channel E before given P → PlayedLog s pace who E before given channel.sent P
+worker_done s pace who channel E before given P w = record {
   entries = w.entries;
   given = w.given;
-  asked = w.mine ∙ ap (all_by who) w.stands.asks;
+  asked = w.mine ∙ ap (all_by who) w.stands.stands.asks;
   sent = w.stands.all_sent;
   kept = w.kept;
 }
 
 -- ---- who asks a door, and keeps what it is asked
 
-abbrev Asks : {K D A : Type 0} → (K → List Entry → Type 0) → (D → List Entry) → (A → K) → (A → D) → A → ℕ → Entry → A → Type 0
-Asks keeps given entries door x now k y = HasAsked keeps (given (door x)) (given (door y)) (entries x) (entries y) k
+abbrev Asks : {K D A : Type 0} → (K → List Entry → Type 0) → (D → List Timed) → (A → K) → (A → D) → A → ℕ → Timed → A → Type 0
+Asks keeps given entries door a now x b = HasAsked keeps (given (door a)) (given (door b)) (entries a) (entries b) x
 
 -- a worker took an event as its channel did, with who asks its door
-pub worker_took : {K D A : Type 0} (keeps : K → List Entry → Type 0) (given : D → List Entry) (entries : A → K) (door : A → D) (a b : A) (who t : ℕ)
+pub worker_took : {K D A : Type 0} (keeps : K → List Entry → Type 0) (given : D → List Timed) (entries : A → K) (door : A → D) (a b : A) (who t : ℕ)
     (old new : ChannelState) (e : Event) → who ≡ t
     → ChannelTook (Asks keeps given entries door) old new a b who e
     → WorkerTook t old new e (given (door a)) (given (door b)) (keeps (entries a)) (keeps (entries b))
@@ -109,11 +118,12 @@ worker_took keeps given entries door a b who t old new e is took = record {
   kept = keeps_more took.asked took.kept;
 }
   where
-    gave : (asked : Option Entry) → HasKept (Asks keeps given entries door) a b old.link.now asked → given (door b) ≡ given (door a) ++ option_to_list asked
+    gave : (asked : Option Timed) → HasKept (Asks keeps given entries door) a b old.port.link.now asked
+        → given (door b) ≡ given (door a) ++ option_to_list asked
     gave None same = ap (λ x. given (door x)) same ∙ sym (append-nil _)
-    gave (Some k) h = h.0
+    gave (Some x) h = h.0
 
-    keeps_more : (asked : Option Entry) → HasKept (Asks keeps given entries door) a b old.link.now asked
-        → (kept : List Entry) → keeps (entries a) kept → keeps (entries b) (kept ++ option_to_list asked)
+    keeps_more : (asked : Option Timed) → HasKept (Asks keeps given entries door) a b old.port.link.now asked
+        → (kept : List Entry) → keeps (entries a) kept → keeps (entries b) (kept ++ entries_of (option_to_list asked))
     keeps_more None same = λ kept h. rw (append-nil kept) (subst (λ x. keeps (entries x) kept) (sym same) h)
-    keeps_more (Some k) h = h.1
+    keeps_more (Some x) h = h.1

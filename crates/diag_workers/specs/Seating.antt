@@ -1,6 +1,6 @@
 -- Seats given out to the first testers, and taken back.
 use Rattle.std.specs.Prelude.{◌≡◌, ◌⊎◌, ℕ, ◌+◌, ◌<◌, List, length, slice_index_or, Some}
-use Rattle.diag_desk.specs.declared.entry.Entry.{Entry}
+use Rattle.diag_desk.specs.Timed.{Timed}
 use Rattle.diag_gate.specs.Seats.{SeatView, HostView, of_host, was_given, fresh}
 
 -- the first testers are out, each with a new seat, and the host is as it was in all else
@@ -10,7 +10,7 @@ pub record Out (h n : HostView) (count : ℕ) (seats : List SeatView) : Type 0 w
   pub many : length seats ≡ count
   pub each : (k : ℕ) (d : SeatView)
       → k < count
-      → (l : List Entry)
+      → (l : List Timed)
       × (of_host h (k + 1) ≡ Some l)
       × (slice_index_or seats k d ≡ fresh h (k + 1) l)
   pub rest : (t : ℕ)

@@ -5,6 +5,7 @@ ghost use Rattle.std.specs.Thread.{IsSync, IsSend};
 ghost use Rattle.diag_can.specs.Log.{most_events};
 ghost use Rattle.diag_pdu.specs.Cut.{counted_from};
 ghost use Rattle.diag_setup.specs.Setup.{link_of};
+ghost use Rattle.diag_port.specs.Late.{pace_of};
 ghost use Rattle.diag_workers.specs.Crew.{Worked, AllWorked};
 ghost use Rattle.diag_workers.specs.Work.{holds};
 
@@ -32,7 +33,7 @@ pub fn crew<D: Door + Send + Drop, R: Threads + Sync>(
     requires logs { length logs.now ≡ length setup.now.testers }
     requires limits { AllByRecursion (λ log. vec_len log ≤ most_events) logs.now }
     requires doors { map D.tester doors.items ≡ counted_from 1 (length setup.now.testers) }
-    ensures { IfOk result (λ done. AllWorked (link_of setup.now) D.tester D.given D.home holds
+    ensures { IfOk result (λ done. AllWorked (link_of setup.now) (pace_of setup.now) D.tester D.given D.home holds
         (map (λ log. log.items) logs.now) doors.items done.items) }
 {
     crew_keeping(rt, alloc, setup, logs, doors)
@@ -49,7 +50,7 @@ pub(crate) fn crew_keeping<K: Keep + Send + Drop, D: Door + Send + Drop, R: Thre
     requires logs { length logs.now ≡ length setup.now.testers }
     requires limits { AllByRecursion (λ log. vec_len log ≤ most_events) logs.now }
     requires doors { map D.tester doors.items ≡ counted_from 1 (length setup.now.testers) }
-    ensures { IfOk result (λ done. AllWorked (link_of setup.now) D.tester D.given D.home K.keeps
+    ensures { IfOk result (λ done. AllWorked (link_of setup.now) (pace_of setup.now) D.tester D.given D.home K.keeps
         (map (λ log. log.items) logs.now) doors.items done.items) }
 {
     crew_of(rt, alloc, setup, logs, doors)
@@ -67,7 +68,7 @@ fn crew_of<K: Keep + Send + Drop, D: Door + Send + Drop, R: Threads + Sync>(
     requires limits { AllByRecursion (λ log. vec_len log ≤ most_events) logs.now }
     requires in_setup { AllByRecursion
         (λ door. D.tester door ≤ length setup.now.testers) doors.items }
-    ensures { IfOk result (λ done. AllWorked (link_of setup.now) D.tester D.given D.home K.keeps
+    ensures { IfOk result (λ done. AllWorked (link_of setup.now) (pace_of setup.now) D.tester D.given D.home K.keeps
         (map (λ log. log.items) logs.now) doors.items done.items) }
 {
     let Some((log, logs)) = logs.split_first() else {
@@ -82,7 +83,7 @@ fn crew_of<K: Keep + Send + Drop, D: Door + Send + Drop, R: Threads + Sync>(
         rt,
         move || -> Result<(WorkerRecord<K>, D), StepFault>
             requires { (vec_len log.now ≤ most_events) × (D.tester door ≤ length setup.now.testers) }
-            ensures { IfOk result (λ r. Worked (link_of setup.entry.now)
+            ensures { IfOk result (λ r. Worked (link_of setup.entry.now) (pace_of setup.entry.now)
                 D.tester D.given D.home K.keeps log.entry.now.items door r.0 r.1) }
         { worked(alloc, setup, log, door) },
         move || -> Result<Vec<(WorkerRecord<K>, D)>, StepFault>
@@ -92,7 +93,7 @@ fn crew_of<K: Keep + Send + Drop, D: Door + Send + Drop, R: Threads + Sync>(
                 × (length doors.items ≡ length logs.now)
                 × AllByRecursion (λ log. vec_len log ≤ most_events) logs.now
                 × AllByRecursion (λ door. D.tester door ≤ length setup.now.testers) doors.items }
-            ensures { IfOk result (λ done. AllWorked (link_of setup.entry.now) D.tester
+            ensures { IfOk result (λ done. AllWorked (link_of setup.entry.now) (pace_of setup.entry.now) D.tester
                 D.given D.home K.keeps (map (λ log. log.items) logs.entry.now) doors.items done.items) }
         { crew_of(rt, alloc, setup, logs, doors) },
     );
@@ -131,7 +132,7 @@ fn worked<K: Keep + Drop, D: Door + Drop>(
     requires limit { length log.now ≤ most_events }
     requires in_setup { D.tester door ≤ length setup.now.testers }
     ensures { IfOk result (λ r.
-        Worked (link_of setup.now) D.tester D.given D.home K.keeps log.now door r.0 r.1) }
+        Worked (link_of setup.now) (pace_of setup.now) D.tester D.given D.home K.keeps log.now door r.0 r.1) }
 {
     let who = door.who();
     let record = work_keeping(alloc, setup, who, log, &mut door)?;

@@ -45,8 +45,9 @@ pub enum PlayFault {
 /// of its own. Where a thread can't be started, its log is played on the calling thread.
 ///
 /// The journal is a legal run of the sequential server from the setup's opening, and the run of a named interleaving of
-/// the logs; each tester's frames are what its flow control draws from the replies to it. The watch is told of each
-/// step before it is taken. The logs are read first, at the same time too.
+/// the logs; each tester's frames are what its flow control draws from the replies to it, each placed when the setup's
+/// rows of answers let it go. The watch is told of each step before it is taken. The logs are read first, at the same
+/// time too.
 ///
 /// # Errors
 /// `Log` for the first log that is at fault, in order; `JournalFull` at the step that the journal has no room for;

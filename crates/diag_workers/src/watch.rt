@@ -30,10 +30,22 @@ impl<'w, D: Door, W: Watch> Door for WatchedDoor<'w, D, W> {
 
     ghost given = { λ d. D.given d.door };
 
+    ghost delay = { λ d. D.delay d.door };
+
+    ghost can_delay = { λ d. D.can_delay d.door };
+
     ghost home = { λ d. D.home d.door };
 
     fn who(&self) -> TesterId {
         self.door.who()
+    }
+
+    fn after_ms(&self) -> u32 {
+        self.door.after_ms()
+    }
+
+    fn can_delay(&self) -> bool {
+        self.door.can_delay()
     }
 
     fn step(&mut self, step: &Step) -> Result<Option<Message>, StepFault> {

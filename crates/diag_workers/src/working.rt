@@ -1,23 +1,22 @@
 //! One tester's worker.
-ghost use Rattle.std.specs.Prelude.{◌≡◌, ◌≤◌, [], ◌++◌, length, IfOk, OnOk, OnErr};
+ghost use Rattle.std.specs.Prelude.{◌≡◌, ◌≤◌, [], length, false, IfOk, OnOk, OnErr};
 ghost use Rattle.diag_can.specs.Log.{most_events};
-ghost use Rattle.diag_tp.specs.Gives.{steps};
-ghost use Rattle.diag_tp.specs.Placing.{drawn};
 ghost use Rattle.diag_setup.specs.Setup.{link_of};
-ghost use Rattle.diag_desk.specs.Entries.{asked_by, entry, replies};
 ghost use Rattle.diag_desk.specs.Entry.{HasNoReply};
-ghost use Rattle.diag_world.specs.Channel.{due, channel_of, ChannelStands};
-ghost use Rattle.diag_world.specs.Weaving.{all_by};
-ghost use Rattle.diag_workers.specs.Work.{AskedSome, CanKeep, HasAsked, PlayedLog, WorkerTook};
+ghost use Rattle.diag_gate.specs.Views.{HasNoDelay, timed_answer};
+ghost use Rattle.diag_port.specs.Late.{pace_of};
+ghost use Rattle.diag_world.specs.Channel.{channel_of, ChannelStands, IsResting};
+ghost use Rattle.diag_workers.specs.Work.{AskedSome, CanKeep, HasAsked, PlayedLog, WorkerTook, holds};
 
 use crate::keeping::Keep;
 use diag_can::{Event, TickCount};
 use diag_desk::{Journal, StepFault};
 use diag_gate::Door;
 use diag_pdu::{LinkSetup, Message, Request, Step};
+use diag_port::{Pace, TakeSteps};
 use diag_setup::{Setup, TesterId};
 use diag_tp::Sent;
-use diag_world::{Channel, TakeSteps};
+use diag_world::Channel;
 use std::alloc::Global;
 
 /// What one worker did: what it keeps of what it asked, and the frames that it sent.
@@ -46,11 +45,8 @@ pub fn work<D: Door>(
     requires limit { length events.now ≤ most_events }
     requires in_setup { who ≤ length setup.now.testers }
     requires own_door { D.tester door.old ≡ who }
-    ensures given { IfOk result (λ r. D.given door.new ≡ D.given door.old ++ r.entries.entries) }
-    ensures asked { IfOk result (λ r.
-        asked_by r.entries.entries ≡ all_by who (steps (link_of setup.now who) events.now)) }
-    ensures sent { IfOk result (λ r.
-        r.sent.items ≡ drawn (link_of setup.now who) events.now (replies r.entries.entries)) }
+    ensures played { IfOk result (λ r. PlayedLog (link_of setup.now who) (pace_of setup.now) who
+        events.now (D.given door.old) (D.given door.new) r.sent.items (holds r.entries)) }
     ensures refused { OnErr result
         (AskedSome (link_of setup.now who) who events.now (D.given door.old) (D.given door.new)) }
     ensures tester { D.tester door.new ≡ D.tester door.old }
@@ -70,14 +66,14 @@ pub(crate) fn work_keeping<K: Keep + Drop, D: Door>(
     requires limit { length events.now ≤ most_events }
     requires in_setup { who ≤ length setup.now.testers }
     requires own_door { D.tester door.old ≡ who }
-    ensures played { IfOk result (λ r. PlayedLog (link_of setup.now who) who events.now
-        (D.given door.old) (D.given door.new) r.sent.items (K.keeps r.entries)) }
+    ensures played { IfOk result (λ r. PlayedLog (link_of setup.now who) (pace_of setup.now) who
+        events.now (D.given door.old) (D.given door.new) r.sent.items (K.keeps r.entries)) }
     ensures refused { OnErr result
         (AskedSome (link_of setup.now who) who events.now (D.given door.old) (D.given door.new)) }
     ensures tester { D.tester door.new ≡ D.tester door.old }
     ensures home { D.home door.new ≡ D.home door.old }
 {
-    let mut worker = Worker::new(alloc, setup.link(who));
+    let mut worker = Worker::new(alloc, setup.link(who), Pace::of(setup));
     for event in events {
         worker.take(event, door)?;
     }
@@ -96,26 +92,26 @@ struct Worker<K> {
 }
 
 impl<K: Keep> Worker<K> {
-    fn new(alloc: Global, link: LinkSetup) -> Worker<K>
-        ensures stands { ChannelStands link (channel_of result.channel) [] [] }
-        ensures drained { due (channel_of result.channel) ≡ 0 }
+    fn new(alloc: Global, link: LinkSetup, pace: Pace) -> Worker<K>
+        ensures stands { ChannelStands link pace (channel_of result.channel) [] [] }
+        ensures rest { IsResting result.channel }
         ensures empty { K.keeps result.entries [] }
     {
         Worker {
-            channel: Channel::new(alloc, link),
+            channel: Channel::new(alloc, link, pace),
             entries: K::none(alloc),
         }
     }
 
     /// Takes one event. All that can be refused but the door's step comes before it.
     fn take<D: Door>(&mut self, event: &Event, door: &mut D) -> Result<(), StepFault>
-        requires drained { due (channel_of self.old.channel) ≡ 0 }
+        requires rest { IsResting self.old.channel }
         requires limit { CanKeep K.keeps self.old.entries }
         ensures took { OnOk result (WorkerTook (D.tester door.old)
             (channel_of self.old.channel) (channel_of self.new.channel) event.now
             (D.given door.old) (D.given door.new)
             (K.keeps self.old.entries) (K.keeps self.new.entries)) }
-        ensures drained { OnOk result (due (channel_of self.new.channel) ≡ 0) }
+        ensures rest { IsResting self.new.channel }
         ensures refused { OnErr result (D.given door.new ≡ D.given door.old) }
         ensures tester { D.tester door.new ≡ D.tester door.old }
         ensures home { D.home door.new ≡ D.home door.old }
@@ -142,8 +138,11 @@ impl<'w, K: Keep, D: Door> Asking<'w, K, D> {
         requires keep { CanKeep K.keeps self.old.entries.now }
         ensures asked { IfOk result (λ reply. HasAsked K.keeps (D.given self.old.door.now)
             (D.given self.new.door.now) self.old.entries.now self.new.entries.now
-            (entry (D.tester self.old.door.now) step.now reply)) }
+            (timed_answer (D.tester self.old.door.now) step.now reply (D.delay self.new.door.now))) }
         ensures ticks_unanswered { IfOk result (λ reply. HasNoReply step.now reply) }
+        ensures ticks_at_once { OnOk result (HasNoDelay step.now (D.delay self.new.door.now)) }
+        ensures at_once { D.can_delay self.old.door.now ≡ false
+            → OnOk result (D.delay self.new.door.now ≡ 0) }
         ensures refused { OnErr result (D.given self.new.door.now ≡ D.given self.old.door.now) }
         ensures entries { self.new.entries.ghost_name ≡ self.old.entries.ghost_name }
         ensures door { self.new.door.ghost_name ≡ self.old.door.ghost_name }
@@ -165,8 +164,10 @@ impl<'w, K: Keep, D: Door> TakeSteps for Asking<'w, K, D> {
     ghost allows = { λ asking who _.
         (D.tester asking.door.now ≡ who) × CanKeep K.keeps asking.entries.now };
 
-    ghost takes = { λ old _ k new. HasAsked K.keeps (D.given old.door.now)
-        (D.given new.door.now) old.entries.now new.entries.now k };
+    ghost takes = { λ old _ x new. HasAsked K.keeps (D.given old.door.now)
+        (D.given new.door.now) old.entries.now new.entries.now x };
+
+    ghost can_delay = { λ asking. D.can_delay asking.door.now };
 
     ghost is_full = { λ _. ⊤ };
 
@@ -177,17 +178,21 @@ impl<'w, K: Keep, D: Door> TakeSteps for Asking<'w, K, D> {
         × (D.tester new.door.now ≡ D.tester old.door.now)
         × (D.home new.door.now ≡ D.home old.door.now) };
 
+    fn can_delay(&self) -> bool {
+        self.door.can_delay()
+    }
+
     fn take_request(
         &mut self,
         _before: u64,
         _who: TesterId,
         request: &Request,
         reply: &mut Option<Message>,
-    ) -> Result<(), StepFault> {
+    ) -> Result<u32, StepFault> {
         // (a door is asked for a step, which owns its request)
         let step = Step::Request(request.try_copy()?);
         *reply = self.ask(&step)?;
-        Ok(())
+        Ok(self.door.after_ms())
     }
 
     fn take_ticks(

@@ -2,6 +2,8 @@ use Rattle.std.proofs.Common.{◌≡◌, ◌≤◌, ◌+◌, ◌++◌, ◌∷◌
 use Rattle.std.proofs.lemmas.Grind.{common_steps}
 use Rattle.std.proofs.lemmas.List.{length-take-le, take_more}
 use Rattle.diag_can.specs.declared.frame.Event.{Event}
+use Rattle.diag_desk.specs.Timed.{entries_of}
+use Rattle.diag_port.specs.Late.{pace_of}
 use Rattle.diag_world.specs.Channel.{channel_of}
 use Rattle.diag_workers.specs.Work.{WorkerStands}
 use Rattle.std.proofs.lemmas.Result.{err_from_is_err_and}
@@ -20,35 +22,37 @@ returns-in_err-take-clause-refused g c =
       stood.entries,
       steps_after s (take c.loop-event.event-index c.args.events.now) (drop c.loop-event.event-index c.args.events.now),
       kept ∙ stood.given,
-      asks_first_by s c.args.who c.args.events.now c.loop-event.event-index stood.entries stood.mine stood.stands.asks,
+      asks_first_by s c.args.who c.args.events.now c.loop-event.event-index (entries_of stood.entries) stood.mine stood.stands.stands.asks,
     )
 
 pub loop-event-preserved : goal.loop-event-preserved
 loop-event-preserved g c =
     let s = link_of c.args.setup.now c.args.who in
+    let pace = pace_of c.args.setup.now in
     let events = c.args.events.now in
     let i = c.loop-event.event-index in
     let event = c.event-item.result in
     let before = g.D.Door.given c.args.door.now in
     let tester : g.D.Door.tester c.loop-event.door ≡ c.args.who = c.loop-event.invariant.tester ∙ c.requires.own_door in
     let few : length (take i events) ≤ 1000000 = omega (arith, length-take-le i events (omega arith)) in
-    let taken = worker_more s c.args.who _ _ _ (take i events) event before _ _ _ _ few c.loop-event.invariant.stands tester c.in_ok-take.ensures.took in
+    let taken = worker_more s pace c.args.who _ _ _ (take i events) event before _ _ _ _ few c.loop-event.invariant.stands tester c.in_ok-take.ensures.took in
     let next : take (i + 1) events ≡ take i events ++ event ∷ [] =
     take_more events i event c.loop-event-test.true ∙ ap (λ (e : Event). take i events ++ e ∷ []) (sym c.event-item.is) in
     record {
       tester = c.in_ok-take.ensures.tester ∙ c.loop-event.invariant.tester;
       home = c.in_ok-take.ensures.home ∙ c.loop-event.invariant.home;
-      drained = c.in_ok-take.ensures.drained;
+      rest = c.in_ok-take.ensures.rest;
       stands = rw next taken;
     }
 
 pub returns-clause-played : goal.returns-clause-played
 returns-clause-played g c =
     let s = link_of c.args.setup.now c.args.who in
+    let pace = pace_of c.args.setup.now in
     let events = c.args.events.now in
     let before = g.D.Door.given c.args.door.now in
     let all : take c.loop-event.event-index events ≡ events = grind (arith, common_steps) in
-    let stood = subst (λ (E : List Event). WorkerStands s c.args.who (channel_of c.loop-event.worker.channel) E before
+    let stood = subst (λ (E : List Event). WorkerStands s pace c.args.who (channel_of c.loop-event.worker.channel) E before
     (g.D.Door.given c.loop-event.door) (g.K.Keep.keeps c.loop-event.worker.entries)) all c.loop-event.invariant.stands in
-    rw c.into_sent.ensures (worker_done s c.args.who (channel_of c.loop-event.worker.channel) events before (g.D.Door.given c.loop-event.door)
+    rw c.into_sent.ensures (worker_done s pace c.args.who (channel_of c.loop-event.worker.channel) events before (g.D.Door.given c.loop-event.door)
     (g.K.Keep.keeps c.loop-event.worker.entries) stood)

@@ -1,6 +1,7 @@
 use Rattle.std.proofs.Common.{◌≡◌, take}
+use Rattle.diag_port.specs.Late.{pace_of}
 use Rattle.diag_setup.specs.Setup.{link_of}
-use Rattle.diag_world.specs.Channel.{due, channel_of}
+use Rattle.diag_world.specs.Channel.{IsResting, channel_of}
 use Rattle.diag_workers.specs.Work.{WorkerStands}
 use Rattle.diag_workers.proofs.working.work_keeping.Given as goal
 
@@ -8,7 +9,7 @@ abbrev pub invariant-loop-event : goal.invariant-loop-event
 invariant-loop-event g l = record {
   tester : g.D.Door.tester l.door ≡ g.D.Door.tester l.fn.door;
   home : g.D.Door.home l.door ≡ g.D.Door.home l.fn.door;
-  drained : due (channel_of l.worker.channel) ≡ 0;
-  stands : WorkerStands (link_of l.setup l.fn.who) l.fn.who (channel_of l.worker.channel) (take l.event-index l.events) (g.D.Door.given l.fn.door)
-      (g.D.Door.given l.door) (g.K.Keep.keeps l.worker.entries);
+  rest : IsResting l.worker.channel;
+  stands : WorkerStands (link_of l.setup l.fn.who) (pace_of l.setup) l.fn.who (channel_of l.worker.channel) (take l.event-index l.events)
+      (g.D.Door.given l.fn.door) (g.D.Door.given l.door) (g.K.Keep.keeps l.worker.entries);
 }

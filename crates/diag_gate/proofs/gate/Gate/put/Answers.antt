@@ -18,8 +18,8 @@ store-requires c =
     let who_is = ap (λ (m : Sat). m.0.who) is in (
       c.exchange.ensures.0 ∙ c.requires.gate ∙ sym c.self.view_is,
       (let w = c.self.invariant.0 in omega arith),
-      puts_back_as _ _ _ c.args.place.now.spot.me.0 c.args.desk c.requires.grown.0 (carries d) (ap (λ (m : Sat). m.0.is_seat) is) (ap (λ (m : Sat). m.0.holds) is)
-          (c.requires.held.2 ∙ ap (λ (r : Run). r.opening) c.requires.held.1.desk) (ap (λ (m : Sat). m.0.live) is) c.lawful.ensures.legal
+      puts_back_as _ _ _ c.args.place.now.spot.me.0 c.args.desk c.requires.grown.0 (carries d) (ap (λ (m : Sat). m.0.is_seat) is)
+          (ap (λ (m : Sat). m.0.holds) is) (c.requires.held.2 ∙ ap (λ (r : Run). r.opening) c.requires.held.1.desk) (ap (λ (m : Sat). m.0.live) is) c.lawful.ensures.legal
           c.requires.grown.1 (λ t n. c.requires.grown.2 t (λ e. n (e ∙ sym who_is))) c.self.invariant.1,
     )
 
