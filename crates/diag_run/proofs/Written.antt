@@ -112,7 +112,7 @@ took_more old new who e some none took = λ setup version M K serves h.
     record {
       asked = took.asked;
       served = (settled_out (server_of old.server) (server_of new.server) who e took.asked old.out.items new.out.items none took.sent).served setup M K serves;
-      enters = enters_asked old.journal new.journal moved.before.now took.asked took.kept version K h
+      enters = enters_asked old.journal new.journal moved.before.link.now took.asked took.kept version K h
           (clock_told setup (server_of old.server) M K who (who - 1) moved.before took.asked serves place moved.found took.early took.by);
     }
 
@@ -229,7 +229,7 @@ pub ready_begins : (setup : RawSetup) (playing : Playing) → Serves setup (serv
 ready_begins setup playing serves none out = record {
   paced = record {
     few = omega (arith, none);
-    clocks = λ i link at. omega (arith, (serves.ports i link at).stands.now);
+    clocks = λ i port at. omega (arith, (serves.ports i port at).stands.stands.now);
   };
   out = out;
 }

@@ -1,6 +1,6 @@
 use Rattle.std.proofs.Common.{◌≡◌, ◌-◌, Err, arith}
 use Rattle.diag_world.specs.declared.server.ServerFault.TheVariants as fault
-use Rattle.diag_bus.proofs.Filling.{links_moved}
+use Rattle.diag_bus.proofs.Filling.{ports_moved}
 use Rattle.diag_run.specs.declared.playing.Playing.{Playing}
 use Rattle.diag_run.proofs.Written.{count_asked, few_asked, not_closed, paced_more, took_more}
 use Rattle.diag_run.proofs.playing.Playing.take.Goals as goal
@@ -17,7 +17,7 @@ returns-in-Ok-clause-paced c =
     let new = c.take.new.keeper in
     let paced = c.requires.ready.paced in
     let took = c.in-Ok.ensures.took in
-    let now = took.sent.holds.moved.before.now in
+    let now = took.sent.holds.moved.before.link.now in
     record {
       few = few_asked old.journal new now took.asked took.kept paced.few;
       clocks = paced_more old.server c.take.new.self c.args.who old.journal.count new.count c.args.event.now took.asked took.sent.more
@@ -27,7 +27,7 @@ returns-in-Ok-clause-paced c =
 pub returns-in-Ok-clause-links : goal.returns-in-Ok-clause-links
 returns-in-Ok-clause-links c =
     let took = c.in-Ok.ensures.took in
-    links_moved c.args.self.now.server c.take.new.self c.args.who c.args.event.now took.asked took.sent.more took.sent.holds
+    ports_moved c.args.self.now.server c.take.new.self c.args.who c.args.event.now took.asked took.sent.more took.sent.holds
 
 pub unreachable-requires : goal.unreachable-requires
 unreachable-requires c =
