@@ -26,7 +26,7 @@ pub fn two_testers(alloc: Global) -> Result<Setup, AllocError>
 }
 
 /// The same before it is checked.
-fn raw_two_testers(alloc: Global) -> Result<RawSetup, AllocError>
+pub fn raw_two_testers(alloc: Global) -> Result<RawSetup, AllocError>
     ensures { IfOk result (λ raw. raw ≡ two_testers) }
 {
     let testers = [

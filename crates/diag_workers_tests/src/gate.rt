@@ -2,6 +2,6 @@
 
 mod doors;
 pub(crate) mod given;
-mod seating;
+pub(crate) mod seating;
 mod seats;
 mod threads;

@@ -8,6 +8,7 @@
 #![tactic(auto)]
 
 #[cfg(test)]
+mod delays;
 mod desk;
 #[cfg(test)]
 mod ecu;

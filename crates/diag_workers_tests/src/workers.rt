@@ -2,7 +2,7 @@
 
 mod agreeing;
 mod crews;
-mod given;
+pub(crate) mod given;
 mod meeting;
 mod plays;
 mod working;

@@ -35,9 +35,14 @@ struct LoneDoor<'a> {
 }
 
 impl<'a> Door for LoneDoor<'a> {
-    ghost use Rattle.std.specs.Prelude.{None};
+    ghost use Rattle.std.specs.Prelude.{None, false, map};
+    ghost use Rattle.diag_gate.specs.Views.{timed_answer};
 
-    ghost given = { λ d. d.given.entries };
+    ghost given = { λ d. map (λ e. timed_answer e.who e.step e.reply 0) d.given.entries };
+
+    ghost delay = { λ _. 0 };
+
+    ghost can_delay = { λ _. false };
 
     ghost tester = { λ d. d.who };
 
@@ -45,6 +50,14 @@ impl<'a> Door for LoneDoor<'a> {
 
     fn who(&self) -> TesterId {
         self.who
+    }
+
+    fn after_ms(&self) -> u32 {
+        0
+    }
+
+    fn can_delay(&self) -> bool {
+        false
     }
 
     fn step(&mut self, step: &Step) -> Result<Option<Message>, StepFault> {
