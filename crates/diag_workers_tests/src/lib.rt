@@ -9,6 +9,7 @@
 
 #[cfg(test)]
 mod delays;
+#[cfg(test)]
 mod desk;
 #[cfg(test)]
 mod ecu;
