@@ -1,0 +1,128 @@
+//! What is found, and how it is told.
+
+ghost use Rattle.std.specs.Prelude.{Some};
+ghost use Rattle.diag_check.specs.Report.{finding_text};
+
+use crate::keys::{Kind, Table};
+use diag_config::ConfigFault;
+use std::fmt;
+use std::fmt::InlineText;
+use toml::Value;
+
+/// A fault of a setup, and where it is.
+#[derive(Drop)]
+pub struct Finding {
+    /// The fault, as a run tells it.
+    pub fault: ConfigFault,
+    /// Which key of which row, what stands there, and what is allowed.
+    pub place: String,
+}
+
+impl fmt::Display for Finding {
+    ghost output = { λ finding. Some (finding_text finding) };
+
+    fn fmt<W: fmt::Write>(&self, f: &mut fmt::Formatter<W>) -> fmt::Result {
+        let fault = self.fault;
+        let place = self.place.as_str();
+        write!(f, "{fault}: {place}")
+    }
+}
+
+/// A table of the setup, by its list and its number there, from 1.
+#[derive(Clone, Copy)]
+pub struct Row {
+    pub table: Table,
+    pub number: usize,
+    /// Of a seed with its key: the number of its level.
+    pub level: usize,
+}
+
+impl Row {
+    /// The whole unit.
+    pub const UNIT: Row = Row {
+        table: Table::Unit,
+        number: 0,
+        level: 0,
+    };
+}
+
+/// As it stands behind the name of a key.
+impl fmt::Display for Row {
+    fn fmt<W: fmt::Write>(&self, f: &mut fmt::Formatter<W>) -> fmt::Result {
+        let path = self.table.path();
+        let number = self.number;
+        let level = self.level;
+        match self.table {
+            Table::Unit => Ok(()),
+            Table::LevelRow => write!(f, " of [[{path}]] {number} of [[level]] {level}"),
+            _ => write!(f, " of [[{path}]] {number}"),
+        }
+    }
+}
+
+/// The most bytes of a value, or of a key, that are told.
+const MOST_SHOWN: usize = 60;
+
+/// A value as it is told: on one line, and not all of a long one.
+#[derive(Drop)]
+pub struct Shown<'a>(pub &'a Value);
+
+impl fmt::Display for Shown<'_> {
+    fn fmt<W: fmt::Write>(&self, f: &mut fmt::Formatter<W>) -> fmt::Result {
+        match self.0 {
+            Value::Integer(n) if *n > 9 => write!(f, "{n} (0x{n:X})"),
+            Value::String(text) => {
+                let text = InlineText::<MOST_SHOWN>::of(text.as_str());
+                let start = text.as_str();
+                write!(f, "{start:?}")
+            }
+            Value::Array(items) => {
+                let count = items.len();
+                write!(f, "a list of {count}")
+            }
+            Value::Table(_) => write!(f, "a table"),
+            value => write!(f, "{value}"),
+        }
+    }
+}
+
+/// The bytes of a text that stands where its bytes in hex belong; nothing else, and nothing of a long one.
+#[derive(Drop)]
+pub struct Letters<'a>(pub Kind, pub &'a Value);
+
+impl fmt::Display for Letters<'_> {
+    fn fmt<W: fmt::Write>(&self, f: &mut fmt::Formatter<W>) -> fmt::Result {
+        let (Kind::Bytes(..), Value::String(text)) = (self.0, self.1) else {
+            return Ok(());
+        };
+        if text.is_empty() || text.len() > MOST_SHOWN {
+            return Ok(());
+        }
+        write!(f, "; the letters of this text are ")?;
+        for byte in text.as_bytes() {
+            write!(f, "{byte:02X}")?;
+        }
+        Ok(())
+    }
+}
+
+/// A key as it is told.
+#[derive(Drop)]
+pub struct ShownKey<'a>(pub &'a str);
+
+impl fmt::Display for ShownKey<'_> {
+    fn fmt<W: fmt::Write>(&self, f: &mut fmt::Formatter<W>) -> fmt::Result {
+        let name = self.0;
+        let is_plain = name
+            .as_bytes()
+            .iter()
+            .all(|c| c.is_ascii_alphanumeric() || *c == b'_' || *c == b'-');
+        let name = InlineText::<MOST_SHOWN>::of(name);
+        let name = name.as_str();
+        if is_plain {
+            f.write_str(name)
+        } else {
+            write!(f, "{name:?}")
+        }
+    }
+}

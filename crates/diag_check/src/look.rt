@@ -1,0 +1,305 @@
+//! The look at a setup: its faults, the keys that are passed over, and what is odd.
+
+use crate::across::latest_answer_ms;
+use crate::finding::{Finding, Letters, Row, Shown, ShownKey};
+use crate::keys::{KEYS, Key, Kind, Need, Table};
+use crate::near::nearest;
+use crate::value::{is_allowed, is_of_kind, is_pattern, is_template, items};
+use diag_config::ConfigFault;
+use diag_setup::SetupFault;
+use std::alloc::{AllocError, Global};
+use toml::{Table as Tree, Value};
+
+/// What was found so far in a text.
+#[derive(Drop)]
+pub struct Look<'a> {
+    pub alloc: Global,
+    pub text: &'a str,
+    /// The faults.
+    pub faults: Vec<Finding>,
+    /// A line for each key that is passed over.
+    pub passed: Vec<String>,
+    /// A line for each thing that is odd, and no fault.
+    pub odd: Vec<String>,
+}
+
+impl<'a> Look<'a> {
+    /// Nothing found.
+    pub fn new(alloc: Global, text: &'a str) -> Look<'a> {
+        Look {
+            alloc,
+            text,
+            faults: Vec::new(alloc),
+            passed: Vec::new(alloc),
+            odd: Vec::new(alloc),
+        }
+    }
+
+    /// Adds a fault.
+    pub fn tell(&mut self, fault: ConfigFault, place: String) -> Result<(), AllocError> {
+        self.faults.push(Finding { fault, place })?;
+        Ok(())
+    }
+
+    /// Adds a fault of the setup as a whole.
+    pub fn refuse(&mut self, fault: SetupFault, place: String) -> Result<(), AllocError> {
+        self.tell(ConfigFault::Setup(fault), place)
+    }
+
+    /// Looks at the keys of a table, each by itself, but for those of lists.
+    pub fn table(&mut self, tree: &Tree, row: Row) -> Result<(), AllocError> {
+        for key in &KEYS {
+            if key.table == row.table && !key.is_list() {
+                self.key(tree, key, row)?;
+            }
+        }
+        for (name, _) in tree.iter() {
+            self.name(tree, name.as_str(), row)?;
+        }
+        Ok(())
+    }
+
+    fn key(&mut self, tree: &Tree, key: &Key, row: Row) -> Result<(), AllocError> {
+        match tree.get(key.name) {
+            None if is_needed(tree, key) => {
+                let name = key.name;
+                let place = format!(in self.alloc; "{name}{row}")?;
+                self.tell(ConfigFault::Missing(key.path), place)
+            }
+            Some(value) if counts(tree, key) => self.value(key, value, row),
+            _ => Ok(()),
+        }
+    }
+
+    fn value(&mut self, key: &Key, value: &Value, row: Row) -> Result<(), AllocError> {
+        let name = key.name;
+        let kind = key.kind;
+        let shown = Shown(value);
+        if !is_of_kind(kind, value) {
+            self.other_kind(key, value, row)
+        } else if !is_allowed(kind, value) {
+            let place = format!(in self.alloc; "{name}{row} is {shown}: {kind}")?;
+            self.refuse(SetupFault::Range, place)
+        } else {
+            Ok(())
+        }
+    }
+
+    /// Tells of a value of another kind than its key's.
+    fn other_kind(&mut self, key: &Key, value: &Value, row: Row) -> Result<(), AllocError> {
+        let name = key.name;
+        let kind = key.kind;
+        let what = kind.is_what();
+        let place = match bad_item(kind, value) {
+            Some((number, item)) => {
+                let shown = Shown(item);
+                format!(in self.alloc; "{name}{row} has as number {number} {shown}: {what}")?
+            }
+            None => {
+                let shown = Shown(value);
+                let letters = Letters(kind, value);
+                format!(in self.alloc; "{name}{row} is {shown}: {what}{letters}")?
+            }
+        };
+        self.tell(ConfigFault::BadValue(key.path), place)
+    }
+
+    /// Tells of a key that is passed over.
+    fn name(&mut self, tree: &Tree, name: &str, row: Row) -> Result<(), AllocError> {
+        if is_known(tree, name, row.table) {
+            return Ok(());
+        }
+        let hint = hint(self.alloc, name, row.table)?;
+        let hint = hint.as_str();
+        let name = ShownKey(name);
+        let line = format!(in self.alloc; "{name}{row}: passed over{hint}")?;
+        self.passed.push(line)?;
+        Ok(())
+    }
+
+    /// The tables of a list of the unit.
+    fn list(&mut self, tree: &Tree, key: &Key, list: Table) -> Result<(), AllocError> {
+        self.key(tree, key, Row::UNIT)?;
+        let latest_ms = latest_answer_ms(tree);
+        for (index, item) in list_at(tree, key.name).iter().enumerate() {
+            let row = Row {
+                table: list,
+                number: index.saturating_add(1),
+                level: 0,
+            };
+            self.item(key, item, row)?;
+            if let Value::Table(tree) = item {
+                self.beside(tree, row, latest_ms)?;
+            }
+        }
+        Ok(())
+    }
+
+    /// A table of a list by itself, or what stands in its place.
+    fn item(&mut self, key: &Key, item: &Value, row: Row) -> Result<(), AllocError> {
+        match item {
+            Value::Table(tree) => self.table(tree, row),
+            _ => {
+                let path = key.path;
+                let number = row.number;
+                let shown = Shown(item);
+                let place = format!(in self.alloc;
+                    "{path} {number} is {shown}: a table, as [[{path}]] begins one"
+                )?;
+                self.tell(ConfigFault::BadValue(path), place)
+            }
+        }
+    }
+
+    /// What of a table depends on more than one of its keys.
+    fn beside(&mut self, tree: &Tree, row: Row, latest_ms: u64) -> Result<(), AllocError> {
+        match row.table {
+            Table::Tester => {
+                self.own_identifiers(tree, row)?;
+                self.tester(tree, row)
+            }
+            Table::Did => self.did(tree, row),
+            Table::Level => {
+                self.level_rows(tree, row)?;
+                self.lengths(tree, row.number)
+            }
+            Table::Answer => {
+                self.answer(tree, row, latest_ms)?;
+                self.never_applies(tree, row)
+            }
+            Table::Unit | Table::Code | Table::Routine | Table::LevelRow => Ok(()),
+        }
+    }
+
+    /// The rows of a level.
+    fn level_rows(&mut self, level: &Tree, of: Row) -> Result<(), AllocError> {
+        let Some(key) = KEYS.iter().find(|key| key.path == "level.row") else {
+            return Ok(());
+        };
+        self.key(level, key, of)?;
+        for (index, item) in list_at(level, key.name).iter().enumerate() {
+            let row = Row {
+                table: Table::LevelRow,
+                number: index.saturating_add(1),
+                level: of.number,
+            };
+            self.item(key, item, row)?;
+        }
+        Ok(())
+    }
+
+    /// Looks at a whole setup.
+    fn unit(&mut self, tree: &Tree) -> Result<(), AllocError> {
+        self.table(tree, Row::UNIT)?;
+        for key in &KEYS {
+            if let (Table::Unit, Kind::Rows(list, _)) = (key.table, key.kind) {
+                self.list(tree, key, list)?;
+            }
+        }
+        self.decimal(tree, "functional", Row::UNIT)?;
+        self.all_templates(tree)?;
+        self.empties(tree)?;
+        self.doubles(tree)?;
+        self.references(tree)
+    }
+
+    /// Looks at a text, and puts the faults in the order in which a run looks for them.
+    pub fn text(&mut self) -> Result<(), AllocError> {
+        match toml::table_from_str(self.alloc, self.text) {
+            Ok(tree) => self.unit(&tree)?,
+            Err(e) if e.is_memory() => return Err(AllocError),
+            Err(e) => self.syntax(&e)?,
+        }
+        self.faults.sort_by_key(|finding| phase(finding.fault))
+    }
+
+    /// Adds that the text is no TOML, and where.
+    fn syntax(&mut self, error: &toml::de::Error) -> Result<(), AllocError> {
+        let told = format!(in self.alloc; "{error}")?;
+        let (line, rest) = told.as_str().split_once('\n').unwrap_or(("", ""));
+        let line = line.strip_prefix("TOML parse error at ").unwrap_or(line);
+        let message = rest.trim_end();
+        let place = format!(in self.alloc; "{line}: {message}")?;
+        self.tell(ConfigFault::Syntax, place)
+    }
+}
+
+/// When a run looks for a fault.
+fn phase(fault: ConfigFault) -> u8 {
+    match fault {
+        ConfigFault::Syntax | ConfigFault::Memory => 0,
+        ConfigFault::Missing(_) | ConfigFault::BadValue(_) => 1,
+        ConfigFault::Setup(SetupFault::Range) => 2,
+        ConfigFault::Setup(SetupFault::Empty) => 3,
+        ConfigFault::Setup(SetupFault::DuplicateId) => 4,
+        ConfigFault::Setup(SetupFault::UnknownCode) => 5,
+        ConfigFault::Setup(SetupFault::UnknownLevel) => 6,
+    }
+}
+
+/// The first item of a list of templates or patterns that is none, and its number, from 1.
+fn bad_item(kind: Kind, value: &Value) -> Option<(usize, &Value)> {
+    for (index, item) in items(value).iter().enumerate() {
+        let is_bad = match kind {
+            Kind::Templates => !is_template(item),
+            Kind::Patterns => !is_pattern(item),
+            _ => false,
+        };
+        if is_bad {
+            return Some((index.saturating_add(1), item));
+        }
+    }
+    None
+}
+
+/// The items of the list at a key; none where it is no list.
+pub fn list_at<'a>(tree: &'a Tree, name: &str) -> &'a [Value] {
+    tree.get(name).map_or(&[], items)
+}
+
+/// Whether a key counts in its table.
+fn counts(tree: &Tree, key: &Key) -> bool {
+    match key.need {
+        Need::Must | Need::May => true,
+        Need::Beside(other) => tree.get(other).is_some(),
+    }
+}
+
+fn is_needed(tree: &Tree, key: &Key) -> bool {
+    match key.need {
+        Need::Must => true,
+        Need::May => false,
+        Need::Beside(_) => counts(tree, key),
+    }
+}
+
+fn is_known(tree: &Tree, name: &str, table: Table) -> bool {
+    KEYS.iter().any(|key| key.table == table && key.name == name && counts(tree, key))
+}
+
+/// What a key that is passed over may be meant to be.
+fn hint(alloc: Global, name: &str, table: Table) -> Result<String, AllocError> {
+    if let Some(near) = nearest(alloc, name, table)? {
+        return format!(in alloc; "; {near}?");
+    }
+    let other = KEYS.iter().find(|key| key.name == name);
+    match other {
+        Some(
+            Key {
+                need: Need::Beside(other),
+                ..
+            },
+        ) => format!(in alloc; "; it counts beside {other} alone"),
+        Some(
+            Key {
+                table: Table::Unit,
+                ..
+            },
+        ) => format!(in alloc; "; it belongs to the whole unit, before the first [[..]]"),
+        Some(key) => {
+            let path = key.table.path();
+            format!(in alloc; "; it belongs to [[{path}]]")
+        }
+        None => Ok(String::new(alloc)),
+    }
+}

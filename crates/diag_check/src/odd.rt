@@ -1,0 +1,113 @@
+//! What is odd about a setup without being a fault.
+
+use crate::finding::Row;
+use crate::look::Look;
+use crate::pairs::{is_extended, number_at};
+use std::alloc::AllocError;
+use toml::{Table as Tree, Value};
+
+/// How far a response's identifier is above its request's (ISO 15765-4).
+const PARTNER: u32 = 8;
+
+/// The first two bytes of a request to one ECU in normal fixed addressing.
+const FIXED: (u8, u8) = (0x18, 0xDA);
+
+/// What decimal numbers of three digits look like an identifier of diagnostics in hex.
+const LEAST_LOOK: u32 = 600;
+
+const MOST_LOOK: u32 = 799;
+
+impl Look<'_> {
+    /// An identifier that stands in the text as a decimal number, and looks like one in hex.
+    pub fn decimal(&mut self, tree: &Tree, name: &str, row: Row) -> Result<(), AllocError> {
+        let Some(id) = number_at(tree, name) else {
+            return Ok(());
+        };
+        if LEAST_LOOK <= id && id <= MOST_LOOK {
+            let numeral = format!(in self.alloc; "{id}")?;
+            if self.text.contains(numeral.as_str()) {
+                let line = format!(in self.alloc; "{name}{row}: {id} is 0x{id:X}; 0x{id}?")?;
+                self.odd.push(line)?;
+            }
+        }
+        Ok(())
+    }
+
+    /// The identifiers of a tester.
+    pub fn tester(&mut self, tester: &Tree, row: Row) -> Result<(), AllocError> {
+        let is_extended = is_extended(tester);
+        if !is_extended {
+            self.decimal(tester, "request", row)?;
+            self.decimal(tester, "response", row)?;
+            self.decimal(tester, "functional", row)?;
+        }
+        let ids = (number_at(tester, "request"), number_at(tester, "response"));
+        match ids {
+            (Some(request), Some(response)) if is_extended => self.fixed_pair(
+                request, response, row,
+            ),
+            (Some(request), Some(response)) => self.pair(request, response, row),
+            _ => Ok(()),
+        }
+    }
+
+    /// An identifier of ISO 15765-4 without its partner.
+    fn pair(&mut self, request: u32, response: u32, row: Row) -> Result<(), AllocError> {
+        let is_odd = is_obd_request(request) != is_obd_response(response)
+            || (is_obd_request(request) && response.checked_sub(request) != Some(PARTNER));
+        if is_odd {
+            let line = format!(in self.alloc;
+                "request{row} is 0x{request:X} and response 0x{response:X}: ISO 15765-4 has 0x7E0 to 0x7E7, each with the response 8 above"
+            )?;
+            self.odd.push(line)?;
+        }
+        Ok(())
+    }
+
+    /// A request of normal fixed addressing whose response isn't from its target to its source (ISO 15765-2:2016, 10.3.3).
+    fn fixed_pair(&mut self, request: u32, response: u32, row: Row) -> Result<(), AllocError> {
+        let [kind, format, target, source] = request.to_be_bytes();
+        let partner = u32::from_be_bytes([kind, format, source, target]);
+        if (kind, format) == FIXED && response != partner {
+            let line = format!(in self.alloc;
+                "request{row} is 0x{request:X} and response 0x{response:X}: with normal fixed addressing it is 0x{partner:X}"
+            )?;
+            self.odd.push(line)?;
+        }
+        Ok(())
+    }
+
+    /// A level for writing a value that can't be written.
+    pub fn did(&mut self, did: &Tree, row: Row) -> Result<(), AllocError> {
+        let is_written = matches!(did.get("write"), Some(Value::Boolean(true)));
+        let has_level = number_at(did, "write_level").is_some_and(|level| level > 0);
+        if has_level && !is_written {
+            let line = format!(in self.alloc;
+                "write_level{row}: it can't be written; write = true?"
+            )?;
+            self.odd.push(line)?;
+        }
+        Ok(())
+    }
+
+    /// A row of answers that never applies.
+    pub fn never_applies(&mut self, answer: &Tree, row: Row) -> Result<(), AllocError> {
+        let session = number_at(answer, "session").unwrap_or(0);
+        let level = number_at(answer, "level").unwrap_or(0);
+        if session == 1 && level > 0 {
+            let line = format!(in self.alloc;
+                "session{row} is 1 beside a level: the row never applies, for session 1 unlocks none"
+            )?;
+            self.odd.push(line)?;
+        }
+        Ok(())
+    }
+}
+
+fn is_obd_request(id: u32) -> bool {
+    0x7E0 <= id && id <= 0x7E7
+}
+
+fn is_obd_response(id: u32) -> bool {
+    0x7E8 <= id && id <= 0x7EF
+}

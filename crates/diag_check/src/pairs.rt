@@ -1,0 +1,230 @@
+//! Numbers that stand twice, and numbers that are named and aren't there.
+
+use crate::look::{Look, list_at};
+use crate::value::number;
+use diag_setup::SetupFault;
+use std::alloc::AllocError;
+use std::collections::BTreeMap;
+use toml::{Table as Tree, Value};
+
+/// The identifier of functional requests where a setup says none.
+const FUNCTIONAL: u32 = 0x7DF;
+
+/// The same of 29 bits (ISO 15765-4).
+const FUNCTIONAL_EXTENDED: u32 = 0x18DB_33F1;
+
+/// Where an identifier stood first: its key, and the number of its row.
+type Place = (&'static str, usize);
+
+/// The requests and responses of a setup, each by its number and whether it is of 29 bits.
+type Seen = BTreeMap<(u32, bool), Place>;
+
+/// The number at a key, where it is one.
+pub fn number_at(tree: &Tree, name: &str) -> Option<u32> {
+    match tree.get(name) {
+        Some(value) => number(value),
+        None => None,
+    }
+}
+
+/// Whether a tester's identifiers are of 29 bits.
+pub fn is_extended(tester: &Tree) -> bool {
+    matches!(tester.get("extended"), Some(Value::Boolean(true)))
+}
+
+impl Look<'_> {
+    /// Identifiers, names and numbers that stand twice.
+    pub fn doubles(&mut self, tree: &Tree) -> Result<(), AllocError> {
+        self.double_identifiers(tree)?;
+        self.double_names(tree)?;
+        self.double_numbers(tree, "did", "id")?;
+        self.double_numbers(tree, "code", "code")?;
+        self.double_numbers(tree, "routine", "id")?;
+        self.double_numbers(tree, "level", "sub")
+    }
+
+    /// Two equal identifiers among all requests and responses, and one of these that is a functional one.
+    fn double_identifiers(&mut self, tree: &Tree) -> Result<(), AllocError> {
+        let mut seen = BTreeMap::new(self.alloc);
+        for (index, tester) in list_at(tree, "tester").iter().enumerate() {
+            if let Value::Table(tester) = tester {
+                let row = index.saturating_add(1);
+                self.identifier(&mut seen, tester, ("request", row))?;
+                self.identifier(&mut seen, tester, ("response", row))?;
+            }
+        }
+        self.functional_identifiers(tree, &mut seen)
+    }
+
+    fn identifier(
+        &mut self,
+        seen: &mut Seen,
+        tester: &Tree,
+        place: Place,
+    ) -> Result<(), AllocError> {
+        let (name, row) = place;
+        let Some(id) = number_at(tester, name) else {
+            return Ok(());
+        };
+        let key = (id, is_extended(tester));
+        let Some((other, first)) = seen.get(&key).copied() else {
+            seen.insert(key, place)?;
+            return Ok(());
+        };
+        let place = format!(in self.alloc;
+            "{name} of [[tester]] {row} is 0x{id:X}, as {other} of [[tester]] {first}"
+        )?;
+        self.refuse(SetupFault::DuplicateId, place)
+    }
+
+    /// Requests and responses that are a functional identifier; several testers may have one of these.
+    fn functional_identifiers(&mut self, tree: &Tree, seen: &mut Seen) -> Result<(), AllocError> {
+        let shared = number_at(tree, "functional").unwrap_or(FUNCTIONAL);
+        for tester in list_at(tree, "tester") {
+            if let Value::Table(tester) = tester {
+                let is_extended = is_extended(tester);
+                let default = if is_extended {
+                    FUNCTIONAL_EXTENDED
+                } else {
+                    shared
+                };
+                let id = number_at(tester, "functional").unwrap_or(default);
+                if let Some((name, row)) = seen.remove(&(id, is_extended)) {
+                    let place = format!(in self.alloc;
+                        "{name} of [[tester]] {row} is 0x{id:X}, as functional"
+                    )?;
+                    self.refuse(SetupFault::DuplicateId, place)?;
+                }
+            }
+        }
+        Ok(())
+    }
+
+    fn double_names(&mut self, tree: &Tree) -> Result<(), AllocError> {
+        let mut seen = BTreeMap::new(self.alloc);
+        for (index, tester) in list_at(tree, "tester").iter().enumerate() {
+            let Some(name) = name_of(tester) else {
+                continue;
+            };
+            let row = index.saturating_add(1);
+            match seen.get(&name).copied() {
+                None => {
+                    seen.insert(name, row)?;
+                }
+                Some(first) => {
+                    let place = format!(in self.alloc;
+                        "name of [[tester]] {row} is {name:?}, as that of [[tester]] {first}"
+                    )?;
+                    self.refuse(SetupFault::DuplicateId, place)?;
+                }
+            }
+        }
+        Ok(())
+    }
+
+    fn double_numbers(&mut self, tree: &Tree, list: &str, name: &str) -> Result<(), AllocError> {
+        let mut seen = BTreeMap::new(self.alloc);
+        for (index, item) in list_at(tree, list).iter().enumerate() {
+            let Some(number) = number_of(item, name) else {
+                continue;
+            };
+            let row = index.saturating_add(1);
+            match seen.get(&number).copied() {
+                None => {
+                    seen.insert(number, row)?;
+                }
+                Some(first) => {
+                    let place = format!(in self.alloc;
+                        "{name} of [[{list}]] {row} is 0x{number:X}, as that of [[{list}]] {first}"
+                    )?;
+                    self.refuse(SetupFault::DuplicateId, place)?;
+                }
+            }
+        }
+        Ok(())
+    }
+
+    /// Codes and levels that are named and aren't there.
+    pub fn references(&mut self, tree: &Tree) -> Result<(), AllocError> {
+        let codes = numbers(self.alloc, tree, "code", "code")?;
+        self.unknown(tree, "routine", "code", &codes)?;
+        let mut levels = numbers(self.alloc, tree, "level", "sub")?;
+        levels.insert(0, ())?;
+        self.unknown(tree, "did", "read_level", &levels)?;
+        self.unknown(tree, "did", "write_level", &levels)?;
+        self.unknown(tree, "routine", "level", &levels)?;
+        self.unknown(tree, "answer", "level", &levels)
+    }
+
+    fn unknown(
+        &mut self,
+        tree: &Tree,
+        list: &str,
+        name: &str,
+        known: &BTreeMap<u32, ()>,
+    ) -> Result<(), AllocError> {
+        for (index, item) in list_at(tree, list).iter().enumerate() {
+            let Some(number) = number_of(item, name) else {
+                continue;
+            };
+            if known.get(&number).is_none() {
+                let row = index.saturating_add(1);
+                self.unknown_one(list, name, row, number)?;
+            }
+        }
+        Ok(())
+    }
+
+    fn unknown_one(
+        &mut self,
+        list: &str,
+        name: &str,
+        row: usize,
+        number: u32,
+    ) -> Result<(), AllocError> {
+        if name == "code" {
+            let place = format!(in self.alloc;
+                "{name} of [[{list}]] {row} is 0x{number:06X}, which no [[code]] has"
+            )?;
+            self.refuse(SetupFault::UnknownCode, place)
+        } else {
+            let place = format!(in self.alloc;
+                "{name} of [[{list}]] {row} is {number}, which no [[level]] has as its sub"
+            )?;
+            self.refuse(SetupFault::UnknownLevel, place)
+        }
+    }
+}
+
+fn name_of(tester: &Value) -> Option<&str> {
+    match tester {
+        Value::Table(tester) => match tester.get("name") {
+            Some(Value::String(name)) => Some(name.as_str()),
+            _ => None,
+        },
+        _ => None,
+    }
+}
+
+fn number_of(item: &Value, name: &str) -> Option<u32> {
+    match item {
+        Value::Table(row) => number_at(row, name),
+        _ => None,
+    }
+}
+
+/// The numbers at a key of a list's rows.
+fn numbers(
+    alloc: std::alloc::Global,
+    tree: &Tree,
+    list: &str,
+    name: &str,
+) -> Result<BTreeMap<u32, ()>, AllocError> {
+    let mut all = BTreeMap::new(alloc);
+    for item in list_at(tree, list) {
+        if let Some(number) = number_of(item, name) {
+            all.insert(number, ())?;
+        }
+    }
+    Ok(all)
+}

@@ -1,0 +1,119 @@
+//! What a line looks like that isn't one of `candump -L`.
+
+/// What a line of a log or of a capture looks like, and what helps.
+pub fn looks(line: &[u8]) -> &'static str {
+    match by_first_bytes(line) {
+        Some(told) => told,
+        None => by_text(std::str::from_utf8(line).unwrap_or("")),
+    }
+}
+
+/// What the first bytes of a file of another kind say.
+fn by_first_bytes(line: &[u8]) -> Option<&'static str> {
+    match line {
+        [0xEF, 0xBB, 0xBF, ..] => {
+            Some("it begins with a byte order mark: save the recording without one")
+        }
+        [0xFF, 0xFE, ..] | [0xFE, 0xFF, ..] | [_, 0, _, 0, ..] | [0, _, 0, _, ..] => {
+            Some("it is UTF-16: save the recording as ASCII")
+        }
+        [b'L', b'O', b'G', b'G', ..] => Some("it is BLF: convert it with python-can"),
+        [0x0A, 0x0D, 0x0D, 0x0A, ..] | [0xD4, 0xC3, 0xB2, 0xA1, ..] => {
+            Some("it is a capture of Wireshark: record with candump -L")
+        }
+        [0x1F, 0x8B, ..] => Some("it is packed by gzip: zcat FILE | uds_play bus CONFIG"),
+        _ => None,
+    }
+}
+
+fn by_text(line: &str) -> &'static str {
+    let text = line.trim_start();
+    if line.starts_with("tick") {
+        "a tick line is tick, or tick and a number from 1 to 60000 behind one space"
+    } else if is_screen(line) {
+        "it is what candump shows on the screen: record with candump -L, which has the form (1.000000) can0 7E0#021003"
+    } else if is_journal(line) {
+        "it is a journal: uds_play replay CONFIG JOURNAL takes one"
+    } else if is_asc(line) {
+        "it is ASC: convert it with asc2log of can-utils"
+    } else if line.starts_with(";$") {
+        "it is TRC: convert it with python-can"
+    } else if is_setup(line) {
+        "it is no frame, but as a line of a setup: the setup comes first, then the recording"
+    } else if text.starts_with('(') {
+        in_its_form(line)
+    } else if line.contains(',') || line.contains(';') {
+        "it is CSV: a line has the form (1.000000) can0 7E0#021003, as candump -L writes it"
+    } else {
+        "a line has the form (1.000000) can0 7E0#021003, as candump -L writes it"
+    }
+}
+
+/// What is wrong with a line that begins as `candump -L` writes one.
+fn in_its_form(line: &str) -> &'static str {
+    let (stamp, rest) = line.split_once(')').unwrap_or((line, ""));
+    if rest.contains('[') {
+        "it is what candump shows on the screen: record with candump -L, which has the form (1.000000) can0 7E0#021003"
+    } else if line.starts_with(' ') {
+        "a line begins with its stamp, and not with a space"
+    } else if stamp.contains(',') {
+        "its stamp has a comma: seconds, a point and 6 to 9 digits"
+    } else if !has_form(stamp) {
+        "its stamp isn't 1 to 12 digits, a point and 6 to 9 digits"
+    } else if !rest.contains('#') {
+        "it has no identifier and #, as 7E0#021003"
+    } else {
+        "behind # stand 0 to 8 bytes, two hex digits each; an identifier has 3 hex digits up to 7FF, or 8"
+    }
+}
+
+/// Whether a stamp without its end is `(`, digits, a point and 6 to 9 digits.
+fn has_form(stamp: &str) -> bool {
+    let Some((seconds, fraction)) = stamp.split_once('.') else {
+        return false;
+    };
+    let seconds = seconds.strip_prefix('(').unwrap_or("");
+    is_digits(seconds, 1, 12) && is_digits(fraction, 6, 9)
+}
+
+fn is_digits(text: &str, least: usize, most: usize) -> bool {
+    least <= text.len() && text.len() <= most && text.bytes().all(|c| c.is_ascii_digit())
+}
+
+/// Whether a line is an interface, an identifier, and a length in brackets.
+fn is_screen(line: &str) -> bool {
+    let mut words = line.split_ascii_whitespace();
+    let (name, id, length) = (words.next(), words.next(), words.next());
+    let has_length = length.is_some_and(|length| length.starts_with('[') && length.ends_with(']'));
+    name.is_some() && id.is_some_and(is_hex) && has_length
+}
+
+fn is_hex(text: &str) -> bool {
+    text.bytes().all(|c| c.is_ascii_hexdigit())
+}
+
+fn is_journal(line: &str) -> bool {
+    let mut words = line.split_ascii_whitespace();
+    let (place, kind) = (words.next(), words.next());
+    line.starts_with("diag-journal")
+        || (place.is_some_and(|place| is_digits(place, 1, 1))
+            && kind.is_some_and(|kind| kind == "P" || kind == "F" || kind == "T"))
+}
+
+fn is_asc(line: &str) -> bool {
+    line.starts_with("date ")
+        || line.starts_with("base ")
+        || line.starts_with("Begin Trigger")
+        || line.contains(" Rx ")
+        || line.contains(" Tx ")
+}
+
+/// Whether a line is a key of a setup, or the head of a list.
+fn is_setup(line: &str) -> bool {
+    line.starts_with("[[") || line.starts_with("# ") || line.contains(" = ")
+}
+
+/// Whether a text that isn't a setup looks like a recording.
+pub fn is_recording(text: &[u8]) -> bool {
+    text.starts_with(b"(".as_slice()) || text.starts_with(b"tick".as_slice())
+}

@@ -1,0 +1,14 @@
+//! What can be told of a file behind a fault, and of a recording behind a run.
+#![tactic(auto)]
+
+mod journal;
+mod kind;
+mod line;
+mod place;
+mod seen;
+
+pub use journal::expected;
+pub use kind::{is_recording, looks};
+pub use line::{ShownLine, line_at};
+pub use place::Place;
+pub use seen::{Recording, Side};

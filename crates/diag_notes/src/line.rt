@@ -1,0 +1,87 @@
+//! The start of one line of a file.
+
+use std::alloc::{AllocError, Global};
+use std::fmt;
+use std::io::Read;
+
+/// The most bytes of a line that are kept.
+pub const MOST_KEPT: usize = 256;
+
+/// The most bytes of a line that are told.
+const MOST_SHOWN: usize = 60;
+
+/// How many bytes are read at once.
+const PIECE: usize = 65_536;
+
+/// A line that is looked for as pieces of its file come.
+#[derive(Drop)]
+struct Search {
+    /// How many lines are still before it.
+    before: u64,
+    line: Vec<u8>,
+    is_over: bool,
+}
+
+impl Search {
+    fn take(&mut self, piece: &[u8]) -> Result<(), AllocError> {
+        for byte in piece {
+            if self.is_over {
+                return Ok(());
+            }
+            if self.before > 0 {
+                if *byte == b'\n' {
+                    self.before -= 1;
+                }
+            } else if *byte == b'\n' || self.line.len() >= MOST_KEPT {
+                self.is_over = true;
+            } else {
+                self.line.push(*byte)?;
+            }
+        }
+        Ok(())
+    }
+}
+
+/// The first bytes of the line of this number, from 1; none where a file can't be read as far, or has no such line.
+pub fn line_at<R: Read>(
+    alloc: Global,
+    file: &mut R,
+    number: u64,
+) -> Result<Option<Vec<u8>>, AllocError> {
+    let mut search = Search {
+        before: number.saturating_sub(1),
+        line: Vec::new(alloc),
+        is_over: false,
+    };
+    let mut piece = vec![in alloc; 0u8; PIECE]?;
+    for _ in 0..u64::MAX {
+        let Ok(count) = file.read(piece.as_mut_slice()) else {
+            break;
+        };
+        if count == 0 || search.is_over {
+            break;
+        }
+        search.take(&piece.as_slice()[..count])?;
+    }
+    let is_there = search.before == 0 && !search.line.is_empty();
+    Ok(is_there.then_some(search.line))
+}
+
+/// The start of a line as it is told: printable characters of ASCII, and other bytes in hex.
+#[derive(Drop)]
+pub struct ShownLine<'a>(pub &'a [u8]);
+
+impl fmt::Display for ShownLine<'_> {
+    fn fmt<W: fmt::Write>(&self, f: &mut fmt::Formatter<W>) -> fmt::Result {
+        for (index, byte) in self.0.iter().enumerate() {
+            if index >= MOST_SHOWN {
+                return write!(f, "..");
+            }
+            match byte {
+                b' '..=b'~' => f.write_char(char::from(*byte))?,
+                _ => write!(f, "\\x{byte:02X}")?,
+            }
+        }
+        Ok(())
+    }
+}

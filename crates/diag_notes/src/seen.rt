@@ -1,0 +1,188 @@
+//! Whose frames are in a recording, as far as it is looked at.
+
+use std::alloc::{AllocError, Global};
+use std::str;
+
+/// A tester, by its name and the numbers of its identifiers.
+#[derive(Drop)]
+pub struct Side<'a> {
+    pub name: &'a str,
+    pub request: u32,
+    pub response: u32,
+    pub functional: u32,
+    /// Whether they have 29 bits.
+    pub extended: bool,
+}
+
+impl Side<'_> {
+    fn has(&self, number: u32) -> bool {
+        number == self.request || number == self.response || number == self.functional
+    }
+}
+
+/// A frame's line.
+#[derive(Drop)]
+struct Line<'a> {
+    interface: &'a str,
+    id: u32,
+    is_extended: bool,
+    is_flexible: bool,
+}
+
+/// How many frames an interface has.
+#[derive(Drop)]
+struct Interface<'a> {
+    name: &'a str,
+    frames: u64,
+}
+
+/// What was seen of a recording.
+#[derive(Drop)]
+pub struct Recording<'a> {
+    alloc: Global,
+    /// The testers, and how many frames of each were seen.
+    sides: Vec<(Side<'a>, u64)>,
+    standard: u64,
+    extended: u64,
+    flexible: u64,
+    interfaces: Vec<Interface<'a>>,
+}
+
+/// The most names of interfaces that are told.
+const MOST_INTERFACES: usize = 8;
+
+impl<'a> Recording<'a> {
+    /// A recording of no testers of which nothing was seen.
+    pub fn new(alloc: Global) -> Recording<'a> {
+        Recording {
+            alloc,
+            sides: Vec::new(alloc),
+            standard: 0,
+            extended: 0,
+            flexible: 0,
+            interfaces: Vec::new(alloc),
+        }
+    }
+
+    /// One tester more.
+    pub fn side(&mut self, side: Side<'a>) -> Result<(), AllocError> {
+        self.sides.push((side, 0))?;
+        Ok(())
+    }
+
+    /// Looks at a text.
+    pub fn look(&mut self, text: &'a [u8]) -> Result<(), AllocError> {
+        for line in text.split(|c| *c == b'\n') {
+            let line = str::from_utf8(line).unwrap_or("");
+            if let Some(line) = read_line(line) {
+                self.count(&line)?;
+            }
+        }
+        Ok(())
+    }
+
+    fn count(&mut self, line: &Line<'a>) -> Result<(), AllocError> {
+        let mut is_named = false;
+        let mut is_heard = false;
+        for (side, frames) in self.sides.iter_mut() {
+            if side.has(line.id) {
+                is_named = true;
+                if side.extended == line.is_extended && !line.is_flexible {
+                    is_heard = true;
+                    *frames = frames.saturating_add(1);
+                }
+            }
+        }
+        if is_named && !is_heard {
+            self.pass(line);
+        }
+        self.interface(line.interface)
+    }
+
+    /// Counts a frame with a tester's number that is none of its frames.
+    fn pass(&mut self, line: &Line<'_>) {
+        if line.is_flexible {
+            self.flexible = self.flexible.saturating_add(1);
+        } else if line.is_extended {
+            self.extended = self.extended.saturating_add(1);
+        } else {
+            self.standard = self.standard.saturating_add(1);
+        }
+    }
+
+    fn interface(&mut self, name: &'a str) -> Result<(), AllocError> {
+        for interface in self.interfaces.iter_mut() {
+            if interface.name == name {
+                interface.frames = interface.frames.saturating_add(1);
+                return Ok(());
+            }
+        }
+        if self.interfaces.len() < MOST_INTERFACES {
+            self.interfaces.push(Interface { name, frames: 1 })?;
+        }
+        Ok(())
+    }
+
+    /// A line for each thing that a reader should know. `part` is what stands behind where not all was looked at.
+    pub fn notes(&self, part: &str) -> Result<Vec<String>, AllocError> {
+        let mut notes = Vec::new(self.alloc);
+        for (side, frames) in self.sides.iter() {
+            if *frames == 0 {
+                let name = side.name;
+                let request = side.request;
+                let digits = if side.extended { 8 } else { 3 };
+                notes.push(format!(in self.alloc;
+                    "no frame of {name} was seen{part}: its requests have the identifier {request:0digits$X}"
+                )?)?;
+            }
+        }
+        self.passed(&mut notes, part)?;
+        self.names(&mut notes, part)?;
+        Ok(notes)
+    }
+
+    fn passed(&self, notes: &mut Vec<String>, part: &str) -> Result<(), AllocError> {
+        let counts = [
+            (self.standard, "11 bits"),
+            (self.extended, "29 bits"),
+            (self.flexible, "CAN FD"),
+        ];
+        for (count, what) in &counts {
+            if *count > 0 {
+                notes.push(format!(in self.alloc;
+                    "frames with a tester's number that were passed over, being of {what}{part}: {count}"
+                )?)?;
+            }
+        }
+        Ok(())
+    }
+
+    fn names(&self, notes: &mut Vec<String>, part: &str) -> Result<(), AllocError> {
+        if self.interfaces.len() < 2 {
+            return Ok(());
+        }
+        let mut line = String::from_str(self.alloc, "frames of more than one interface count")?;
+        line.push_str(part)?;
+        for (index, interface) in self.interfaces.iter().enumerate() {
+            let name = interface.name;
+            let frames = interface.frames;
+            let mark = if index == 0 { ":" } else { "," };
+            write!(line, "{mark} {name} {frames}")?;
+        }
+        notes.push(line)?;
+        Ok(())
+    }
+}
+
+/// A line that is a frame, whatever it has behind its identifier.
+fn read_line(line: &str) -> Option<Line<'_>> {
+    let (_, rest) = line.strip_prefix('(')?.split_once(')')?;
+    let (interface, rest) = rest.trim_start().split_once(' ')?;
+    let (id, rest) = rest.trim_start().split_once('#')?;
+    Some(Line {
+        interface,
+        id: u32::from_str_radix(id, 16).ok()?,
+        is_extended: id.len() == 8,
+        is_flexible: rest.starts_with('#'),
+    })
+}
