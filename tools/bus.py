@@ -65,7 +65,7 @@ def told(good, name, more=""):
 
 def run(words, **how):
     """Runs the program; returns its status, what it wrote and what it told."""
-    ran = subprocess.run([PROGRAM, *words], capture_output=True, timeout=120, **how)
+    ran = subprocess.run([PROGRAM, "--quiet", *words], capture_output=True, timeout=120, **how)
     return ran.returncode, ran.stdout, ran.stderr
 
 
@@ -129,7 +129,7 @@ class Live:
     """The program over a pipe that stays open."""
 
     def __init__(self, words):
-        self.child = subprocess.Popen([PROGRAM, *words], stdin=subprocess.PIPE, stdout=subprocess.PIPE, stderr=subprocess.PIPE, bufsize=0)
+        self.child = subprocess.Popen([PROGRAM, "--quiet", *words], stdin=subprocess.PIPE, stdout=subprocess.PIPE, stderr=subprocess.PIPE, bufsize=0)
         self.got = b""
 
     def give(self, text):
@@ -314,10 +314,10 @@ def cannot_write(room):
     want = (7, b"uds_play: cannot write\n")
     for flags in FLAGS:
         with open("/dev/full", "wb") as full:
-            ran = subprocess.run([PROGRAM, "bus", *flags, config, path], stdout=full, stderr=subprocess.PIPE, timeout=120)
+            ran = subprocess.run([PROGRAM, "--quiet", "bus", *flags, config, path], stdout=full, stderr=subprocess.PIPE, timeout=120)
         told((ran.returncode, ran.stderr) == want, f"a full device: {' '.join(flags)}", f"{ran}")
     for flags in FLAGS[:2]:
-        child = subprocess.Popen([PROGRAM, "bus", *flags, config, path], stdout=subprocess.PIPE, stderr=subprocess.PIPE)
+        child = subprocess.Popen([PROGRAM, "--quiet", "bus", *flags, config, path], stdout=subprocess.PIPE, stderr=subprocess.PIPE)
         first = child.stdout.readline()
         child.stdout.close()
         found = child.wait(PATIENCE), child.stderr.read()
@@ -379,7 +379,7 @@ def long_capture(room):
         it.writelines(long_lines(LONG))
     for flags in FLAGS:
         with open(f"{room}/out", "wb") as out:
-            status, peak = peak_of(subprocess.Popen([PROGRAM, "bus", *flags, config, path], stdout=out))
+            status, peak = peak_of(subprocess.Popen([PROGRAM, "--quiet", "bus", *flags, config, path], stdout=out))
         told(status == 0 and 0 < peak < MOST_MEMORY, f"{LONG} lines, {peak} KiB: {' '.join(flags)}", f"status {status}")
 
 

@@ -49,7 +49,7 @@ def ran(room, words, preload, **fails):
     count = f"{room}.{threading.get_ident()}"
     env = {"LD_PRELOAD": preload, "FAIL_ROOM": room, "FAIL_MOST": "1", "FAIL_COUNT": count, **fails}
     with open(f"{room}/-" if "-" in words else os.devnull, "rb") as given:
-        it = subprocess.run([PROGRAM, *words], cwd=room, env=env, stdin=given, capture_output=True, timeout=120, close_fds=False)
+        it = subprocess.run([PROGRAM, "--quiet", *words], cwd=room, env=env, stdin=given, capture_output=True, timeout=120, close_fds=False)
     with open(count, "rb") as called:
         return it.returncode, it.stdout, it.stderr.decode(), int.from_bytes(called.read(), sys.byteorder)
 
@@ -148,7 +148,7 @@ def play_mixes(room):
     folder = put(f"{room}/mixed", {**SETUP, "log": b"tick\n" * 20_000})
     changes = []
     for _ in range(100):
-        words = [PROGRAM, "play", "--journal", "setup", "log", "log"]
+        words = [PROGRAM, "--quiet", "play", "--journal", "setup", "log", "log"]
         journal = subprocess.run(words, cwd=folder, capture_output=True, timeout=120, check=True).stdout.split(b"\n")[1:-1]
         who = [it[:1] for it in journal]
         changes.append(1 + sum(one != other for one, other in zip(who, who[1:])))

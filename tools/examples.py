@@ -41,7 +41,7 @@ def check(name, words, files, prints="", tells="", status=0):
         for index, text in enumerate(files):
             with open(f"{room}/{index}", "wb") as it:
                 it.write(text if isinstance(text, bytes) else text.encode())
-        line = [PROGRAM, *words, *(str(it) for it in range(len(files)))]
+        line = [PROGRAM, "--quiet", *words, *(str(it) for it in range(len(files)))]
         ran = subprocess.run(line, cwd=room, capture_output=True, timeout=120)
     want = (status, prints.encode(), f"uds_play: {tells}\n".encode() if tells else b"")
     found = (ran.returncode, ran.stdout, ran.stderr)
@@ -396,7 +396,7 @@ def read_while_written():
         for name, lines in (("setup", SETUP), ("a", log(a)), ("b", log(["7E1#0322F190"]))):
             with open(f"{room}/{name}", "w") as it:
                 it.write(lines)
-        ran = subprocess.run([PROGRAM, "play", "setup", "a", "b"], cwd=room, capture_output=True, text=True, timeout=120)
+        ran = subprocess.run([PROGRAM, "--quiet", "play", "setup", "a", "b"], cwd=room, capture_output=True, text=True, timeout=120)
     sent = [it for it in ran.stdout.split("\n") if it.startswith("(") and " B " in it]
     either = [[f"(0000000000.000000) B 7E9#101462F190{it}"] for it in ("544553", "414243")]
     told(ran.returncode == 0 and sent in either, "a value is read while it is written", f": {sent}")

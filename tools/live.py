@@ -1,8 +1,8 @@
 #!/usr/bin/env python3
 """Runs `live` of the built program over a pipe, by the clock: sessions by plain lines and by scapy's testers
-(tools/live_scapy.py), outputs that nobody reads or that are closed, bad lines, records, and silence. Each session's
-record is played by `bus`, which has to write the same bytes. How long the silence lasts is LIVE_SILENCE, in seconds
-(10 where it isn't set). The last line is 'N passed, M failed'."""
+(tools/live_scapy.py), separation times (tools/live_gaps.py), outputs that nobody reads or that are closed, bad lines,
+records, and silence. Each session's record is played by `bus`, which has to write the same bytes. How long the silence
+lasts is LIVE_SILENCE, in seconds (10 where it isn't set). The last line is 'N passed, M failed'."""
 import contextlib
 import itertools
 import os
@@ -16,13 +16,14 @@ import tempfile
 import threading
 import time
 
+import live_gaps
 import live_scapy
 
 TOP = os.path.dirname(os.path.dirname(os.path.abspath(__file__)))
 PROGRAM = f"{TOP}/crates/uds_play/out/uds_play"
 with open(f"{TOP}/runs/setup.toml", encoding="ascii") as it:
     SETUP = it.read()
-USAGE = "usage: uds_play [serial|play|replay] [--journal] [--stamps] CONFIG FILE.."
+USAGE = "usage: uds_play COMMAND [FLAG..] CONFIG [FILE..]; see uds_play --help"
 # the most seconds that the program may take to write what is due, or to end
 PATIENCE = 20
 SILENCE = float(os.environ.get("LIVE_SILENCE", "10"))
@@ -62,11 +63,11 @@ def line(identifier, data):
 class Run:
     """The program, live over a pipe, and what it wrote."""
 
-    def __init__(self, room, setup=SETUP, reads=True, limits=None):
+    def __init__(self, room, setup=SETUP, reads=True, limits=None, out=subprocess.PIPE):
         self.config = put(f"{room}/setup{next(numbers)}", setup.encode())
         self.record = f"{room}/record{next(numbers)}"
-        words = [PROGRAM, "live", "--record", self.record, self.config]
-        pipes = {"stdin": subprocess.PIPE, "stdout": subprocess.PIPE, "stderr": subprocess.PIPE}
+        words = [PROGRAM, "--quiet", "live", "--record", self.record, self.config]
+        pipes = {"stdin": subprocess.PIPE, "stdout": out, "stderr": subprocess.PIPE}
         self.child = subprocess.Popen(words, bufsize=0, preexec_fn=limits, **pipes)
         self.pieces = []
         self.came = {it: queue.Queue() for it in ("7E8", "7E9", "7EA")}
@@ -77,13 +78,19 @@ class Run:
     def read(self):
         """Reads all that it writes, each frame with the moment at which it came."""
         begun = b""
-        while piece := os.read(self.child.stdout.fileno(), 1 << 16):
-            now = time.monotonic()
+        while True:
+            piece, now = self.hear()
+            if not piece:
+                return
             self.pieces.append(piece)
             *lines, begun = (begun + piece).split(b"\n")
             for it in lines:
                 identifier, _, data = it.decode().split(" ")[-1].partition("#")
                 self.came[identifier].put((now, data))
+
+    def hear(self):
+        """What it writes next, none of it at the end, and the moment at which that came."""
+        return os.read(self.child.stdout.fileno(), 1 << 16), time.monotonic()
 
     def wrote(self):
         return b"".join(self.pieces)
@@ -133,7 +140,7 @@ class Run:
 
     def replayed(self):
         """What `bus` writes of the record, its status and what it tells."""
-        ran = subprocess.run([PROGRAM, "bus", self.config, self.record], capture_output=True, timeout=120)
+        ran = subprocess.run([PROGRAM, "--quiet", "bus", self.config, self.record], capture_output=True, timeout=120)
         return ran.stdout, ran.returncode, ran.stderr
 
     def agrees(self):
@@ -160,7 +167,7 @@ class Run:
     def stop(self):
         self.child.kill()
         self.child.wait()
-        for it in (self.child.stdin, self.child.stdout, self.child.stderr):
+        for it in filter(None, (self.child.stdin, self.child.stdout, self.child.stderr)):
             with contextlib.suppress(BrokenPipeError):
                 it.close()
 
@@ -284,8 +291,9 @@ def file_as_input(room):
 
 
 def many_frames(room):
-    """Many frames of two testers at once."""
-    text = b"".join(line(f"{0x7E0 + it % 2:03X}", "023E00") for it in range(MANY))
+    """Many frames of two testers at once, with flow control among them, behind which the others wait."""
+    flow = line("7E0", "300000")
+    text = b"".join(line(f"{0x7E0 + it % 2:03X}", "023E00") + flow * (it % 1000 == 0) for it in range(MANY))
     with running(room) as run:
         begun = time.monotonic()
         giver = run.give_beside(text)
@@ -400,13 +408,13 @@ def records(room):
     for words in ([], [config, config], ["--record", config], ["--record", new, "--end", config], ["--record", new, "--record", new, config]):
         refused(["live", *words], 1, USAGE, f"usage, {len(words)} words behind it")
     told(not os.path.exists(new), "no record is made at a fault of the words or the setup")
-    ran = subprocess.run([PROGRAM, "live", config], input=line("7E0", "023E00"), capture_output=True, timeout=120)
+    ran = subprocess.run([PROGRAM, "--quiet", "live", config], input=line("7E0", "023E00"), capture_output=True, timeout=120)
     told((ran.returncode, ran.stdout) == (0, b"(0000000000.000000) A 7E8#027E00CCCCCCCCCC\n"), "no record", f"{ran}")
 
 
 def refused(words, status, text, name):
     """The program ends so, and tells this, though its input stays open."""
-    with subprocess.Popen([PROGRAM, *words], stdin=subprocess.PIPE, stdout=subprocess.PIPE, stderr=subprocess.PIPE) as child:
+    with subprocess.Popen([PROGRAM, "--quiet", *words], stdin=subprocess.PIPE, stdout=subprocess.PIPE, stderr=subprocess.PIPE) as child:
         try:
             found = child.wait(PATIENCE), child.stdout.read(), child.stderr.read().decode()
         except subprocess.TimeoutExpired:
@@ -467,17 +475,22 @@ def main():
     if not os.access(PROGRAM, os.X_OK):
         print(f"live: {PROGRAM} isn't built\n0 passed, 1 failed")
         return 1
-    quiet = threading.Thread(target=play, args=(silence,))
-    quiet.start()
+    live = sys.modules[__name__]
+    # (first, while nothing else runs here)
+    live_gaps.keeps_pace(live)
+    beside = [threading.Thread(target=play, args=(silence,)), threading.Thread(target=live_gaps.is_stopped, args=(live,))]
+    for it in beside:
+        it.start()
     for group in GROUPS:
         play(group)
     if live_scapy.found():
         for group in live_scapy.GROUPS:
             with tempfile.TemporaryDirectory() as room:
-                group(room, sys.modules[__name__])
+                group(room, live)
     else:
         note("scapy isn't there, and its testers' runs were skipped")
-    quiet.join()
+    for it in beside:
+        it.join()
     print(f"{counts[True]} passed, {counts[False]} failed")
     return 1 if counts[False] else 0
 

@@ -31,6 +31,9 @@ refused() {
   status=0
   : > "$room/count"
   timeout 60 env REFUSE_AT="$n" REFUSE_COUNT="$room/count" LD_PRELOAD="$room/refuse.so" "$@" < "${input:-/dev/null}" > "$room/out" 2> "$room/err" || status=$?
+  # A note is for people, and is left out where there is no memory for it.
+  grep -v '^uds_play: note: ' "$room/err" > "$room/rest"
+  mv "$room/rest" "$room/err"
   asked=$(od -An -t d8 "$room/count" | tr -d ' ')
   asked=${asked:-0}
 }
@@ -125,7 +128,7 @@ sweep_program() {
     printf 'entries 1\nsession extended\nholder A\n' > "$room/replayed"
     printf 'diag-journal 1\n1 P 1003 5003003201F5\n' > "$room/other"
     printf 'x' > "$room/bad"
-    usage='uds_play: usage: uds_play [serial|play|replay] [--journal] [--stamps] CONFIG FILE..'
+    usage=$(cat runs/usage/stderr)
     sweep_run "the stored run" 0 crates/uds_play/stdout '' "$program"
     sweep_run "serial" 0 "$room/played" '' "$program" serial --stamps "$room/config" "$room/log"
     sweep_run "play" 0 "$room/played" '' "$program" play --stamps "$room/config" "$room/log"
@@ -154,6 +157,13 @@ sweep_program() {
     sweep_run "a verdict on what is missing" 8 "$room/nothing" 'uds_play: A sent 1 frames, expected 065001003201F4CC next' \
       "$program" verify runs/setup.toml runs/bus_order/capture.log
     sweep_run "a capture that is not there" 7 "$room/nothing" 'uds_play: cannot read file 1' "$program" bus "$room/config" "$room/none"
+    printf 's3_m = 1\n[[tester]]\nname = "A"\nrequest = 710\n' > "$room/slips"
+    {
+      echo 'missing tester.response: response of [[tester]] 1'
+      echo 's3_m: passed over; s3_ms?'
+      echo 'request of [[tester]] 1: 710 is 0x2C6; 0x710?'
+    } > "$room/looked"
+    sweep_run "a look at a setup" 2 "$room/looked" '' "$program" check "$room/slips"
     sweep_run "a usage fault" 1 "$room/nothing" "$usage" "$program" replay --journal "$room/config" "$room/journal"
     sweep_run "a config at fault" 2 "$room/nothing" 'uds_play: config: syntax' "$program" serial "$room/bad" "$room/log"
     sweep_run "a log at fault" 3 "$room/nothing" 'uds_play: log 1 line 1: bad line' "$program" serial "$room/config" "$room/bad"

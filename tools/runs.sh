@@ -2,7 +2,7 @@
 # Runs the built program over the folders of runs/ and compares all that it writes, and its status. A folder has the
 # file `commands`, a command of the program on each line, which is run in that folder, with `< FILE` at its end where a
 # file of the folder is standard input; `stdout`, or `lines` where the order of the lines isn't fixed (with neither
-# nothing is written); `stderr` and `status`, where they aren't empty and 0.
+# nothing is written); `stderr` and `status`, where they aren't empty and 0. Notes are compared in runs/words/ alone.
 # Then come runs over files that are made here, and of the launcher. The last line is 'N passed, M failed'.
 set -uo pipefail
 cd "$(dirname "$0")/.." || exit 2
@@ -30,6 +30,12 @@ ran() {
   (cd "$folder" && exec timeout 120 "$program" "$@" < "$input") > "$room/out" 2> "$room/err" || status=$?
 }
 
+# leave_out_notes: keeps of err what isn't a note
+leave_out_notes() {
+  grep -v '^uds_play: note: ' "$room/err" > "$room/rest"
+  mv "$room/rest" "$room/err"
+}
+
 # same FILE OTHER: whether the file, or nothing where there is none, is the other
 same() { cmp -s "$([ -f "$1" ] && echo "$1" || echo "$room/nothing")" "$2"; }
 
@@ -44,10 +50,12 @@ is_right() {
   fi
 }
 
-for folder in "$PWD"/runs/*/; do
+for folder in "$PWD"/runs/*/ "$PWD"/runs/words/*/; do
+  [ "$folder" != "$PWD/runs/words/" ] || continue
   before=$((passed + failed))
   while read -r -a words; do
     ran "$folder" "${words[@]}"
+    [[ $folder = */runs/words/*/ ]] || leave_out_notes
     if is_right "$folder"; then good "$(basename "$folder"): ${words[*]}"; else bad "$(basename "$folder"): ${words[*]}: status $status"; fi
   done < "${folder}commands"
   [ $((passed + failed)) -gt $before ] || bad "$(basename "$folder"): it has no command"
@@ -55,6 +63,7 @@ done
 
 # ends NAME STATUS TOLD: the last run ended so, wrote nothing, and told this line of a fault
 ends() {
+  leave_out_notes
   if [ "$status" = "$2" ] && [ ! -s "$room/out" ] && [ "$(cat "$room/err")" = "uds_play: $3" ]; then
     good "$1"
   else
@@ -64,7 +73,7 @@ ends() {
 
 setup=$PWD/runs/setup.toml
 empty=$PWD/runs/empty.log
-usage='usage: uds_play [serial|play|replay] [--journal] [--stamps] CONFIG FILE..'
+usage=$(sed 's/^uds_play: //' runs/usage/stderr)
 yes tick | head -n 1000000 > "$room/most.log"
 yes tick | head -n 1000001 > "$room/past.log"
 yes tick | head -n 500001 > "$room/half.log"

@@ -16,7 +16,6 @@ from uds_link import bus_differs, cut, differs, events, read_output, read_setup
 TOP = os.path.dirname(os.path.dirname(os.path.abspath(__file__)))
 PROGRAM = f"{TOP}/crates/uds_play/out/uds_play"
 LINES = 100
-FUNCTIONAL = 0x7DF
 # the lengths of the values that may be read, each under its place from 0x0100 on
 SIZES = [1, 2, 3, 4, 5, 8, 11, 12, 18, 19, 25, 26, 32, 40, 110, 255]
 # what rows of answers are for, and what they answer: nothing, one template, or some round and round
@@ -46,9 +45,19 @@ def setup_text(chance, testers):
         f"n_cr_ms = {chance.randint(1, 12)}",
     ]
     keys += answer_keys(chance) if chance.random() < 0.7 else []
-    tables = [f'[[tester]]\nname = "T{it}"\nrequest = {0x700 + it}\nresponse = {0x710 + it}\n' for it in range(testers)]
+    tables = [tester_table(chance, it) for it in range(testers)]
     tables += [f'[[did]]\nid = {0x100 + at}\nvalue = "{"5A" * size}"\n' for at, size in enumerate(SIZES)]
     return "\n".join([*keys, *tables])
+
+
+def tester_table(chance, place):
+    """A tester, of 11 bits or of 29 by normal fixed addressing; some have a functional identifier of their own."""
+    wide = chance.random() < 0.4
+    request, response = (0x18DA1000 + place, 0x18DA0010 + 256 * place) if wide else (0x700 + place, 0x710 + place)
+    keys = [f'name = "T{place}"', f"request = {request}", f"response = {response}", *(["extended = true"] if wide else [])]
+    if chance.random() < 0.2:
+        keys.append(f"functional = {0x18DB3300 if wide else 0x7DE}")
+    return "\n".join(["[[tester]]", *keys, ""])
 
 
 def answer_keys(chance):
@@ -74,7 +83,7 @@ class Tester:
 
     def __init__(self, chance, setup, place):
         self.chance, self.setup = chance, setup
-        self.request = setup.testers[place][1]
+        self.request, self.functional = setup.testers[place][1], setup.functionals[place]
         self.left = []
         # whether the rest of a long message comes at once and without a mistake
         self.is_eager = False
@@ -128,7 +137,7 @@ class Tester:
             return self.request, self.follow()
         kind = self.chance.choices(["flow", "begin", "single", "functional", "any"], [10, 8, 1, 2, 1])[0]
         if kind == "functional":
-            return FUNCTIONAL, self.chance.choice([self.bytes(8), cut(self.setup, b"\x22\x01\x00\x01\x01")[0], b"\x02\x3E\x80"])
+            return self.functional, self.chance.choice([self.bytes(8), cut(self.setup, b"\x22\x01\x00\x01\x01")[0], b"\x02\x3E\x80"])
         singles = [b"\x02\x3E\x00", b"\x02\x3E\x00", b"\x02\x3E\x80", b"\x02\x10\x03", b"\x02\x10\x02"]
         frames = {"flow": self.flow, "begin": self.begin, "single": lambda: self.chance.choice(singles)}
         return self.request, frames.get(kind, lambda: self.bytes(self.chance.randint(0, 8)))()
@@ -141,7 +150,7 @@ class Tester:
 
 
 def frame_text(identifier, data):
-    return f"{identifier:03X}#{data.hex().upper()}"
+    return f"{identifier}#{data.hex().upper()}"
 
 
 def log_lines(tester):
@@ -181,7 +190,7 @@ def stamped_lines(testers):
         if odd < 0.04:
             lines.append(f"tick {tester.span()}")
         elif odd < 0.1:
-            lines.append(stamped(us, chance.choice(["123#00", "18DB33F1#021003", "701#R8", "701##1021001"])))
+            lines.append(stamped(us, chance.choice(["123#00", "18DAF0F1#0", "18DAF0F1#021003", "38DA1000#zz", "00000700#02100", "701#R8", "701##1021001", "18DA1001#R8", "18DA1001##1021001"])))
         else:
             lines.append(stamped(us, frame_text(*tester.frame())))
     return lines
@@ -191,7 +200,7 @@ def stamped_lines(testers):
 
 
 def run(words):
-    ran = subprocess.run([PROGRAM, *words], capture_output=True, timeout=120)
+    ran = subprocess.run([PROGRAM, "--quiet", *words], capture_output=True, timeout=120)
     return ran.stdout.decode() if ran.returncode == 0 and not ran.stderr else f"status {ran.returncode}: {ran.stderr}"
 
 

@@ -10,20 +10,21 @@ import uds_run
 from uds_rules import pending
 
 SINGLE, FIRST, OVERFLOW, CONSECUTIVE, FLOW = "single", "first", "overflow", "consecutive", "flow"
-LINE = re.compile(r"\((\d+)\.(\d{3})\d*\) +\S+ +([0-9A-Fa-f]{3})#((?:[0-9A-Fa-f]{2}){0,8})(?:_[0-9A-Fa-f])?(?: .*)?$")
+LINE = re.compile(r"\((\d+)\.(\d{3})\d*\) +\S+ +([0-9A-Fa-f]{3}|[0-9A-Fa-f]{8})#((?:[0-9A-Fa-f]{2}){0,8})(?:_[0-9A-Fa-f])?(?: .*)?$")
 STAMP = re.compile(r"\((\d+)\.(\d{3})\d*\) ")
-REPLY = re.compile(r"\((\d+)\.(\d{3})000\) (\S+) ([0-9A-F]{3})#([0-9A-F]*)$")
+REPLY = re.compile(r"\((\d+)\.(\d{3})000\) (\S+) ([0-9A-F]{3}|[0-9A-F]{8})#([0-9A-F]*)$")
 ENTRY = re.compile(r"(?:(\d+) )?([1-8]) (?:(T) (\d+)|([PF]) ([0-9A-F]+) (-|[0-9A-F]+))$")
 LONGEST = 60000
 
 
 @dataclass
 class Setup:
-    """What links need of a setup: the testers as name, request and response identifier, and each link's settings; and
-    the rows of answers, with the times of response pending, in `unit`."""
+    """What links need of a setup: the testers as name, request and response identifier, their functional identifiers, and
+    each link's settings; and the rows of answers, with the times of response pending, in `unit`. Identifiers are texts of
+    three upper-case hex digits, or of eight."""
 
     testers: list
-    functional: int
+    functionals: list
     block_size: int
     st_min: int
     most: int
@@ -36,8 +37,8 @@ class Setup:
 def read_setup(text):
     tree = tomllib.loads(text)
     return Setup(
-        [(it["name"], it["request"], it["response"]) for it in tree["tester"]],
-        tree.get("functional", 0x7DF),
+        [(it["name"], uds_run.own_id(it, "request"), uds_run.own_id(it, "response")) for it in tree["tester"]],
+        [uds_run.own_id(it, "functional", 0x18DB33F1 if it.get("extended") else tree.get("functional", 0x7DF)) for it in tree["tester"]],
         tree.get("block_size", 0),
         tree.get("st_min", 0),
         tree.get("max_request", 4095),
@@ -63,7 +64,7 @@ def waited(span):
 def frame_of(setup, place, line):
     """What the frame of a line is to a tester, with its moment in milliseconds; None where it is nothing to it."""
     found = LINE.match(line)
-    way = found and {setup.testers[place][1]: "P", setup.functional: "F"}.get(int(found[3], 16))
+    way = found and {setup.testers[place][1]: "P", setup.functionals[place]: "F"}.get(found[3].upper())
     return (way, bytes.fromhex(found[4]), int(found[1] + found[2])) if way else None
 
 
@@ -161,9 +162,14 @@ def parts_of(length):
     return -(-(length - head_size(length)) // 7)
 
 
+def begun(moments, now):
+    """The last moment up to `now` at which a message began, 0 where none did."""
+    return next((at for at in range(now, 0, -1) if is_a(moments[at][1], SINGLE, FIRST, OVERFLOW)), 0)
+
+
 def reception(setup, moments, now):
     """The length, the First's bytes and the parts of the reception that is open after moment `now`; None where none is."""
-    start = next((at for at in range(now, 0, -1) if is_a(moments[at][1], SINGLE, FIRST, OVERFLOW)), 0)
+    start = begun(moments, now)
     if not is_a(moments[start][1], FIRST):
         return None
     _, length, head = moments[start][1]
@@ -318,7 +324,7 @@ def read_output(text):
     for line in text.splitlines():
         reply, entry = REPLY.match(line), ENTRY.match(line)
         if reply:
-            sent.append((int(reply[1] + reply[2]), reply[3], int(reply[4], 16), bytes.fromhex(reply[5])))
+            sent.append((int(reply[1] + reply[2]), reply[3], reply[4], bytes.fromhex(reply[5])))
         elif entry:
             at, place, tick, ticks, way, request, answer = entry.groups()
             it = ("T", int(ticks)) if tick else (way, bytes.fromhex(request))

@@ -8,7 +8,7 @@ from dataclasses import dataclass, field
 from uds_names import SERVICES
 from uds_rules import rows_of, times_of
 
-REPLY_LINE = re.compile(r"\((\d{10,})\.(\d{3})000\) (\S+) ([0-9A-F]{3})#((?:[0-9A-F]{2}){0,8})")
+REPLY_LINE = re.compile(r"\((\d{10,})\.(\d{3})000\) (\S+) ([0-9A-F]{3}|[0-9A-F]{8})#((?:[0-9A-F]{2}){0,8})")
 ENTRY = re.compile(r"(?:(\d+) )?([1-8]) (?:T (\d+)|([PF]) ((?:[0-9A-F]{2})+) (-|(?:[0-9A-F]{2})+))")
 END = re.compile(r"session (default|programming|extended|safety|[0-9A-F]{2})|holder \S+|code [0-9A-F]{6} [0-9A-F]{2}|entries \d+")
 
@@ -36,13 +36,18 @@ class Setup:
     times: object
 
 
+def own_id(tester, key, default=None):
+    """An identifier of a tester as it is written: with eight digits where it has 29 bits."""
+    return f"{tester.get(key, default):0{8 if tester.get('extended') else 3}X}"
+
+
 def read_setup(text):
     """The setup of a TOML text. The program looks at all of it; here only what is used is read."""
     try:
         tree = tomllib.loads(text.removeprefix("\ufeff"))
         return Setup(
             [str(it["name"]) for it in tree["tester"]],
-            [int(it["response"]) for it in tree["tester"]],
+            [own_id(it, "response") for it in tree["tester"]],
             int(tree.get("s3_ms", 5000)),
             {it["id"]: len(bytes.fromhex(it["value"])) for it in tree.get("did", [])},
             {it["id"]: int(it["time_ms"]) for it in tree.get("routine", [])},
@@ -104,7 +109,7 @@ def read_entry(found, version, clocks):
 def read_frame(found, setup):
     """The frame of a reply line that matched."""
     seconds, parts, name, identifier, data = found.groups()
-    if name not in setup.names or setup.responses[setup.names.index(name)] != int(identifier, 16):
+    if name not in setup.names or setup.responses[setup.names.index(name)] != identifier:
         raise Wrong(f"no tester of the setup is {name} with the response identifier {identifier}")
     return Frame(int(seconds) * 1000 + int(parts), setup.names.index(name), bytes.fromhex(data))
 

@@ -245,7 +245,7 @@ def faults(room):
         told(run(words)[0] == 1 and run(words)[1] == b"", f"usage: {len(words)}")
     put(path, f"{stamped(5000, '7E0#023E80')}\n".encode())
     with open("/dev/full", "wb") as full:
-        ran = subprocess.run([PROGRAM, "verify", config, path], stdout=full, stderr=subprocess.PIPE, timeout=120)
+        ran = subprocess.run([PROGRAM, "--quiet", "verify", config, path], stdout=full, stderr=subprocess.PIPE, timeout=120)
     told((ran.returncode, ran.stderr) == (7, b"uds_play: cannot write\n"), "a full device", f"{ran}")
 
 
@@ -278,7 +278,7 @@ def long_recording(room):
     with open(f"{room}/capture", "w", encoding="ascii") as it:
         it.writelines(line for line in long_lines(LONG) if " 7E8#" not in line)
     with open(f"{room}/out", "wb") as out:
-        subprocess.run([PROGRAM, "bus", config, f"{room}/capture"], stdout=out, check=True, timeout=120)
+        subprocess.run([PROGRAM, "--quiet", "bus", config, f"{room}/capture"], stdout=out, check=True, timeout=120)
     with open(f"{room}/capture", encoding="ascii") as one, open(f"{room}/out", encoding="ascii") as other, open(f"{room}/whole", "w", encoding="ascii") as it:
         it.writelines(heapq.merge(one, other, key=order))
     with open(f"{room}/differs", "w", encoding="ascii") as it, open(f"{room}/whole", encoding="ascii") as whole:
@@ -287,7 +287,7 @@ def long_recording(room):
         it.writelines(line for line in whole if not re.match(r"\S+ [ABC] ", line))
     for name, status in (("whole", 0), ("differs", 8)):
         with open(f"{room}/said", "wb") as out, open(f"{room}/told", "wb") as err:
-            ended, peak = peak_of(subprocess.Popen([PROGRAM, "verify", config, f"{room}/{name}"], stdout=out, stderr=err))
+            ended, peak = peak_of(subprocess.Popen([PROGRAM, "--quiet", "verify", config, f"{room}/{name}"], stdout=out, stderr=err))
         told(ended == status and 0 < peak < MOST_MEMORY, f"a long recording, {peak} KiB: {name}", f"status {ended}")
 
 

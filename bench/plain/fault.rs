@@ -38,7 +38,7 @@ impl Fault {
 impl Display for Fault {
     fn fmt(&self, out: &mut Formatter) -> fmt::Result {
         match self {
-            Fault::Usage => write!(out, "usage: uds_play [serial|play|replay] [--journal] [--stamps] CONFIG FILE.."),
+            Fault::Usage => write!(out, "usage: uds_play COMMAND [FLAG..] CONFIG [FILE..]; see uds_play --help"),
             Fault::Files { wanted, given } => write!(out, "{wanted} files wanted, {given} given"),
             Fault::Config(what) => write!(out, "config: {what}"),
             Fault::LogLine { log, line, fault } => write!(out, "log {log} line {line}: {fault}"),

@@ -6,7 +6,6 @@ use Rattle.std.proofs.lemmas.List.Sums.{sum_by-append}
 use Rattle.std.specs.Prelude.{◌==◌, count_by, replicate}
 use Rattle.std.specs.List.{flat_map}
 use Rattle.std.specs.Option.{option_to_list}
-use Rattle.diag_can.specs.Bus.{bus_line}
 use Rattle.diag_can.specs.Log.{silence, waited}
 use Rattle.diag_can.specs.declared.bus.BusLine.{BusLine}
 use Rattle.diag_can.specs.declared.bus.BusLine.TheVariants as line
@@ -23,7 +22,7 @@ use Rattle.diag_setup.specs.declared.raw.RawSetup.{RawSetup}
 use Rattle.diag_world.specs.Weaving.{all_by, items_of}
 use Rattle.diag_world.proofs.Interleavings.{items_of-append}
 use Rattle.diag_world.specs.Server.{each_of}
-use Rattle.diag_bus.specs.Events.{ClocksLaw, clock_after, events_after, frame_said, frame_to, gives_if_well, line_events, reference, span_said, time_said}
+use Rattle.diag_bus.specs.Events.{ClocksLaw, clock_after, events_after, frame_said, frame_to, gives_if_well, line_events, line_said, reference, span_said, time_said}
 
 -- ---- the time of events
 
@@ -129,12 +128,12 @@ line_time setup r (Ok said) t from to =
     )
 
 clocks_after : (setup : RawSetup) (past lines : List (List ℕ)) (t : ℕ) → 1 ≤ t → t ≤ length setup.testers
-    → last_time (items_of (events_after setup past lines) t) ≡ clock_after past lines
+    → last_time (items_of (events_after setup past lines) t) ≡ clock_after setup past lines
 clocks_after setup past [] t from to = refl
 clocks_after setup past (line ∷ lines) t from to =
     let here = line_events setup past line in
     let rest = events_after setup (past ++ line ∷ []) lines in
-    let first = line_time setup (reference past) (bus_line line) t from to in
+    let first = line_time setup (reference setup past) (line_said setup line) t from to in
     ap last_time (items_of-append here rest t)
     ∙ omega (arith, last_time-append (items_of here t) (items_of rest t), first, clocks_after setup (past ++ line ∷ []) lines t from to)
 

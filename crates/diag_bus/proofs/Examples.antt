@@ -1,11 +1,12 @@
 -- Worked examples of the definitions, computed.
-use Rattle.std.proofs.Common.{◌≡◌, ℕ, List, [], ◌∷◌, ◌++◌, codes, refl, Some, Ok, Err}
+use Rattle.std.proofs.Common.{◌≡◌, ℕ, List, [], ◌∷◌, ◌++◌, codes, refl, true, Some, Ok, Err}
 use Rattle.hex.proofs.OnLiterals.{hex_on_literals}
-use Rattle.diag_can.specs.declared.fault.LineFault.TheVariants.{BadTick}
+use Rattle.diag_can.specs.declared.fault.LineFault.TheVariants.{BadLine, BadTick}
 use Rattle.diag_can.specs.declared.frame.Event.{Event}
 use Rattle.diag_bus.specs.declared.fault.BusFault.TheVariants.{Line}
 use Rattle.diag_can.specs.declared.frame.Event.TheVariants.{Physical, Functional, Ticks}
-use Rattle.diag_setup.specs.ExampleSetup.{two_testers}
+use Rattle.diag_setup.specs.ExampleSetup.{tester, two_testers}
+use Rattle.diag_setup.specs.declared.raw.RawSetup.{RawSetup}
 use Rattle.diag_bus.specs.Events.{bus_events}
 use Rattle.diag_bus.specs.Text.{bus_moment, start_after}
 
@@ -38,6 +39,32 @@ functional_events : bus_events (codes "(100.000000) can0 7DF#023E80\r\ntick 5\n\
 unfolding hex_on_literals
 functional_events = refl
 
+-- ---- identifiers of 29 bits: A goes by them, and B by 11 bits
+
+abbrev wide : RawSetup
+wide = record two_testers {
+  testers = record (tester (codes "A") 0x18DA10F1 0x18DAF110) { extended = true } ∷ tester (codes "B") 0x7E1 0x7E9 ∷ [];
+}
+
+abbrev wide_capture : List ℕ
+wide_capture =
+    codes "(0.000000) can0 18da10f1#021003\n"
+    ++ codes "(0.000000) can0 18DB33F1#023E00\n"
+    ++ codes "(0.000000) can0 7DF#023E00\n"
+    ++ codes "(0.000000) can0 000007E1#zz\n"
+    ++ codes "(0.000000) can0 38DA10F1#zz\n"
+    ++ codes "(0.000000) can0 18DAF110#027E00\n"
+
+wide_events : bus_events wide_capture wide ≡ Ok (
+    (1, enter) ∷ (1, Functional (0x02 ∷ 0x3E ∷ 0x00 ∷ [])) ∷ (2, Functional (0x02 ∷ 0x3E ∷ 0x00 ∷ [])) ∷ [])
+unfolding hex_on_literals
+wide_events = refl
+
+-- an ill line of one of them is a fault, and of no other
+wide_fault : bus_events (codes "(0.000000) can0 18DA10F2#zz\n(0.000000) can0 18DAF110#zz\n") wide ≡ Err (2, Line BadLine)
+unfolding hex_on_literals
+wide_fault = refl
+
 -- ---- the first fault, by its line
 
 fault : bus_events (codes "(100.000000) can0 7E0#021003\n\ntick 0\nwrong\n") two_testers ≡ Err (3, Line BadTick)
@@ -46,7 +73,7 @@ fault = refl
 
 -- ---- the bus's time: 7 ticks before the first stamp are no part of it
 
-start : start_after 0 (codes "tick 7" ∷ codes "(100.000000) can0 123#00" ∷ codes "(105.000000) can0 123#00" ∷ [])
+start : start_after two_testers 0 (codes "tick 7" ∷ codes "(100.000000) can0 123#00" ∷ codes "(105.000000) can0 123#00" ∷ [])
     ≡ Some (record { moment = 100000; before = 7 })
 unfolding hex_on_literals
 start = refl

@@ -6,11 +6,11 @@ use Rattle.std.proofs.lemmas.Bool.{true≢false}
 use Rattle.std.specs.List.{cons_option, filter_map, fold, reduce}
 use Rattle.std.specs.Option.{option_to_list}
 use Rattle.std.specs.Prelude.{bytes_eq, if◌then◌else◌, nat_lt, option_map, slice_get}
-use Rattle.diag_can.specs.Bus.{bus_line}
 use Rattle.diag_setup.specs.Setup.{ids_of}
 use Rattle.diag_pdu.specs.Cut.{counted_from}
 use Rattle.diag_setup.specs.declared.raw.RawSetup.{RawSetup}
 use Rattle.diag_ecu.proofs.Unlocking.{bytes_same}
+use Rattle.diag_bus.specs.Events.{line_said}
 use Rattle.diag_bus.specs.Verdict.{Agree, IsDifferent, IsFirstDifference, IsPlace, Means, VerdictLaw, at_line, bytes_of, difference, difference_of, earlier, expected, first_difference, lack_of, places, recorded, recorded_from, reply_said, verdict, verdict_by}
 use Rattle.diag_bus.specs.declared.verdict.Recorded.{Recorded}
 use Rattle.diag_bus.specs.declared.verdict.Difference.{Difference}
@@ -106,7 +106,7 @@ module _ (setup : RawSetup) (t : ℕ) where
 
   from_line : (n : ℕ) (lines : List (List ℕ)) (p : ℕ) (f : Recorded) → slice_get (recorded_from setup t n lines) p ≡ Some f → n ≤ f.line
   from_line n [] p f at = absurd (none-some _ at)
-  from_line n (line ∷ lines) p f at = elim (split n (reply_said (ids_of setup t).response (bus_line line)) (recorded_from setup t (n + 1) lines) p f at) [
+  from_line n (line ∷ lines) p f at = elim (split n (reply_said (ids_of setup t).response (line_said setup line)) (recorded_from setup t (n + 1) lines) p f at) [
     | inl here ↦ omega (arith, here.1)
     | inr later ↦ (let above = from_line (n + 1) lines later.0 f later.2 in omega (arith, above))
   ]
@@ -131,7 +131,7 @@ module _ (setup : RawSetup) (t : ℕ) where
   rising n [] p q f g le at there = absurd (none-some _ at)
   rising n (line ∷ lines) p q f g le at there =
       step n (recorded_from setup t (n + 1) lines) f g (λ k is. (let above = from_line (n + 1) lines k g is in omega (arith, above)))
-      (λ k j less is at_j. rising (n + 1) lines k j f g less is at_j) (reply_said (ids_of setup t).response (bus_line line)) p q le at there
+      (λ k j less is at_j. rising (n + 1) lines k j f g less is at_j) (reply_said (ids_of setup t).response (line_said setup line)) p q le at there
 
 -- ---- the first of all testers' differences
 

@@ -110,13 +110,13 @@ frame_low r (Ok frame) said low h =
     let same : Stamped r.0 frame ≡ said = cc in
     subst (λ (s : BusLine). SaidBelow s moment_end) same low
 
-line_low : (o : Option (ℕ × List ℕ)) (said : BusLine) → ((r : ℕ × List ℕ) → o ≡ Some r → r.0 < moment_end) → stamped_line o ≡ Ok said
+line_low : (known : List ℕ) (o : Option (ℕ × List ℕ)) (said : BusLine) → ((r : ℕ × List ℕ) → o ≡ Some r → r.0 < moment_end) → stamped_line known o ≡ Ok said
     → SaidBelow said moment_end
-line_low None said low h = absurd (clash h)
+line_low known None said low h = absurd (clash h)
   where
     clash : Err BadLine ≡ Ok said → ⊥
     clash h = cc
-line_low (Some r) said low h = frame_low r (text_frame r.1) said (low r refl) h
+line_low known (Some r) said low h = frame_low r (text_frame known r.1) said (low r refl) h
 
 tick_low : (o : Option ℕ) (said : BusLine) → tick_line o ≡ Ok said → SaidBelow said moment_end
 tick_low None said h = absurd (clash h)
@@ -127,23 +127,23 @@ tick_low (Some n) said h =
     let same : Ticks n ≡ said = cc in
     subst (λ (s : BusLine). SaidBelow s moment_end) same tt
 
-says_low : (line : List ℕ) (said : BusLine) → line_says line ≡ Ok said → SaidBelow said moment_end
-says_low [] said h =
+says_low : (known line : List ℕ) (said : BusLine) → line_says known line ≡ Ok said → SaidBelow said moment_end
+says_low known [] said h =
     let same : Empty ≡ said = cc in
     subst (λ (s : BusLine). SaidBelow s moment_end) same tt
-says_low (c ∷ line) said h = pick (is_time (c ∷ line)) h
+says_low known (c ∷ line) said h = pick (is_time (c ∷ line)) h
   where
-    pick : (b : Bool) → cond b (tick_line (tick_count (drop 4 (c ∷ line)))) (stamped_line (stamped_frame (c ∷ line))) ≡ Ok said → SaidBelow said moment_end
+    pick : (b : Bool) → cond b (tick_line (tick_count (drop 4 (c ∷ line)))) (stamped_line known (stamped_frame (c ∷ line))) ≡ Ok said → SaidBelow said moment_end
     pick true h = tick_low (tick_count (drop 4 (c ∷ line))) said h
-    pick false h = line_low (stamped_frame (c ∷ line)) said (λ r is. stamped_low (c ∷ line) r is) h
+    pick false h = line_low known (stamped_frame (c ∷ line)) said (λ r is. stamped_low (c ∷ line) r is) h
 
 -- the seconds of a stamp have at most twelve digits
-pub bus_line_low : (line : List ℕ) (said : BusLine) → bus_line line ≡ Ok said → SaidBelow said moment_end
-bus_line_low line said h = pick (nat_lt 4096 (length line)) h
+pub bus_line_low : (known line : List ℕ) (said : BusLine) → bus_line known line ≡ Ok said → SaidBelow said moment_end
+bus_line_low known line said h = pick (nat_lt 4096 (length line)) h
   where
     clash : Err BadLine ≡ Ok said → ⊥
     clash h = cc
 
-    pick : (b : Bool) → cond b (Err BadLine) (line_says (without_return line)) ≡ Ok said → SaidBelow said moment_end
+    pick : (b : Bool) → cond b (Err BadLine) (line_says known (without_return line)) ≡ Ok said → SaidBelow said moment_end
     pick true h = absurd (clash h)
-    pick false h = says_low (without_return line) said h
+    pick false h = says_low known (without_return line) said h

@@ -1,10 +1,9 @@
 -- What is kept of a recording and of the frames that the server sends: those by which the two are apart.
 use Rattle.std.specs.Prelude.{◌≡◌, ◌⊎◌, ℕ, ◌+◌, List, [], ◌∷◌, ◌++◌, length, map, Option, Some, None, Ok, slice_get}
-use Rattle.diag_can.specs.Bus.{bus_line}
 use Rattle.diag_can.specs.declared.bus.BusLine.{BusLine}
 use Rattle.diag_tp.specs.declared.sent.Sent.{Sent}
 use Rattle.diag_setup.specs.declared.raw.RawSetup.{RawSetup}
-use Rattle.diag_bus.specs.Events.{events_of}
+use Rattle.diag_bus.specs.Events.{events_of, line_said}
 use Rattle.diag_bus.specs.Text.{sent_of}
 use Rattle.diag_bus.specs.Verdict.{bytes_of, difference, earlier, expected, recorded}
 use Rattle.diag_bus.specs.declared.comparing.Comparison.{Comparison}
@@ -76,7 +75,7 @@ DrawnBy setup lines line drawn = (i : ℕ) (frames : List Sent) → slice_get dr
 -- a line that says this was taken, and so were the frames that it draws
 abbrev pub TakesLine : RawSetup → Comparisons → Comparisons → BusLine → List (List Sent) → Type 0
 TakesLine setup old new said drawn = (lines : List (List ℕ)) (line : List ℕ)
-    → bus_line line ≡ Ok said
+    → line_said setup line ≡ Ok said
     → DrawnBy setup lines line drawn
     → ComparesLines setup old lines
     → ComparesLines setup new (lines ++ line ∷ [])

@@ -1,7 +1,6 @@
 -- What is written for a capture: the reply lines, each beside the line of the capture that draws it.
 use Rattle.std.specs.Prelude.{◌≡◌, ℕ, ◌+◌, ◌-◌, List, [], ◌∷◌, ◌++◌, length, map, drop, Option, Some, None, Result, Ok, Err}
 use Rattle.std.specs.List.{flat_map}
-use Rattle.diag_can.specs.Bus.{bus_line}
 use Rattle.diag_can.specs.Reply.{reply_line}
 use Rattle.diag_can.specs.declared.bus.BusLine.{BusLine}
 use Rattle.diag_can.specs.declared.bus.BusLine.TheVariants.{Empty, Ticks, Stamped}
@@ -24,10 +23,8 @@ use Rattle.diag_port.specs.Late.{pace_of}
 use Rattle.diag_port.specs.Placing.{drawn}
 use Rattle.diag_world.specs.Server.{sent_to}
 use Rattle.diag_world.specs.Weaving.{items_of, steps_of}
-use Rattle.diag_bus.specs.Events.{events_of}
+use Rattle.diag_bus.specs.Events.{events_of, line_said}
 use Rattle.diag_bus.specs.declared.clock.Start.{Start}
-use Rattle.diag_bus.specs.declared.bus.Output.{Output}
-use Rattle.diag_bus.specs.declared.bus.Output.TheVariants.{Replies, Journal, End, Verdict}
 use Rattle.diag_bus.specs.declared.writing.Drawn.{Drawn}
 
 -- ---- the run
@@ -54,9 +51,9 @@ start_said before (Ok Empty) others = others before
 start_said before (Err fault) others = others before
 
 -- the moment of the first stamped line, and the time that tick lines before it gave, so much having gone before these
-abbrev pub start_after : ℕ → List (List ℕ) → Option Start
-start_after before [] = None
-start_after before (line ∷ lines) = start_said before (bus_line line) (λ sum. start_after sum lines)
+abbrev pub start_after : RawSetup → ℕ → List (List ℕ) → Option Start
+start_after setup before [] = None
+start_after setup before (line ∷ lines) = start_said before (line_said setup line) (λ sum. start_after setup sum lines)
 
 -- a link's time as a moment of the bus
 abbrev pub bus_moment : Option Start → ℕ → ℕ
@@ -98,7 +95,7 @@ drawn_text setup start lists = flat_map (line_of setup start) (in_order time_of 
 
 -- what a line writes after these lines
 abbrev pub line_text : RawSetup → List (List ℕ) → List ℕ → List ℕ
-line_text setup past line = flat_map (line_of setup (start_after 0 (past ++ line ∷ [])))
+line_text setup past line = flat_map (line_of setup (start_after setup 0 (past ++ line ∷ [])))
     (frames_by setup (events_of setup past) (events_of setup (past ++ line ∷ [])))
 
 abbrev pub text_after : RawSetup → List (List ℕ) → List (List ℕ) → List ℕ
@@ -110,14 +107,11 @@ text_after setup past (line ∷ lines) =
 abbrev pub text_of : RawSetup → List (List ℕ) → List ℕ
 text_of setup lines = text_after setup [] lines
 
--- ---- what is written while a capture goes by
+-- ---- the journal
 
--- the whole text for the lines so far
-abbrev pub written : Output → RawSetup → List (List ℕ) → List ℕ
-written Replies setup lines = text_of setup lines
-written Journal setup lines = journal_text_at (run_of setup (events_of setup lines))
-written End setup lines = []
-written Verdict setup lines = []
+-- the text of the journal of the lines' run
+abbrev pub journal_text_of : RawSetup → List (List ℕ) → List ℕ
+journal_text_of setup lines = journal_text_at (run_of setup (events_of setup lines))
 
 -- the ECU after the lines
 abbrev pub ecu_after : RawSetup → List (List ℕ) → State

@@ -4,7 +4,6 @@ use Rattle.std.specs.Fmt.{decimal}
 use Rattle.std.specs.List.{filter, filter_map, flat_map, reduce}
 use Rattle.std.specs.Option.{option_to_list}
 use Rattle.hex.specs.Hex.{encode_upper}
-use Rattle.diag_can.specs.Bus.{bus_line}
 use Rattle.diag_can.specs.declared.bus.BusLine.{BusLine}
 use Rattle.diag_can.specs.declared.fault.LineFault.{LineFault}
 use Rattle.diag_can.specs.declared.frame.Frame.{Frame}
@@ -12,7 +11,7 @@ use Rattle.diag_tp.specs.declared.sent.Sent.{Sent}
 use Rattle.diag_pdu.specs.Cut.{counted_from}
 use Rattle.diag_setup.specs.declared.raw.RawSetup.{RawSetup}
 use Rattle.diag_setup.specs.Setup.{ids_of, name_of}
-use Rattle.diag_bus.specs.Events.{events_of, frame_said}
+use Rattle.diag_bus.specs.Events.{events_of, frame_said, line_said}
 use Rattle.diag_bus.specs.Text.{sent_of}
 use Rattle.diag_bus.specs.declared.verdict.Recorded.{Recorded}
 use Rattle.diag_bus.specs.declared.verdict.Difference.{Difference}
@@ -42,7 +41,7 @@ at_line n bytes = record { line = n; bytes = bytes }
 -- what a line has of the unit's frames to a tester
 abbrev pub line_has : RawSetup → ℕ → ℕ → List ℕ → List Recorded
 line_has setup t n line =
-    option_to_list (option_map (at_line n) (reply_said (ids_of setup t).response (bus_line line)))
+    option_to_list (option_map (at_line n) (reply_said (ids_of setup t).response (line_said setup line)))
 
 -- the first of these lines has the number n
 abbrev pub recorded_from : RawSetup → ℕ → ℕ → List (List ℕ) → List Recorded

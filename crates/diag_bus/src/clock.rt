@@ -1,5 +1,6 @@
 //! The clock of a recording.
 
+ghost use Rattle.diag_setup.specs.declared.raw.RawSetup.{RawSetup};
 ghost use Rattle.std.specs.Prelude.{◌≡◌, ◌+◌, ◌-◌, ◌≤◌, ◌<◌, ℕ, Some, None, Ok, IfOk, IfErr};
 ghost use Rattle.diag_can.specs.Log.{waited};
 ghost use Rattle.diag_can.specs.Reading.{later};
@@ -68,13 +69,13 @@ impl Clock {
     #[inline(always)]
     pub(crate) fn go_on(&mut self, said: &BusLine, time: u64)
         requires { time ≡ self.old.time + span_said self.old.reference (Ok said.now) }
-        ensures on { GoesOn self.old said.now self.new }
+        ensures on { (setup : RawSetup) → GoesOn setup self.old said.now self.new }
         ensures start { (most : ℕ) → StartsBelow self.old.start most → SaidBelow said.now most
             → StartsBelow self.new.start most }
     {
         match said {
             BusLine::Empty | BusLine::Ticks(_) => self.time = time,
-            BusLine::Stamped { moment, frame: _ } => self.go_on_to(*moment, time),
+            BusLine::Stamped { moment, frame: _ } => self.go_on_to(moment.ms(), time),
         }
     }
 
@@ -107,7 +108,8 @@ fn span_of(reference: Option<u64>, said: &BusLine) -> u64
         BusLine::Empty => 0,
         BusLine::Ticks(count) => u64::from(count.get()),
         BusLine::Stamped { moment, frame: _ } => {
-            moment.saturating_sub(reference.unwrap_or(*moment))
+            let moment = moment.ms();
+            moment.saturating_sub(reference.unwrap_or(moment))
         }
     }
 }

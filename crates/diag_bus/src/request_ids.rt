@@ -1,6 +1,7 @@
 //! Whose a frame of the bus is, by its identifier.
 
 ghost use Rattle.std.specs.Prelude.{◌≡◌, length, IfOk};
+ghost use Rattle.diag_setup.specs.Setup.{known_ids};
 ghost use Rattle.diag_setup.specs.declared.raw.RawSetup.{RawSetup};
 ghost use Rattle.diag_bus.specs.Requests.{AreRequestsOf, IsOwner};
 
@@ -18,15 +19,17 @@ pub enum Owner {
     Nobody,
     /// This tester's own requests.
     Tester(TesterId),
-    /// The requests to every ECU, which are each tester's.
-    Each,
+    /// The requests to every ECU, of the testers whose functional identifier it is.
+    Functional,
 }
 
 /// Whose the frames of each identifier are, taken from the setup once.
 #[derive(Drop)]
 pub struct RequestIds {
-    /// By the identifier.
+    /// By the identifier, of those of 11 bits.
     pub owners: Vec<Owner>,
+    /// The identifiers of 29 bits that are read.
+    pub known: Vec<CanId>,
 }
 
 impl RequestIds {
@@ -41,37 +44,48 @@ impl RequestIds {
             };
             owners.push(owner_of(setup, id))?;
         }
-        Ok(RequestIds { owners })
+        let known = setup.known_ids(alloc)?;
+        Ok(RequestIds { owners, known })
     }
 
-    /// Whose a frame of this identifier is.
+    /// The identifiers of 29 bits that are read.
     #[inline(always)]
-    pub fn owner(&self, id: CanId) -> Owner
-        requires { length self.now.owners.items ≡ 2048 }
-        ensures { (setup : RawSetup) → AreRequestsOf setup self.now
-            → IsOwner setup id (length setup.testers) result }
+    pub fn known(&self) -> &[CanId]
+        ensures { (setup : RawSetup) → AreRequestsOf setup self.now → result.now ≡ known_ids setup }
     {
-        self.owners[usize::from(id.get())]
+        self.known.as_slice()
+    }
+
+    /// Whose a frame of this identifier is: those of 11 bits are looked up in a table.
+    #[inline(always)]
+    pub fn owner(&self, setup: &Setup, id: CanId) -> Owner
+        requires { AreRequestsOf setup.now self.now }
+        ensures { IsOwner setup.now id (length setup.now.testers) result }
+    {
+        if id.is_extended() {
+            return owner_of(setup, id);
+        }
+        self.owners[id.rank() as usize]
     }
 }
 
 /// Whose the frames of an identifier are.
+#[inline(never)]
 fn owner_of(setup: &Setup, id: CanId) -> Owner
     ensures { IsOwner setup.now id (length setup.now.testers) result }
 {
     // (for its contract: no two testers have one identifier)
     let _ = setup.raw();
-    let mut owner = if id == setup.functional() {
-        Owner::Each
-    } else {
-        Owner::Nobody
-    };
+    let mut owner = Owner::Nobody;
     for index in 0..setup.testers() {
         let Some(who) = setup.who(index) else {
             unreachable!()
         };
-        if setup.ids(who).request == id {
+        let ids = setup.ids(who);
+        if ids.request == id {
             owner = Owner::Tester(who);
+        } else if ids.functional == id {
+            owner = Owner::Functional;
         }
     }
     owner

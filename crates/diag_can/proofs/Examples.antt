@@ -11,6 +11,7 @@ use Rattle.diag_can.specs.declared.frame.Ids.{Ids}
 use Rattle.diag_can.specs.declared.frame.Event.{Event}
 use Rattle.diag_can.specs.declared.frame.Event.TheVariants.{Physical, Functional, Ticks}
 use Rattle.diag_can.specs.declared.log.Timing.TheVariants.{Lines, Stamps}
+use Rattle.diag_can.specs.Identifier.{extended}
 use Rattle.diag_can.specs.Line.{line_event, line_says}
 use Rattle.diag_can.specs.Log.{events}
 use Rattle.diag_can.specs.Reply.{reply_line}
@@ -132,12 +133,46 @@ other_word = refl
 
 -- ---- what is said to no tester
 
-foreign_frame : line_says (codes "(1.500000) can0 123#DEAD") ≡ Ok (Stamped 1500 (Some (record { id = 0x123; bytes = 0xDE ∷ 0xAD ∷ [] })))
+foreign_frame : line_says [] (codes "(1.500000) can0 123#DEAD") ≡ Ok (Stamped 1500 (Some (record { id = 0x123; bytes = 0xDE ∷ 0xAD ∷ [] })))
 unfolding hex_on_literals
 foreign_frame = refl
 
-wide_frame : line_says (codes "(1.500000) can0 18DB33F1#02") ≡ Ok (Stamped 1500 None)
+wide_frame : line_says [] (codes "(1.500000) can0 18DB33F1#02") ≡ Ok (Stamped 1500 None)
 wide_frame = refl
+
+-- ---- identifiers of 29 bits
+
+known_wide_frame : line_says (extended 0x18DB33F1 ∷ []) (codes "(1.500000) can0 18db33F1#02")
+    ≡ Ok (Stamped 1500 (Some (record { id = extended 0x18DB33F1; bytes = 0x02 ∷ [] })))
+unfolding hex_on_literals
+known_wide_frame = refl
+
+abbrev wide_ids : Ids
+wide_ids = record { request = extended 0x18DA10F1; response = extended 0x18DAF110; functional = extended 0x18DB33F1 }
+
+wide_request : line_event (framed (codes "18DA10F1#021003")) wide_ids ≡ Ok (Some (Physical (0x02 ∷ 0x10 ∷ 0x03 ∷ [])))
+unfolding hex_on_literals
+wide_request = refl
+
+wide_functional : line_event (framed (codes "18DB33F1#023E80")) wide_ids ≡ Ok (Some (Functional (0x02 ∷ 0x3E ∷ 0x80 ∷ [])))
+unfolding hex_on_literals
+wide_functional = refl
+
+wide_fault : line_event (framed (codes "18DAF110#zz")) wide_ids ≡ Err BadLine
+wide_fault = refl
+
+wide_too_long : line_event (framed (codes "18DA10F1#021003000000000000")) wide_ids ≡ Err TooManyBytes
+wide_too_long = refl
+
+wide_remote : line_event (framed (codes "18DA10F1#R8")) wide_ids ≡ Ok None
+wide_remote = refl
+
+-- an error frame has bit 29, and one of 11 bits is no other's
+error_frame : line_event (framed (codes "38DA10F1#zz")) wide_ids ≡ Ok None
+error_frame = refl
+
+short_in_eight_digits : of_line (framed (codes "000007E0#zz")) ≡ Ok None
+short_in_eight_digits = refl
 
 -- ---- logs
 
@@ -190,6 +225,11 @@ first_reply :
     ≡ codes "(0000000000.000000) A 7E8#065003003201F4CC\n"
 unfolding hex_on_literals digits
 first_reply = refl
+
+wide_reply : reply_line (codes "A") 0 (record { id = extended 0x18DAF110; bytes = 0x02 ∷ 0x7E ∷ 0x00 ∷ [] })
+    ≡ codes "(0000000000.000000) A 18DAF110#027E00\n"
+unfolding hex_on_literals digits
+wide_reply = refl
 
 late_reply : reply_line (codes "B") 5003 (record { id = 0x7E; bytes = 0x30 ∷ [] }) ≡ codes "(0000000005.003000) B 07E#30\n"
 unfolding hex_on_literals digits

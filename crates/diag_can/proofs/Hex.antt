@@ -1,7 +1,8 @@
 -- What is written in upper-case hex.
-use Rattle.std.proofs.Common.{◌≡◌, ℕ, zero, suc, ◌+◌, ◌-◌, ◌*◌, ◌/◌, ◌%◌, ◌<◌, ◌≤◌, true, cond, eqb, List, [], ◌∷◌, ◌++◌, map, length, take, drop, get_or, slice_index, refl, sym, ap, subst, ◌∙◌, append_assoc, append-nil, length-append, arith}
+use Rattle.std.proofs.Common.{◌≡◌, ℕ, zero, suc, ◌+◌, ◌-◌, ◌*◌, ◌/◌, ◌%◌, ◌<◌, ◌≤◌, true, cond, eqb, List, [], ◌∷◌, ◌++◌, map, length, take, drop, get_or, slice_index, refl, sym, ap, subst, ◌∙◌, append_assoc, append-nil, length-append, arith, false, nat_lt}
 use Rattle.std.proofs.lemmas.List.{take_all, take_at, take-append-drop, take-append-le, drop_at, length-take, length-drop}
 use Rattle.std.proofs.lemmas.Bool.{agree_below_at, eqb-true}
+use Rattle.std.proofs.lemmas.Bool.Decides.{nat_tests}
 use Rattle.std.proofs.lemmas.Simd.{swz_l, SwzOk, SwzOk-from_below, pick_l_whole}
 use Rattle.std.proofs.Math.Seq.{take-append-add}
 use lib.Lanes.{pick_l, Each1}
@@ -13,7 +14,8 @@ use Rattle.std.specs.Prelude.{codes}
 use Rattle.std.specs.Str.{bytes_eq}
 use Rattle.hex.specs.Hex.{encode_upper, encode_with, upper_digits}
 use Rattle.hex.proofs.HexLemmas.{length-encode_with}
-use Rattle.diag_can.specs.Reply.{zero_filled, name_text}
+use Rattle.diag_can.specs.Identifier.{number_of}
+use Rattle.diag_can.specs.Reply.{zero_filled, four_bytes, id_text, name_text}
 use Rattle.std.proofs.lemmas.Slice.{take-put_mid}
 use borrow.Rule.Slice.PartMut.{put_mid}
 use Rattle.diag_can.specs.declared.table.TheConstants.{DIGITS}
@@ -184,13 +186,38 @@ pub front_is : (name copied rest five id : List ℕ) (k n : ℕ) → copied ≡ 
     → n < 2048 → id ≡ zero_filled 3 (digits 16 true n)
     → take (length name + 5) (put_mid (length name) k (copied ++ rest) five) ≡ name_text name n
 front_is name copied rest five id k n same written below is =
+    let short : nat_lt n 2048 ≡ true = grind (arith, nat_tests) in
     let text : List ℕ = 32 ∷ get_or id 0 0 ∷ get_or id 1 0 ∷ get_or id 2 0 ∷ 35 ∷ [] in
     let digits_are : List ℕ = zero_filled 3 (digits 16 true n) in
     let count = ap length same in
-    rw written (take-put_mid (length name) k (copied ++ rest) text (length name + 5) refl (omega (arith, count, length-append copied rest)))
+    rw short (rw written (take-put_mid (length name) k (copied ++ rest) text (length name + 5) refl (omega (arith, count, length-append copied rest)))
     ∙ ap (λ (t : List ℕ). t ++ text) (take_at copied rest (length name) count ∙ same)
     ∙ ap (λ (t : List ℕ). name ++ 32 ∷ t) (three_parts id (35 ∷ []) n below is)
-    ∙ sym (append_assoc (name ++ 32 ∷ []) digits_are (35 ∷ []) ∙ append_assoc name (32 ∷ []) (digits_are ++ 35 ∷ []))
+    ∙ sym (append_assoc (name ++ 32 ∷ []) digits_are (35 ∷ []) ∙ append_assoc name (32 ∷ []) (digits_are ++ 35 ∷ [])))
+
+-- the text of an identifier of 11 bits
+pub short_text : (n : ℕ) → n < 2048 → id_text n ≡ zero_filled 3 (digits 16 true n)
+short_text n below = let short : nat_lt n 2048 ≡ true = grind (arith, nat_tests) in rw short refl
+
+-- the text of one of 29 bits
+pub wide_text : (n : ℕ) → 2048 ≤ n → id_text n ≡ encode_upper (four_bytes (number_of n))
+wide_text n above = let wide : nat_lt n 2048 ≡ false = grind (arith, nat_tests) in rw wide refl
+
+-- the pairs of four bytes, one digit behind the other
+pub four_pairs : (p q r s : List ℕ) (i j k l : ℕ) → p ≡ encode_upper (i ∷ []) → q ≡ encode_upper (j ∷ []) → r ≡ encode_upper (k ∷ []) → s ≡ encode_upper (l ∷ [])
+    → get_or p 0 0 ∷ get_or p 1 0 ∷ get_or q 0 0 ∷ get_or q 1 0 ∷ get_or r 0 0 ∷ get_or r 1 0 ∷ get_or s 0 0 ∷ get_or s 1 0 ∷ []
+    ≡ encode_upper (i ∷ j ∷ k ∷ l ∷ [])
+unfolding encode_with
+four_pairs p q r s i j k l a b c d = rw (a, b, c, d) refl
+
+-- an identifier's text between a space and a mark, put together from its parts
+pub id_parts : (old id a b c : List ℕ) → a ≡ old ++ codes " " → b ≡ a ++ id → c ≡ b ++ codes "#" → c ≡ old ++ (codes " " ++ id ++ codes "#")
+id_parts old id a b c p q r = rw (r, q, p) (simp append_assoc)
+
+-- a frame's text, put together from its parts
+pub frame_parts : (old id hex a b : List ℕ) → a ≡ old ++ (codes " " ++ id ++ codes "#") → b ≡ a ++ (hex ++ codes "\n")
+    → b ≡ old ++ (codes " " ++ (id ++ codes "#" ++ hex) ++ codes "\n")
+frame_parts old id hex a b p q = rw (q, p) (simp append_assoc)
 
 -- a line is put together from its parts
 pub line_parts : (old stamped name id hex a b c d : List ℕ) → a ≡ old → b ≡ a ++ (stamped ++ codes " ") → c ≡ b ++ (name ++ codes " " ++ id ++ codes "#")

@@ -7,7 +7,7 @@ use Rattle.std.proofs.lemmas.List.Sums.{fold-append}
 use Rattle.std.proofs.lemmas.Bool.Decides.{nat_tests}
 use Rattle.diag_can.specs.Bus.{HasNoFeed}
 use Rattle.diag_can.specs.HasRead.{AreRead, HasLines}
-use Rattle.diag_can.specs.Line.{event_for, frame_moment, line_event, line_says, moment_for}
+use Rattle.diag_can.specs.Line.{event_for, frame_moment, known_to, line_event, line_says, moment_for}
 use Rattle.diag_can.specs.Log.{event_list, lines_of, without_return, reference, silence, line_gives, events_after, fault_after, first_fault, unless_fault, log_events, events}
 use Rattle.diag_can.specs.Reading.{later, fault_with, given_at}
 use Rattle.diag_can.specs.declared.bus.BusLine.{BusLine}
@@ -65,7 +65,7 @@ events-more timing ids past (first ∷ lines) line =
 
 -- ---- what a line says was taken
 
-pub took_said : {timing : Timing} {ids : Ids} {old new : Reading} {said : BusLine} (line : List ℕ) → line_says line ≡ Ok said
+pub took_said : {timing : Timing} {ids : Ids} {old new : Reading} {said : BusLine} (line : List ℕ) → line_says (known_to ids) line ≡ Ok said
     → Grown timing old new (moment_for ids (Ok said)) (event_list (Ok (event_for ids said))) → Took timing ids old new line
 took_said {timing} {ids} {old} {new} {said} line says grown =
     let below : nat_lt 1000000 (length new.events.items) ≡ false = (let few = grown.few in grind (arith, nat_tests)) in
@@ -75,7 +75,7 @@ took_said {timing} {ids} {old} {new} {said} line says grown =
     }
 
 -- or is at fault
-pub said_fault : (timing : Timing) (ids : Ids) (old : Reading) (said : BusLine) (line : List ℕ) (number : ℕ) → line_says line ≡ Ok said
+pub said_fault : (timing : Timing) (ids : Ids) (old : Reading) (said : BusLine) (line : List ℕ) (number : ℕ) → line_says (known_to ids) line ≡ Ok said
     → 1000000 < length (old.events.items ++ given_at timing old.reference (moment_for ids (Ok said)) (event_list (Ok (event_for ids said))))
     → fault_with timing ids old.events.items old.reference number line ≡ Some TooManyEvents
 said_fault timing ids old said line number says many =

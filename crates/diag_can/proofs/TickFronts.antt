@@ -108,8 +108,8 @@ module _ (rest after : List ℕ) (len count : ℕ) (well : tick_count (take len 
   size : length line ≡ len + 4
   size = omega (arith, length-take-le len rest fits)
 
-  line_is : line_says line ≡ Ok (Ticks count)
-  line_is = rw well refl
+  line_is : (known : List ℕ) → line_says known line ≡ Ok (Ticks count)
+  line_is known = rw well refl
 
   is_front : (whole : List ℕ) → text ≡ whole ++ 10 ∷ after → HasNoFeed whole → length whole ≤ 4096 → without_return whole ≡ line
       → IsFirst text (take (length text - length after - 1) text) after (Some (Ticks count))
@@ -117,7 +117,7 @@ module _ (rest after : List ℕ) (len count : ℕ) (well : tick_count (take len 
       subst (λ (w : List ℕ). IsFirst text w after (Some (Ticks count))) (sym (front_is text whole after is)) (record {
         is = is;
         plain = none;
-        says = bus_line-short whole line (Ticks count) short (sym same) line_is;
+        says = λ known. bus_line-short known whole line (Ticks count) short (sym same) (line_is known);
       })
 
   pub ticks_line : (drop len rest ≡ 10 ∷ after) ⊎ (drop len rest ≡ 13 ∷ 10 ∷ after)

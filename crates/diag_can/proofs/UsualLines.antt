@@ -16,7 +16,8 @@ use Rattle.diag_can.specs.Bus.{bus_line}
 use Rattle.diag_can.specs.Lanes.{IsRunIn}
 use Rattle.diag_can.specs.Log.{without_return}
 use Rattle.diag_can.specs.FrameText.{EndsInBytes, bytes_or_none, last_bytes, last_digits}
-use Rattle.diag_can.specs.Usual.{IsFramed, IsUsual, usual_moment}
+use Rattle.diag_can.specs.Usual.{IsFramed, IsUsual}
+use Rattle.diag_can.specs.MomentText.{usual_moment}
 use Rattle.diag_can.specs.declared.bus.BusLine.{BusLine}
 use Rattle.diag_can.specs.declared.fault.LineFault.TheVariants.{BadLine}
 use Rattle.diag_can.specs.declared.frame.Frame.{Frame}
@@ -123,20 +124,20 @@ not_passed (c ∷ rest) all = no_mark c (all 0 0 (omega arith))
 three_of : (text : List ℕ) → 4 ≤ length text → (length (take 3 text) == 8) ≡ false
 three_of text le = let three = length-take-le 3 text (omega arith) in rw three refl
 
-module _ (text rest : List ℕ) (id : ℕ) (run : prefix_len is_hex_digit text ≡ 3) (long : 4 ≤ length text) (is : id_of (take 3 text) ≡ Some id)
+module _ (known text rest : List ℕ) (id : ℕ) (run : prefix_len is_hex_digit text ≡ 3) (long : 4 ≤ length text) (is : id_of (take 3 text) ≡ Some id)
     (hash : behind 35 (drop 3 text) ≡ Some rest)
     (all : AllPass is_hex_digit rest) where
-  text_frame-is : text_frame text ≡ frame_of id (frame_data rest)
+  text_frame-is : text_frame known text ≡ frame_of id (frame_data rest)
   text_frame-is = let short = three_of text long in let data_only = not_passed rest all in rw (run, hash, short, is, data_only) refl
 
 is_ok-from : (rest bytes : List ℕ) → decode_of rest ≡ Ok bytes → IsOk (decode_of rest)
 is_ok-from rest bytes is = rw is refl
 
 -- what a line says whose stamp and frame were read
-stamped_says : (line text : List ℕ) (moment : ℕ) (frame : Option Frame) → 28 ≤ length line → is_time line ≡ false → stamped_frame line ≡ Some (moment, text)
-    → text_frame text ≡ Ok frame → line_says line ≡ Ok (Stamped moment frame)
-stamped_says [] text moment frame long plain stamp is = absurd (omega arith)
-stamped_says (c ∷ line) text moment frame long plain stamp is = rw (plain, stamp, is) refl
+pub stamped_says : (known line text : List ℕ) (moment : ℕ) (frame : Option Frame) → 0 < length line → is_time line ≡ false → stamped_frame line ≡ Some (moment, text)
+    → text_frame known text ≡ Ok frame → line_says known line ≡ Ok (Stamped moment frame)
+stamped_says known [] text moment frame long plain stamp is = absurd (omega arith)
+stamped_says known (c ∷ line) text moment frame long plain stamp is = rw (plain, stamp, is) refl
 
 module _ (line : List ℕ) (place id : ℕ) (u : IsUsual line place id) where
   abbrev rest : List ℕ
@@ -173,16 +174,16 @@ module _ (line : List ℕ) (place id : ℕ) (u : IsUsual line place id) where
       record { few = omega arith; inside = omega arith; hex = rw same (is_ok-from rest value.0 value.1) }
 
   -- what it says
-  pub says : line_says line ≡ Ok (Stamped (usual_moment line) (Some (record { id = id; bytes = last_bytes line count })))
-  says =
+  pub says : (known : List ℕ) → line_says known line ≡ Ok (Stamped (usual_moment line) (Some (record { id = id; bytes = last_bytes line count })))
+  says known =
       let text : List ℕ = drop place line in
       let inside = u.inside in
       let few = u.few in
       let long : 4 ≤ length text = omega (arith, length-drop place line) in
       let bytes : Ok value.0 ≡ Ok (last_bytes line count) = ap (λ (b : List ℕ). Ok b) (sym (ap bytes_or_none (ap decode_of same ∙ value.1))) in
       let read = data_from_digits rest value.0 all (omega (arith, size)) even value.1 ∙ bytes in
-      stamped_says line text (usual_moment line) _ u.framed.long u.framed.is_frame u.framed.stamped
-      (text_frame-is text rest id u.run long u.id_is u.mark all ∙ ap (frame_of id) read)
+      stamped_says known line text (usual_moment line) _ (omega (arith, u.framed.long)) u.framed.is_frame u.framed.stamped
+      (text_frame-is known text rest id u.run long u.id_is u.mark all ∙ ap (frame_of id) read)
 
 -- such a line, from the parts that were read
 pub usual_parts : (line : List ℕ) (place id : ℕ) (text : List ℕ) → IsFramed line place → text ≡ take (length line - place) (drop place line)
@@ -207,16 +208,16 @@ usual_parts line place id text framed cut run is hash long few even digits =
 
 -- ---- as a whole line of a capture
 
-pub bus_line-short : (piece line : List ℕ) (said : BusLine) → length piece ≤ 4096 → line ≡ without_return piece → line_says line ≡ Ok said
-    → bus_line piece ≡ Ok said
-bus_line-short piece line said short same says =
+pub bus_line-short : (known piece line : List ℕ) (said : BusLine) → length piece ≤ 4096 → line ≡ without_return piece → line_says known line ≡ Ok said
+    → bus_line known piece ≡ Ok said
+bus_line-short known piece line said short same says =
     let not_long : nat_lt 4096 (length piece) ≡ false = grind (arith, nat_tests) in
-    rw not_long (ap line_says (sym same) ∙ says)
+    rw not_long (ap (line_says known) (sym same) ∙ says)
 
 -- a line that says something isn't too long
-pub bus_line-says : (piece : List ℕ) (said : BusLine) → bus_line piece ≡ Ok said → line_says (without_return piece) ≡ Ok said
-bus_line-says piece said =
-    elim (nat_lt 4096 (length piece)) as (λ b. cond b (Err BadLine) (line_says (without_return piece)) ≡ Ok said → line_says (without_return piece) ≡ Ok said) [
+pub bus_line-says : (known piece : List ℕ) (said : BusLine) → bus_line known piece ≡ Ok said → line_says known (without_return piece) ≡ Ok said
+bus_line-says known piece said =
+    elim (nat_lt 4096 (length piece)) as (λ b. cond b (Err BadLine) (line_says known (without_return piece)) ≡ Ok said → line_says known (without_return piece) ≡ Ok said) [
       | true ↦ λ is. cc is
       | false ↦ λ is. is
     ]

@@ -1,7 +1,8 @@
 -- The line of a frame that a tester was sent, in candump's log notation.
-use Rattle.std.specs.Prelude.{ℕ, ◌+◌, ◌-◌, ◌/◌, ◌%◌, codes, true, List, [], ◌∷◌, ◌++◌, length, replicate}
+use Rattle.std.specs.Prelude.{ℕ, ◌+◌, ◌-◌, ◌/◌, ◌%◌, ◌^◌, nat_lt, if◌then◌else◌, codes, true, List, [], ◌∷◌, ◌++◌, length, replicate}
 use Rattle.std.specs.Fmt.{decimal, digits}
 use Rattle.hex.specs.Hex.{encode_upper}
+use Rattle.diag_can.specs.Identifier.{number_of}
 use Rattle.diag_can.specs.declared.frame.Frame.{Frame}
 
 -- the digits with zeros before them, up to a width
@@ -24,9 +25,20 @@ seconds_text seconds = codes "(" ++ zero_filled 10 (decimal seconds) ++ codes ".
 abbrev pub thousandths_text : ℕ → List ℕ
 thousandths_text thousandths = zero_filled 3 (decimal thousandths) ++ codes "000) "
 
--- the identifier in three hex digits, and the bytes
+-- four bytes, the highest first
+abbrev pub four_bytes : ℕ → List ℕ
+four_bytes n = (n / 2 ^ 24) ∷ (n / 2 ^ 16 % 256) ∷ (n / 2 ^ 8 % 256) ∷ (n % 256) ∷ []
+
+-- an identifier in three hex digits, or in eight where it has 29 bits
+abbrev pub id_text : ℕ → List ℕ
+id_text id =
+    if nat_lt id 2048
+    then zero_filled 3 (digits 16 true id)
+    else encode_upper (four_bytes (number_of id))
+
+-- the identifier and the bytes
 abbrev pub frame_text : Frame → List ℕ
-frame_text frame = zero_filled 3 (digits 16 true frame.id) ++ codes "#" ++ encode_upper frame.bytes
+frame_text frame = id_text frame.id ++ codes "#" ++ encode_upper frame.bytes
 
 -- a frame that a tester was sent at a time, by the tester's name
 abbrev pub reply_line : List ℕ → ℕ → Frame → List ℕ
@@ -35,4 +47,4 @@ reply_line name at frame =
 
 -- what stands between a line's stamp and its bytes
 abbrev pub name_text : List ℕ → ℕ → List ℕ
-name_text name id = name ++ codes " " ++ zero_filled 3 (digits 16 true id) ++ codes "#"
+name_text name id = name ++ codes " " ++ id_text id ++ codes "#"

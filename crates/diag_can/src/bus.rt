@@ -4,9 +4,10 @@ ghost use Rattle.std.specs.Prelude.{◌≡◌};
 ghost use Rattle.diag_can.specs.Bus.{bus_line};
 
 use crate::fault::LineFault;
-use crate::frame::TickCount;
+use crate::frame::{CanId, TickCount};
 use crate::frame_text::FrameText;
 use crate::log::without_return;
+use crate::moment_text::MomentText;
 use crate::read::said_by;
 
 /// What a line of a log or of a capture says, whoever it is meant for.
@@ -16,9 +17,9 @@ pub enum BusLine<'a> {
     Empty,
     /// That many milliseconds pass.
     Ticks(TickCount),
-    /// A frame was seen at this moment, in milliseconds; where it is a data frame with an 11-bit identifier, this one.
+    /// A frame was seen at this moment, in milliseconds; where it is a data frame that is read, this one.
     Stamped {
-        moment: u64,
+        moment: MomentText<'a>,
         frame: Option<FrameText<'a>>,
     },
 }
@@ -27,12 +28,12 @@ pub enum BusLine<'a> {
 pub const LONGEST_LINE: usize = 4096;
 
 /// What a whole line of a capture says, from its bytes without LF, or how it is at fault: too long, or in none of the
-/// forms of a line.
-pub fn read_bus_line(piece: &[u8]) -> Result<BusLine<'_>, LineFault>
-    ensures { result ≡ bus_line piece.now }
+/// forms of a line. Of the 29-bit identifiers these are read.
+pub fn read_bus_line<'a>(known: &[CanId], piece: &'a [u8]) -> Result<BusLine<'a>, LineFault>
+    ensures { result ≡ bus_line known.now piece.now }
 {
     if piece.len() > LONGEST_LINE {
         return Err(LineFault::BadLine);
     }
-    said_by(without_return(piece))
+    said_by(known, without_return(piece))
 }

@@ -7,9 +7,10 @@ ghost use Rattle.diag_can.specs.Line.{is_decimal, ticks_of, tick_count, stamped_
 
 use crate::bus::BusLine;
 use crate::fault::LineFault;
-use crate::frame::{Event, Ids, TickCount};
+use crate::frame::{CanId, Event, Ids, TickCount};
 use crate::frame_text::FrameText;
 use crate::line::text_frame;
+use crate::moment_text::MomentText;
 use crate::stamp::{behind_name, decimal_value, is_digit, stamp_of};
 use crate::usual::usual_says;
 
@@ -63,10 +64,10 @@ fn stamped_frame(line: &[u8]) -> Option<(u64, &[u8])>
     Some((moment, text))
 }
 
-/// What a line without its end says, whatever its form is.
+/// What a line without its end says, whatever its form is, where these are the 29-bit identifiers that are read.
 #[inline(never)]
-pub fn line_says(line: &[u8]) -> Result<BusLine<'_>, LineFault>
-    ensures { result ≡ line_says line.now }
+pub fn line_says<'a>(known: &[CanId], line: &'a [u8]) -> Result<BusLine<'a>, LineFault>
+    ensures { result ≡ line_says known.now line.now }
 {
     if line.is_empty() {
         return Ok(BusLine::Empty);
@@ -80,20 +81,23 @@ pub fn line_says(line: &[u8]) -> Result<BusLine<'_>, LineFault>
     match stamped_frame(line) {
         None => Err(LineFault::BadLine),
         Some((moment, text)) => {
-            let frame = text_frame(text)?;
-            Ok(BusLine::Stamped { moment, frame })
+            let frame = text_frame(known, text)?;
+            Ok(BusLine::Stamped {
+                moment: MomentText::read(moment),
+                frame,
+            })
         }
     }
 }
 
 /// The same; most lines are of the usual form.
 #[inline(always)]
-pub fn said_by(line: &[u8]) -> Result<BusLine<'_>, LineFault>
-    ensures { result ≡ line_says line.now }
+pub fn said_by<'a>(known: &[CanId], line: &'a [u8]) -> Result<BusLine<'a>, LineFault>
+    ensures { result ≡ line_says known.now line.now }
 {
     match usual_says(line) {
         Some(said) => Ok(said),
-        None => line_says(line),
+        None => line_says(known, line),
     }
 }
 
@@ -127,8 +131,9 @@ fn event_for(said: &BusLine, ids: &Ids) -> Option<Event>
 
 /// What a whole line of a log, without its LF, is to the tester of these identifiers (candump's log format): time for
 /// `tick` and `tick N`; a frame for `(SECONDS.FRACTION) NAME ID#BYTES` where the identifier is the tester's request
-/// identifier or the functional one; nothing for every other identifier, for 29-bit, remote and CAN FD frames, and for
-/// an empty line. Stamps are checked for form alone. No memory is taken.
+/// identifier or the functional one; nothing for every other identifier, for remote and CAN FD frames, and for an empty
+/// line. A line with eight digits of an identifier is passed over, whatever follows, unless the tester has it. Stamps are
+/// checked for form alone. No memory is taken.
 ///
 /// # Errors
 /// `BadTick` for another line that begins with `tick`, `TooManyBytes` for a frame with more than 16 hex digits,
@@ -136,6 +141,6 @@ fn event_for(said: &BusLine, ids: &Ids) -> Option<Event>
 pub fn read_line(line: &[u8], ids: &Ids) -> Result<Option<Event>, LineFault>
     ensures { result ≡ line_event line.now ids.now }
 {
-    let said = said_by(line)?;
+    let said = said_by(&ids.all(), line)?;
     Ok(event_for(&said, ids))
 }

@@ -3,7 +3,8 @@
 ghost use Rattle.std.specs.Prelude.{◌≡◌, ◌<◌, ◌≤◌, ◌+◌, ◌/◌, ◌^◌, ◌++◌, true, codes, decimal, OnOk, OnErr, vec_len, vec_capacity};
 ghost use Rattle.std.specs.Fmt.{digits};
 ghost use Rattle.hex.specs.Hex.{encode_upper};
-ghost use Rattle.diag_can.specs.Reply.{zero_filled, seconds_text, thousandths_text, stamp, frame_text, reply_line};
+ghost use Rattle.diag_can.specs.Identifier.{number_of};
+ghost use Rattle.diag_can.specs.Reply.{zero_filled, seconds_text, thousandths_text, stamp, four_bytes, id_text, frame_text, reply_line};
 
 use crate::frame::{CanId, Frame, FrameBytes};
 use crate::hex_text::{add, digits_of_eight};
@@ -20,7 +21,7 @@ const TEN_DIGITS: u64 = 10_000_000_000;
 
 /// Appends the line of a frame that the tester `name` was sent at `at` milliseconds:
 /// `(SECONDS.MILLISECONDS000) NAME ID#BYTES` and LF, where the seconds have ten digits or more, the milliseconds three,
-/// and the identifier three upper-case hex digits (candump's log format).
+/// and the identifier three upper-case hex digits, or eight where it has 29 bits (candump's log format).
 ///
 /// # Errors
 /// `AllocError` where memory is refused; the text stays as it was.
@@ -141,13 +142,42 @@ fn three_digits(number: u64) -> [u8; 3]
 /// A space, the identifier, `#`, the bytes and LF, where there is room.
 #[inline(always)]
 fn add_frame(text: &mut Vec<u8>, frame: &Frame)
-    requires { vec_len text.old + 22 ≤ vec_capacity text.old }
+    requires { vec_len text.old + 27 ≤ vec_capacity text.old }
     ensures { text.new.items
         ≡ text.old.items ++ (codes " " ++ frame_text frame.now ++ codes "\n") }
 {
-    let [x, y, z] = identifier(frame.id);
-    add(text, &[b' ', x, y, z, b'#']);
+    add_id(text, frame.id);
     add_data(text, &frame.bytes);
+}
+
+/// A space, the identifier and `#`, where there is room.
+#[inline(always)]
+fn add_id(text: &mut Vec<u8>, id: CanId)
+    requires { vec_len text.old + 10 ≤ vec_capacity text.old }
+    ensures items { text.new.items ≡ text.old.items ++ (codes " " ++ id_text id ++ codes "#") }
+    ensures len { vec_len text.new ≤ vec_len text.old + 10 }
+    ensures capacity { vec_capacity text.new ≡ vec_capacity text.old }
+{
+    if id.is_extended() {
+        add_wide_id(text, id);
+    } else {
+        let [x, y, z] = identifier(id);
+        add(text, &[b' ', x, y, z, b'#']);
+    }
+}
+
+/// The same of an identifier of 29 bits.
+#[inline(never)]
+fn add_wide_id(text: &mut Vec<u8>, id: CanId)
+    requires wide { 2048 ≤ id }
+    requires room { vec_len text.old + 10 ≤ vec_capacity text.old }
+    ensures items { text.new.items ≡ text.old.items ++ (codes " " ++ id_text id ++ codes "#") }
+    ensures len { vec_len text.new ≤ vec_len text.old + 10 }
+    ensures capacity { vec_capacity text.new ≡ vec_capacity text.old }
+{
+    add(text, b" ");
+    add(text, &wide_identifier(id));
+    add(text, b"#");
 }
 
 /// The bytes of a frame and LF, where there is room. The digits of all eight places are written, and those behind the
@@ -163,12 +193,25 @@ pub(crate) fn add_data(text: &mut Vec<u8>, bytes: &FrameBytes)
     text.push_reserved(b'\n');
 }
 
-/// The three digits of an identifier.
+/// The three digits of an identifier of 11 bits.
 pub(crate) fn identifier(id: CanId) -> [u8; 3]
-    ensures digits { result ≡ zero_filled 3 (digits 16 true id) }
-    ensures in_range { id < 2048 }
+    requires { id < 2048 }
+    ensures { result ≡ zero_filled 3 (digits 16 true id) }
 {
-    let number = id.get();
+    let number = id.rank();
     let [y, z] = digits((number % 256) as u8);
     [b'0' + (number / 256) as u8, y, z]
+}
+
+/// The eight digits of an identifier of 29 bits.
+fn wide_identifier(id: CanId) -> [u8; 8]
+    requires { 2048 ≤ id }
+    ensures { result ≡ encode_upper (four_bytes (number_of id)) }
+{
+    let number = id.get();
+    let [a, b] = digits((number / 0x100_0000) as u8);
+    let [c, d] = digits((number / 0x1_0000 % 256) as u8);
+    let [e, f] = digits((number / 0x100 % 256) as u8);
+    let [g, h] = digits((number % 256) as u8);
+    [a, b, c, d, e, f, g, h]
 }

@@ -1,17 +1,19 @@
 //! A line of the usual form, of which many bytes are read at once: a stamp of ten digits and six, one space, a short name, one
 //! space, an identifier of three digits, and behind its `#` nothing but pairs of hex digits. Other lines are read part by part.
 
-ghost use Rattle.std.specs.Prelude.{◌≡◌, ◌<◌, ◌≤◌, length, IfSome, Ok};
+ghost use Rattle.std.specs.Prelude.{◌≡◌, ◌<◌, ◌≤◌, ℕ, List, length, IfSome, Ok};
 ghost use Rattle.diag_can.specs.Lanes.{IsRunIn};
 ghost use Rattle.diag_can.specs.Line.{line_says};
 ghost use Rattle.diag_can.specs.Stamp.{is_digit};
-ghost use Rattle.diag_can.specs.Usual.{BeginsFramed, IsUsual, three_at, usual_moment};
+ghost use Rattle.diag_can.specs.Usual.{BeginsFramed, IsUsual, three_at};
+ghost use Rattle.diag_can.specs.MomentText.{usual_moment};
 
 use crate::bus::BusLine;
 use crate::frame::CanId;
 use crate::frame_text::FrameText;
 use crate::lanes::{eight_of_word, ends_in_hex, is_within};
 use crate::line::short_id;
+use crate::moment_text::MomentText;
 use std::simd::prelude::*;
 
 /// The shortest line that is looked at.
@@ -39,10 +41,10 @@ pub fn text_place(line: &[u8]) -> Option<usize>
 #[inline(always)]
 pub fn said_from(line: &[u8], place: usize, id: CanId) -> BusLine<'_>
     requires { IsUsual line.now place id }
-    ensures { line_says line.now ≡ Ok result }
+    ensures { (known : List ℕ) → line_says known line.now ≡ Ok result }
 {
     BusLine::Stamped {
-        moment: usual_moment(line),
+        moment: MomentText::usual(line),
         frame: Some(FrameText::new(id, line, (line.len() - (place + 4)) / 2)),
     }
 }
@@ -50,7 +52,7 @@ pub fn said_from(line: &[u8], place: usize, id: CanId) -> BusLine<'_>
 /// What a line of the usual form says; None of another line.
 #[inline(always)]
 pub fn usual_says(line: &[u8]) -> Option<BusLine<'_>>
-    ensures { IfSome result (λ said. line_says line.now ≡ Ok said) }
+    ensures { IfSome result (λ said. (known : List ℕ) → line_says known line.now ≡ Ok said) }
 {
     let place = text_place(line)?;
     let id = short_id(&line[place..])?;

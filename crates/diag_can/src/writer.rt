@@ -13,7 +13,7 @@ use std::mem;
 /// More bytes than a line has, of which the front is kept.
 const LINE_ROOM: usize = 64;
 
-/// The longest name that is kept.
+/// The longest name that is kept, before an identifier of 11 bits.
 const LONGEST_NAME: usize = 19;
 
 /// The first time, in milliseconds, whose seconds have more than ten digits.
@@ -34,7 +34,7 @@ impl Front {
         ensures { IsFront result name.now id }
     {
         let mut bytes = [0; 24];
-        if name.len() > LONGEST_NAME {
+        if name.len() > LONGEST_NAME || id.is_extended() {
             return Front { bytes, len: 0 };
         }
         let end = name.len() + 5;

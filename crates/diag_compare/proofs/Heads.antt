@@ -4,7 +4,6 @@ use Rattle.std.proofs.lemmas.List.{append-nil}
 use Rattle.std.proofs.lemmas.List.Elements.{All-cons, All-nil}
 use Rattle.std.specs.List.{All, filter, flat_map}
 use Rattle.std.specs.Prelude.{if◌then◌else◌, nat_lt, option_and_then, slice_get, slice_index}
-use Rattle.diag_can.specs.Bus.{bus_line}
 use Rattle.diag_can.specs.declared.frame.Event.{Event}
 use Rattle.diag_can.specs.declared.frame.Event.TheVariants.{Physical, Functional, Ticks}
 use Rattle.diag_pdu.specs.Kind.{kind}
@@ -20,6 +19,7 @@ use Rattle.diag_tp.specs.Reception.{Reception, in_time, is_next, is_whole, messa
 use Rattle.diag_tp.proofs.Moments.{after-append, history-more}
 use Rattle.diag_ecu.specs.State.{State}
 use Rattle.diag_desk.specs.declared.entry.Entry.{Entry}
+use Rattle.diag_bus.specs.Events.{line_said}
 use Rattle.diag_exchange.specs.Asking.{coming_after}
 use Rattle.diag_exchange.specs.declared.happening.Expected.{Expected}
 use Rattle.diag_exchange.specs.declared.happening.Happening.{Happening}
@@ -220,17 +220,17 @@ module _ (expects : State → Entry → Expected) (setup : RawSetup) (t : ℕ) w
   line_heads : (past : List (List ℕ)) (line : List ℕ) (c : Option Start) → Known c (open_at side (history (unit_events setup t past)))
       → Heads c (line_happens expects setup t past line) (open_at side (history (unit_events setup t (past ++ line ∷ []))))
   line_heads past line c k =
-      let at = place_of past line in
+      let at = place_of setup past line in
       let E = unit_events setup t past in
-      let time = time_of_line past (bus_line line) in
-      let frame = unit_frame setup t (bus_line line) in
+      let time = time_of_line setup past (line_said setup line) in
+      let frame = unit_frame setup t (line_said setup line) in
       let first = all_happen side at E time in
       let second = flat_map (entry_happens expects setup t at) (filter (is_of t) (entries_by setup past line)) in
       let third = all_happen side at (E ++ time) frame in
-      let a = all_heads side at E time c k (each_time past (bus_line line)) in
+      let a = all_heads side at E time c k (each_time setup past (line_said setup line)) in
       let b = entries_heads at (coming_after c first) (filter (is_of t) (entries_by setup past line)) (open_at side (history (E ++ time))) a.1 in
       let ab = heads_then c first second (open_at side (history (E ++ time))) a.0 b in
-      let d = all_heads side at (E ++ time) frame (coming_after c (first ++ second)) ab.1 (each_unit setup t (bus_line line)) in
+      let d = all_heads side at (E ++ time) frame (coming_after c (first ++ second)) ab.1 (each_unit setup t (line_said setup line)) in
       let whole = heads_then c (first ++ second) third (open_at side (history ((E ++ time) ++ frame))) ab.0 d in
       subst (λ (w : List Event). Heads c (line_happens expects setup t past line) (open_at side (history w)))
       (append_assoc E time frame ∙ sym (unit_push expects setup t [] past line)) whole

@@ -6,7 +6,6 @@ use Rattle.std.proofs.lemmas.List.{append-nil, map-append}
 use Rattle.std.specs.List.{filter, flat_map}
 use Rattle.std.specs.Option.{option_to_list}
 use Rattle.std.specs.Prelude.{Result, Ok, Err, if◌then◌else◌, is_some, nat_lt, not, option_and_then, ◌==◌, ◌&&◌}
-use Rattle.diag_can.specs.Bus.{bus_line}
 use Rattle.diag_can.specs.Log.{silence, waited}
 use Rattle.diag_can.specs.declared.bus.BusLine.{BusLine}
 use Rattle.diag_can.specs.declared.bus.BusLine.TheVariants as said
@@ -31,7 +30,7 @@ use Rattle.diag_tp.specs.Reception.{Reception, in_time, is_next, is_whole, messa
 use Rattle.diag_tp.proofs.Moments.{after-append, history-more}
 use Rattle.diag_ecu.specs.State.{State}
 use Rattle.diag_desk.specs.declared.entry.Entry.{Entry}
-use Rattle.diag_bus.specs.Events.{frame_said, reference}
+use Rattle.diag_bus.specs.Events.{frame_said, line_said, reference}
 use Rattle.diag_exchange.specs.Asking.{comes_in, coming_after, completes}
 use Rattle.diag_exchange.specs.declared.happening.Expected.{Expected}
 use Rattle.diag_exchange.specs.declared.happening.Happening.{Happening}
@@ -284,11 +283,11 @@ each_waited ms = each_append (replicate (ms / 60000) (Ticks 60000)) _ (each_tick
     rest_case true = tt
     rest_case false = (tt, tt)
 
-pub each_time : (past : List (List ℕ)) (said : Result BusLine LineFault) → Each IsOfUnit (time_of_line past said)
-each_time past (Ok said.Empty) = tt
-each_time past (Ok (said.Ticks n)) = (tt, tt)
-each_time past (Ok (said.Stamped moment frame)) = each_waited (silence Stamps (reference past) (Some moment))
-each_time past (Err fault) = tt
+pub each_time : (setup : RawSetup) (past : List (List ℕ)) (said : Result BusLine LineFault) → Each IsOfUnit (time_of_line setup past said)
+each_time setup past (Ok said.Empty) = tt
+each_time setup past (Ok (said.Ticks n)) = (tt, tt)
+each_time setup past (Ok (said.Stamped moment frame)) = each_waited (silence Stamps (reference setup past) (Some moment))
+each_time setup past (Err fault) = tt
 
 each_frame : (id : ℕ) (frame : Option Frame) → Each IsOfUnit (frame_with id frame)
 each_frame id None = tt
@@ -326,7 +325,7 @@ module _ (expects : State → Entry → Expected) (setup : RawSetup) (t : ℕ) w
       )
 
   abbrev line_gives : List (List ℕ) → List ℕ → List Event
-  line_gives past line = time_of_line past (bus_line line) ++ unit_frame setup t (bus_line line)
+  line_gives past line = time_of_line setup past (line_said setup line) ++ unit_frame setup t (line_said setup line)
 
   pub unit_push : (past lines : List (List ℕ)) (line : List ℕ) → unit_after setup t past (lines ++ line ∷ [])
       ≡ unit_after setup t past lines ++ line_gives (past ++ lines) line
@@ -339,17 +338,17 @@ module _ (expects : State → Entry → Expected) (setup : RawSetup) (t : ℕ) w
   line_heard : (past : List (List ℕ)) (line : List ℕ) (c : Option Start) → is_some c ≡ receives side (unit_events setup t past)
       → GivesAll side c (line_happens expects setup t past line) (unit_events setup t past) (line_gives past line)
   line_heard past line c own =
-      let at = place_of past line in
+      let at = place_of setup past line in
       let E = unit_events setup t past in
-      let time = time_of_line past (bus_line line) in
-      let frame = unit_frame setup t (bus_line line) in
+      let time = time_of_line setup past (line_said setup line) in
+      let frame = unit_frame setup t (line_said setup line) in
       let first = all_happen side at E time in
       let second = flat_map (entry_happens expects setup t at) (filter (is_of t) (entries_by setup past line)) in
       let third = all_happen side at (E ++ time) frame in
-      let a = all_give side at E time c own (each_time past (bus_line line)) in
+      let a = all_give side at E time c own (each_time setup past (line_said setup line)) in
       let b = entries_heard at (coming_after c first) (filter (is_of t) (entries_by setup past line)) in
       let between : coming_after c (first ++ second) ≡ coming_after c first = coming_append c first second ∙ b.1 in
-      let d = all_give side at (E ++ time) frame (coming_after c (first ++ second)) (ap is_some between ∙ a.1) (each_unit setup t (bus_line line)) in
+      let d = all_give side at (E ++ time) frame (coming_after c (first ++ second)) (ap is_some between ∙ a.1) (each_unit setup t (line_said setup line)) in
       let front : heard c (first ++ second) ≡ flat_map message_given (steps_after side E time) =
       heard_append c first second ∙ (ap₂ (λ (x y : List (List ℕ)). x ++ y) a.0 b.0 ∙ append-nil (flat_map message_given (steps_after side E time))) in (
         heard_append c (first ++ second) third ∙ (ap₂ (λ (x y : List (List ℕ)). x ++ y) front d.0

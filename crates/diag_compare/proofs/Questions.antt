@@ -4,7 +4,6 @@ use Rattle.std.proofs.lemmas.List.{append-nil, map-append}
 use Rattle.std.proofs.lemmas.List.Elements.{filter-append}
 use Rattle.std.specs.List.{filter, flat_map, list_any}
 use Rattle.std.specs.Prelude.{if◌then◌else◌}
-use Rattle.diag_can.specs.Bus.{bus_line}
 use Rattle.diag_can.specs.declared.frame.Event.{Event}
 use Rattle.diag_can.specs.declared.frame.Event.TheVariants.{Physical, Functional, Ticks}
 use Rattle.diag_pdu.specs.Kind.{kind}
@@ -21,7 +20,7 @@ use Rattle.diag_desk.specs.Legal.{after, after_step, reply_to}
 use Rattle.diag_desk.specs.declared.entry.Entry.{Entry}
 use Rattle.diag_world.specs.Weaving.{steps_of, steps_of_after}
 use Rattle.diag_world.proofs.Weaves.{steps_of_after-append}
-use Rattle.diag_bus.specs.Events.{events_of, line_events}
+use Rattle.diag_bus.specs.Events.{events_of, line_events, line_said}
 use Rattle.diag_bus.specs.Text.{answered, ecu_after, run_of}
 use Rattle.diag_bus.proofs.Lines.{events_push}
 use Rattle.diag_exchange.specs.Asking.{Course, and_behind, asked, change_last, comes_in, completes, courses, courses_after, finish, happens, hearing, hears_it, hears_no_more, is_candidate, is_loud_candidate, with_answer}
@@ -173,17 +172,17 @@ module _ (expects : State → Entry → Expected) (setup : RawSetup) (t : ℕ) w
 
   line_asks : (past : List (List ℕ)) (line : List ℕ) → questions (line_happens expects setup t past line) ≡ own_of (entries_by setup past line)
   line_asks past line =
-      let at = place_of past line in
+      let at = place_of setup past line in
       let E = unit_events setup t past in
-      let time = time_of_line past (bus_line line) in
+      let time = time_of_line setup past (line_said setup line) in
       let first = all_happen (unit_side setup t) at E time in
       let second = flat_map (entry_happens expects setup t at) (filter (is_of t) (entries_by setup past line)) in
-      let third = all_happen (unit_side setup t) at (E ++ time) (unit_frame setup t (bus_line line)) in
+      let third = all_happen (unit_side setup t) at (E ++ time) (unit_frame setup t (line_said setup line)) in
       flat_append asked_one (first ++ second) third
       ∙ (ap₂ (λ (x y : List Question). x ++ y)
       (flat_append asked_one first second ∙ ap₂ (λ (x y : List Question). x ++ y) (all_ask (unit_side setup t) at E time)
       (entries_ask at (filter (is_of t) (entries_by setup past line))))
-      (all_ask (unit_side setup t) at (E ++ time) (unit_frame setup t (bus_line line)))
+      (all_ask (unit_side setup t) at (E ++ time) (unit_frame setup t (line_said setup line)))
       ∙ append-nil (own_of (entries_by setup past line)))
 
   abbrev whole : List (List ℕ) → List Question

@@ -1,7 +1,6 @@
 -- What a capture has of the unit's messages to a tester, and of the tester's requests, in the order of the bus.
 use Rattle.std.specs.Prelude.{ℕ, ◌+◌, ◌==◌, ◌&&◌, nat_lt, not, Bool, true, false, if◌then◌else◌, List, [], ◌∷◌, ◌++◌, length, drop, filter, slice_get, slice_index, Option, Some, None, Result, Ok, Err}
 use Rattle.std.specs.List.{flat_map}
-use Rattle.diag_can.specs.Bus.{bus_line}
 use Rattle.diag_can.specs.declared.bus.BusLine.{BusLine}
 use Rattle.diag_can.specs.declared.fault.LineFault.{LineFault}
 use Rattle.diag_can.specs.declared.frame.Event.{Event}
@@ -22,7 +21,7 @@ use Rattle.diag_setup.specs.declared.raw.RawSetup.{RawSetup}
 use Rattle.diag_ecu.specs.State.{State}
 use Rattle.diag_desk.specs.Legal.{after_step}
 use Rattle.diag_desk.specs.declared.entry.Entry.{Entry}
-use Rattle.diag_bus.specs.Events.{clock_of, events_of, frame_said, reference, time_said}
+use Rattle.diag_bus.specs.Events.{clock_of, events_of, frame_said, line_said, reference, time_said}
 use Rattle.diag_bus.specs.Text.{ecu_after, run_of}
 use Rattle.diag_exchange.specs.declared.happening.Expected.{Expected}
 use Rattle.diag_exchange.specs.declared.happening.Happening.{Happening}
@@ -30,8 +29,8 @@ use Rattle.diag_exchange.specs.declared.happening.Happening.TheVariants.{Asked, 
 use Rattle.diag_exchange.specs.declared.happening.Place.{Place}
 
 -- the line behind these, and the bus's time of it
-abbrev pub place_of : List (List ℕ) → List ℕ → Place
-place_of past line = record { line = length past + 1; moment = clock_of (past ++ line ∷ []) }
+abbrev pub place_of : RawSetup → List (List ℕ) → List ℕ → Place
+place_of setup past line = record { line = length past + 1; moment = clock_of setup (past ++ line ∷ []) }
 
 -- ---- the unit's side
 
@@ -39,9 +38,9 @@ place_of past line = record { line = length past + 1; moment = clock_of (past ++
 abbrev pub unit_side : RawSetup → ℕ → LinkSetup
 unit_side setup t = record (link_of setup t) { max_request = 65535; n_cr = 60000 }
 
-abbrev pub time_of_line : List (List ℕ) → Result BusLine LineFault → List Event
-time_of_line past (Ok said) = time_said (reference past) said
-time_of_line past (Err fault) = []
+abbrev pub time_of_line : RawSetup → List (List ℕ) → Result BusLine LineFault → List Event
+time_of_line setup past (Ok said) = time_said (reference setup past) said
+time_of_line setup past (Err fault) = []
 
 abbrev pub frame_with : ℕ → Option Frame → List Event
 frame_with id None = []
@@ -55,7 +54,7 @@ unit_frame setup t (Err fault) = []
 abbrev pub unit_after : RawSetup → ℕ → List (List ℕ) → List (List ℕ) → List Event
 unit_after setup t past [] = []
 unit_after setup t past (line ∷ lines) =
-    time_of_line past (bus_line line) ++ unit_frame setup t (bus_line line)
+    time_of_line setup past (line_said setup line) ++ unit_frame setup t (line_said setup line)
     ++ unit_after setup t (past ++ line ∷ []) lines
 
 -- the events of the unit's side
@@ -142,12 +141,12 @@ module _ (expects : State → Entry → Expected) (setup : RawSetup) (t : ℕ) w
   -- what a line is to a tester: what ends by its time, the request that it completes, and what its frame is to a message
   abbrev pub line_happens : List (List ℕ) → List ℕ → List Happening
   line_happens past line =
-      let at = place_of past line in
+      let at = place_of setup past line in
       let E = unit_events setup t past in
-      let time = time_of_line past (bus_line line) in
+      let time = time_of_line setup past (line_said setup line) in
       all_happen (unit_side setup t) at E time
       ++ flat_map (entry_happens at) (filter (is_of t) (entries_by setup past line))
-      ++ all_happen (unit_side setup t) at (E ++ time) (unit_frame setup t (bus_line line))
+      ++ all_happen (unit_side setup t) at (E ++ time) (unit_frame setup t (line_said setup line))
 
   abbrev pub happen_after : List (List ℕ) → List (List ℕ) → List Happening
   happen_after past [] = []

@@ -74,14 +74,14 @@ parted (word ∷ []) = word
 parted (word ∷ next ∷ words) = word ++ codes " " ++ parted (next ∷ words)
 
 -- the bus's time of a line of these, as it is known there
-abbrev pub moment_told : List (List ℕ) → Place → ℕ
-moment_told lines at = bus_moment (start_after 0 (take at.line lines)) at.moment
+abbrev pub moment_told : RawSetup → List (List ℕ) → Place → ℕ
+moment_told setup lines at = bus_moment (start_after setup 0 (take at.line lines)) at.moment
 
 -- the line of a tester's exchange
 abbrev pub told_line : RawSetup → List (List ℕ) → ℕ × Over → List ℕ
 told_line setup lines told = parted (
     decimal (line_number told)
-    ∷ stamp_text (moment_told lines (place_told told.1))
+    ∷ stamp_text (moment_told setup lines (place_told told.1))
     ∷ name_of setup told.0
     ∷ kind_text told.1
     ∷ request_text told.1

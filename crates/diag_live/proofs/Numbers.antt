@@ -3,10 +3,11 @@ use Rattle.std.proofs.Common.{◌≡◌, ◌⊎◌, ℕ, ◌+◌, ◌-◌, ◌/�
 use Rattle.std.proofs.lemmas.Bool.Decides.{nat_tests}
 use Rattle.std.proofs.lemmas.List.{length-take, take-append-le, take-map}
 use Rattle.std.proofs.Math.Seq.{take-append-add}
-use Rattle.diag_can.specs.Bus.{bus_line}
 use Rattle.diag_can.specs.declared.bus.BusLine.{BusLine}
 use Rattle.diag_can.specs.declared.fault.LineFault.{LineFault}
-use Rattle.diag_bus.specs.Events.{clock_of, fault_or, fault_said, first_fault, first_fault_after, line_fault, reference, span_said}
+use Rattle.diag_setup.specs.Setup.{known_ids}
+use Rattle.diag_setup.specs.declared.raw.RawSetup.{RawSetup}
+use Rattle.diag_bus.specs.Events.{clock_of, fault_or, fault_said, first_fault, first_fault_after, line_fault, line_said, reference, span_said}
 use Rattle.diag_bus.specs.declared.fault.BusFault.{BusFault}
 use Rattle.diag_bus.specs.declared.fault.BusFault.TheVariants as bus
 use Rattle.diag_bus.proofs.Faults.{first_fault_behind}
@@ -41,21 +42,22 @@ pub all_heard : (lines : List (List ℕ)) → lines_of (map Heard lines) ≡ lin
 all_heard [] = refl
 all_heard (line ∷ lines) = ap (λ (l : List (List ℕ)). line ∷ l) (all_heard lines)
 
-most_ticks : (n : ℕ) → AreTicks (replicate n (Ticked 60000)) × AreGood (replicate n (Ticked 60000))
-most_ticks zero = (tt, tt)
-most_ticks (suc n) = ((most_ticks n).0, ((omega arith, omega arith), (most_ticks n).1))
+module _ (known : List ℕ) where
+  most_ticks : (n : ℕ) → AreTicks (replicate n (Ticked 60000)) × AreGood known (replicate n (Ticked 60000))
+  most_ticks zero = (tt, tt)
+  most_ticks (suc n) = ((most_ticks n).0, ((omega arith, omega arith), (most_ticks n).1))
 
-pub passed_ticks : (span : ℕ) → AreTicks (passed span) × AreGood (passed span)
-passed_ticks span =
-    let most = most_ticks (span / 60000) in
-    let last = pick (span % 60000 == 0) refl in (
-      ticks_join (replicate (span / 60000) (Ticked 60000)) (cond (span % 60000 == 0) [] (Ticked (span % 60000) ∷ [])) most.0 last.0,
-      good_join (replicate (span / 60000) (Ticked 60000)) (cond (span % 60000 == 0) [] (Ticked (span % 60000) ∷ [])) most.1 last.1,
-    )
-  where
-    pick : (b : Bool) → (span % 60000 == 0) ≡ b → AreTicks (cond b [] (Ticked (span % 60000) ∷ [])) × AreGood (cond b [] (Ticked (span % 60000) ∷ []))
-    pick true none = (tt, tt)
-    pick false some = (tt, ((grind (arith, nat_tests, some), omega arith), tt))
+  pub passed_ticks : (span : ℕ) → AreTicks (passed span) × AreGood known (passed span)
+  passed_ticks span =
+      let most = most_ticks (span / 60000) in
+      let last = pick (span % 60000 == 0) refl in (
+        ticks_join (replicate (span / 60000) (Ticked 60000)) (cond (span % 60000 == 0) [] (Ticked (span % 60000) ∷ [])) most.0 last.0,
+        good_join known (replicate (span / 60000) (Ticked 60000)) (cond (span % 60000 == 0) [] (Ticked (span % 60000) ∷ [])) most.1 last.1,
+      )
+    where
+      pick : (b : Bool) → (span % 60000 == 0) ≡ b → AreTicks (cond b [] (Ticked (span % 60000) ∷ [])) × AreGood known (cond b [] (Ticked (span % 60000) ∷ []))
+      pick true none = (tt, tt)
+      pick false some = (tt, ((grind (arith, nat_tests, some), omega arith), tt))
 
 -- ---- the first fault of a capture whose lines say something
 
@@ -65,40 +67,41 @@ pub record IsAmong (n m count : ℕ) (fault : BusFault) : Type 0 where
   pub high : m < n + count
   pub late : fault ≡ bus.Late
 
-fault_among : (past lines : List (List ℕ)) (n m : ℕ) (fault : BusFault) → AllSay lines → first_fault_after past n lines ≡ Some (m, fault)
-    → IsAmong n m (length lines) fault
-fault_among past [] n m fault says h = absurd (none h)
-  where
-    none : {A : Type 0} {x : A} → None ≡ Some x → ⊥
-    none x = cc
-fault_among past (line ∷ lines) n m fault says h =
-    pick (line_fault past line) refl h (fault_among (past ++ line ∷ []) lines (n + 1) m fault says.1)
-  where
-    same : {x y : ℕ × BusFault} → Some x ≡ Some y → x ≡ y
-    same x = cc
+module _ (setup : RawSetup) where
+  fault_among : (past lines : List (List ℕ)) (n m : ℕ) (fault : BusFault) → AllSay (known_ids setup) lines → first_fault_after setup past n lines ≡ Some (m, fault)
+      → IsAmong n m (length lines) fault
+  fault_among past [] n m fault says h = absurd (none h)
+    where
+      none : {A : Type 0} {x : A} → None ≡ Some x → ⊥
+      none x = cc
+  fault_among past (line ∷ lines) n m fault says h =
+      pick (line_fault setup past line) refl h (fault_among (past ++ line ∷ []) lines (n + 1) m fault says.1)
+    where
+      same : {x y : ℕ × BusFault} → Some x ≡ Some y → x ≡ y
+      same x = cc
 
-    clock : (r : Result BusLine LineFault) (k : ℕ) (f : BusFault) → ((said : BusLine) × (r ≡ Ok said)) → fault_said r k ≡ Some f → f ≡ bus.Late
-    clock (Err e) k f said is = cc said.1
-    clock (Ok x) k f said is = grind (arith, nat_tests, is)
+      clock : (r : Result BusLine LineFault) (k : ℕ) (f : BusFault) → ((said : BusLine) × (r ≡ Ok said)) → fault_said r k ≡ Some f → f ≡ bus.Late
+      clock (Err e) k f said is = cc said.1
+      clock (Ok x) k f said is = grind (arith, nat_tests, is)
 
-    pick : (o : Option BusFault) → line_fault past line ≡ o → fault_or o n (first_fault_after (past ++ line ∷ []) (n + 1) lines) ≡ Some (m, fault)
-        → (first_fault_after (past ++ line ∷ []) (n + 1) lines ≡ Some (m, fault) → IsAmong (n + 1) m (length lines) fault)
-        → IsAmong n m (length (line ∷ lines)) fault
-    pick None is found next = let r = next found in record { low = omega (arith, r.low); high = omega (arith, r.high); late = r.late }
-    pick (Some f) is found next =
-        let number : n ≡ m = ap (λ (q : ℕ × BusFault). q.0) (same found) in
-        let kind : f ≡ fault = ap (λ (q : ℕ × BusFault). q.1) (same found) in
-        record {
-          low = omega (arith, number);
-          high = omega (arith, number);
-          late = sym kind ∙ clock (bus_line line) (clock_of past + span_said (reference past) (bus_line line)) f says.0 is;
-        }
+      pick : (o : Option BusFault) → line_fault setup past line ≡ o → fault_or o n (first_fault_after setup (past ++ line ∷ []) (n + 1) lines) ≡ Some (m, fault)
+          → (first_fault_after setup (past ++ line ∷ []) (n + 1) lines ≡ Some (m, fault) → IsAmong (n + 1) m (length lines) fault)
+          → IsAmong n m (length (line ∷ lines)) fault
+      pick None is found next = let r = next found in record { low = omega (arith, r.low); high = omega (arith, r.high); late = r.late }
+      pick (Some f) is found next =
+          let number : n ≡ m = ap (λ (q : ℕ × BusFault). q.0) (same found) in
+          let kind : f ≡ fault = ap (λ (q : ℕ × BusFault). q.1) (same found) in
+          record {
+            low = omega (arith, number);
+            high = omega (arith, number);
+            late = sym kind ∙ clock (line_said setup line) (clock_of setup past + span_said (reference setup past) (line_said setup line)) f says.0 is;
+          }
 
--- behind lines that are well it lies among those that follow
-pub fault_behind : (lines more : List (List ℕ)) (m : ℕ) (fault : BusFault) → AllSay more → first_fault lines ≡ None
-    → first_fault (lines ++ more) ≡ Some (m, fault)
-    → IsAmong (length lines + 1) m (length more) fault
-fault_behind lines more m fault says well h = fault_among lines more (length lines + 1) m fault says (sym (first_fault_behind lines more well) ∙ h)
+  -- behind lines that are well it lies among those that follow
+  pub fault_behind : (lines more : List (List ℕ)) (m : ℕ) (fault : BusFault) → AllSay (known_ids setup) more → first_fault setup lines ≡ None
+      → first_fault setup (lines ++ more) ≡ Some (m, fault)
+      → IsAmong (length lines + 1) m (length more) fault
+  fault_behind lines more m fault says well h = fault_among lines more (length lines + 1) m fault says (sym (first_fault_behind setup lines more well) ∙ h)
 
 -- ---- the number of a line
 

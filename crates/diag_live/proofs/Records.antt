@@ -27,9 +27,9 @@ lines_of-append a b = filter_map-append heard_line a b
 pub record_text-append : (a b : List (List ℕ)) → record_text (a ++ b) ≡ record_text a ++ record_text b
 record_text-append a b = flat_map-append with_feed a b
 
-pub good_join : (a b : List Taken) → AreGood a → AreGood b → AreGood (a ++ b)
-good_join [] b x y = y
-good_join (t ∷ a) b x y = (x.0, good_join a b x.1 y)
+pub good_join : (known : List ℕ) (a b : List Taken) → AreGood known a → AreGood known b → AreGood known (a ++ b)
+good_join known [] b x y = y
+good_join known (t ∷ a) b x y = (x.0, good_join known a b x.1 y)
 
 -- ---- the lines of the text of lines
 
@@ -119,25 +119,26 @@ plain_ticks count few =
     All-append (λ c. is_feed c ≡ false) (codes "tick ") (decimal count) (no_feed_in (codes "tick ") refl)
     (no_feed_in (decimal count) (digits_plain (decimal count) (decimal_digits count (omega (arith, few)))))
 
-plain_one : (t : Taken) → IsGood t → HasNoFeed (capture_line t)
-plain_one (Heard bytes) good = plain_restamped bytes good.0
-plain_one (Ticked count) good = plain_ticks count good.1
+module _ (known : List ℕ) where
+  plain_one : (t : Taken) → IsGood known t → HasNoFeed (capture_line t)
+  plain_one (Heard bytes) good = plain_restamped bytes good.0
+  plain_one (Ticked count) good = plain_ticks count good.1
 
--- the capture's lines have no line feed
-pub plain_capture : (taken : List Taken) → AreGood taken → ArePlain (capture_of taken)
-plain_capture [] good = tt
-plain_capture (t ∷ taken) good = (plain_one t good.0, plain_capture taken good.1)
+  -- the capture's lines have no line feed
+  pub plain_capture : (taken : List Taken) → AreGood known taken → ArePlain (capture_of taken)
+  plain_capture [] good = tt
+  plain_capture (t ∷ taken) good = (plain_one t good.0, plain_capture taken good.1)
 
--- each line says something
-abbrev pub AllSay : List (List ℕ) → Type 0
-AllSay [] = Unit {0}
-AllSay (line ∷ lines) = ((said : BusLine) × (bus_line line ≡ Ok said)) × AllSay lines
+  -- each line says something
+  abbrev pub AllSay : List (List ℕ) → Type 0
+  AllSay [] = Unit {0}
+  AllSay (line ∷ lines) = ((said : BusLine) × (bus_line known line ≡ Ok said)) × AllSay lines
 
-says_one : (t : Taken) → IsGood t → (said : BusLine) × (bus_line (capture_line t) ≡ Ok said)
-says_one (Heard bytes) good = (but_for_moment good.1.0, restamped_says bytes good.1.0 good.1.1)
-says_one (Ticked count) good = (Ticks count, tick_says count good.0 good.1)
+  says_one : (t : Taken) → IsGood known t → (said : BusLine) × (bus_line known (capture_line t) ≡ Ok said)
+  says_one (Heard bytes) good = (but_for_moment good.1.0, restamped_says known bytes good.1.0 good.1.1)
+  says_one (Ticked count) good = (Ticks count, tick_says known count good.0 good.1)
 
--- the capture's lines say something
-pub capture_says : (taken : List Taken) → AreGood taken → AllSay (capture_of taken)
-capture_says [] good = tt
-capture_says (t ∷ taken) good = (says_one t good.0, capture_says taken good.1)
+  -- the capture's lines say something
+  pub capture_says : (taken : List Taken) → AreGood known taken → AllSay (capture_of taken)
+  capture_says [] good = tt
+  capture_says (t ∷ taken) good = (says_one t good.0, capture_says taken good.1)

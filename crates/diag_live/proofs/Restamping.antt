@@ -176,25 +176,25 @@ return_parts line = pick (ends_with ◌==◌ line (13 ∷ [])) refl
 abbrev null_front : List ℕ
 null_front = codes "(0.000000"
 
-at_null : (o : Option (List ℕ)) (m : ℕ) (said : BusLine) → stamped_line (o >>= λ text. Some (m, text)) ≡ Ok said
-    → stamped_line (o >>= λ text. Some (0, text)) ≡ Ok (but_for_moment said)
-at_null None m said h = cc h
-at_null (Some text) m said h = pick (text_frame text) h
+at_null : (known : List ℕ) (o : Option (List ℕ)) (m : ℕ) (said : BusLine) → stamped_line known (o >>= λ text. Some (m, text)) ≡ Ok said
+    → stamped_line known (o >>= λ text. Some (0, text)) ≡ Ok (but_for_moment said)
+at_null known None m said h = cc h
+at_null known (Some text) m said h = pick (text_frame known text) h
   where
     pick : (r : Result (Option Frame) LineFault) → stamped m r ≡ Ok said → stamped 0 r ≡ Ok (but_for_moment said)
     pick (Err fault) is = cc is
     pick (Ok frame) is = ap (λ (b : BusLine). Ok (but_for_moment b)) (ok_same is)
 
 -- what a stamped text says with the null stamp
-null_says : (o : Option (ℕ × List ℕ)) (said : BusLine) → stamped_line (o >>= λ s. behind_name s.1 >>= λ text. Some (s.0, text)) ≡ Ok said
-    → (m : ℕ × List ℕ) × (o ≡ Some m) × (line_says (null_front ++ 41 ∷ m.1) ≡ Ok (but_for_moment said))
-null_says None said h = cc h
-null_says (Some m) said h = (m, refl, at_null (behind_name m.1) m.0 said h)
+null_says : (known : List ℕ) (o : Option (ℕ × List ℕ)) (said : BusLine) → stamped_line known (o >>= λ s. behind_name s.1 >>= λ text. Some (s.0, text)) ≡ Ok said
+    → (m : ℕ × List ℕ) × (o ≡ Some m) × (line_says known (null_front ++ 41 ∷ m.1) ≡ Ok (but_for_moment said))
+null_says known None said h = cc h
+null_says known (Some m) said h = (m, refl, at_null known (behind_name m.1) m.0 said h)
 
 -- a line without a stamp says no moment
-unstamped : (line : List ℕ) (said : BusLine) → (get_or line 0 0 == 40) ≡ false → line_says line ≡ Ok said → but_for_moment said ≡ said
-unstamped [] said other h = ap but_for_moment (sym (ok_same h)) ∙ ok_same h
-unstamped (c ∷ line) said other h = pick (is_time (c ∷ line)) h
+unstamped : (known line : List ℕ) (said : BusLine) → (get_or line 0 0 == 40) ≡ false → line_says known line ≡ Ok said → but_for_moment said ≡ said
+unstamped known [] said other h = ap but_for_moment (sym (ok_same h)) ∙ ok_same h
+unstamped known (c ∷ line) said other h = pick (is_time (c ∷ line)) h
   where
     tick : (o : Option ℕ) → tick_said o ≡ Ok said → but_for_moment said ≡ said
     tick None is = cc is
@@ -203,29 +203,29 @@ unstamped (c ∷ line) said other h = pick (is_time (c ∷ line)) h
     none : stamped_frame (c ∷ line) ≡ None
     none = rw other refl
 
-    pick : (b : Bool) → cond b (tick_said (tick_count (drop 4 (c ∷ line)))) (stamped_line (stamped_frame (c ∷ line))) ≡ Ok said → but_for_moment said ≡ said
+    pick : (b : Bool) → cond b (tick_said (tick_count (drop 4 (c ∷ line)))) (stamped_line known (stamped_frame (c ∷ line))) ≡ Ok said → but_for_moment said ≡ said
     pick true is = tick (tick_count (drop 4 (c ∷ line))) is
-    pick false is = cc (sym (ap stamped_line none) ∙ is)
+    pick false is = cc (sym (ap (stamped_line known) none) ∙ is)
 
 -- a line of at most 4096 bytes
-of_size : (line : List ℕ) (said : BusLine) → bus_line line ≡ Ok said → (length line ≤ 4096) × (line_says (without_return line) ≡ Ok said)
-of_size line said h = pick (nat_lt 4096 (length line)) refl h
+of_size : (known line : List ℕ) (said : BusLine) → bus_line known line ≡ Ok said → (length line ≤ 4096) × (line_says known (without_return line) ≡ Ok said)
+of_size known line said h = pick (nat_lt 4096 (length line)) refl h
   where
-    pick : (b : Bool) → nat_lt 4096 (length line) ≡ b → cond b (Err BadLine) (line_says (without_return line)) ≡ Ok said
-        → (length line ≤ 4096) × (line_says (without_return line) ≡ Ok said)
+    pick : (b : Bool) → nat_lt 4096 (length line) ≡ b → cond b (Err BadLine) (line_says known (without_return line)) ≡ Ok said
+        → (length line ≤ 4096) × (line_says known (without_return line) ≡ Ok said)
     pick true long is = cc is
     pick false long is = (grind (arith, nat_tests, long), is)
 
-bus_line_of : (line : List ℕ) → length line ≤ 4096 → bus_line line ≡ line_says (without_return line)
-bus_line_of line short = let no : nat_lt 4096 (length line) ≡ false = grind (arith, nat_tests) in rw no refl
+bus_line_of : (known line : List ℕ) → length line ≤ 4096 → bus_line known line ≡ line_says known (without_return line)
+bus_line_of known line short = let no : nat_lt 4096 (length line) ≡ false = grind (arith, nat_tests) in rw no refl
 
 -- a line that begins with a bracket, with its stamp
-module _ (l : List ℕ) (said : BusLine) (h : bus_line (40 ∷ l) ≡ Ok said) where
+module _ (known l : List ℕ) (said : BusLine) (h : bus_line known (40 ∷ l) ≡ Ok said) where
   abbrev bare : List ℕ
   bare = without_return (40 ∷ l)
 
-  from_bare : (w : List ℕ) → (w ≡ 40 ∷ l) ⊎ (40 ∷ l ≡ w ++ 13 ∷ []) → line_says w ≡ Ok said
-      → (m : ℕ × List ℕ) × (stamp_of w ≡ Some m) × (line_says (null_front ++ 41 ∷ m.1) ≡ Ok (but_for_moment said))
+  from_bare : (w : List ℕ) → (w ≡ 40 ∷ l) ⊎ (40 ∷ l ≡ w ++ 13 ∷ []) → line_says known w ≡ Ok said
+      → (m : ℕ × List ℕ) × (stamp_of w ≡ Some m) × (line_says known (null_front ++ 41 ∷ m.1) ≡ Ok (but_for_moment said))
   from_bare [] (inl same) is = absurd (clash same)
     where
       clash : [] ≡ 40 ∷ l → ⊥
@@ -236,7 +236,7 @@ module _ (l : List ℕ) (said : BusLine) (h : bus_line (40 ∷ l) ≡ Ok said) w
       clash x = grind (arith, ap (λ (t : List ℕ). get_or t 0 0) x)
   from_bare (c ∷ w) parts is =
       let first : c ≡ 40 = head parts in
-      null_says (stamp_of (c ∷ w)) said (subst (λ (k : ℕ). line_says (k ∷ w) ≡ Ok said → stamped_line (stamped_frame (k ∷ w)) ≡ Ok said) (sym first)
+      null_says known (stamp_of (c ∷ w)) said (subst (λ (k : ℕ). line_says known (k ∷ w) ≡ Ok said → stamped_line known (stamped_frame (k ∷ w)) ≡ Ok said) (sym first)
       (λ x. x) is)
     where
       head : (c ∷ w ≡ 40 ∷ l) ⊎ (40 ∷ l ≡ (c ∷ w) ++ 13 ∷ []) → c ≡ 40
@@ -247,9 +247,9 @@ module _ (l : List ℕ) (said : BusLine) (h : bus_line (40 ∷ l) ≡ Ok said) w
   whole w r inner (inl same) is = (r, ap (drop 1) (sym same ∙ is))
   whole w r inner (inr same) is = (r ++ 13 ∷ [], ap (drop 1) (same ∙ (ap (λ (t : List ℕ). t ++ 13 ∷ []) is ∙ append_assoc (40 ∷ inner) (41 ∷ r) (13 ∷ []))))
 
-  stamped_says : bus_line (null_stamp ++ after_first is_close l) ≡ Ok (but_for_moment said)
+  stamped_says : bus_line known (null_stamp ++ after_first is_close l) ≡ Ok (but_for_moment said)
   stamped_says =
-      let size = of_size (40 ∷ l) said h in
+      let size = of_size known (40 ∷ l) said h in
       let found = from_bare bare (parts (return_parts (40 ∷ l))) size.1 in
       let r = found.0.1 in
       let stamp = stamp_parts bare found.0 found.1 in
@@ -262,29 +262,29 @@ module _ (l : List ℕ) (said : BusLine) (h : bus_line (40 ∷ l) ≡ Ok said) w
       let after : after_first is_close l ≡ rest = ap (after_first is_close) line.1 ∙ after_close stamp.inner rest stamp.opened in
       let short : length (null_front ++ 41 ∷ rest) ≤ 4096 =
       omega (arith, size.0, stamp.long, ap length line.1, length-append stamp.inner (41 ∷ rest)) in
-      ap (λ (t : List ℕ). bus_line (null_stamp ++ t)) after
-      ∙ (bus_line_of (null_front ++ 41 ∷ rest) short
-      ∙ (ap line_says (return_law 41 null_front rest refl ∙ ap (λ (t : List ℕ). null_front ++ 41 ∷ t) same) ∙ found.2))
+      ap (λ (t : List ℕ). bus_line known (null_stamp ++ t)) after
+      ∙ (bus_line_of known (null_front ++ 41 ∷ rest) short
+      ∙ (ap (line_says known) (return_law 41 null_front rest refl ∙ ap (λ (t : List ℕ). null_front ++ 41 ∷ t) same) ∙ found.2))
     where
       parts : (without_return (40 ∷ l) ≡ 40 ∷ l) ⊎ (40 ∷ l ≡ without_return (40 ∷ l) ++ 13 ∷ []) → (bare ≡ 40 ∷ l) ⊎ (40 ∷ l ≡ bare ++ 13 ∷ [])
       parts x = x
 
-pub restamped_says : (line : List ℕ) (said : BusLine) → bus_line line ≡ Ok said → bus_line (restamped line) ≡ Ok (but_for_moment said)
-restamped_says [] said h = ap (λ (b : BusLine). Ok (but_for_moment b)) (ok_same h)
-restamped_says (c ∷ l) said h = pick (c == 40) refl
+pub restamped_says : (known line : List ℕ) (said : BusLine) → bus_line known line ≡ Ok said → bus_line known (restamped line) ≡ Ok (but_for_moment said)
+restamped_says known [] said h = ap (λ (b : BusLine). Ok (but_for_moment b)) (ok_same h)
+restamped_says known (c ∷ l) said h = pick (c == 40) refl
   where
     bare_first : (w : List ℕ) → (w ≡ c ∷ l) ⊎ (c ∷ l ≡ w ++ 13 ∷ []) → (c == 40) ≡ false → (get_or w 0 0 == 40) ≡ false
     bare_first [] parts other = refl
     bare_first (x ∷ w) (inl same) other = rw (ap (λ (t : List ℕ). get_or t 0 0) same) other
     bare_first (x ∷ w) (inr same) other = rw (sym (ap (λ (t : List ℕ). get_or t 0 0) same)) other
 
-    pick : (b : Bool) → (c == 40) ≡ b → bus_line (cond b (null_stamp ++ after_first is_close l) (c ∷ l)) ≡ Ok (but_for_moment said)
+    pick : (b : Bool) → (c == 40) ≡ b → bus_line known (cond b (null_stamp ++ after_first is_close l) (c ∷ l)) ≡ Ok (but_for_moment said)
     pick true same =
         let is : c ≡ 40 = grind (arith, nat_tests) in
-        stamped_says l said (subst (λ (k : ℕ). bus_line (k ∷ l) ≡ Ok said) is h)
+        stamped_says known l said (subst (λ (k : ℕ). bus_line known (k ∷ l) ≡ Ok said) is h)
     pick false other =
-        let size = of_size (c ∷ l) said h in
-        let plain = unstamped (without_return (c ∷ l)) said (bare_first (without_return (c ∷ l)) (return_parts (c ∷ l)) other) size.1 in
+        let size = of_size known (c ∷ l) said h in
+        let plain = unstamped known (without_return (c ∷ l)) said (bare_first (without_return (c ∷ l)) (return_parts (c ∷ l)) other) size.1 in
         h ∙ ap (λ (b : BusLine). Ok b) (sym plain)
 
 -- ---- a line of ticks
@@ -330,8 +330,8 @@ no_return text digits = pick (return_parts text)
 pub decimal_digits : (count : ℕ) → count < 2 ^ 64 → list_all is_digit (decimal count) ≡ true
 decimal_digits count small = digits_decimal (numerals_by_fold IsDigits tells _ folds) count small
 
-pub tick_says : (count : ℕ) → 1 ≤ count → count ≤ 60000 → bus_line (tick_line count) ≡ Ok (Ticks count)
-tick_says count some few =
+pub tick_says : (known : List ℕ) (count : ℕ) → 1 ≤ count → count ≤ 60000 → bus_line known (tick_line count) ≡ Ok (Ticks count)
+tick_says known count some few =
     let small : count < 2 ^ 64 = omega arith in
     let model = numerals_by_fold IsDigits tells _ folds in
     let digits = digits_decimal model count small in
@@ -341,9 +341,9 @@ tick_says count some few =
     let short : length (tick_line count) ≤ 4096 = omega (arith, length_few) in
     let bare : without_return (tick_line count) ≡ tick_line count =
     return_law 32 (codes "tick") (decimal count) refl ∙ ap (λ (t : List ℕ). codes "tick" ++ 32 ∷ t) (no_return (decimal count) digits) in
-    bus_line_of (tick_line count) short ∙ (ap line_says bare ∙ says (decimal count) digits first value)
+    bus_line_of known (tick_line count) short ∙ (ap (line_says known) bare ∙ says (decimal count) digits first value)
   where
-    says : (text : List ℕ) → IsDigits text → 48 < get_or text 0 0 → decimal_value text ≡ count → line_says (codes "tick " ++ text) ≡ Ok (Ticks count)
+    says : (text : List ℕ) → IsDigits text → 48 < get_or text 0 0 → decimal_value text ≡ count → line_says known (codes "tick " ++ text) ≡ Ok (Ticks count)
     says [] digits first value = absurd (omega (arith, first))
     says (c ∷ text) digits first value =
         let zero : (c == 48) ≡ false = grind (arith, nat_tests, first) in

@@ -5,15 +5,14 @@ use Rattle.std.specs.Io.KnownBytes.{Appends, IsAtEnd, Keeps}
 use Rattle.std.proofs.KnownBytes.{Appends-kept, Appends-nil, Appends-trans, Consumes-kept, Consumes-nil, Consumes-trans}
 use Rattle.diag_can.specs.Bus.{HasNoFeed, begun_line, bus_lines, ended_lines}
 use Rattle.diag_can.proofs.BusLines.{begun_line-line, bus_lines-begun, bus_lines-ended, ended_lines-line}
+use Rattle.diag_setup.specs.Setup.{known_ids}
 use Rattle.diag_setup.specs.declared.raw.RawSetup.{RawSetup}
 use Rattle.diag_bus.specs.Events.{events_of, first_fault, unless_fault}
-use Rattle.diag_bus.specs.Text.{written}
-use Rattle.diag_bus.specs.declared.bus.Output.{Output}
-use Rattle.diag_bus.specs.declared.bus.Output.TheVariants.{Replies}
+use Rattle.diag_bus.specs.Text.{text_of}
 use Rattle.diag_bus.proofs.Runs.{run}
 use Rattle.diag_text.specs.declared.fault.RunFault.{RunFault}
 use Rattle.diag_text.specs.declared.fault.RunFault.TheVariants as fault
-use Rattle.diag_live.specs.Live.{capture_of, record_text}
+use Rattle.diag_live.specs.Live.{AreGood, capture_of, record_text}
 use Rattle.diag_live.specs.Serving.{CannotHear, HaltsWith, SoFar, ServingStands, Turned, last_feed}
 use Rattle.diag_live.specs.Stops.{IsLiveCutShort, Lived, Stopped, LiveStopsAt, LiveStopsOn, TookSoFar}
 use Rattle.diag_live.specs.declared.serving.Serving.{Serving}
@@ -40,21 +39,20 @@ end_begun seen (c ∷ kept) is = let none : HasNoFeed [] = λ k d less. absurd (
 -- ---- what was written and taken
 
 written_now : (setup : RawSetup) (new : Serving) (seen wrote noted : List ℕ) (s : ServingStands new seen wrote noted) → new.capture.bus.setup ≡ setup
-    → wrote ≡ written Replies setup (capture_of s.taken)
+    → wrote ≡ text_of setup (capture_of s.taken)
 written_now setup new seen wrote noted s same =
     sym (append-nil wrote)
     ∙ (ap (λ (t : List ℕ). wrote ++ t) (sym s.sent)
     ∙ (s.capture.due
-    ∙ (ap (λ (o : Output). written o new.capture.bus.setup (ended_lines noted)) s.output
-    ∙ (ap (λ (u : RawSetup). written Replies u (ended_lines noted)) same ∙ ap (written Replies setup) s.lines))))
+    ∙ (ap (λ (u : RawSetup). text_of u (ended_lines noted)) same ∙ ap (text_of setup) s.lines)))
 
 so_far_took : (setup : RawSetup) (serving : Serving) (seen wrote noted : List ℕ) → ServingStands serving seen wrote noted → serving.capture.bus.setup ≡ setup
     → TookSoFar setup seen wrote noted
 so_far_took setup serving seen wrote noted s same = record {
   taken = s.taken;
   heard = s.heard;
-  good = s.good;
-  well = ap first_fault (sym s.lines) ∙ s.capture.took.well;
+  good = subst (λ (u : RawSetup). AreGood (known_ids u) s.taken) same s.good;
+  well = ap (first_fault setup) (sym s.lines) ∙ subst (λ (u : RawSetup). first_fault u (ended_lines noted) ≡ None) same s.capture.took_lines.well;
   text = written_now setup serving seen wrote noted s same;
   recorded = s.recorded;
 }
@@ -160,8 +158,9 @@ module _ (setup : RawSetup) (old new : Serving) (i i' i'' o o' o'' r r' r'' : Op
       let lines : bus_lines so_far.seen ≡ ended_lines (so_far.seen ++ feed) =
       sym (end_lines so_far.seen old.hearing.kept.items kept) ∙ bus_lines-ended (so_far.seen ++ feed) (end_begun so_far.seen old.hearing.kept.items kept) in
       let same : new.capture.bus.setup ≡ setup = on.setup ∙ so_far.set in
-      let read : bus_lines (record_text (capture_of s.taken)) ≡ capture_of s.taken = record_lines (capture_of s.taken) (plain_capture s.taken s.good) in
-      let well : first_fault (capture_of s.taken) ≡ None = ap first_fault (sym s.lines) ∙ s.capture.took.well in
+      let read : bus_lines (record_text (capture_of s.taken)) ≡ capture_of s.taken = record_lines (capture_of s.taken) (plain_capture (known_ids new.capture.bus.setup) s.taken s.good) in
+      let well : first_fault setup (capture_of s.taken) ≡ None = ap (first_fault setup) (sym s.lines)
+      ∙ subst (λ (u : RawSetup). first_fault u (ended_lines (so_far.recorded ++ noted)) ≡ None) same s.capture.took_lines.well in
       let M = events_of setup (bus_lines (record_text (capture_of s.taken))) in
       record {
         bytes = so_far.seen;
@@ -169,9 +168,9 @@ module _ (setup : RawSetup) (old new : Serving) (i i' i'' o o' o'' r r' r'' : Op
         end = end;
         taken = s.taken;
         heard = s.heard ∙ sym lines;
-        good = s.good;
+        good = subst (λ (u : RawSetup). AreGood (known_ids u) s.taken) same s.good;
         M = M;
-        events = ap (unless_fault M) (ap first_fault read ∙ well);
+        events = ap (unless_fault M) (ap (first_fault setup) read ∙ well);
         run = run setup M;
         text = subst (Appends o o'') (written_now setup new (so_far.seen ++ feed) (so_far.wrote ++ sent) (so_far.recorded ++ noted) s same)
             (Appends-trans o o' o'' so_far.wrote sent so_far.sent t.2.1);

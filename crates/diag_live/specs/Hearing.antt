@@ -14,38 +14,40 @@ pub record HasHeard (hearing : Hearing) (seen : List ℕ) : Type 0 where
   pub kept : hearing.kept.items ≡ begun_line seen
   pub count : hearing.lines ≡ length (ended_lines seen)
 
--- these lines more were ended, none of which is at fault, and the capture grew by them
-pub record Ends (new : Hearing) (seen bytes more : List ℕ) : Type 0 where
-  pub lines : List (List ℕ)
-  pub ended : ended_lines (seen ++ bytes) ≡ ended_lines seen ++ lines
-  pub good : AreGood (map Heard lines)
-  pub text : more ≡ record_text (capture_of (map Heard lines))
-  pub follows : HasHeard new (seen ++ bytes)
+-- these are the identifiers of 29 bits that are read
+module _ (known : List ℕ) where
+  -- these lines more were ended, none of which is at fault, and the capture grew by them
+  pub record Ends (new : Hearing) (seen bytes more : List ℕ) : Type 0 where
+    pub lines : List (List ℕ)
+    pub ended : ended_lines (seen ++ bytes) ≡ ended_lines seen ++ lines
+    pub good : AreGood known (map Heard lines)
+    pub text : more ≡ record_text (capture_of (map Heard lines))
+    pub follows : HasHeard new (seen ++ bytes)
 
--- these bytes were heard further, and the capture grew by this
-abbrev pub HeardLines : Hearing → Hearing → List ℕ → List ℕ → Type 0
-HeardLines old new bytes more = (seen : List ℕ) → HasHeard old seen → Ends new seen bytes more
+  -- these bytes were heard further, and the capture grew by this
+  abbrev pub HeardLines : Hearing → Hearing → List ℕ → List ℕ → Type 0
+  HeardLines old new bytes more = (seen : List ℕ) → HasHeard old seen → Ends new seen bytes more
 
--- behind these lines one is at fault, by its number, whatever follows
-pub record IsNextBad (n : ℕ) (fault : LineFault) (before : List (List ℕ)) (bytes : List ℕ) : Type 0 where
-  pub bad : List ℕ
-  pub others : List (List ℕ)
-  pub are : bus_lines bytes ≡ before ++ bad ∷ others
-  pub number : n ≡ length before + 1
-  pub says : bus_line bad ≡ Err fault
+  -- behind these lines one is at fault, by its number, whatever follows
+  pub record IsNextBad (n : ℕ) (fault : LineFault) (before : List (List ℕ)) (bytes : List ℕ) : Type 0 where
+    pub bad : List ℕ
+    pub others : List (List ℕ)
+    pub are : bus_lines bytes ≡ before ++ bad ∷ others
+    pub number : n ≡ length before + 1
+    pub says : bus_line known bad ≡ Err fault
 
--- these lines more were ended, and then came one at fault
-pub record EndsBefore (n : ℕ) (fault : LineFault) (seen bytes more : List ℕ) : Type 0 where
-  pub lines : List (List ℕ)
-  pub good : AreGood (map Heard lines)
-  pub text : more ≡ record_text (capture_of (map Heard lines))
-  pub next : (rest : List ℕ) → IsNextBad n fault (ended_lines seen ++ lines) ((seen ++ bytes) ++ rest)
+  -- these lines more were ended, and then came one at fault
+  pub record EndsBefore (n : ℕ) (fault : LineFault) (seen bytes more : List ℕ) : Type 0 where
+    pub lines : List (List ℕ)
+    pub good : AreGood known (map Heard lines)
+    pub text : more ≡ record_text (capture_of (map Heard lines))
+    pub next : (rest : List ℕ) → IsNextBad n fault (ended_lines seen ++ lines) ((seen ++ bytes) ++ rest)
 
--- the fault came with these bytes; where it is a line's, the capture grew by the lines before it
-abbrev pub Refuses : Hearing → List ℕ → List ℕ → List ℕ → HearFault → Type 0
-Refuses old bytes text text' Memory = Unit {0}
-Refuses old bytes text text' (Line n fault) = Grew text text'
-    (λ more. (seen : List ℕ) → HasHeard old seen → EndsBefore n fault seen bytes more)
+  -- the fault came with these bytes; where it is a line's, the capture grew by the lines before it
+  abbrev pub Refuses : Hearing → List ℕ → List ℕ → List ℕ → HearFault → Type 0
+  Refuses old bytes text text' Memory = Unit {0}
+  Refuses old bytes text text' (Line n fault) = Grew text text'
+      (λ more. (seen : List ℕ) → HasHeard old seen → EndsBefore n fault seen bytes more)
 
 -- the line that is kept is with these bytes longer than a line may be, or memory was refused
 abbrev pub IsLineTooLong : Hearing → List ℕ → HearFault → Type 0

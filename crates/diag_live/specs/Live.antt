@@ -29,12 +29,13 @@ but_for_moment Empty = Empty
 but_for_moment (Ticks count) = Ticks count
 but_for_moment (Stamped moment frame) = Stamped 0 frame
 
--- A line that says something says the same with the null stamp, but for its moment, which is 0; and a line of ticks says
+-- Whichever identifiers are read: a line that says something says the same with the null stamp, but for its moment, which is 0; and a line of ticks says
 -- that they pass. Neither has a line feed that wasn't there.
 pub record RestampLaw : Type 0 where
-  pub says : (line : List ℕ) (said : BusLine) → bus_line line ≡ Ok said
-      → bus_line (restamped line) ≡ Ok (but_for_moment said)
-  pub ticks : (count : ℕ) → 1 ≤ count → count ≤ 60000 → bus_line (tick_line count) ≡ Ok (Ticks count)
+  pub says : (known line : List ℕ) (said : BusLine) → bus_line known line ≡ Ok said
+      → bus_line known (restamped line) ≡ Ok (but_for_moment said)
+  pub ticks : (known : List ℕ) (count : ℕ) → 1 ≤ count → count ≤ 60000
+      → bus_line known (tick_line count) ≡ Ok (Ticks count)
 
 -- ---- what was taken
 
@@ -59,14 +60,16 @@ heard_line (Ticked count) = None
 abbrev pub lines_of : List Taken → List (List ℕ)
 lines_of taken = filter_map heard_line taken
 
--- a line that was heard is one line and says something; of the clock's ticks there are at least 1 and at most 60000
-abbrev pub IsGood : Taken → Type 0
-IsGood (Heard bytes) = HasNoFeed bytes × ((said : BusLine) × (bus_line bytes ≡ Ok said))
-IsGood (Ticked count) = (1 ≤ count) × (count ≤ 60000)
+-- these are the identifiers of 29 bits that are read
+module _ (known : List ℕ) where
+  -- a line that was heard is one line and says something; of the clock's ticks there are at least 1 and at most 60000
+  abbrev pub IsGood : Taken → Type 0
+  IsGood (Heard bytes) = HasNoFeed bytes × ((said : BusLine) × (bus_line known bytes ≡ Ok said))
+  IsGood (Ticked count) = (1 ≤ count) × (count ≤ 60000)
 
-abbrev pub AreGood : List Taken → Type 0
-AreGood [] = Unit {0}
-AreGood (first ∷ taken) = IsGood first × AreGood taken
+  abbrev pub AreGood : List Taken → Type 0
+  AreGood [] = Unit {0}
+  AreGood (first ∷ taken) = IsGood first × AreGood taken
 
 -- so much time: 60000 ticks each, and last the rest
 abbrev pub passed : ℕ → List Taken

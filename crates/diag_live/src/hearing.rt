@@ -5,7 +5,7 @@ ghost use Rattle.diag_can.specs.Bus.{HasNoFeed};
 ghost use Rattle.diag_port.specs.Port.{Grew};
 
 use crate::restamp::add_restamped;
-use diag_can::{LONGEST_LINE, LineFault, read_bus_line};
+use diag_can::{CanId, LONGEST_LINE, LineFault, read_bus_line};
 use memchr::memchr;
 use std::alloc::{AllocError, Global};
 
@@ -59,14 +59,20 @@ impl Hearing {
     }
 
     /// Takes a piece, and adds to the capture the lines that it ends. At a line at fault it stops behind those before it.
-    pub(crate) fn take_piece(&mut self, piece: &[u8], text: &mut Vec<u8>) -> Result<(), HearFault>
+    /// Of the identifiers of 29 bits these are read.
+    pub(crate) fn take_piece(
+        &mut self,
+        known: &[CanId],
+        piece: &[u8],
+        text: &mut Vec<u8>,
+    ) -> Result<(), HearFault>
         ensures ok { OnOk result (Grew text.old.items text.new.items
-            (HeardLines self.old self.new piece.now)) }
-        ensures err { IfErr result (Refuses self.old piece.now text.old.items text.new.items) }
+            (HeardLines known.now self.old self.new piece.now)) }
+        ensures err { IfErr result (Refuses known.now self.old piece.now text.old.items text.new.items) }
     {
         let mut rest = piece;
         while let Some(end) = memchr(b'\n', rest) {
-            self.take_line(&rest[..end], text)?;
+            self.take_line(known, &rest[..end], text)?;
             rest = &rest[end + 1..];
         }
         self.keep(rest)
@@ -80,19 +86,24 @@ impl Hearing {
     }
 
     /// Takes the line that these bytes and an LF end, and adds it to the capture.
-    fn take_line(&mut self, bytes: &[u8], text: &mut Vec<u8>) -> Result<(), HearFault>
+    fn take_line(
+        &mut self,
+        known: &[CanId],
+        bytes: &[u8],
+        text: &mut Vec<u8>,
+    ) -> Result<(), HearFault>
         requires line { HasNoFeed bytes.now }
         ensures ok { OnOk result (Grew text.old.items text.new.items
-            (HeardLines self.old self.new (bytes.now ++ 10 ∷ []))) }
+            (HeardLines known.now self.old self.new (bytes.now ++ 10 ∷ []))) }
         ensures kept { OnOk result (self.new.kept.items ≡ []) }
         ensures err { IfErr result
-            (Refuses self.old (bytes.now ++ 10 ∷ []) text.old.items text.new.items) }
+            (Refuses known.now self.old (bytes.now ++ 10 ∷ []) text.old.items text.new.items) }
     {
         self.keep(bytes)?;
         let Some(number) = self.lines.checked_add(1) else {
             return Err(HearFault::Memory);
         };
-        if let Err(fault) = read_bus_line(self.kept.as_slice()) {
+        if let Err(fault) = read_bus_line(known, self.kept.as_slice()) {
             return Err(HearFault::Line(number, fault));
         }
         add_restamped(text, self.kept.as_slice())?;

@@ -3,13 +3,15 @@
 ghost use Rattle.std.specs.Prelude.{◌≡◌, ◌<◌, ◌↔◌, ℕ, ◌-◌, ◌+◌, ◌^◌, max, min, IsTrue, [], length, IfOk, IfErr, OnOk};
 ghost use Rattle.diag_bus.specs.Bus.{TookLines};
 ghost use Rattle.diag_text.specs.Bytes.{Sends};
+ghost use Rattle.diag_world.specs.Block.{some_in_block};
 ghost use Rattle.diag_world.specs.Server.{quiet_of};
 ghost use Rattle.diag_live.specs.Live.{capture_of, passed, record_text};
 ghost use Rattle.diag_live.specs.Serving.{numbered};
+ghost use Rattle.diag_run.specs.Wanted.{any_lines};
 
 use crate::hearing::{HearFault, Hearing};
 use crate::restamp::add_time;
-use diag_bus::{Bus, BusFault, Output};
+use diag_bus::{Bus, BusFault, Replies};
 use diag_run::{Capture, CaptureFault, run_fault};
 use diag_text::{RunFault, write_text};
 use std::alloc::{AllocError, Global};
@@ -19,7 +21,7 @@ use std::io::Write;
 #[derive(Drop)]
 pub(crate) struct Serving {
     hearing: Hearing,
-    capture: Capture,
+    capture: Capture<Replies>,
     /// What the capture grows by.
     text: Vec<u8>,
     /// The moment up to which the time was passed.
@@ -30,9 +32,8 @@ impl Serving {
     ghost use Rattle.diag_live.specs.Serving.{Delivered, ServingGoesOn, ServingHalts, ServingStands, Undelivered, last_feed};
 
     /// A run that begins at this moment.
-    pub(crate) fn begin(alloc: Global, bus: Bus, now: u64) -> Result<Serving, AllocError>
-        requires took { TookLines bus [] }
-        requires output { bus.output ≡ Output.Replies }
+    pub(crate) fn begin(alloc: Global, bus: Bus<Replies>, now: u64) -> Result<Serving, AllocError>
+        requires { TookLines any_lines bus [] }
         ensures stands { IfOk result (λ serving. ServingStands serving [] [] []) }
         ensures setup { IfOk result (λ serving. serving.capture.bus.setup ≡ bus.setup) }
     {
@@ -53,6 +54,14 @@ impl Serving {
         self.told.saturating_add(self.capture.quiet())
     }
 
+    /// Whether a block is under way: to some tester a Consecutive frame of a reply is still to go, behind its separation
+    /// time.
+    pub(crate) fn is_in_block(&self) -> bool
+        ensures { result ≡ some_in_block self.now.capture.bus.server.ports }
+    {
+        self.capture.is_in_block()
+    }
+
     /// Passes the time up to this moment, and takes a piece: the record has it, and what it draws was written.
     pub(crate) fn serve<W: Write, R: Write>(
         &mut self,
@@ -71,7 +80,8 @@ impl Serving {
         let heard = self.hearing.lines();
         let ticks = self.pass(now)?;
         let first = self.capture.lines().saturating_add(ticks);
-        match self.hearing.take_piece(piece, &mut self.text) {
+        let known = self.capture.bus().known();
+        match self.hearing.take_piece(known, piece, &mut self.text) {
             Ok(()) => self.deliver(heard, first, out, recorder),
             Err(HearFault::Line(number, fault)) => {
                 if let Err(earlier) = self.deliver(heard, first, out, recorder) {

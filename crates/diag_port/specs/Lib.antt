@@ -4,3 +4,4 @@ pub mod Port
 pub mod Placing
 pub mod Standing
 pub mod Laws
+pub mod Block

@@ -4,6 +4,7 @@ ghost use Rattle.std.specs.Prelude.{◌≡◌, ◌≤◌, ◌<◌, ◌↔◌, []
 ghost use Rattle.diag_tp.specs.Gives.{gives};
 ghost use Rattle.diag_tp.specs.Link.{EachHistory};
 ghost use Rattle.diag_port.specs.Port.{IsAtRest, port_of, port_later, port_quiet, whole_later};
+ghost use Rattle.diag_port.specs.Block.{port_in_block};
 ghost use Rattle.diag_port.specs.Standing.{PortStands};
 
 use crate::held::Held;
@@ -78,6 +79,14 @@ impl Port {
     {
         let then = self.link.now().saturating_add(passed);
         self.link.quiet_after(passed).min(self.held.until_due(then))
+    }
+
+    /// Whether a Consecutive frame of a reply is still to go, behind its separation time.
+    #[inline(always)]
+    pub fn is_in_block(&self) -> bool
+        ensures { result ≡ port_in_block (port_of self.now) }
+    {
+        self.link.is_in_block()
     }
 
     /// So many ticks, in one move, in which nothing falls due and nothing ends. They may be none, and more than a `TickCount`

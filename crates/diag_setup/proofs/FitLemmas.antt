@@ -1,5 +1,5 @@
 -- A setup keeps to its bounds.
-use Rattle.std.proofs.Common.{◌≡◌, ℕ, ◌≤◌, ◌||◌, ◌&&◌, ◌==◌, ◌%◌, Bool, true, false, not, nat_le, List, [], ◌∷◌, length, refl, arith, Option, Some, None, slice_index_or, IsTrue, is_some}
+use Rattle.std.proofs.Common.{◌≡◌, ℕ, ◌≤◌, ◌||◌, ◌&&◌, ◌==◌, ◌%◌, Bool, true, false, not, nat_le, List, [], ◌∷◌, length, refl, arith, Option, Some, None, slice_index_or, IsTrue, is_some, unwrap_or, if◌then◌else◌}
 use Rattle.std.specs.List.{All, list_any, list_all, sum_by}
 use Rattle.std.proofs.lemmas.Bool.{eqb-true, eqb-false, leb-true, and_parts, or_parts, not-false}
 use Rattle.std.proofs.lemmas.List.Elements.{All-cons}
@@ -11,8 +11,8 @@ use Rattle.diag_setup.specs.declared.raw.RawKeyRow.{RawKeyRow}
 use Rattle.diag_setup.specs.declared.raw.RawLevel.{RawLevel}
 use Rattle.diag_setup.specs.declared.raw.TemplateItem.{TemplateItem}
 use Rattle.diag_setup.specs.Rows.{is_between, has_length, has_key, have_one_length, is_rising}
-use Rattle.diag_setup.specs.Setup.{level_sub, seed_of, key_of, is_name_byte, is_can_id, is_st_min, faults, is_in_range, times_are_in_range, link_is_in_range, server_is_in_range, testers_are_in_range, dids_are_in_range, codes_are_in_range, routines_are_in_range, levels_are_in_range, tester_is_in_range, did_is_in_range, code_is_in_range, routine_is_in_range, on_done_is_in_range, key_row_is_in_range, level_is_in_range, has_no_rows, is_known_level, did_levels_are_known, routine_level_is_known, IsSetup, did_id, dtc_code, routine_id, answers_are_in_range, answer_is_in_range, reply_is_in_range, enter_is_in_range, template_is_in_range, item_is_in_range, items_or_none, template_count, is_in_time, latest_answer_ms, answer_level_is_known}
-use Rattle.diag_setup.specs.Fits.{TesterFits, DidFits, CodeFits, OnDoneFits, RoutineFits, KeyRowFits, LevelFits, AnswerFits, NumbersFit}
+use Rattle.diag_setup.specs.Setup.{level_sub, seed_of, key_of, is_name_byte, is_can_id, is_id_by, is_own_id, functional_number, is_st_min, faults, is_in_range, times_are_in_range, link_is_in_range, server_is_in_range, testers_are_in_range, dids_are_in_range, codes_are_in_range, routines_are_in_range, levels_are_in_range, tester_is_in_range, did_is_in_range, code_is_in_range, routine_is_in_range, on_done_is_in_range, key_row_is_in_range, level_is_in_range, has_no_rows, is_known_level, did_levels_are_known, routine_level_is_known, IsSetup, did_id, dtc_code, routine_id, answers_are_in_range, answer_is_in_range, reply_is_in_range, enter_is_in_range, template_is_in_range, item_is_in_range, items_or_none, template_count, is_in_time, latest_answer_ms, answer_level_is_known, ignored_are_in_range}
+use Rattle.diag_setup.specs.Fits.{IdFits, TesterFits, DidFits, CodeFits, OnDoneFits, RoutineFits, KeyRowFits, LevelFits, AnswerFits, NumbersFit}
 use Rattle.diag_setup.proofs.SetupLemmas.{NoneHold, none_hold}
 
 and3 : (a b c : Bool) → (a && b && c) ≡ true → (a ≡ true) × (b ≡ true) × (c ≡ true)
@@ -54,6 +54,13 @@ and9 a b c d e f g i j h =
     let front = and8 a b c d e f g i last.0 in
     (front.0, front.1, front.2, front.3, front.4, front.5, front.6, front.7, last.1)
 
+and10 : (a b c d e f g i j k : Bool) → (a && b && c && d && e && f && g && i && j && k) ≡ true
+    → (a ≡ true) × (b ≡ true) × (c ≡ true) × (d ≡ true) × (e ≡ true) × (f ≡ true) × (g ≡ true) × (i ≡ true) × (j ≡ true) × (k ≡ true)
+and10 a b c d e f g i j k h =
+    let last = and_parts (a && b && c && d && e && f && g && i && j) k h in
+    let front = and9 a b c d e f g i j last.0 in
+    (front.0, front.1, front.2, front.3, front.4, front.5, front.6, front.7, front.8, last.1)
+
 between : (low high n : ℕ) → is_between low high n ≡ true → (low ≤ n) × (n ≤ high)
 between low high n h =
     let parts = and_parts (nat_le low n) (nat_le n high) h in
@@ -70,12 +77,18 @@ abbrev Parts : RawSetup → Type 0
 Parts raw = (times_are_in_range raw ≡ true) × (link_is_in_range raw ≡ true) × (server_is_in_range raw ≡ true)
     × (testers_are_in_range raw.testers ≡ true) × (dids_are_in_range raw.dids ≡ true) × (codes_are_in_range raw.dtcs ≡ true)
     × (routines_are_in_range raw.routines ≡ true) × (levels_are_in_range raw.levels ≡ true) × (answers_are_in_range raw ≡ true)
+    × (ignored_are_in_range raw.ignore ≡ true)
+
+-- where the values are in range
+ranged_parts : (raw : RawSetup) → is_in_range raw ≡ true → Parts raw
+ranged_parts raw h =
+    and10 (times_are_in_range raw) (link_is_in_range raw) (server_is_in_range raw) (testers_are_in_range raw.testers) (dids_are_in_range raw.dids)
+    (codes_are_in_range raw.dtcs) (routines_are_in_range raw.routines) (levels_are_in_range raw.levels) (answers_are_in_range raw) (ignored_are_in_range raw.ignore) h
 
 parts_of : (raw : RawSetup) → IsSetup raw → Parts raw
 parts_of raw h =
     let none : NoneHold (faults raw) = none_hold (faults raw) h.0 in
-    and9 (times_are_in_range raw) (link_is_in_range raw) (server_is_in_range raw) (testers_are_in_range raw.testers) (dids_are_in_range raw.dids)
-    (codes_are_in_range raw.dtcs) (routines_are_in_range raw.routines) (levels_are_in_range raw.levels) (answers_are_in_range raw) (not-false (is_in_range raw) none.0)
+    ranged_parts raw (not-false (is_in_range raw) none.0)
 
 pub numbers_fit : (raw : RawSetup) → IsSetup raw → NumbersFit raw
 numbers_fit raw h =
@@ -130,13 +143,39 @@ levels_few raw h = few_rows level_is_in_range 4 raw.levels (parts_of raw h).7
 each : {X : Type 0} (test : X → Bool) (P : X → Type 0) → ((x : X) → test x ≡ true → P x) → (xs : List X) → list_all test xs ≡ true → All P xs
 each test P says xs h = let all = AllPass-from_list_all test xs h in λ k d below. says (slice_index_or xs k d) (all k d below)
 
+id-fits : (wide : Bool) (id : ℕ) → is_id_by wide id ≡ true → IdFits wide id
+id-fits true id h = leb-true id 0x1FFFFFFF h
+id-fits false id h = leb-true id 0x7FF h
+
+functional-fits : (wide : Bool) (own : Option ℕ) (shared : ℕ) → is_own_id wide own ≡ true → shared ≤ 0x7FF
+    → IdFits wide (unwrap_or own (if wide then 0x18DB33F1 else shared))
+functional-fits wide (Some id) shared h fits = id-fits wide id h
+functional-fits true None shared h fits = leb-true 0x18DB33F1 0x1FFFFFFF refl
+functional-fits false None shared h fits = fits
+
 tester-fits : (tester : RawTester) → tester_is_in_range tester ≡ true → TesterFits tester
 tester-fits tester h =
-    let parts = and4 (has_length 1 16 tester.name) (list_all is_name_byte tester.name) (is_can_id tester.request) (is_can_id tester.response) h in
-    record { request = leb-true tester.request 0x7FF parts.2; response = leb-true tester.response 0x7FF parts.3 }
+    let parts = and5 (has_length 1 16 tester.name) (list_all is_name_byte tester.name) (is_id_by tester.extended tester.request)
+    (is_id_by tester.extended tester.response) (is_own_id tester.extended tester.functional) h in
+    record {
+      request = id-fits tester.extended tester.request parts.2;
+      response = id-fits tester.extended tester.response parts.3;
+      functional = λ shared fits. functional-fits tester.extended tester.functional shared parts.4 fits;
+    }
 
 pub testers_fit : (raw : RawSetup) → IsSetup raw → All TesterFits raw.testers
 testers_fit raw h = each tester_is_in_range TesterFits tester-fits raw.testers (all_rows tester_is_in_range 8 raw.testers (parts_of raw h).3)
+
+-- the same of a setup whose values are in range
+pub ranged_testers : (raw : RawSetup) → is_in_range raw ≡ true → All TesterFits raw.testers
+ranged_testers raw h =
+    each tester_is_in_range TesterFits tester-fits raw.testers (all_rows tester_is_in_range 8 raw.testers (ranged_parts raw h).3)
+
+pub ranged_functional : (raw : RawSetup) → is_in_range raw ≡ true → raw.functional ≤ 0x7FF
+ranged_functional raw h =
+    let link = and5 (nat_le raw.block_size 0xFF) (is_st_min raw.st_min) (is_between 8 0xFFFF raw.max_request) (nat_le raw.pad_byte 0xFF)
+    (is_can_id raw.functional) (ranged_parts raw h).1 in
+    leb-true raw.functional 0x7FF link.4
 
 code-fits : (row : RawCode) → code_is_in_range row ≡ true → CodeFits row
 code-fits row h =

@@ -1,12 +1,13 @@
 -- Raw setups and what check makes of them, computed.
-use Rattle.std.proofs.Common.{◌≡◌, [], ◌∷◌, None, Some, Ok, refl, codes, replicate, Option}
+use Rattle.std.proofs.Common.{◌≡◌, ℕ, true, [], ◌∷◌, None, Some, Ok, refl, codes, replicate, Option, false}
 use Rattle.diag_setup.specs.declared.raw.RawTester.{RawTester}
 use Rattle.diag_setup.specs.declared.raw.RawAnswer.{RawAnswer}
 use Rattle.diag_setup.specs.declared.raw.PatternItem.TheVariants as pattern
 use Rattle.diag_setup.specs.declared.raw.TemplateItem.TheVariants as template
 use Rattle.diag_setup.specs.declared.fault.SetupFault.{SetupFault}
 use Rattle.diag_setup.specs.declared.fault.SetupFault.TheVariants.{Range, Empty, DuplicateId, UnknownCode, UnknownLevel}
-use Rattle.diag_setup.specs.Setup.{checked, fault_of}
+use Rattle.diag_can.specs.Identifier.{extended}
+use Rattle.diag_setup.specs.Setup.{checked, fault_of, ids_of}
 use Rattle.diag_setup.specs.ExampleSetup.{two_testers, tester, did, routine, level, with_answers, echo_row, slow_row, enter_row}
 
 abbrev tester_a : RawTester
@@ -55,6 +56,49 @@ same_name = refl
 
 functional_is_a_response : fault_of (record two_testers { functional = 0x7E9 }) ≡ Some DuplicateId
 functional_is_a_response = refl
+
+-- ---- identifiers of 29 bits
+
+abbrev wide : RawTester → ℕ → ℕ → RawTester
+wide tester request response = record tester { extended = true; request = request; response = response }
+
+wide_tester : fault_of (record two_testers { testers = tester_a ∷ wide tester_b 0x18DA10F1 0x18DAF110 ∷ [] }) ≡ None
+wide_tester = refl
+
+wide_ids : ids_of (record two_testers { testers = tester_a ∷ wide tester_b 0x18DA10F1 0x18DAF110 ∷ [] }) 2
+    ≡ record { request = extended 0x18DA10F1; response = extended 0x18DAF110; functional = extended 0x18DB33F1 }
+wide_ids = refl
+
+-- of one number, but not of as many bits
+same_number : fault_of (record two_testers { testers = tester_a ∷ wide tester_b 0x7E0 0x7E8 ∷ [] }) ≡ None
+same_number = refl
+
+two_of_one_functional : fault_of (record two_testers { testers = wide tester_a 0x18DA10F2 0x18DAF210 ∷ wide tester_b 0x18DA10F1 0x18DAF110 ∷ [] }) ≡ None
+two_of_one_functional = refl
+
+functional_is_a_request : fault_of (record two_testers { testers = tester_a ∷ wide tester_b 0x18DB33F1 0x18DAF110 ∷ [] }) ≡ Some DuplicateId
+functional_is_a_request = refl
+
+request_of_30_bits : fault_of (record two_testers { testers = tester_a ∷ wide tester_b 0x20000000 0x18DAF110 ∷ [] }) ≡ Some Range
+request_of_30_bits = refl
+
+request_of_12_bits : fault_of (record two_testers { testers = tester_a ∷ record tester_b { request = 0x800 } ∷ [] }) ≡ Some Range
+request_of_12_bits = refl
+
+-- a functional identifier of its own, of either kind
+own_functional : ids_of (record two_testers { testers = tester_a ∷ record tester_b { functional = Some 0x700 } ∷ [] }) 2
+    ≡ record { request = 0x7E1; response = 0x7E9; functional = 0x700 }
+own_functional = refl
+
+own_functional_of_29_bits : fault_of (record two_testers { testers = record tester_a { functional = Some 0x18DB33F1 } ∷ [] }) ≡ Some Range
+own_functional_of_29_bits = refl
+
+own_functional_is_a_response : fault_of (record two_testers { testers = tester_a ∷ record tester_b { functional = Some 0x7E8 } ∷ [] }) ≡ Some DuplicateId
+own_functional_is_a_response = refl
+
+-- that of the setup is of nobody then
+functional_of_nobody : fault_of (record two_testers { functional = 0x7E8; testers = record tester_a { functional = Some 0x700 } ∷ [] }) ≡ None
+functional_of_nobody = refl
 
 unknown_code : fault_of (record two_testers { routines = record routine { on_done = Some (record { code = 1; status = 0x2F }) } ∷ [] }) ≡ Some UnknownCode
 unknown_code = refl
@@ -119,3 +163,17 @@ too_late = refl
 
 rows_of_1025 : fault_of (record two_testers { answers = replicate 1025 slow_row }) ≡ Some Range
 rows_of_1025 = refl
+
+-- ---- patterns of requests that aren't compared
+
+pattern_to_ignore_of_no_items : fault_of (record two_testers { ignore = record { items = []; more = false } ∷ [] }) ≡ Some Range
+pattern_to_ignore_of_no_items = refl
+
+pattern_to_ignore_of_65_items : fault_of (record two_testers { ignore = record { items = replicate 65 pattern.Any; more = false } ∷ [] }) ≡ Some Range
+pattern_to_ignore_of_65_items = refl
+
+patterns_to_ignore_256 : fault_of (record two_testers { ignore = replicate 256 (record { items = pattern.Any ∷ []; more = false }) }) ≡ None
+patterns_to_ignore_256 = refl
+
+patterns_to_ignore_257 : fault_of (record two_testers { ignore = replicate 257 (record { items = pattern.Any ∷ []; more = false }) }) ≡ Some Range
+patterns_to_ignore_257 = refl

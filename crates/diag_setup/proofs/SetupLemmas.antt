@@ -8,7 +8,7 @@ use Rattle.diag_setup.specs.declared.raw.RawCode.{RawCode}
 use Rattle.diag_setup.specs.declared.raw.RawRoutine.{RawRoutine}
 use Rattle.diag_setup.specs.declared.raw.RawLevel.{RawLevel}
 use Rattle.diag_setup.specs.Rows.{has_repeat, in_order, insert_in_order}
-use Rattle.diag_setup.specs.Setup.{did_id, dtc_code, routine_id, level_sub, first_holding, fault_of, faults, sorted, is_in_range, dids_are_in_range, codes_are_in_range, routines_are_in_range, levels_are_in_range, did_is_in_range, code_is_in_range, routine_is_in_range, level_is_in_range, lacks_rows, has_no_rows, has_repeated_name, can_ids, itself, has_duplicates, names_unknown_code, names_unknown_level, done_code_is_known, is_known_code, is_known_level, did_levels_are_known, routine_level_is_known, answer_level_is_known, IsSetup}
+use Rattle.diag_setup.specs.Setup.{did_id, dtc_code, routine_id, level_sub, first_holding, fault_of, faults, sorted, is_in_range, dids_are_in_range, codes_are_in_range, routines_are_in_range, levels_are_in_range, did_is_in_range, code_is_in_range, routine_is_in_range, level_is_in_range, lacks_rows, has_no_rows, has_repeated_id, has_repeated_name, has_duplicates, names_unknown_code, names_unknown_level, done_code_is_known, is_known_code, is_known_level, did_levels_are_known, routine_level_is_known, answer_level_is_known, IsSetup}
 use Rattle.diag_setup.proofs.SortLemmas.{in_order-moves, in_order-no_repeat, in_order-is_rising}
 
 -- no check of a list holds
@@ -122,7 +122,7 @@ repeats_of false false false false false f h = (refl, refl, refl, refl, refl, h)
 pub no_repeats : (raw : RawSetup) → fault_of raw ≡ None → NoRepeats raw
 no_repeats raw h =
     let none : NoneHold (faults raw) = none_hold (faults raw) h in
-    let each = repeats_of (has_repeated_name raw.testers) (has_repeat itself (can_ids raw.testers raw.functional)) (has_repeat did_id raw.dids)
+    let each = repeats_of (has_repeated_name raw.testers) (has_repeated_id raw.testers raw.functional) (has_repeat did_id raw.dids)
     (has_repeat dtc_code raw.dtcs) (has_repeat routine_id raw.routines) (has_repeat level_sub raw.levels) none.1.1.0 in
     (each.2, each.3, each.4, each.5)
 

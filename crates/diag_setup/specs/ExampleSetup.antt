@@ -14,7 +14,8 @@ use Rattle.diag_setup.specs.declared.raw.TemplateItem.{TemplateItem}
 use Rattle.diag_setup.specs.declared.raw.TemplateItem.TheVariants as template
 
 abbrev pub tester : List ℕ → ℕ → ℕ → RawTester
-tester name request response = record { name = name; request = request; response = response }
+tester name request response =
+    record { name = name; request = request; response = response; extended = false; functional = None }
 
 abbrev pub did : RawDid
 did = record {
@@ -23,6 +24,7 @@ did = record {
   read_level = 0;
   write = true;
   write_level = 1;
+  varies = false;
 }
 
 abbrev pub code : RawCode
@@ -71,6 +73,7 @@ two_testers = record {
   routines = routine ∷ [];
   levels = level ∷ [];
   answers = [];
+  ignore = [];
 }
 
 -- ---- the same with rows of answers

@@ -1,5 +1,5 @@
 -- What the rows of a setup without a fault keep to, as bounds.
-use Rattle.std.specs.Prelude.{◌≤◌, length, Option, Some, None}
+use Rattle.std.specs.Prelude.{ℕ, ◌≤◌, Bool, true, false, length, Option, Some, None}
 use Rattle.std.specs.List.{All}
 use Rattle.diag_setup.specs.declared.raw.RawSetup.{RawSetup}
 use Rattle.diag_setup.specs.declared.raw.RawTester.{RawTester}
@@ -9,11 +9,17 @@ use Rattle.diag_setup.specs.declared.raw.RawRoutine.{RawRoutine}
 use Rattle.diag_setup.specs.declared.raw.RawKeyRow.{RawKeyRow}
 use Rattle.diag_setup.specs.declared.raw.RawLevel.{RawLevel}
 use Rattle.diag_setup.specs.declared.raw.RawAnswer.{RawAnswer}
-use Rattle.diag_setup.specs.Setup.{templates_of}
+use Rattle.diag_setup.specs.Setup.{functional_number, templates_of}
+
+-- the number of an identifier of 29 bits, or of 11
+abbrev pub IdFits : Bool → ℕ → Type 0
+IdFits true id = id ≤ 0x1FFFFFFF
+IdFits false id = id ≤ 0x7FF
 
 pub record TesterFits (tester : RawTester) : Type 0 where
-  pub request : tester.request ≤ 0x7FF
-  pub response : tester.response ≤ 0x7FF
+  pub request : IdFits tester.extended tester.request
+  pub response : IdFits tester.extended tester.response
+  pub functional : (shared : ℕ) → shared ≤ 0x7FF → IdFits tester.extended (functional_number shared tester)
 
 pub record DidFits (did : RawDid) : Type 0 where
   pub id : did.id ≤ 0xFFFF

@@ -1,6 +1,8 @@
 -- Which raw setups are refused, with which fault, what setup the others are, and what a setup tells.
 use Rattle.std.specs.Prelude.{◌≡◌, ◌==◌, ◌&&◌, ◌||◌, ◌%◌, ◌+◌, ◌-◌, ◌*◌, max, bytes_eq, ℕ, Bool, true, false, not, List, [], ◌∷◌, ◌++◌, length, Option, Some, None, is_some, Result, Ok, Err, if◌then◌else◌, nat_le, nat_lt, slice_get, unwrap_or}
 use Rattle.std.specs.List.{list_all, list_any, flat_map, sum_by}
+use Rattle.diag_can.specs.Identifier.{extended}
+use Rattle.diag_can.specs.Line.{known_to}
 use Rattle.diag_can.specs.declared.frame.Ids.{Ids}
 use Rattle.diag_pdu.specs.declared.setup.LinkSetup.{LinkSetup}
 use Rattle.diag_setup.specs.declared.setup.ServerParameters.{ServerParameters}
@@ -13,6 +15,7 @@ use Rattle.diag_setup.specs.declared.raw.RawRoutine.{RawRoutine}
 use Rattle.diag_setup.specs.declared.raw.RawKeyRow.{RawKeyRow}
 use Rattle.diag_setup.specs.declared.raw.RawLevel.{RawLevel}
 use Rattle.diag_setup.specs.declared.raw.RawAnswer.{RawAnswer}
+use Rattle.diag_setup.specs.declared.raw.RawPattern.{RawPattern}
 use Rattle.diag_setup.specs.declared.raw.TemplateItem.{TemplateItem}
 use Rattle.diag_setup.specs.declared.raw.TemplateItem.TheVariants.{OfRequest}
 use Rattle.diag_setup.specs.declared.fault.SetupFault.{SetupFault}
@@ -38,10 +41,22 @@ is_name_byte b = is_between 48 57 b || is_between 65 90 b || is_between 97 122 b
 abbrev pub is_can_id : ℕ → Bool
 is_can_id id = nat_le id 0x7FF
 
+abbrev pub is_wide_id : ℕ → Bool
+is_wide_id id = nat_le id 0x1FFFFFFF
+
+-- the number of an identifier of 29 bits, or of 11
+abbrev pub is_id_by : Bool → ℕ → Bool
+is_id_by wide id = if wide then is_wide_id id else is_can_id id
+
+-- the same of one that may be left out
+abbrev pub is_own_id : Bool → Option ℕ → Bool
+is_own_id wide None = true
+is_own_id wide (Some id) = is_id_by wide id
+
 abbrev pub tester_is_in_range : RawTester → Bool
 tester_is_in_range tester =
-    has_length 1 16 tester.name && list_all is_name_byte tester.name && is_can_id tester.request
-    && is_can_id tester.response
+    has_length 1 16 tester.name && list_all is_name_byte tester.name && is_id_by tester.extended tester.request
+    && is_id_by tester.extended tester.response && is_own_id tester.extended tester.functional
 
 abbrev pub did_is_in_range : RawDid → Bool
 did_is_in_range did = nat_le did.id 0xFFFF && has_length 1 255 did.value
@@ -110,6 +125,9 @@ answer_is_in_range row =
     has_length 1 64 row.pattern && reply_is_in_range (length row.pattern) row.reply
     && nat_le row.session 126 && enter_is_in_range row && nat_le row.after_ms 600000
 
+abbrev pub pattern_is_in_range : RawPattern → Bool
+pattern_is_in_range pattern = has_length 1 64 pattern.items
+
 abbrev pub is_st_min : ℕ → Bool
 is_st_min st = nat_le st 127 || is_between 241 249 st
 
@@ -157,13 +175,16 @@ answers_are_in_range raw =
     && list_all (is_in_time (latest_answer_ms raw.p2_ms raw.p2_star_10ms)) raw.answers
     && nat_le (sum_by template_count raw.answers) 65536
 
+abbrev pub ignored_are_in_range : List RawPattern → Bool
+ignored_are_in_range patterns = nat_le (length patterns) 256 && list_all pattern_is_in_range patterns
+
 -- Range: every value and every number of rows is one that the table allows
 abbrev pub is_in_range : RawSetup → Bool
 is_in_range raw =
     times_are_in_range raw && link_is_in_range raw && server_is_in_range raw
     && testers_are_in_range raw.testers && dids_are_in_range raw.dids
     && codes_are_in_range raw.dtcs && routines_are_in_range raw.routines
-    && levels_are_in_range raw.levels && answers_are_in_range raw
+    && levels_are_in_range raw.levels && answers_are_in_range raw && ignored_are_in_range raw.ignore
 
 abbrev pub has_no_rows : RawLevel → Bool
 has_no_rows level = length level.rows == 0
@@ -179,21 +200,42 @@ abbrev pub has_repeated_name : List RawTester → Bool
 has_repeated_name [] = false
 has_repeated_name (tester ∷ testers) = has_name testers tester.name || has_repeated_name testers
 
--- the identifiers of a tester alone
-abbrev pub own_ids : RawTester → List ℕ
-own_ids tester = tester.request ∷ tester.response ∷ []
-
--- all identifiers on the bus
-abbrev pub can_ids : List RawTester → ℕ → List ℕ
-can_ids testers functional = flat_map own_ids testers ++ functional ∷ []
-
 abbrev pub itself : ℕ → ℕ
 itself n = n
+
+-- the identifier of a number, of 29 bits or of 11
+abbrev pub id_by : Bool → ℕ → ℕ
+id_by wide number = if wide then extended number else number
+
+-- the identifiers of a tester alone
+abbrev pub own_ids : RawTester → List ℕ
+own_ids tester = id_by tester.extended tester.request ∷ id_by tester.extended tester.response ∷ []
+
+-- the identifiers of requests and responses
+abbrev pub can_ids : List RawTester → List ℕ
+can_ids testers = flat_map own_ids testers
+
+-- the number of the functional identifier of a tester: its own, or else 18DB33F1 of 29 bits (ISO 15765-4), or the one of 11 bits
+-- that the testers share
+abbrev pub functional_number : ℕ → RawTester → ℕ
+functional_number shared tester = unwrap_or tester.functional (if tester.extended then 0x18DB33F1 else shared)
+
+abbrev pub functional_of : ℕ → RawTester → ℕ
+functional_of shared tester = id_by tester.extended (functional_number shared tester)
+
+-- a tester's functional identifier is one of these: several testers may have the same, and no other use of it is allowed
+abbrev pub asks_by : List ℕ → ℕ → RawTester → Bool
+asks_by ids shared tester = has_key itself ids (functional_of shared tester)
+
+-- two requests or responses have one identifier, or one of them has a functional one
+abbrev pub has_repeated_id : List RawTester → ℕ → Bool
+has_repeated_id testers shared =
+    has_repeat itself (can_ids testers) || list_any (asks_by (can_ids testers) shared) testers
 
 -- DuplicateId: two testers of one name, two equal identifiers, or two rows of one key
 abbrev pub has_duplicates : RawSetup → Bool
 has_duplicates raw =
-    has_repeated_name raw.testers || has_repeat itself (can_ids raw.testers raw.functional)
+    has_repeated_name raw.testers || has_repeated_id raw.testers raw.functional
     || has_repeat did_id raw.dids || has_repeat dtc_code raw.dtcs
     || has_repeat routine_id raw.routines || has_repeat level_sub raw.levels
 
@@ -278,7 +320,7 @@ who_at setup i = if nat_lt i (length setup.testers) then Some (i + 1) else None
 
 -- what stands for the tester of a place that has none
 abbrev pub nobody : RawTester
-nobody = record { name = []; request = 0; response = 0 }
+nobody = record { name = []; request = 0; response = 0; extended = false; functional = None }
 
 -- the tester of a place from 1
 abbrev pub tester_of : RawSetup → ℕ → RawTester
@@ -288,12 +330,23 @@ abbrev pub name_of : RawSetup → ℕ → List ℕ
 name_of setup who = (tester_of setup who).name
 
 -- the identifiers of a tester's link
-abbrev pub ids_of : RawSetup → ℕ → Ids
-ids_of setup who = record {
-  request = (tester_of setup who).request;
-  response = (tester_of setup who).response;
-  functional = setup.functional;
+abbrev pub link_ids : ℕ → RawTester → Ids
+link_ids shared tester = record {
+  request = id_by tester.extended tester.request;
+  response = id_by tester.extended tester.response;
+  functional = functional_of shared tester;
 }
+
+abbrev pub ids_of : RawSetup → ℕ → Ids
+ids_of setup who = link_ids setup.functional (tester_of setup who)
+
+-- the identifiers of 29 bits of a tester's link
+abbrev pub wide_ids : ℕ → RawTester → List ℕ
+wide_ids shared tester = if tester.extended then known_to (link_ids shared tester) else []
+
+-- those that are read in a recording of the whole bus
+abbrev pub known_ids : RawSetup → List ℕ
+known_ids setup = flat_map (wide_ids setup.functional) setup.testers
 
 -- the settings of a tester's link
 abbrev pub link_of : RawSetup → ℕ → LinkSetup

@@ -1,15 +1,16 @@
 //! The tests that a raw setup has to pass.
 
-ghost use Rattle.std.specs.Prelude.{◌≡◌, ◌==◌, ◌≤◌, ◌&&◌, Bool, length, nat_le, not};
-ghost use Rattle.std.specs.List.{list_all, list_any};
+ghost use Rattle.std.specs.Prelude.{◌≡◌, ◌==◌, ◌≤◌, ◌&&◌, Bool, IsTrue, length, nat_le, not};
+ghost use Rattle.std.specs.List.{All, list_all, list_any};
 ghost use Rattle.std.specs.Bool.{OnTrue};
 ghost use Rattle.diag_setup.specs.Rows.{is_between, have_one_length};
-ghost use Rattle.diag_setup.specs.Setup.{can_ids, has_name, has_repeated_name, has_no_rows, is_known_level, done_code_is_known, did_levels_are_known, routine_level_is_known, answer_level_is_known, lacks_rows, has_duplicates, names_unknown_code, names_unknown_level, key_of, seed_of, fault_of, is_in_range, times_are_in_range, link_is_in_range, server_is_in_range, tester_is_in_range, did_is_in_range, code_is_in_range, routine_is_in_range, key_row_is_in_range, level_is_in_range, is_st_min, is_name_byte, is_can_id};
+ghost use Rattle.diag_setup.specs.Setup.{can_ids, has_name, has_repeated_name, has_no_rows, is_known_level, done_code_is_known, did_levels_are_known, routine_level_is_known, answer_level_is_known, lacks_rows, has_duplicates, names_unknown_code, names_unknown_level, key_of, seed_of, fault_of, is_in_range, times_are_in_range, link_is_in_range, server_is_in_range, tester_is_in_range, did_is_in_range, code_is_in_range, routine_is_in_range, key_row_is_in_range, level_is_in_range, is_st_min, is_name_byte, is_can_id, is_wide_id, is_id_by, is_own_id, id_by, functional_number, functional_of, asks_by, has_repeated_id, pattern_is_in_range};
+ghost use Rattle.diag_setup.specs.Fits.{IdFits, TesterFits};
 
 use crate::fault::SetupFault;
 use crate::keyed::{has_key, has_repeat};
 use crate::raw::{
-    RawAnswer, RawCode, RawDid, RawKeyRow, RawLevel, RawRoutine, RawSetup, RawTester,
+    RawAnswer, RawCode, RawDid, RawKeyRow, RawLevel, RawPattern, RawRoutine, RawSetup, RawTester,
 };
 use arrayvec::ArrayVec;
 
@@ -30,6 +31,9 @@ const MOST_LEVELS: usize = 4;
 
 /// The most rows of a level.
 const MOST_KEY_ROWS: usize = 64;
+
+/// The most patterns of requests that aren't compared.
+const MOST_IGNORED: usize = 256;
 
 impl RawSetup {
     fn times_are_in_range(&self) -> bool
@@ -77,6 +81,7 @@ impl RawSetup {
             && are_in_range(self.routines.as_slice(), MOST_ROUTINES)
             && are_in_range(self.levels.as_slice(), MOST_LEVELS)
             && self.answers_are_in_range()
+            && are_in_range(self.ignore.as_slice(), MOST_IGNORED)
     }
 }
 
@@ -111,8 +116,9 @@ impl Ranged for RawTester {
     fn is_in_range(&self) -> bool {
         is_between_len(1, 16, self.name.len())
             && is_name(self.name.as_slice())
-            && is_can_id(self.request)
-            && is_can_id(self.response)
+            && is_id_by(self.extended, self.request)
+            && is_id_by(self.extended, self.response)
+            && is_own_id(self.extended, &self.functional)
     }
 }
 
@@ -153,6 +159,14 @@ impl Ranged for RawKeyRow {
         is_between_len(1, 255, self.seed.len())
             && has_a_bit(self.seed.as_slice())
             && is_between_len(1, 255, self.key.len())
+    }
+}
+
+impl Ranged for RawPattern {
+    ghost in_range = { pattern_is_in_range };
+
+    fn is_in_range(&self) -> bool {
+        is_between_len(1, 64, self.items.len())
     }
 }
 
@@ -207,6 +221,29 @@ fn is_st_min(st: u32) -> bool
     st <= 127 || is_between(241, 249, st)
 }
 
+fn is_wide_id(id: u32) -> bool
+    ensures { result ≡ is_wide_id id }
+{
+    id <= 0x1FFF_FFFF
+}
+
+/// Whether this is the number of an identifier of 29 bits, or of 11.
+fn is_id_by(wide: bool, id: u32) -> bool
+    ensures { result ≡ is_id_by wide id }
+{
+    if wide { is_wide_id(id) } else { is_can_id(id) }
+}
+
+/// The same of one that may be left out.
+fn is_own_id(wide: bool, id: &Option<u32>) -> bool
+    ensures { result ≡ is_own_id wide id.now }
+{
+    match id {
+        Some(id) => is_id_by(wide, *id),
+        None => true,
+    }
+}
+
 fn is_can_id(id: u32) -> bool
     ensures { result ≡ is_can_id id }
 {
@@ -231,18 +268,75 @@ fn has_a_bit(bytes: &[u8]) -> bool
     bytes.iter().any(|byte| *byte != 0)
 }
 
-/// The identifiers on the bus: requests, responses and the functional one.
-fn can_ids(testers: &[RawTester], functional: u32) -> ArrayVec<u32, 17>
-    requires { length testers.now ≤ 8 }
-    ensures { result.items ≡ can_ids testers.now functional }
+/// The identifier of a number, among those of both kinds.
+fn id_by(wide: bool, number: u32) -> u32
+    requires { IdFits wide number }
+    ensures { result ≡ id_by wide number }
+{
+    if wide { 0x800 + number } else { number }
+}
+
+/// The identifiers of requests and responses.
+fn can_ids(testers: &[RawTester]) -> ArrayVec<u32, 16>
+    requires few { length testers.now ≤ 8 }
+    requires fit { All TesterFits testers.now }
+    ensures { result.items ≡ can_ids testers.now }
 {
     let mut ids = ArrayVec::new();
     for tester in testers {
-        ids.push(tester.request);
-        ids.push(tester.response);
+        ids.push(id_by(tester.extended, tester.request));
+        ids.push(id_by(tester.extended, tester.response));
     }
-    ids.push(functional);
     ids
+}
+
+impl RawTester {
+    /// The number of the identifier of its functional requests, where the setup has this one of 11 bits.
+    pub(crate) fn functional_number(&self, shared: u32) -> u32
+        ensures { result ≡ functional_number shared self.now }
+    {
+        match self.functional {
+            Some(number) => number,
+            None if self.extended => 0x18DB_33F1,
+            None => shared,
+        }
+    }
+
+    /// Whether its functional identifier is one of these.
+    fn asks_by(&self, ids: &[u32], shared: u32) -> bool
+        requires fits { TesterFits self.now }
+        requires shared { shared ≤ 0x7FF }
+        ensures { result ≡ asks_by ids.now shared self.now }
+    {
+        has_key(ids, id_by(self.extended, self.functional_number(shared)))
+    }
+}
+
+/// The same of any of these testers.
+fn any_asks_by(ids: &[u32], shared: u32, testers: &[RawTester]) -> bool
+    requires fit { All TesterFits testers.now }
+    requires shared { shared ≤ 0x7FF }
+    ensures { result ≡ list_any (asks_by ids.now shared) testers.now }
+{
+    let mut rest = testers;
+    while let [first, tail @ ..] = rest {
+        if first.asks_by(ids, shared) {
+            return true;
+        }
+        rest = tail;
+    }
+    false
+}
+
+/// Whether an identifier has two uses.
+fn has_repeated_id(testers: &[RawTester], shared: u32) -> bool
+    requires few { length testers.now ≤ 8 }
+    requires fit { All TesterFits testers.now }
+    requires shared { shared ≤ 0x7FF }
+    ensures { result ≡ has_repeated_id testers.now shared }
+{
+    let ids = can_ids(testers);
+    has_repeat(ids.as_slice()) || any_asks_by(ids.as_slice(), shared, testers)
 }
 
 fn has_name(testers: &[RawTester], name: &[u8]) -> bool
@@ -347,6 +441,7 @@ impl RawSetup {
     }
 
     fn has_duplicates(&self) -> bool
+        requires ranged { IsTrue (is_in_range self.now) }
         requires testers { length self.now.testers ≤ 8 }
         requires dids { length self.now.dids ≤ 4096 }
         requires dtcs { length self.now.dtcs ≤ 4096 }
@@ -355,7 +450,7 @@ impl RawSetup {
         ensures { result ≡ has_duplicates self.now }
     {
         has_repeated_name(self.testers.as_slice())
-            || has_repeat(can_ids(self.testers.as_slice(), self.functional).as_slice())
+            || has_repeated_id(self.testers.as_slice(), self.functional)
             || has_repeat(self.dids.as_slice())
             || has_repeat(self.dtcs.as_slice())
             || has_repeat(self.routines.as_slice())

@@ -30,7 +30,7 @@ pub struct RawSetup {
     pub pad_byte: u32,
     /// DTCStatusAvailabilityMask, 0 to 255 (ISO 14229-1:2013, 11.3).
     pub availability: u32,
-    /// The CAN identifier of functional requests, 0 to 0x7FF.
+    /// The CAN identifier of functional requests, 0 to 0x7FF, of the testers of 11 bits that have none of their own.
     pub functional: u32,
     /// Wrong keys until the delay, 1 to 255 (ISO 14229-1:2013, 9.4).
     pub attempts: u32,
@@ -48,6 +48,8 @@ pub struct RawSetup {
     pub levels: Items<RawLevel>,
     /// Up to 1024 rows of answers, in the order in which they are looked at, of up to 65536 templates in all.
     pub answers: Items<RawAnswer>,
+    /// Up to 256 patterns of requests whose answers aren't compared with a recording's.
+    pub ignore: Items<RawPattern>,
 }
 
 /// A tester, by its place in the list.
@@ -55,10 +57,15 @@ pub struct RawSetup {
 pub struct RawTester {
     /// 1 to 16 letters, digits or `_` of ASCII.
     pub name: Items<u8>,
-    /// The CAN identifier of its requests, 0 to 0x7FF.
+    /// The CAN identifier of its requests, 0 to 0x7FF, or to 0x1FFFFFFF where they have 29 bits.
     pub request: u32,
-    /// The CAN identifier of the responses to it, 0 to 0x7FF.
+    /// The CAN identifier of the responses to it, of as many bits.
     pub response: u32,
+    /// Whether its identifiers have 29 bits.
+    pub extended: bool,
+    /// The CAN identifier of its functional requests, of as many bits; where it is left out, 0x18DB33F1 of 29 bits (ISO
+    /// 15765-4), or that of 11 bits of the setup.
+    pub functional: Option<u32>,
 }
 
 /// A data identifier with its first value.
@@ -74,6 +81,8 @@ pub struct RawDid {
     pub write: bool,
     /// The sub-function of the level that writing needs; 0 is open.
     pub write_level: u32,
+    /// Whether its value varies from run to run of a unit, so that it isn't compared with a recording's.
+    pub varies: bool,
 }
 
 /// A trouble code with its status.
@@ -129,6 +138,15 @@ pub enum PatternItem {
     Byte(u8),
     /// Any byte.
     Any,
+}
+
+/// A pattern of requests.
+#[derive(Drop)]
+pub struct RawPattern {
+    /// 1 to 64 items: the bytes that the requests begin with.
+    pub items: Items<PatternItem>,
+    /// Whether they may have more bytes behind those.
+    pub more: bool,
 }
 
 /// An item of a template: a byte of an answer.

@@ -1,16 +1,19 @@
 //! A setup that passed all tests.
 
-ghost use Rattle.std.specs.Prelude.{IsTrue, ◌≡◌, ◌≤◌, ◌-◌, length, Some, slice_get};
-ghost use Rattle.std.specs.List.{All};
-ghost use Rattle.diag_setup.specs.Setup.{IsSetup, checked, did_id, dtc_code, routine_id, level_sub, who_at, name_of, ids_of, link_of, values_of};
+ghost use Rattle.std.specs.Prelude.{IsTrue, IfOk, ◌≡◌, ◌≤◌, ◌-◌, length, Some, slice_get};
+ghost use Rattle.std.specs.List.{All, flat_map};
+ghost use Rattle.diag_setup.specs.Setup.{IsSetup, checked, did_id, dtc_code, routine_id, level_sub, who_at, name_of, ids_of, link_ids, known_ids, wide_ids, link_of, values_of, id_by};
 ghost use Rattle.diag_setup.specs.Rows.{is_rising};
-ghost use Rattle.diag_setup.specs.Fits.{TesterFits, DidFits, CodeFits, RoutineFits, LevelFits, AnswerFits, NumbersFit};
+ghost use Rattle.diag_setup.specs.Fits.{IdFits, TesterFits, DidFits, CodeFits, RoutineFits, LevelFits, AnswerFits, NumbersFit};
 
 use crate::fault::SetupFault;
-use crate::raw::{RawAnswer, RawCode, RawDid, RawLevel, RawRoutine, RawSetup, RawTester};
+use crate::raw::{
+    RawAnswer, RawCode, RawDid, RawLevel, RawPattern, RawRoutine, RawSetup, RawTester,
+};
 use crate::tester_id::TesterId;
 use diag_can::{CanId, Ids, TickCount};
 use diag_pdu::LinkSetup;
+use std::alloc::{AllocError, Global};
 use std::marker::Model;
 
 /// A setup without a fault, its tables in rising order.
@@ -100,19 +103,23 @@ impl Setup {
         requires { who ≤ length self.now.testers }
         ensures { result ≡ ids_of self.now who }
     {
-        let tester = self.tester(who);
-        Ids {
-            request: can_id(tester.request),
-            response: can_id(tester.response),
-            functional: self.functional(),
-        }
+        self.tester(who).ids(self.raw().functional)
     }
 
-    /// The identifier of functional requests.
+    /// The identifiers of 29 bits that the testers' links have: in a recording of the whole bus a line with another one is
+    /// passed over.
+    pub fn known_ids(&self, alloc: Global) -> Result<Vec<CanId>, AllocError>
+        ensures { IfOk result (λ known. known.items ≡ known_ids self.now) }
+    {
+        let shared = self.raw().functional;
+        known_ids(alloc, self.raw.testers.as_slice(), shared)
+    }
+
+    /// The functional identifier of the testers of 11 bits that have none of their own.
     pub fn functional(&self) -> CanId
         ensures { result ≡ self.now.functional }
     {
-        can_id(self.raw().functional)
+        can_id(false, self.raw().functional)
     }
 
     /// The settings of a tester's link.
@@ -222,16 +229,56 @@ impl Setup {
     {
         self.raw.answers.as_slice()
     }
+
+    /// The patterns of the requests whose answers aren't compared with a recording's.
+    pub fn ignore(&self) -> &[RawPattern]
+        ensures { result.now ≡ self.now.ignore }
+    {
+        self.raw.ignore.as_slice()
+    }
 }
 
-/// The identifier of a number that one has.
-fn can_id(number: u32) -> CanId
-    requires { number ≤ 0x7FF }
-    ensures { result ≡ number }
+impl RawTester {
+    /// The identifiers of its link, where the setup has this functional one of 11 bits.
+    fn ids(&self, shared: u32) -> Ids
+        requires fits { TesterFits self.now }
+        requires shared { shared ≤ 0x7FF }
+        ensures { result ≡ link_ids shared self.now }
+    {
+        Ids {
+            request: can_id(self.extended, self.request),
+            response: can_id(self.extended, self.response),
+            functional: can_id(self.extended, self.functional_number(shared)),
+        }
+    }
+}
+
+/// The identifiers of 29 bits of these testers' links.
+fn known_ids(alloc: Global, testers: &[RawTester], shared: u32) -> Result<Vec<CanId>, AllocError>
+    requires fit { All TesterFits testers.now }
+    requires shared { shared ≤ 0x7FF }
+    ensures { IfOk result (λ known. known.items ≡ flat_map (wide_ids shared) testers.now) }
 {
-    let Some(id) = CanId::new(number as u16) else {
-        unreachable!()
+    let mut known = Vec::new(alloc);
+    for tester in testers {
+        if tester.extended {
+            known.extend_from_slice(&tester.ids(shared).all())?;
+        }
+    }
+    Ok(known)
+}
+
+/// The identifier of a number that one has, of 29 bits or of 11.
+fn can_id(wide: bool, number: u32) -> CanId
+    requires { IdFits wide number }
+    ensures { result ≡ id_by wide number }
+{
+    let id = if wide {
+        CanId::extended(number)
+    } else {
+        CanId::new(number as u16)
     };
+    let Some(id) = id else { unreachable!() };
     id
 }
 

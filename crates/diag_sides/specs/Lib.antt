@@ -4,3 +4,4 @@ pub mod Flow
 pub mod Sender
 pub mod Queue
 pub mod Quiet
+pub mod Block

@@ -21,13 +21,14 @@ ghost use Rattle.std.specs.Prelude.{
   IsTrue,
 };
 ghost use Rattle.diag_pdu.specs.declared.setup.LinkSetup.{LinkSetup as ALinkSetup};
+ghost use Rattle.diag_sides.specs.Block.{is_in_block};
 ghost use Rattle.diag_sides.specs.Quiet.{sender_quiet, current_later};
 ghost use Rattle.diag_sides.specs.Flow.{flow_decision};
 ghost use Rattle.diag_pdu.specs.Cut.{frames_of};
 ghost use Rattle.diag_sides.specs.Sender.{fields_left, IsSound, settled_in, replied, before_these, IsNextFrame, goes_on_from, ticked_fields, flowed_fields};
 
 use crate::queue::Queue;
-use crate::sending::Sending;
+use crate::sending::{Phase, Sending};
 use diag_can::FrameBytes;
 use diag_pdu::{LinkSetup, Message, frame_at, frames_of};
 use std::alloc::{AllocError, Global};
@@ -222,6 +223,17 @@ impl Sender {
         match &self.current {
             Some(sending) => u64::from(sending.phase.ticks()).saturating_sub(passed),
             None => u64::MAX,
+        }
+    }
+
+    /// Whether a Consecutive frame of the current message is still to go, behind its separation time.
+    #[inline(always)]
+    pub fn is_in_block(&self) -> bool
+        ensures { result ≡ is_in_block self.now.current }
+    {
+        match &self.current {
+            Some(sending) => matches!(sending.phase, Phase::InBlock { .. }),
+            None => false,
         }
     }
 

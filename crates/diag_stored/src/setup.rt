@@ -54,6 +54,7 @@ pub fn raw_two_testers(alloc: Global) -> Result<RawSetup, AllocError>
         routines: rows(alloc, [routine(alloc)?])?,
         levels: rows(alloc, [level(alloc)?])?,
         answers: Items::new(alloc),
+        ignore: Items::new(alloc),
     })
 }
 
@@ -65,6 +66,8 @@ fn tester(alloc: Global, name: &[u8], request: u32, response: u32) -> Result<Raw
         name: bytes(alloc, name)?,
         request,
         response,
+        extended: false,
+        functional: None,
     })
 }
 
@@ -77,6 +80,7 @@ fn did(alloc: Global) -> Result<RawDid, AllocError>
         read_level: 0,
         write: true,
         write_level: 1,
+        varies: false,
     })
 }
 

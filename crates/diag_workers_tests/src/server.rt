@@ -87,7 +87,7 @@ const HEARD: [Heard; 5] = [
 ];
 
 /// A frame that is sent: when, its identifier and its bytes.
-type Drawn = (u64, u16, &'static [u8]);
+type Drawn = (u64, u32, &'static [u8]);
 
 /// Each is answered, and the last one to both.
 const SENT: [Drawn; 6] = [

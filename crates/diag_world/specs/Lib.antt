@@ -4,3 +4,4 @@ pub mod Weaving
 pub mod World
 pub mod Lazy
 pub mod Server
+pub mod Block

@@ -1,6 +1,7 @@
 //! A tester's port that takes ticks late in which it does nothing.
 
 ghost use Rattle.std.specs.Prelude.{◌≡◌, ◌≤◌, []};
+ghost use Rattle.diag_port.specs.Block.{port_in_block};
 ghost use Rattle.diag_port.specs.Port.{port_of, port_quiet};
 ghost use Rattle.diag_port.specs.Standing.{PortStands};
 ghost use Rattle.diag_world.specs.Lazy.{caught_up, IsLazy};
@@ -53,5 +54,13 @@ impl LazyLink {
         ensures some { 1 ≤ result }
     {
         self.port.quiet_after(passed - self.taken)
+    }
+
+    /// Whether a Consecutive frame of a reply is still to go, behind its separation time; the ticks that it hasn't taken leave that so.
+    #[inline(always)]
+    pub(crate) fn is_in_block(&self) -> bool
+        ensures { result ≡ port_in_block (port_of self.now.port) }
+    {
+        self.port.is_in_block()
     }
 }

@@ -25,6 +25,9 @@ ghost use Rattle.diag_setup.specs.Setup.{link_of};
 ghost use Rattle.diag_world.specs.Weaving.{items_of};
 ghost use Rattle.diag_port.specs.Port.{IsAtRest, port_of, port_quiet};
 ghost use Rattle.diag_port.specs.Standing.{GivesStep};
+ghost use Rattle.std.specs.List.{list_any};
+ghost use Rattle.diag_port.specs.Block.{port_in_block};
+ghost use Rattle.diag_world.specs.Block.{some_in_block};
 ghost use Rattle.diag_world.specs.Server.{closing_time, quiet_of, server_of, AreEarly, EachRun, IsClosed, TesterTook, Serves, ServerTook, TookNothing, Waited};
 
 use crate::keeper::Keeper;
@@ -178,6 +181,13 @@ impl Server {
         least
     }
 
+    /// Whether to some tester a Consecutive frame of a reply is still to go, behind its separation time.
+    pub fn is_in_block(&self) -> bool
+        ensures { result ≡ some_in_block (server_of self.now).ports }
+    {
+        some_in_block(self.links.as_slice())
+    }
+
     /// For how many ticks a tester's port does nothing before the last of them; at least 1.
     #[inline(always)]
     pub fn quiet_at(&self, who: TesterId) -> u64
@@ -195,6 +205,13 @@ impl Server {
     {
         &self.ecu
     }
+}
+
+/// Whether at one of these links a Consecutive frame of a reply is still to go.
+fn some_in_block(links: &[LazyLink]) -> bool
+    ensures { result ≡ list_any (λ lazy. port_in_block (port_of lazy.port)) links.now }
+{
+    links.iter().any(|link| link.is_in_block())
 }
 
 /// A server's ECU, and who keeps the journal of what it answers.
@@ -241,7 +258,7 @@ impl<'a, K: Keeper> TakeSteps for Answering<'a, K> {
         let bytes = request.message.bytes();
         let decided = self.ecu.put_reply(who, request.functional, bytes, reply)?;
         self.keeper
-            .keep_request(before, who, request, reply.as_ref())?;
+            .keep_request(self.ecu, before, who, request, reply.as_ref())?;
         self.ecu.apply(who, bytes, decided);
         Ok(decided.after_ms)
     }
@@ -253,7 +270,7 @@ impl<'a, K: Keeper> TakeSteps for Answering<'a, K> {
         who: TesterId,
         count: TickCount,
     ) -> Result<(), StepFault> {
-        self.keeper.keep_ticks(before, who, count)?;
+        self.keeper.keep_ticks(self.ecu, before, who, count)?;
         self.ecu.ticks(who, count);
         Ok(())
     }

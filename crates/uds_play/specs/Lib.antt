@@ -1,1 +1,3 @@
+pub mod FlowLines
+pub mod Pace
 pub mod Source

@@ -7,4 +7,4 @@ use Rattle.uds_play.specs.declared.source.Source.TheVariants.{Opened, Unopened, 
 abbrev pub left : {F I : Type 0} → (F → Option (List ℕ)) → (I → Option (List ℕ)) → Source F I → Option (List ℕ)
 left file input (Opened opened) = file opened
 left file input Unopened = None
-left file input (Standard reader) = input reader
+left file input (Standard reader first) = input reader

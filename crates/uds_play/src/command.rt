@@ -5,7 +5,6 @@ ghost use Rattle.uds_play.specs.declared.command.Refusal.TheVariants.{Memory};
 
 use clap::error::ErrorKind;
 use clap::{Arg, ArgAction, ArgMatches, Command, Error};
-use diag_bus::Output;
 use diag_can::Timing;
 use diag_run::Job;
 use std::alloc::{AllocError, Global};
@@ -13,11 +12,17 @@ use std::alloc::{AllocError, Global};
 /// What `--version` prints behind the program's name.
 const VERSION: &str = "0.2.0";
 
+/// The line that tells of words which the program doesn't take.
+pub const USAGE: &str =
+    "uds_play: usage: uds_play COMMAND [FLAG..] CONFIG [FILE..]; see uds_play --help";
+
 /// What the words ask for.
 #[derive(Drop)]
 pub struct Request<'a> {
     /// The path of the setup.
     pub config: &'a str,
+    /// Whether notes are left out.
+    pub quiet: bool,
     /// What to do, and over what.
     pub task: Task<'a>,
 }
@@ -35,10 +40,25 @@ pub enum Task<'a> {
         output: Output,
         capture: Option<&'a str>,
     },
+    /// To tell all that is wrong with the setup.
+    Check,
     /// To serve the bus that comes by standard input, and to keep its capture in a new file of this path.
     Live {
         record: Option<&'a str>,
     },
+}
+
+/// What is written over a capture.
+#[derive(Clone, Copy)]
+pub enum Output {
+    /// The reply lines.
+    Replies,
+    /// The journal of the run.
+    Journal,
+    /// The end of the run.
+    End,
+    /// The verdict on the unit's own frames.
+    Verdict,
 }
 
 /// Why nothing is run.
@@ -46,7 +66,8 @@ pub enum Task<'a> {
 pub enum Refusal {
     /// `--help` or `--version`, with clap's text.
     Told(String),
-    Usage,
+    /// Words that clap doesn't take, with its text.
+    Usage(String),
     Memory,
 }
 
@@ -81,15 +102,33 @@ fn flag<'a>(alloc: Global, name: &'a str, help: &'a str) -> Arg<'a> {
         .action(ArgAction::SetTrue)
 }
 
-/// A command with a config.
+/// The flag that leaves out notes, before or behind a command.
+fn quiet_flag<'a>(alloc: Global) -> Arg<'a> {
+    flag(alloc, "quiet", "Leave out notes").global(true)
+}
+
+/// A command with a config, and an example of it over the files of demo/.
 fn job_command<'a>(
     alloc: Global,
     name: &'a str,
     about: &'a str,
+    example: &'a str,
 ) -> Result<Command<'a>, AllocError> {
     Command::new(alloc, name)
         .about(about)
+        .after_help(example)
         .arg(config_arg(alloc))
+}
+
+/// The command that looks at a setup alone.
+fn check_command<'a>(alloc: Global) -> Result<Command<'a>, AllocError> {
+    let about = "Tell all that is wrong with a setup, each with its place";
+    job_command(
+        alloc,
+        "check",
+        about,
+        "Example: uds_play check demo/setup.toml",
+    )
 }
 
 /// A command that plays a log of each tester, with its flags.
@@ -97,10 +136,11 @@ fn play_command<'a>(
     alloc: Global,
     name: &'a str,
     about: &'a str,
+    example: &'a str,
 ) -> Result<Command<'a>, AllocError> {
     let logs = "A log of each tester, in the order of the setup";
     let stamps = "Take the time from the stamps of the log lines";
-    job_command(alloc, name, about)?
+    job_command(alloc, name, about, example)?
         .arg(files_arg(alloc, logs))?
         .arg(flag(alloc, "journal", "Print the journal alone"))?
         .arg(flag(alloc, "stamps", stamps))
@@ -108,10 +148,10 @@ fn play_command<'a>(
 
 /// The command that replays a journal.
 fn replay_command<'a>(alloc: Global) -> Result<Command<'a>, AllocError> {
-    let help = "The journal of a play";
-    job_command(alloc, "replay", "Replay a journal")?.arg(files_arg(alloc, help).value_name(
-        "JOURNAL",
-    ))
+    let example =
+        "Example: uds_play bus --journal demo/setup.toml demo/bus.log > journal{n}         uds_play replay demo/setup.toml journal";
+    let journal = files_arg(alloc, "The journal of a play").value_name("JOURNAL");
+    job_command(alloc, "replay", "Replay a journal", example)?.arg(journal)
 }
 
 /// The capture behind the config, at most one.
@@ -124,8 +164,9 @@ fn capture_arg<'a>(alloc: Global) -> Arg<'a> {
 /// The command that answers the recording of a bus, with its flags.
 fn bus_command<'a>(alloc: Global) -> Result<Command<'a>, AllocError> {
     let about = "Answer the recording of a whole bus, as it comes";
+    let example = "Example: uds_play bus demo/setup.toml demo/bus.log";
     let end = flag(alloc, "end", "Print the end alone").conflicts_with("journal")?;
-    job_command(alloc, "bus", about)?
+    job_command(alloc, "bus", about, example)?
         .arg(capture_arg(alloc))?
         .arg(flag(alloc, "journal", "Print the journal alone"))?
         .arg(end)
@@ -134,7 +175,8 @@ fn bus_command<'a>(alloc: Global) -> Result<Command<'a>, AllocError> {
 /// The command that judges the recording of a bus.
 fn verify_command<'a>(alloc: Global) -> Result<Command<'a>, AllocError> {
     let about = "Say whether the unit in the recording of a whole bus answered as the server";
-    job_command(alloc, "verify", about)?.arg(capture_arg(alloc))
+    let example = "Example: uds_play verify demo/setup.toml demo/other_unit.log";
+    job_command(alloc, "verify", about, example)?.arg(capture_arg(alloc))
 }
 
 /// The command that serves a bus as it goes.
@@ -145,7 +187,8 @@ fn live_command<'a>(alloc: Global) -> Result<Command<'a>, AllocError> {
         .value_name("FILE")
         .help("Keep the capture in this file, which must not be there yet")
         .action(ArgAction::Set);
-    job_command(alloc, "live", about)?.arg(record)
+    let example = "Example: uds_play live demo/setup.toml < demo/bus.log";
+    job_command(alloc, "live", about, example)?.arg(record)
 }
 
 fn whole_command<'a>(alloc: Global) -> Result<Command<'a>, AllocError> {
@@ -153,7 +196,10 @@ fn whole_command<'a>(alloc: Global) -> Result<Command<'a>, AllocError> {
         .version(VERSION)
         .about("The diagnostic server of an ECU, played over the logs of its testers")
         .disable_help_subcommand(true)
+        .after_help("Example: uds_play bus demo/setup.toml demo/bus.log")
         .subcommand_required(true)
+        .arg(quiet_flag(alloc))?
+        .subcommand(check_command(alloc)?)?
         .subcommand(bus_command(alloc)?)?
         .subcommand(verify_command(alloc)?)?
         .subcommand(live_command(alloc)?)?
@@ -161,11 +207,13 @@ fn whole_command<'a>(alloc: Global) -> Result<Command<'a>, AllocError> {
             alloc,
             "serial",
             "Play one log a tester, one event of each in turn",
+            "Example: uds_play serial demo/setup.toml demo/workshop.log demo/end_of_line.log",
         )?)?
         .subcommand(play_command(
             alloc,
             "play",
             "Play one log a tester, each in a thread of its own",
+            "Example: uds_play play demo/setup.toml demo/workshop.log demo/end_of_line.log",
         )?)?
         .subcommand(replay_command(alloc)?)
 }
@@ -177,7 +225,10 @@ fn refusal_of(alloc: Global, error: &Error) -> Refusal {
             Ok(text) => Refusal::Told(text),
             Err(_) => Refusal::Memory,
         },
-        _ => Refusal::Usage,
+        _ => match error.to_string(alloc) {
+            Ok(text) => Refusal::Usage(text),
+            Err(_) => Refusal::Memory,
+        },
     }
 }
 
@@ -229,6 +280,7 @@ fn task_of<'a>(alloc: Global, name: &str, words: &ArgMatches<'a>) -> Result<Task
     let output = match name {
         "bus" => output_of(words),
         "verify" => Output::Verdict,
+        "check" => return Ok(Task::Check),
         "live" => {
             let record = words.get_str("record");
             return Ok(Task::Live { record });
@@ -254,11 +306,16 @@ pub fn read_words<'a>(alloc: Global, words: &'a [String]) -> Result<Request<'a>,
         Err(error) => return Err(refusal_of(alloc, &error)),
     };
     let Some((name, inner)) = matches.subcommand() else {
-        return Err(Refusal::Usage);
+        return Err(Refusal::Usage(String::new(alloc)));
     };
     let Some(config) = inner.get_str("CONFIG") else {
-        return Err(Refusal::Usage);
+        return Err(Refusal::Usage(String::new(alloc)));
     };
     let task = task_of(alloc, name, inner)?;
-    Ok(Request { config, task })
+    let quiet = inner.get_flag("quiet") || matches.get_flag("quiet");
+    Ok(Request {
+        config,
+        quiet,
+        task,
+    })
 }

@@ -12,18 +12,23 @@ ghost use Rattle.diag_run.specs.Files.{AreKnown};
 ghost use Rattle.diag_run.specs.Run.{GivesRun, read_of};
 
 mod command;
+mod flow_lines;
+mod notes;
+mod pace;
 mod source;
 mod standard;
 
-use command::{Refusal, Request, Task, read_words};
+use command::{Output, Refusal, Request, Task, USAGE, read_words};
 use crossbeam_channel::{Receiver, bounded};
-use diag_bus::Output;
+use diag_bus::{Comparisons, Journal, NoText, Replies};
 use diag_can::Timing;
+use diag_check::check;
 use diag_live::{Bench, Heard, live};
-use diag_run::{Job, Outcome, read_config, run_bus_and_tell, run_text};
+use diag_run::{Ending, Job, Outcome, read_config, run_bus_and_tell, run_text};
 use diag_setup::Setup;
 use diag_stored::{CONFIG, LOG_A, LOG_B};
-use diag_text::{RunFault, write_whole};
+use diag_text::{ReadFault, RunFault, read_whole, write_text, write_whole};
+use notes::{FileKind, Notes, note_lines};
 use source::Source;
 use standard::{PIECES, Record, StandardBench, read_all};
 use std::alloc::{AllocError, Global};
@@ -34,13 +39,13 @@ use std::sync::Wait;
 use std::thread::Threads;
 use std::{env, fs, io, thread};
 
-const USAGE: &str =
-    "uds_play: usage: uds_play [serial|play|replay] [--journal] [--stamps] CONFIG FILE..";
+/// The most bytes of a setup.
+const MOST_SETUP: usize = 1_048_576;
 
 fn main(rt: HostRuntime) -> ExitCode {
     match env::args(&rt) {
         Err(e) if e.kind() == ErrorKind::OutOfMemory => refuse(&rt, &Refusal::Memory),
-        Err(_) => refuse(&rt, &Refusal::Usage),
+        Err(_) => refuse(&rt, &Refusal::Usage(String::new(rt.alloc()))),
         Ok(words) => match words.collect::<Vec<String>>(rt.alloc()) {
             Err(AllocError) => refuse(&rt, &Refusal::Memory),
             Ok(words) => {
@@ -66,10 +71,15 @@ fn main(rt: HostRuntime) -> ExitCode {
 
 /// Whether the words name the command that hears standard input in a thread of its own.
 fn is_live(words: &[String]) -> bool {
-    match words {
-        [_, name, ..] => name.as_str() == "live",
-        _ => false,
-    }
+    let mut behind = words.iter().skip(1);
+    behind
+        .find(|word| word.as_str() != "--quiet")
+        .is_some_and(|word| word.as_str() == "live")
+}
+
+/// Whether notes are left out, as far as words tell that clap doesn't take.
+fn is_quiet(words: &[String]) -> bool {
+    words.iter().any(|word| word.as_str() == "--quiet")
 }
 
 /// Prints why the words were refused, and says the status.
@@ -79,7 +89,7 @@ fn refuse(rt: &(impl Print + Eprint), refusal: &Refusal) -> ExitCode {
             let _ = rt.print(text);
             ExitCode::SUCCESS
         }
-        Refusal::Usage => {
+        Refusal::Usage(_) => {
             let _ = eprintln!(rt; "{USAGE}");
             ExitCode::from(1)
         }
@@ -91,7 +101,7 @@ fn refuse(rt: &(impl Print + Eprint), refusal: &Refusal) -> ExitCode {
 }
 
 /// A file of a run, or standard input.
-type RunSource<R> = Source<<R as Files>::File, <R as Input>::Reader>;
+type RunSource<'a, R> = Source<'a, <R as Files>::File, <R as Input>::Reader>;
 
 fn run_words<R: Print + Eprint + Files + Input + AllocGlobal + Clock + Threads + Wait + Sync>(
     rt: &R,
@@ -102,21 +112,140 @@ fn run_words<R: Print + Eprint + Files + Input + AllocGlobal + Clock + Threads +
         return run_stored(rt);
     }
     match read_words(rt.alloc(), words) {
-        Ok(Request { config, task }) => match task {
-            Task::Files { job, paths } => run_files(rt, job, config, paths.as_slice()),
-            Task::Bus { output, capture } => run_bus(rt, output, config, capture),
-            Task::Live { record } => match pieces {
-                Some(pieces) => run_live(rt, config, record, pieces),
-                None => refuse(rt, &Refusal::Usage),
+        Ok(
+            Request {
+                config,
+                quiet,
+                task,
             },
+        ) => match task {
+            Task::Files { job, paths } => {
+                let notes = Notes {
+                    quiet,
+                    config,
+                    files: paths.as_slice(),
+                    kind: kind_of(job),
+                };
+                run_files(rt, job, &notes)
+            }
+            Task::Bus { output, capture } => {
+                let path = [capture.unwrap_or("")];
+                let notes = Notes {
+                    quiet,
+                    config,
+                    files: given(capture, &path),
+                    kind: FileKind::Capture,
+                };
+                run_bus(rt, output, capture, &notes)
+            }
+            Task::Check => {
+                let notes = Notes {
+                    quiet,
+                    config,
+                    files: &[],
+                    kind: FileKind::Journal,
+                };
+                run_check(rt, &notes)
+            }
+            Task::Live { record } => {
+                let path = [record.unwrap_or("")];
+                let notes = Notes {
+                    quiet,
+                    config,
+                    files: given(record, &path),
+                    kind: FileKind::Record,
+                };
+                match pieces {
+                    Some(pieces) => run_live(rt, record, pieces, &notes),
+                    None => refuse(rt, &Refusal::Usage(String::new(rt.alloc()))),
+                }
+            }
         },
-        Err(refusal) => refuse(rt, &refusal),
+        Err(refusal) => {
+            let status = refuse(rt, &refusal);
+            if let Refusal::Usage(text) = &refusal {
+                if !is_quiet(words) {
+                    note_lines(rt, text.as_str());
+                }
+            }
+            status
+        }
     }
+}
+
+/// What the files of a job are.
+fn kind_of(job: Job) -> FileKind {
+    match job {
+        Job::Serial { .. } | Job::Play { .. } => FileKind::Logs,
+        Job::Replay => FileKind::Journal,
+    }
+}
+
+/// A path where it is given.
+fn given<'a>(path: Option<&str>, paths: &'a [&'a str]) -> &'a [&'a str] {
+    match path {
+        Some(_) => paths,
+        None => &[],
+    }
+}
+
+/// Prints the line of a run's fault, and the notes behind the run, and says the status.
+fn finish<R: Eprint + Files + AllocGlobal>(
+    rt: &R,
+    notes: &Notes<'_>,
+    outcome: &Outcome,
+    first: &[u8],
+) -> ExitCode {
+    let status = tell(rt, outcome);
+    notes.behind(rt, outcome, first);
+    status
+}
+
+/// The look at a setup alone.
+fn run_check<R: Print + Eprint + Files + Input + AllocGlobal>(
+    rt: &R,
+    notes: &Notes<'_>,
+) -> ExitCode {
+    let Ok(mut config) = open(rt, notes.config) else {
+        return refuse(rt, &Refusal::Memory);
+    };
+    let (text, status) = match look_at(rt.alloc(), &mut config) {
+        Ok(told) => told,
+        Err(outcome) => return finish(rt, notes, &outcome, &[]),
+    };
+    match write_text(&mut io::writer(rt), text.as_slice()) {
+        Ok(()) => ExitCode::from(status),
+        Err(_) => tell(rt, &Outcome::of(rt.alloc(), &RunFault::Write)),
+    }
+}
+
+/// What is told of a config, and the status, or how the look at it ends.
+fn look_at<C: Read>(alloc: Global, config: &mut C) -> Result<(Vec<u8>, u8), Outcome> {
+    match check_config(alloc, config) {
+        Ok(told) => Ok(told),
+        Err(fault) => Err(Outcome::of(alloc, &fault)),
+    }
+}
+
+/// What is told of a config, and the status: 2 where a run would refuse it.
+fn check_config<C: Read>(alloc: Global, config: &mut C) -> Result<(Vec<u8>, u8), RunFault> {
+    let text = match read_whole(alloc, config, MOST_SETUP) {
+        Ok(text) => text,
+        Err(ReadFault::Long) => {
+            let told = Vec::from_slice(alloc, b"too long: a setup has at most 1048576 bytes\n")?;
+            return Ok((told, 2));
+        }
+        Err(ReadFault::Memory) => return Err(RunFault::Memory),
+        Err(ReadFault::Device) => return Err(RunFault::Read(0)),
+    };
+    let report = check(alloc, text.as_slice())?;
+    let status = if report.faults.is_empty() { 0 } else { 2 };
+    Ok((report.text(alloc)?, status))
 }
 
 /// The run of the program's own config and logs.
 fn run_stored<R: Print + Eprint + AllocGlobal + Threads + Wait + Sync>(rt: &R) -> ExitCode {
-    print_text(rt, stored_text(rt, rt.alloc()))
+    tell(rt, &print_text(rt, stored_text(rt, rt.alloc())))
 }
 
 /// The text of a serial play of the program's own config and logs, in parts.
@@ -134,59 +263,85 @@ fn stored_text<T: Threads + Wait + Sync>(rt: &T, alloc: Global) -> Result<Vec<Ve
     text_of(rt, alloc, job, &mut config, &mut logs)
 }
 
-/// The run of a job over the files at these paths.
+/// The run of a job over its files.
 fn run_files<R: Print + Eprint + Files + Input + AllocGlobal + Threads + Wait + Sync>(
     rt: &R,
     job: Job,
-    config: &str,
-    paths: &[&str],
+    notes: &Notes<'_>,
 ) -> ExitCode {
-    match open_all(rt, config, paths) {
-        Ok((config, files)) => run_job(rt, job, config, files),
+    notes.before(rt);
+    match open_all(rt, notes.config, notes.files) {
+        Ok((config, files)) => finish(rt, notes, &run_job(rt, job, config, files), &[]),
         Err(AllocError) => refuse(rt, &Refusal::Memory),
     }
 }
 
-/// The run over a capture: the file at its path, or standard input.
+/// The run over a capture, for what is to be written of it.
 fn run_bus<R: Print + Eprint + Files + Input + AllocGlobal>(
     rt: &R,
     output: Output,
-    config: &str,
     capture: Option<&str>,
+    notes: &Notes<'_>,
 ) -> ExitCode {
-    let (Ok(config), Ok(capture)) = (open(rt, config), open_capture(rt, capture)) else {
+    let alloc = rt.alloc();
+    match output {
+        Output::Replies => run_capture(rt, Replies::new(alloc), capture, notes),
+        Output::Journal => run_capture(rt, Journal::new(alloc), capture, notes),
+        Output::End => run_capture(rt, NoText, capture, notes),
+        Output::Verdict => run_capture(rt, Comparisons::new(alloc), capture, notes),
+    }
+}
+
+/// The run over a capture: the file at its path, or standard input.
+fn run_capture<S: Ending, R: Print + Eprint + Files + Input + AllocGlobal>(
+    rt: &R,
+    sink: S,
+    capture: Option<&str>,
+    notes: &Notes<'_>,
+) -> ExitCode {
+    notes.before(rt);
+    let mut first = Vec::new(rt.alloc());
+    let (Ok(config), Ok(capture)) = (
+        open(rt, notes.config),
+        open_capture(rt, capture, &mut first),
+    ) else {
         return refuse(rt, &Refusal::Memory);
     };
     let mut out = io::writer(rt);
-    let outcome = run_bus_and_tell(rt.alloc(), output, config, capture, &mut out);
-    tell(rt, &outcome)
+    let outcome = run_bus_and_tell(rt.alloc(), sink, config, capture, &mut out);
+    finish(rt, notes, &outcome, first.as_slice())
 }
 
 /// The live run of a bus: the record is made once the config was read well, and then standard input is heard.
 fn run_live<R: Print + Eprint + Files + Input + AllocGlobal + Clock + Wait>(
     rt: &R,
-    config: &str,
     record: Option<&str>,
     pieces: Receiver<Heard>,
+    notes: &Notes<'_>,
 ) -> ExitCode {
-    let Ok(mut config) = open(rt, config) else {
+    notes.before(rt);
+    let Ok(mut config) = open(rt, notes.config) else {
         return refuse(rt, &Refusal::Memory);
     };
     let setup = match setup_of(rt.alloc(), &mut config) {
         Ok(setup) => setup,
-        Err(outcome) => return tell(rt, &outcome),
+        Err(outcome) => return finish(rt, notes, &outcome, &[]),
     };
     let mut record = match Record::create(rt, record) {
         Ok(record) => record,
-        Err(e) => return refuse_record(rt, e.kind()),
+        Err(e) => {
+            let status = refuse_record(rt, e.kind());
+            notes.no_record(rt, &e);
+            return status;
+        }
     };
-    let mut bench = match StandardBench::start(rt, pieces) {
+    let mut bench = match StandardBench::start(rt, rt.alloc(), &setup, pieces) {
         Ok(bench) => bench,
         Err(e) => return refuse_clock(rt, e.kind()),
     };
     let mut out = io::writer(rt);
     let outcome = serve(rt.alloc(), setup, &mut bench, &mut out, &mut record);
-    tell(rt, &outcome)
+    finish(rt, notes, &outcome, &[])
 }
 
 /// The setup of a config, or how the run ends without one.
@@ -235,7 +390,7 @@ fn refuse_clock(rt: &(impl Print + Eprint + AllocGlobal), why: ErrorKind) -> Exi
 }
 
 /// The file at a path, or a source whose first read fails.
-fn open<R: Files + Input>(rt: &R, path: &str) -> Result<RunSource<R>, AllocError> {
+fn open<'a, R: Files + Input>(rt: &R, path: &str) -> Result<RunSource<'a, R>, AllocError> {
     match fs::open(rt, path) {
         Ok(file) => Ok(Source::Opened(file)),
         Err(e) if e.kind() == ErrorKind::OutOfMemory => Err(AllocError),
@@ -243,21 +398,25 @@ fn open<R: Files + Input>(rt: &R, path: &str) -> Result<RunSource<R>, AllocError
     }
 }
 
-/// The capture at a path; standard input where there is none.
-fn open_capture<R: Files + Input>(rt: &R, path: Option<&str>) -> Result<RunSource<R>, AllocError> {
+/// The capture at a path; standard input where there is none, whose first bytes are kept.
+fn open_capture<'a, R: Files + Input>(
+    rt: &R,
+    path: Option<&str>,
+    first: &'a mut Vec<u8>,
+) -> Result<RunSource<'a, R>, AllocError> {
     match path {
         Some(path) => open(rt, path),
-        None => Ok(Source::Standard(rt.reader())),
+        None => Ok(Source::Standard(rt.reader(), first)),
     }
 }
 
-type Sources<R> = (RunSource<R>, Vec<RunSource<R>>);
+type Sources<'a, R> = (RunSource<'a, R>, Vec<RunSource<'a, R>>);
 
-fn open_all<R: Files + Input + AllocGlobal>(
+fn open_all<'a, R: Files + Input + AllocGlobal>(
     rt: &R,
     config: &str,
     paths: &[&str],
-) -> Result<Sources<R>, AllocError> {
+) -> Result<Sources<'a, R>, AllocError> {
     let config = open(rt, config)?;
     let mut files = Vec::new(rt.alloc());
     for path in paths {
@@ -266,13 +425,13 @@ fn open_all<R: Files + Input + AllocGlobal>(
     Ok((config, files))
 }
 
-/// Makes the whole text of a run, then writes it, and says the status.
-fn run_job<R: Print + Eprint + Files + Input + AllocGlobal + Threads + Wait + Sync>(
+/// Makes the whole text of a run, then writes it, and says how the run ended.
+fn run_job<'a, R: Print + Files + Input + AllocGlobal + Threads + Wait + Sync>(
     rt: &R,
     job: Job,
-    mut config: RunSource<R>,
-    mut files: Vec<RunSource<R>>,
-) -> ExitCode {
+    mut config: RunSource<'a, R>,
+    mut files: Vec<RunSource<'a, R>>,
+) -> Outcome {
     let text = text_of(rt, rt.alloc(), job, &mut config, files.as_mut_slice());
     print_text(rt, text)
 }
@@ -296,18 +455,15 @@ fn text_of<T: Threads + Wait + Sync, S: Read>(
     }
 }
 
-/// Prints the parts of a run's text, or the line of its fault, and says the status.
-fn print_text(
-    rt: &(impl Print + Eprint + AllocGlobal),
-    text: Result<Vec<Vec<u8>>, Outcome>,
-) -> ExitCode {
+/// Prints the parts of a run's text, and says how the run ended.
+fn print_text(rt: &(impl Print + AllocGlobal), text: Result<Vec<Vec<u8>>, Outcome>) -> Outcome {
     let parts = match text {
         Ok(parts) => parts,
-        Err(outcome) => return tell(rt, &outcome),
+        Err(outcome) => return outcome,
     };
     match write_whole(&mut io::writer(rt), parts.as_slice()) {
-        Ok(()) => ExitCode::SUCCESS,
-        Err(_) => tell(rt, &Outcome::of(rt.alloc(), &RunFault::Write)),
+        Ok(()) => Outcome::Done,
+        Err(_) => Outcome::of(rt.alloc(), &RunFault::Write),
     }
 }
 

@@ -1,14 +1,17 @@
 //! A bus as it goes: standard input, which a thread of its own reads, the machine's clock, and the record.
 
+use crate::flow_lines::FlowLines;
+use crate::pace::Pace;
 use crossbeam_channel::{Receiver, RecvTimeoutError, Sender};
 use diag_live::{Bench, Heard};
+use diag_setup::Setup;
 use std::alloc::{AllocError, Global};
 use std::fs::OpenOptions;
-use std::io;
 use std::io::{Read, Write};
 use std::rt::{Clock, Files};
 use std::sync::Wait;
 use std::time::{Duration, Instant};
+use std::{io, thread};
 
 /// The most bytes of a read.
 const PIECE: usize = 65_536;
@@ -16,28 +19,56 @@ const PIECE: usize = 65_536;
 /// The most pieces that were read and not yet served; the reading thread waits with one more.
 pub const PIECES: usize = 16;
 
-/// Standard input, piece by piece as it is read, and the machine's monotonic clock.
+/// With more bytes held nothing more is heard.
+const MOST_HELD: usize = PIECES * PIECE;
+
+/// Standard input, piece by piece as it is read, and the machine's monotonic clock. A tester's flow control and what comes behind
+/// it are held until the clock's next whole millisecond begins, so that its separation times begin there, too.
 #[derive(Drop)]
 pub struct StandardBench<'a, R> {
     rt: &'a R,
+    alloc: Global,
     pieces: Receiver<Heard>,
     start: Instant,
-    /// What the clock told last.
+    /// What the machine's clock told last.
     told: Duration,
+    pace: Pace,
+    flow_lines: FlowLines,
+    held: Option<HeldLines>,
+    /// How the input ended behind what is held.
+    end: Option<Heard>,
+}
+
+/// Lines that are held until a moment, in milliseconds: flow control, and what came behind it.
+#[derive(Drop)]
+struct HeldLines {
+    until: u64,
+    bytes: Vec<u8>,
 }
 
 impl<'a, R: Clock> StandardBench<'a, R> {
-    /// A bench over these pieces, whose clock starts now.
+    /// A bench over these pieces, whose clock starts now, for the testers of a setup.
     ///
     /// # Errors
-    /// The clock can't be read.
-    pub fn start(rt: &'a R, pieces: Receiver<Heard>) -> io::Result<StandardBench<'a, R>> {
+    /// The clock can't be read, or memory is refused (`OutOfMemory`).
+    pub fn start(
+        rt: &'a R,
+        alloc: Global,
+        setup: &Setup,
+        pieces: Receiver<Heard>,
+    ) -> io::Result<StandardBench<'a, R>> {
+        let flow_lines = FlowLines::new(alloc, setup)?;
         let start = Instant::now(rt)?;
         Ok(StandardBench {
             rt,
+            alloc,
             pieces,
             start,
             told: Duration::ZERO,
+            pace: Pace::new(),
+            flow_lines,
+            held: None,
+            end: None,
         })
     }
 }
@@ -50,14 +81,47 @@ impl<'a, R: Clock> StandardBench<'a, R> {
         }
         self.told
     }
+
+    /// How long it is until the clock tells this moment.
+    fn left(&mut self, until: u64) -> Duration {
+        self.pace.time_of(until).saturating_sub(self.elapsed())
+    }
+
+    /// Holds the part of a piece that begins with the first flow control in it, if any; the rest is heard at once.
+    fn hold_flow(&mut self, mut piece: Vec<u8>) -> Heard {
+        let elapsed = self.elapsed();
+        let Ok(found) = self.flow_lines.find(piece.as_slice()) else {
+            return Heard::Memory;
+        };
+        let Some(place) = found else {
+            return Heard::Piece(piece);
+        };
+        let Ok(bytes) = Vec::from_slice(self.alloc, &piece[place..]) else {
+            return Heard::Memory;
+        };
+        let until = self.pace.moment(elapsed).saturating_add(1);
+        self.held = Some(HeldLines { until, bytes });
+        piece.truncate(place);
+        Heard::Piece(piece)
+    }
+
+    /// Lets go what was held: a block may begin by it.
+    fn let_go(&mut self, lines: HeldLines) -> Heard {
+        if self.flow_lines.pass(lines.bytes.as_slice()).is_err() {
+            return Heard::Memory;
+        }
+        self.pace.let_begin();
+        Heard::Piece(lines.bytes)
+    }
 }
 
-impl<'a, R: Clock + Wait> Bench for StandardBench<'a, R> {
-    fn hear(&mut self, until: u64) -> Heard {
+impl<'a, R: Clock + Wait> StandardBench<'a, R> {
+    /// The next piece or the end, or silence once the clock tells this moment.
+    fn receive(&mut self, until: u64) -> Heard {
         if until == u64::MAX {
             return self.pieces.recv(self.rt).unwrap_or(Heard::Fault);
         }
-        let left = Duration::from_millis(until).saturating_sub(self.elapsed());
+        let left = self.left(until);
         match self.pieces.recv_timeout(self.rt, left) {
             Ok(heard) => heard,
             Err(RecvTimeoutError::Timeout) => Heard::Silence,
@@ -65,8 +129,52 @@ impl<'a, R: Clock + Wait> Bench for StandardBench<'a, R> {
         }
     }
 
+    /// What comes next, where nothing is held.
+    fn hear_next(&mut self, until: u64) -> Heard {
+        if let Some(end) = self.end.take() {
+            return end;
+        }
+        match self.receive(until) {
+            Heard::Piece(piece) => self.hold_flow(piece),
+            heard => heard,
+        }
+    }
+
+    /// Holds what comes next behind these lines.
+    fn hear_behind(&mut self, mut lines: HeldLines, until: u64) -> Heard {
+        let until = until.min(lines.until);
+        if self.end.is_some() || lines.bytes.len() > MOST_HELD {
+            thread::sleep(self.rt, self.left(until));
+        } else {
+            match self.receive(until) {
+                Heard::Silence => {}
+                Heard::Piece(piece) => {
+                    if lines.bytes.extend_from_slice(piece.as_slice()).is_err() {
+                        return Heard::Memory;
+                    }
+                }
+                end => self.end = Some(end),
+            }
+        }
+        self.held = Some(lines);
+        Heard::Silence
+    }
+}
+
+impl<'a, R: Clock + Wait> Bench for StandardBench<'a, R> {
+    fn hear(&mut self, until: u64, in_block: bool) -> Heard {
+        let elapsed = self.elapsed();
+        self.pace.begin(elapsed, until, in_block);
+        match self.held.take() {
+            Some(lines) if lines.until <= self.pace.moment(elapsed) => self.let_go(lines),
+            Some(lines) => self.hear_behind(lines, until),
+            None => self.hear_next(until),
+        }
+    }
+
     fn now(&mut self) -> u64 {
-        u64::try_from(self.elapsed().as_millis()).unwrap_or(u64::MAX)
+        let elapsed = self.elapsed();
+        self.pace.tell(elapsed)
     }
 }
 

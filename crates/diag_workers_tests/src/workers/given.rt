@@ -77,7 +77,7 @@ pub(crate) fn events_of(
 }
 
 /// Whether a frame was sent at this time, with this identifier and these bytes.
-pub(crate) fn is_frame(sent: &Sent, at: u64, id: u16, bytes: &[u8]) -> bool {
+pub(crate) fn is_frame(sent: &Sent, at: u64, id: u32, bytes: &[u8]) -> bool {
     sent.at == at && sent.frame.id.get() == id && sent.frame.bytes.as_slice() == bytes
 }
 

@@ -1,13 +1,13 @@
-use Rattle.std.proofs.Common.{◌≡◌, ◌≢◌, ◌<◌, ◌+◌, length, ap, subst, sym, ◌∙◌, arith}
-use Rattle.std.proofs.lemmas.Bool.{eqb-true, eqb-false}
+use Rattle.std.proofs.Common.{◌≡◌, ◌≢◌, ◌<◌, ◌+◌, ap, arith, length, subst, sym, ◌∙◌}
+use Rattle.std.proofs.lemmas.Bool.{eqb-false, eqb-true}
 use Rattle.diag_can.specs.declared.frame.Ids.{Ids}
 use Rattle.diag_setup.specs.Setup.{ids_of}
 use Rattle.diag_world.proofs.Worlds.{who_found}
 use Rattle.diag_bus.specs.Requests.{IsOwner}
 use Rattle.diag_bus.specs.declared.request_ids.Owner.{Owner}
 use Rattle.diag_bus.specs.declared.request_ids.Owner.TheVariants.{Tester}
-use Rattle.diag_bus.proofs.Owners.{owner_found, owner_stays}
-use Rattle.diag_bus.proofs.request_ids.owner_of.Goals.{then-eq-2, else-eq-2}
+use Rattle.diag_bus.proofs.Owners.{owner_asks, owner_found, owner_stays}
+use Rattle.diag_bus.proofs.request_ids.owner_of.Goals.{then-eq, else-eq+then-eq-2, else-eq+else-eq-2}
 use Rattle.diag_bus.proofs.request_ids.owner_of.Goals as goal
 
 pub loop-index-preserved : goal.loop-index-preserved
@@ -15,18 +15,30 @@ loop-index-preserved c =
     let setup = c.args.setup.now in
     let id = c.args.id in
     let n = c.loop-index.index in
+    let ids = c.ids-ids.result in
+    let well = c.raw.ensures.checked.0 in
     let within : n < length setup.testers = omega (arith, c.loop-index-test.true, c.testers-index-end.ensures.same) in
     let who = who_found setup n c.in-Some.who c.in-Some.ensures in
-    let request : c.ids.result.request ≡ (ids_of setup (n + 1)).request =
-    ap (λ (ids : Ids). ids.request) c.ids.ensures ∙ ap (λ t. (ids_of setup t).request) who in
-    elim c.if-eq-2.branch [
-      | then-eq-2 w ↦ (
-          let same : id ≡ (ids_of setup (n + 1)).request = sym (eqb-true c.ids.result.request id (sym c.eq-in-loop-index.ensures ∙ w.if-eq-2.true)) ∙ request in
+    let is : ids ≡ ids_of setup (n + 1) = c.ids-ids.ensures ∙ ap (λ t. ids_of setup t) who in
+    let request : ids.request ≡ (ids_of setup (n + 1)).request = ap (λ (i : Ids). i.request) is in
+    let functional : ids.functional ≡ (ids_of setup (n + 1)).functional = ap (λ (i : Ids). i.functional) is in
+    elim c.if-eq.branch [
+      | then-eq w ↦ (
+          let same : id ≡ (ids_of setup (n + 1)).request = sym (eqb-true ids.request id (sym c.eq.ensures ∙ w.if-eq.true)) ∙ request in
           subst (λ (o : Owner). IsOwner setup id (n + 1) o) (sym (w.owner-is ∙ ap Tester who))
-          (owner_found setup id n c.raw.ensures.checked.0 within same c.loop-index.owner c.loop-index.invariant))
-      | else-eq-2 w ↦ (
+          (owner_found setup id n well within same c.loop-index.owner c.loop-index.invariant))
+      | else-eq+then-eq-2 w ↦ (
           let other : id ≢ (ids_of setup (n + 1)).request = λ same.
-          eqb-false c.ids.result.request id (sym c.eq-in-loop-index.ensures ∙ w.if-eq-2.false) (request ∙ sym same) in
+          eqb-false ids.request id (sym c.eq.ensures ∙ w.if-eq.false) (request ∙ sym same) in
+          let asks : id ≡ (ids_of setup (n + 1)).functional =
+          sym (eqb-true ids.functional id (sym w.eq-else-eq.ensures ∙ w.if-eq-2.true)) ∙ functional in
           subst (λ (o : Owner). IsOwner setup id (n + 1) o) (sym w.owner-is)
-          (owner_stays setup id n c.raw.ensures.checked.0 within other c.loop-index.owner c.loop-index.invariant))
+          (owner_asks setup id n well within other asks c.loop-index.owner c.loop-index.invariant))
+      | else-eq+else-eq-2 w ↦ (
+          let other : id ≢ (ids_of setup (n + 1)).request = λ same.
+          eqb-false ids.request id (sym c.eq.ensures ∙ w.if-eq.false) (request ∙ sym same) in
+          let apart : id ≢ (ids_of setup (n + 1)).functional = λ same.
+          eqb-false ids.functional id (sym w.eq-else-eq.ensures ∙ w.if-eq-2.false) (functional ∙ sym same) in
+          subst (λ (o : Owner). IsOwner setup id (n + 1) o) (sym w.owner-is)
+          (owner_stays setup id n well within other apart c.loop-index.owner c.loop-index.invariant))
     ]

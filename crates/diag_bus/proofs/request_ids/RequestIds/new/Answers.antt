@@ -25,5 +25,6 @@ loop-number-preserved c =
 pub returns : goal.returns
 returns c = record {
   many = omega (arith, c.loop-number.invariant.many, c.loop-number-test.false);
+  known = c.in_ok-known.ensures;
   each = c.loop-number.invariant.each;
 }

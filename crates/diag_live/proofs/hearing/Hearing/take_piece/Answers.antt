@@ -12,7 +12,7 @@ loop-end-preserved c =
     let end = c.in-Some.end in
     let after = drop (end + 1) rest in
     let all : take (length rest - (end + 1)) after ≡ after = take_all (length rest - (end + 1)) after (omega (arith, length-drop (end + 1) rest)) in
-    rw all (line_more _ _ _ _ c.args.piece.now rest c.loop-end.invariant c.take_line.new.self c.take_line.new.text.items (take end rest) after
+    rw all (line_more c.args.known.now _ _ _ _ c.args.piece.now rest c.loop-end.invariant c.take_line.new.self c.take_line.new.text.items (take end rest) after
     (split_at_feed rest end c.in-Some.ensures) c.in_ok-take_line.ensures.ok)
 
 pub returns-in_err-take_line-clause-err : goal.returns-in_err-take_line-clause-err
@@ -22,14 +22,14 @@ returns-in_err-take_line-clause-err c =
     let end = c.in-Some.end in
     let split = split_at_feed rest end c.in-Some.ensures in
     rw (p.1, p.2)
-    (so_far_refuses _ _ _ _ c.args.piece.now rest c.loop-end.invariant (take end rest ++ 10 ∷ []) (drop (end + 1) rest) c.take_line.new.text.items
+    (so_far_refuses c.args.known.now _ _ _ _ c.args.piece.now rest c.loop-end.invariant (take end rest ++ 10 ∷ []) (drop (end + 1) rest) c.take_line.new.text.items
     c.in_err-take_line.field-0.0 (split ∙ sym (append_assoc (take end rest) (10 ∷ []) (drop (end + 1) rest))) c.in_err-take_line.ensures.err)
 
 pub returns-clause-ok : goal.returns-clause-ok
 returns-clause-ok c =
     let rest = c.loop-end.rest.now in
     let plain = no_feed rest c.in_default.ensures in
-    on_ok_weaker c.keep.result (λ kept. so_far_hears _ _ _ _ c.args.piece.now rest c.loop-end.invariant c.keep.new.self plain kept
+    on_ok_weaker c.keep.result (λ kept. so_far_hears c.args.known.now _ _ _ _ c.args.piece.now rest c.loop-end.invariant c.keep.new.self plain kept
     c.keep.ensures.lines) c.keep.ensures.ok
 
 pub returns-clause-err : goal.returns-clause-err
@@ -38,6 +38,6 @@ returns-clause-err c =
     let text = c.loop-end.text.items in
     let plain = no_feed rest c.in_default.ensures in
     IfErr-weaker c.keep.result _ _
-    (λ fault long. so_far_refuses _ _ _ _ c.args.piece.now rest c.loop-end.invariant rest [] text fault (sym (append-nil rest))
-    (subst (λ (b : List ℕ). Refuses c.loop-end.self b text text fault) (append-nil rest) (keep_refuses c.loop-end.self rest [] text fault plain long)))
+    (λ fault long. so_far_refuses c.args.known.now _ _ _ _ c.args.piece.now rest c.loop-end.invariant rest [] text fault (sym (append-nil rest))
+    (subst (λ (b : List ℕ). Refuses c.args.known.now c.loop-end.self b text text fault) (append-nil rest) (keep_refuses c.args.known.now c.loop-end.self rest [] text fault plain long)))
     c.keep.ensures.err

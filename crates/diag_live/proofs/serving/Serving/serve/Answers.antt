@@ -1,9 +1,19 @@
-use Rattle.std.proofs.Common.{◌≡◌, ◌+◌, ◌-◌, ◌^◌, min, [], subst, arith}
+use Rattle.std.proofs.Common.{◌≡◌, ◌+◌, ◌-◌, ◌^◌, ℕ, List, min, [], ap, ◌∙◌, subst, arith}
 use Rattle.std.proofs.KnownBytes.{Appends-nil}
 use Rattle.std.proofs.lemmas.Result.{IfErr-weaker, err_from_is_err_and, on_ok_weaker}
+use Rattle.diag_setup.specs.Setup.{known_ids}
+use Rattle.diag_bus.specs.Bus.{BusState}
+use Rattle.diag_bus.specs.declared.replies.Replies.{Replies}
+use Rattle.diag_bus.specs.declared.sink.Sink.{Ghosts}
+use Rattle.diag_run.specs.declared.capture.Capture.{Capture}
 use Rattle.diag_live.specs.Hearing.{Refuses}
 use Rattle.diag_live.proofs.Servings.{bad_line_halts, bad_serve_halts, refused_halts, serve_goes_on, serve_halts}
 use Rattle.diag_live.proofs.serving.Serving.serve.Goals as goal
+
+-- what is read is what the setup has
+known_is : {g : Ghosts Replies} (known : List ℕ) (bus : BusState Replies) (mid old : Capture Replies g) → known ≡ known_ids bus.setup → bus ≡ mid.bus → mid ≡ old
+    → known ≡ known_ids old.bus.setup
+known_is {g} known bus mid old by same kept = by ∙ (ap (λ (b : BusState Replies). known_ids b.setup) same ∙ ap (λ (c : Capture Replies g). known_ids c.bus.setup) kept)
 
 pub returns-in_err-ticks-clause-err : goal.returns-in_err-ticks-clause-err
 returns-in_err-ticks-clause-err g c =
@@ -30,8 +40,8 @@ returns-in-Ok-clause-ok g c =
       (
         d.2.0,
         d.2.1,
-        serve_goes_on c.pass.new.self.hearing t.0 c.in_ok-ticks.ticks c.pass.new.self.text.items c.take_piece.new.text.items c.args.piece.now t.1 t.2
-            c.args.self.now c.pass.new.self.capture c.pass.ensures.hearing c.pass.ensures.capture c.deliver.new.self c.take_piece.new.self
+        serve_goes_on c.known-known.result.now c.pass.new.self.hearing t.0 c.in_ok-ticks.ticks c.pass.new.self.text.items c.take_piece.new.text.items c.args.piece.now t.1 t.2
+            c.args.self.now (known_is _ _ _ _ c.known-known.ensures c.bus.ensures c.pass.ensures.capture) c.pass.new.self.capture c.pass.ensures.hearing c.pass.ensures.capture c.deliver.new.self c.take_piece.new.self
             c.in-Ok.ensures.ok c.deliver.ensures.hearing d.0 d.2.0 d.2.2,
       ),
     ))
@@ -48,8 +58,8 @@ returns-in-Ok-clause-err g c =
       (
         u.2.0,
         u.2.1,
-        serve_halts c.pass.new.self.hearing t.0 c.in_ok-ticks.ticks c.pass.new.self.text.items c.take_piece.new.text.items c.args.piece.now t.1 t.2
-            c.args.self.now c.pass.new.self.capture c.pass.ensures.hearing c.pass.ensures.capture c.take_piece.new.self c.in-Ok.ensures.ok
+        serve_halts c.known-known.result.now c.pass.new.self.hearing t.0 c.in_ok-ticks.ticks c.pass.new.self.text.items c.take_piece.new.text.items c.args.piece.now t.1 t.2
+            c.args.self.now (known_is _ _ _ _ c.known-known.ensures c.bus.ensures c.pass.ensures.capture) c.pass.new.self.capture c.pass.ensures.hearing c.pass.ensures.capture c.take_piece.new.self c.in-Ok.ensures.ok
             c.lines-heard.result c.saturating_add-first.result c.lines-heard.ensures place u.0 u.2.0 came u.2.2,
       ),
     ))
@@ -66,9 +76,9 @@ returns-in-Err-clause-err g c =
       (
         u.2.0,
         u.2.1,
-        bad_serve_halts c.pass.new.self.hearing t.0 c.in_ok-ticks.ticks c.pass.new.self.text.items c.take_piece.new.text.items c.args.piece.now t.1 t.2
-            c.args.self.now c.pass.new.self.capture c.pass.ensures.hearing c.pass.ensures.capture c.in-Err-Line.number c.in-Err-Line.fault
-            (subst (Refuses c.pass.new.self.hearing c.args.piece.now c.pass.new.self.text.items c.take_piece.new.text.items) c.in-Err-Line.field-0-is
+        bad_serve_halts c.known-known.result.now c.pass.new.self.hearing t.0 c.in_ok-ticks.ticks c.pass.new.self.text.items c.take_piece.new.text.items c.args.piece.now t.1 t.2
+            c.args.self.now (known_is _ _ _ _ c.known-known.ensures c.bus.ensures c.pass.ensures.capture) c.pass.new.self.capture c.pass.ensures.hearing c.pass.ensures.capture c.in-Err-Line.number c.in-Err-Line.fault
+            (subst (Refuses c.known-known.result.now c.pass.new.self.hearing c.args.piece.now c.pass.new.self.text.items c.take_piece.new.text.items) c.in-Err-Line.field-0-is
             c.in-Err-Line.ensures.err)
             c.lines-heard.result c.saturating_add-first.result c.lines-heard.ensures place u.0 u.2.0 c.in-Err.earlier u.2.2,
       ),
@@ -83,10 +93,10 @@ returns-in_default-clause-err g c =
       (
         d.2.0,
         d.2.1,
-        bad_line_halts c.pass.new.self.hearing t.0 c.in_ok-ticks.ticks c.pass.new.self.text.items c.take_piece.new.text.items c.args.piece.now t.1 t.2
-            c.args.self.now c.pass.new.self.capture c.pass.ensures.hearing c.pass.ensures.capture c.deliver-in-Err-Line.new.self c.in-Err-Line.number
+        bad_line_halts c.known-known.result.now c.pass.new.self.hearing t.0 c.in_ok-ticks.ticks c.pass.new.self.text.items c.take_piece.new.text.items c.args.piece.now t.1 t.2
+            c.args.self.now (known_is _ _ _ _ c.known-known.ensures c.bus.ensures c.pass.ensures.capture) c.pass.new.self.capture c.pass.ensures.hearing c.pass.ensures.capture c.deliver-in-Err-Line.new.self c.in-Err-Line.number
             c.in-Err-Line.fault
-            (subst (Refuses c.pass.new.self.hearing c.args.piece.now c.pass.new.self.text.items c.take_piece.new.text.items) c.in-Err-Line.field-0-is
+            (subst (Refuses c.known-known.result.now c.pass.new.self.hearing c.args.piece.now c.pass.new.self.text.items c.take_piece.new.text.items) c.in-Err-Line.field-0-is
             c.in-Err-Line.ensures.err)
             d.0 d.2.0 d.2.2,
       ),

@@ -1,0 +1,28 @@
+# Completion of uds_play for bash: source this file, or put it into the folder of bash-completion.
+_uds_play() {
+  local word=${COMP_WORDS[COMP_CWORD]} command='' given=0 flags='' pattern='*.log' at
+  for ((at = 1; at < COMP_CWORD; at++)); do
+    case ${COMP_WORDS[at]} in
+      -*) ;;
+      *) if [ -z "$command" ]; then command=${COMP_WORDS[at]}; else given=$((given + 1)); fi ;;
+    esac
+  done
+  case $command in
+    '') flags="check bus verify live serial play replay --quiet --help --version" ;;
+    check) flags="--quiet --help" ;;
+    bus) flags="--journal --quiet --end --help" ;;
+    verify) flags="--quiet --help" ;;
+    live) flags="--quiet --record --help" ;;
+    serial) flags="--journal --quiet --stamps --help" ;;
+    play) flags="--journal --quiet --stamps --help" ;;
+    replay) flags="--quiet --help" ;;
+  esac
+  if [ -z "$command" ] || [[ $word == -* ]]; then
+    mapfile -t COMPREPLY < <(compgen -W "$flags" -- "$word")
+    return
+  fi
+  [ "$given" -gt 0 ] || pattern='*.toml'
+  [ "$command$given" != replay1 ] || pattern='*'
+  mapfile -t COMPREPLY < <(compgen -d -- "$word"; compgen -f -X "!$pattern" -- "$word")
+}
+complete -o filenames -F _uds_play uds_play

@@ -1,0 +1,380 @@
+//! Notes for people, on standard error, behind the line of a fault and beside a run. They change neither standard output
+//! nor the status, and where there is no memory or no file for one, it is left out.
+
+use diag_check::{Report, check, look_at};
+use diag_config::read_setup;
+use diag_notes::{Place, Recording, ShownLine, Side, expected, is_recording, line_at, looks};
+use diag_run::Outcome;
+use diag_setup::{RawSetup, RawTester};
+use std::alloc::{AllocError, Global};
+use std::io::{Error, Read};
+use std::rt::Files;
+use std::{fs, str};
+
+/// The most bytes of a setup.
+const MOST_SETUP: usize = 1_048_576;
+
+/// How many bytes of a recording are looked at when a run is over.
+const MOST_LOOK: usize = 1_048_576;
+
+/// The most faults of a setup that are noted.
+const MOST_FAULTS: usize = 10;
+
+/// What is run over which files, and whether a reader wants notes.
+#[derive(Drop)]
+pub struct Notes<'a> {
+    /// Whether they are left out.
+    pub quiet: bool,
+    /// The path of the setup.
+    pub config: &'a str,
+    /// The paths of the files behind it; none is standard input.
+    pub files: &'a [&'a str],
+    /// What the files are.
+    pub kind: FileKind,
+}
+
+/// What the files behind a setup are.
+#[derive(Clone, Copy, PartialEq, Eq)]
+pub enum FileKind {
+    /// A capture, which has the frames of all testers.
+    Capture,
+    /// A log of each tester.
+    Logs,
+    /// A journal.
+    Journal,
+    /// The record of a live run, whose lines aren't those of its input.
+    Record,
+}
+
+/// Prints one note.
+pub fn note(rt: &impl Eprint, text: &str) {
+    let _ = eprintln!(rt; "uds_play: note: {text}");
+}
+
+/// Prints each line of a text as a note.
+pub fn note_lines(rt: &impl Eprint, text: &str) {
+    for line in text.split('\n') {
+        let line = line.trim();
+        if !line.is_empty() {
+            note(rt, line);
+        }
+    }
+}
+
+impl Notes<'_> {
+    /// Before a run: the keys of the setup that are passed over.
+    pub fn before<R: Eprint + Files + AllocGlobal>(&self, rt: &R) {
+        if self.quiet {
+            return;
+        }
+        let Some(text) = read_regular(rt, self.config, MOST_SETUP) else {
+            return;
+        };
+        if let Ok(report) = look_at(rt.alloc(), text.as_slice()) {
+            for line in &report.passed {
+                note(rt, line.as_str());
+            }
+        }
+    }
+
+    /// Behind a run: what can be told of its fault, or of what it didn't see. `first` are the first bytes of standard
+    /// input.
+    pub fn behind<R: Eprint + Files + AllocGlobal>(&self, rt: &R, outcome: &Outcome, first: &[u8]) {
+        if self.quiet {
+            return;
+        }
+        // Where there is no memory, no note tells of it.
+        let _ = match outcome {
+            Outcome::Done => self.unseen(rt),
+            Outcome::Fault {
+                told: Some(told),
+                status,
+            } => {
+                let told = str::from_utf8(told.as_slice()).unwrap_or("");
+                match Place::of(told) {
+                    Place::Nowhere if *status == 8 => self.unseen(rt),
+                    place => self.at_place(rt, place, first),
+                }
+            }
+            Outcome::Fault { told: None, .. } => Ok(()),
+        };
+    }
+
+    fn at_place<R: Eprint + Files + AllocGlobal>(
+        &self,
+        rt: &R,
+        place: Place,
+        first: &[u8],
+    ) -> Result<(), AllocError> {
+        match place {
+            Place::Setup => self.faults(rt),
+            Place::File(number) => self.unreadable(rt, number),
+            Place::Line(file, number) => match self.line(rt, file, number, first)? {
+                Some(line) => self.bad_line(rt, file, number, line.as_slice()),
+                None => Ok(()),
+            },
+            Place::JournalLine(number) => match self.line(rt, 1, number, first)? {
+                Some(line) => self.bad_journal_line(rt, number, line.as_slice()),
+                None => Ok(()),
+            },
+            Place::Entry(number) => match self.line(rt, 1, number.saturating_add(1), first)? {
+                Some(line) => self.other_entry(rt, number, line.as_slice()),
+                None => Ok(()),
+            },
+            Place::Nowhere => Ok(()),
+        }
+    }
+
+    /// All faults of the setup, or the first of many.
+    fn faults<R: Eprint + Files + AllocGlobal>(&self, rt: &R) -> Result<(), AllocError> {
+        let Some(text) = read_regular(rt, self.config, MOST_SETUP) else {
+            return Ok(());
+        };
+        if is_recording(text.as_slice()) {
+            let config = self.config;
+            let line = format!(in rt.alloc();
+                "{config} is a recording: the setup comes first, then the recording"
+            )?;
+            note(rt, line.as_str());
+            return Ok(());
+        }
+        let report = check(rt.alloc(), text.as_slice())?;
+        note_faults(rt, &report)
+    }
+
+    fn path(&self, number: usize) -> &str {
+        let Some(index) = number.checked_sub(1) else {
+            return self.config;
+        };
+        match self.files.get(index) {
+            Some(path) => path,
+            None => "standard input",
+        }
+    }
+
+    /// The path of a file that can't be read, and the system's reason.
+    fn unreadable<R: Eprint + Files + AllocGlobal>(
+        &self,
+        rt: &R,
+        number: usize,
+    ) -> Result<(), AllocError> {
+        let path = self.path(number);
+        let line = match reason(rt, path) {
+            Some(reason) => format!(in rt.alloc(); "{path}: {reason}")?,
+            None => String::from_str(rt.alloc(), path)?,
+        };
+        note(rt, line.as_str());
+        Ok(())
+    }
+
+    /// The first bytes of a line of a file, where they can still be had.
+    fn line<R: Files + AllocGlobal>(
+        &self,
+        rt: &R,
+        file: usize,
+        number: u64,
+        first: &[u8],
+    ) -> Result<Option<Vec<u8>>, AllocError> {
+        if self.kind == FileKind::Record {
+            return Ok(None);
+        }
+        if self.files.is_empty() {
+            let mut first = first;
+            return line_at(rt.alloc(), &mut first, number);
+        }
+        let path = self.path(file);
+        if !is_regular(rt, path) {
+            return Ok(None);
+        }
+        match fs::open(rt, path) {
+            Ok(mut file) => line_at(rt.alloc(), &mut file, number),
+            Err(_) => Ok(None),
+        }
+    }
+
+    fn bad_line<R: Eprint + AllocGlobal>(
+        &self,
+        rt: &R,
+        file: usize,
+        number: u64,
+        line: &[u8],
+    ) -> Result<(), AllocError> {
+        self.shown(rt, file, number, line)?;
+        note(rt, looks(line));
+        Ok(())
+    }
+
+    fn bad_journal_line<R: Eprint + AllocGlobal>(
+        &self,
+        rt: &R,
+        number: u64,
+        line: &[u8],
+    ) -> Result<(), AllocError> {
+        self.shown(rt, 1, number, line)?;
+        note(rt, expected(number, line));
+        Ok(())
+    }
+
+    /// An entry that differs.
+    fn other_entry<R: Eprint + AllocGlobal>(
+        &self,
+        rt: &R,
+        number: u64,
+        line: &[u8],
+    ) -> Result<(), AllocError> {
+        let shown = ShownLine(line);
+        let line = format!(in rt.alloc(); "entry {number} is: {shown}")?;
+        note(rt, line.as_str());
+        Ok(())
+    }
+
+    /// Why there can be no record.
+    pub fn no_record<R: Eprint + AllocGlobal>(&self, rt: &R, error: &Error) {
+        if self.quiet {
+            return;
+        }
+        let path = self.path(1);
+        if let Ok(line) = format!(in rt.alloc(); "{path}: {error}") {
+            note(rt, line.as_str());
+        }
+    }
+
+    /// A line and where it stands.
+    fn shown<R: Eprint + AllocGlobal>(
+        &self,
+        rt: &R,
+        file: usize,
+        number: u64,
+        line: &[u8],
+    ) -> Result<(), AllocError> {
+        let path = self.path(file);
+        let shown = ShownLine(line);
+        let line = format!(in rt.alloc(); "line {number} of {path} is: {shown}")?;
+        note(rt, line.as_str());
+        Ok(())
+    }
+
+    /// What a run didn't see in the recordings that can be looked at again.
+    fn unseen<R: Eprint + Files + AllocGlobal>(&self, rt: &R) -> Result<(), AllocError> {
+        if self.kind == FileKind::Journal {
+            return Ok(());
+        }
+        let Some(config) = read_regular(rt, self.config, MOST_SETUP) else {
+            return Ok(());
+        };
+        let Ok(setup) = read_setup(rt.alloc(), config.as_slice()) else {
+            return Ok(());
+        };
+        for (index, path) in self.files.iter().enumerate() {
+            let only = match self.kind {
+                FileKind::Logs => Some(index),
+                FileKind::Capture | FileKind::Journal | FileKind::Record => None,
+            };
+            if let Some(text) = read_regular(rt, path, MOST_LOOK) {
+                note_unseen(rt, setup.raw(), only, text.as_slice())?;
+            }
+        }
+        Ok(())
+    }
+}
+
+fn note_faults<R: Eprint + AllocGlobal>(rt: &R, report: &Report) -> Result<(), AllocError> {
+    for finding in report.faults.iter().take(MOST_FAULTS) {
+        let line = format!(in rt.alloc(); "{finding}")?;
+        note(rt, line.as_str());
+    }
+    let more = report.faults.len().saturating_sub(MOST_FAULTS);
+    if more > 0 {
+        let line = format!(in rt.alloc(); "and {more} more: uds_play check tells all")?;
+        note(rt, line.as_str());
+    }
+    Ok(())
+}
+
+/// Tells what wasn't seen in the text of a recording: of all testers, or of the one whose log it is.
+fn note_unseen<R: Eprint + AllocGlobal>(
+    rt: &R,
+    setup: &RawSetup,
+    only: Option<usize>,
+    text: &[u8],
+) -> Result<(), AllocError> {
+    let mut recording = Recording::new(rt.alloc());
+    for (index, tester) in setup.testers.as_slice().iter().enumerate() {
+        if only.is_none_or(|only| only == index) {
+            recording.side(Side {
+                name: str::from_utf8(tester.name.as_slice()).unwrap_or(""),
+                request: tester.request,
+                response: tester.response,
+                functional: functional_number(setup, tester),
+                extended: tester.extended,
+            })?;
+        }
+    }
+    recording.look(text)?;
+    let part = if text.len() < MOST_LOOK {
+        ""
+    } else {
+        " in the first 1048576 bytes"
+    };
+    for line in &recording.notes(part)? {
+        note(rt, line.as_str());
+    }
+    Ok(())
+}
+
+/// The number of a tester's functional identifier.
+fn functional_number(setup: &RawSetup, tester: &RawTester) -> u32 {
+    match tester.functional {
+        Some(number) => number,
+        None if tester.extended => 0x18DB_33F1,
+        None => setup.functional,
+    }
+}
+
+/// Why a file can't be read.
+fn reason<R: Files + AllocGlobal>(rt: &R, path: &str) -> Option<String> {
+    let error = match fs::metadata(rt, path) {
+        Err(e) => e,
+        Ok(found) if found.is_file() || found.is_dir() => match fs::open(rt, path) {
+            Err(e) => e,
+            Ok(mut file) => match file.read(&mut [0u8; 1]) {
+                Err(e) => e,
+                Ok(_) => return None,
+            },
+        },
+        Ok(_) => return None,
+    };
+    format!(in rt.alloc(); "{error}").ok()
+}
+
+/// Whether a path names a regular file, which can be read again. A pipe can't, and would wait for another writer.
+fn is_regular(rt: &impl Files, path: &str) -> bool {
+    match fs::metadata(rt, path) {
+        Ok(found) => found.is_file(),
+        Err(_) => false,
+    }
+}
+
+/// The first bytes of a regular file; none where it can't be read.
+fn read_regular<R: Files + AllocGlobal>(rt: &R, path: &str, most: usize) -> Option<Vec<u8>> {
+    if !is_regular(rt, path) {
+        return None;
+    }
+    let mut file = fs::open(rt, path).ok()?;
+    read_first(rt.alloc(), &mut file, most)
+}
+
+/// The first bytes of a file, up to so many.
+fn read_first(alloc: Global, file: &mut impl Read, most: usize) -> Option<Vec<u8>> {
+    let mut text = Vec::new(alloc);
+    let mut piece = vec![in alloc; 0u8; 65_536].ok()?;
+    for _ in 0..u64::MAX {
+        let count = file.read(piece.as_mut_slice()).ok()?;
+        let room = most.saturating_sub(text.len()).min(count);
+        text.extend_from_slice(&piece.as_slice()[..room]).ok()?;
+        if room == 0 {
+            break;
+        }
+    }
+    Some(text)
+}
