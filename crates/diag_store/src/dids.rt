@@ -1,6 +1,6 @@
 //! The data identifiers (ISO 14229-1:2013, 10.2 and 10.7).
 
-ghost use Rattle.std.specs.Prelude.{◌≡◌, ◌≤◌, true, OnOk, OnErr, IfOk, IsTrue, option_copied, position, length};
+ghost use Rattle.std.specs.Prelude.{◌≡◌, ◌≤◌, true, OnOk, OnErr, IfOk, IsTrue, option_copied, option_map, position, slice_get, length};
 ghost use Rattle.diag_store.specs.Dids.{id_of, has_id, row_of, value_of, rule_of, write_answer, with_value};
 ghost use Rattle.diag_setup.specs.Fits.{DidFits};
 ghost use Rattle.diag_setup.specs.Rows.{is_rising};
@@ -100,6 +100,14 @@ impl Dids {
     /// The allocator that the table was made with.
     pub fn alloc(&self) -> Global {
         *self.rows.allocator()
+    }
+
+    /// An identifier, by its place in rising order.
+    pub fn id_at(&self, i: usize) -> Option<u16>
+        ensures { result ≡ option_map id_of (slice_get self.now i) }
+    {
+        let row = self.rows.get(i)?;
+        Some(row.id)
     }
 
     /// The row of an identifier, with its value and its rule.

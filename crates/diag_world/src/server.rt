@@ -17,15 +17,18 @@ ghost use Rattle.std.specs.Prelude.{
   OnOk,
   OnErr,
   slice_get,
+  is_some,
   IsSome,
 };
+ghost use Rattle.diag_store.specs.Dids.{with_value, write_answer};
+ghost use Rattle.diag_store.specs.Dtcs.{status_of, with_status};
 ghost use Rattle.diag_tp.specs.Gives.{gives};
 ghost use Rattle.diag_tp.specs.Moments.{last_time};
 ghost use Rattle.diag_setup.specs.Setup.{link_of};
 ghost use Rattle.diag_world.specs.Weaving.{items_of};
 ghost use Rattle.diag_port.specs.Port.{IsAtRest, port_of, port_quiet};
 ghost use Rattle.diag_port.specs.Standing.{GivesStep};
-ghost use Rattle.diag_world.specs.Server.{closing_time, quiet_of, server_of, AreEarly, EachRun, IsClosed, TesterTook, Serves, ServerTook, TookNothing, Waited};
+ghost use Rattle.diag_world.specs.Server.{closing_time, quiet_of, server_of, AreEarly, EachRun, IsClosed, TesterTook, Serves, ServerTook, TookNothing, Waited, WasSet};
 
 use crate::keeper::Keeper;
 use crate::lazy_link::LazyLink;
@@ -35,6 +38,7 @@ use diag_ecu::Ecu;
 use diag_pdu::{Message, Request};
 use diag_port::{Pace, Port, TakeSteps, take};
 use diag_setup::{Setup, TesterId};
+use diag_store::DidFault;
 use diag_tp::Sent;
 use std::alloc::{AllocError, Global};
 use std::marker::Model;
@@ -195,6 +199,32 @@ impl Server {
     {
         &self.ecu
     }
+
+    /// Gives a data identifier another value, of the length that it has, as the ECU's own software does. It is no step of a
+    /// tester: the law of legal runs speaks of the stretch before it and of the one behind it.
+    ///
+    /// # Errors
+    /// As `Ecu::set_value`.
+    pub fn set_value(&mut self, id: u16, value: &[u8]) -> Result<(), DidFault>
+        ensures answer { result ≡ write_answer self.old.ecu.dids id value.now }
+        ensures ok { OnOk result (WasSet (server_of self.old) (server_of self.new)
+            (record self.old.ecu { dids = with_value self.old.ecu.dids id value.now })) }
+        ensures err { OnErr result (self.new ≡ self.old) }
+        ensures room { self.new.ports ≡ self.old.ports }
+    {
+        self.ecu.set_value(id, value)
+    }
+
+    /// Gives a trouble code another status, as the ECU's own software does; whether the code is known. As `set_value` it is
+    /// no step of a tester.
+    pub fn set_status(&mut self, code: u32, status: u8) -> bool
+        ensures known { result ≡ is_some (status_of self.old.ecu.dtcs code) }
+        ensures set { WasSet (server_of self.old) (server_of self.new)
+            (record self.old.ecu { dtcs = with_status self.old.ecu.dtcs code status }) }
+        ensures room { self.new.ports ≡ self.old.ports }
+    {
+        self.ecu.set_status(code, status)
+    }
 }
 
 /// A server's ECU, and who keeps the journal of what it answers.
@@ -241,7 +271,7 @@ impl<'a, K: Keeper> TakeSteps for Answering<'a, K> {
         let bytes = request.message.bytes();
         let decided = self.ecu.put_reply(who, request.functional, bytes, reply)?;
         self.keeper
-            .keep_request(before, who, request, reply.as_ref())?;
+            .keep_request(self.ecu, before, who, request, reply.as_ref())?;
         self.ecu.apply(who, bytes, decided);
         Ok(decided.after_ms)
     }
@@ -253,7 +283,7 @@ impl<'a, K: Keeper> TakeSteps for Answering<'a, K> {
         who: TesterId,
         count: TickCount,
     ) -> Result<(), StepFault> {
-        self.keeper.keep_ticks(before, who, count)?;
+        self.keeper.keep_ticks(self.ecu, before, who, count)?;
         self.ecu.ticks(who, count);
         Ok(())
     }
