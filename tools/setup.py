@@ -27,9 +27,9 @@ MOST_PENDING = 255
 
 @dataclass(frozen=True)
 class Key:
-    """A key: how its value is read (a number, a truth value, a name, hex text, a pattern or templates), what it may be,
-    and whether it has to be there. `may` is a test of the value (of a name or hex text: of its characters or bytes; of a
-    pattern: of the number of its items; of templates: of their texts), and `range` its words."""
+    """A key: how its value is read (a number, a truth value, a name, hex text, a pattern or several, or templates), what it
+    may be, and whether it has to be there. `may` is a test of the value (of a name or hex text: of its characters or bytes;
+    of a pattern: of the number of its items, of several of each's; of templates: of their texts), and `range` its words."""
 
     read: str
     may: object = None
@@ -67,6 +67,7 @@ UNIT = {
     "functional": identifier(0x7FF, False),
     "attempts": number(1, 255),
     "delay_ms": number(1, 600000),
+    "ignore": Key("patterns", lambda items: len(items) <= 256 and all(it <= 64 for it in items), "0 to 256 patterns of 1 to 64 items each"),
 }
 SESSION = number(0, 126)
 NAME = Key("text", lambda s: 1 <= len(s) <= 16 and s.isascii() and s.replace("_", "a").isalnum(), "1 to 16 letters, digits or _", True)
@@ -76,7 +77,7 @@ REQUEST = Key("pattern", lambda items: items <= 64, "1 to 64 items", True)
 REPLY = Key("templates", lambda texts: 1 <= len(texts) <= 4096 and all(len(it) <= 2 * 4095 for it in texts), "1 to 4096 templates of at most 4095 items each")
 LISTS = {
     "tester": {"name": NAME, "request": identifier(0x7FF), "response": identifier(0x7FF)},
-    "did": {"id": identifier(0xFFFF), "value": hex_text(1, 255), "read_level": REFERENCE, "write": TRUTH, "write_level": REFERENCE},
+    "did": {"id": identifier(0xFFFF), "value": hex_text(1, 255), "read_level": REFERENCE, "write": TRUTH, "write_level": REFERENCE, "varies": TRUTH},
     "code": {"code": identifier(0xFFFFFE), "status": number(0, 255, True)},
     "routine": {"id": identifier(0xFFFF), "time_ms": number(1, 600000, True), "result": hex_text(0, 32, False), "level": REFERENCE, "code": REFERENCE, "status": number(0, 255)},
     "level": {"sub": Key("number", lambda n: 1 <= n <= 65 and n % 2 == 1, "an odd number from 1 to 65", True), "any_key": TRUTH, "varies": TRUTH},
@@ -101,6 +102,8 @@ def value_of(key, value):
         return value
     if key.read == "templates":
         return templates_of(value)
+    if key.read == "patterns":
+        return patterns_of(value)
     if not isinstance(value, str):
         raise Wrong("it is a text in quotes")
     if key.read == "text":
@@ -118,6 +121,15 @@ def items_of(value):
     if not found:
         raise Wrong("it is a pattern: items of two hex digits or .. each, and maybe one * at its end")
     return len(found[1]) // 2
+
+
+def patterns_of(value):
+    """How many items each pattern of a list has."""
+    if not isinstance(value, list):
+        raise Wrong("it is a list of patterns, also where it is one alone")
+    if not all(isinstance(it, str) for it in value):
+        raise Wrong("each of its items is a text in quotes")
+    return [items_of(it) for it in value]
 
 
 def templates_of(value):

@@ -19,8 +19,9 @@ SEVERAL = 400
 GOOD = {
     "s3_ms": 4000,
     "pad": True,
+    "ignore": ["3E80", "28..*"],
     "tester": [{"name": "A", "request": 0x7E0, "response": 0x7E8}, {"name": "B", "request": 0x7E1, "response": 0x7E9}],
-    "did": [{"id": 0xF190, "value": "4142", "read_level": 1, "write": True, "write_level": 3}, {"id": 1, "value": "00"}],
+    "did": [{"id": 0xF190, "value": "4142", "read_level": 1, "write": True, "write_level": 3, "varies": True}, {"id": 1, "value": "00"}],
     "code": [{"code": 0x012345, "status": 0x2F}, {"code": 5, "status": 0}],
     "routine": [{"id": 0x0203, "time_ms": 100, "result": "01", "level": 1, "code": 0x012345, "status": 1}, {"id": 4, "time_ms": 1}],
     "level": [
@@ -81,8 +82,15 @@ REPLIES = (
     "", "68", [""], ["", ""], ["6"], ["$G"], ["$"], ["?"], ["..", "00"], ["00", "0"], ["*"], ["00", 1], [["00"]], [{"a": 1}], ["$0$1"], ["$2"],
     ["00", "$2"], ["$F"], ["$a"], ["7F$078??"], ["$1é"], ["00\\n"], ["00" * 4095], ["$0" * 4095], ["??" * 4096], ["00"] * 4096, ["00"] * 4097,
 )
+# lists of patterns, well or not
+IGNORED = (
+    "", "3E80", [], ["3E80"], ["3E80", "3E80"], [""], ["*"], ["3E80", "3"], ["2G"], ["3E80", 1], [["3E80"]], [{"a": 1}], ["$1"], ["??"],
+    [".." * 64], [".." * 65 + "*"], ["3E80", "00" * 65], ["3E*"] * 256, ["3E*"] * 257, ["3E*"] * 257 + ["3"],
+)
 # the values of a key that isn't a number
-VALUES = {**dict.fromkeys(("name", "value", "seed", "key", "result"), TEXTS), "request": PATTERNS, "reply": REPLIES}
+VALUES = {
+    **dict.fromkeys(("name", "value", "seed", "key", "result"), TEXTS), "request": PATTERNS, "reply": REPLIES, "ignore": IGNORED,
+}
 # several keys that are well or not by each other
 TOGETHER = {
     "after_ms at its most": [(0, "p2_star_10ms", 0), (ANSWER, "after_ms", 305)],

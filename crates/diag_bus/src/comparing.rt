@@ -8,8 +8,13 @@ ghost use Rattle.diag_bus.specs.declared.comparing.Comparison.{Comparison as ACo
 ghost use Rattle.diag_bus.specs.declared.verdict.Recorded.{Recorded as ARecorded};
 ghost use Rattle.diag_setup.specs.declared.raw.RawSetup.{RawSetup};
 
+use crate::clock::Clock;
+use crate::line_frames::LineFrames;
+use crate::sink::Sink;
 use crate::verdict::{Difference, Recorded, Verdict, earlier, same_difference};
-use diag_can::{BusLine, CanId, FrameBytes};
+use diag_can::{BusLine, CanId, FrameBytes, TickCount};
+use diag_ecu::Ecu;
+use diag_pdu::{Message, Request};
 use diag_setup::{Setup, TesterId};
 use diag_tp::Sent;
 use std::alloc::{AllocError, Global};
@@ -142,18 +147,26 @@ impl Comparison {
     }
 }
 
-/// What is kept of all testers' frames.
+/// What is kept of all testers' frames, to judge the unit's own frames in the capture. Nothing is written.
 #[derive(Drop)]
 pub struct Comparisons {
     /// How many lines the recording had.
     pub lines: u64,
-    /// Of each tester, in order, where a verdict is wanted.
+    /// Of each tester, in order.
     pub testers: Vec<Comparison>,
 }
 
 impl Comparisons {
+    /// Of no tester anything: what `verify` begins with.
+    pub fn new(alloc: Global) -> Comparisons {
+        Comparisons {
+            lines: 0,
+            testers: Vec::new(alloc),
+        }
+    }
+
     /// Of so many testers nothing was recorded, and nothing sent.
-    pub fn new(alloc: Global, count: usize) -> Result<Comparisons, AllocError>
+    fn of(alloc: Global, count: usize) -> Result<Comparisons, AllocError>
         ensures lines { IfOk result (λ kept. kept.lines ≡ 0) }
         ensures many { IfOk result (λ kept. length kept.testers.items ≡ count) }
         ensures each { IfOk result (λ kept. (i : ℕ) (own : AComparison)
@@ -250,6 +263,75 @@ impl Comparisons {
             None => self.first_lack(setup),
         }
     }
+}
+
+impl Sink for Comparisons {
+    ghost use Rattle.std.specs.Prelude.{◌≡◌, [], false, length};
+    ghost use Rattle.diag_bus.specs.Comparing.{ComparesLines};
+
+    ghost is_for = { λ kept setup. length kept.testers.items ≡ length setup.testers };
+
+    ghost took = { λ kept setup lines _. ComparesLines setup kept lines };
+
+    ghost Aim = { Unit {0} };
+
+    ghost aim = { λ _. tt };
+
+    ghost written = { λ _ _ _. [] };
+
+    ghost wants_ticks = { false };
+
+    fn begin(&mut self, alloc: Global, setup: &Setup) -> Result<(), AllocError> {
+        *self = Comparisons::of(alloc, setup.testers())?;
+        Ok(())
+    }
+
+    fn write_header(&self, _: &mut Vec<u8>) -> Result<(), AllocError> {
+        Ok(())
+    }
+
+    #[inline(always)]
+    fn wants_ticks(&self) -> bool {
+        false
+    }
+
+    #[inline(always)]
+    fn enter_request(
+        &mut self,
+        _: &Ecu,
+        _: u64,
+        _: TesterId,
+        _: &Request,
+        _: Option<&Message>,
+    ) -> Result<(), AllocError> {
+        Ok(())
+    }
+
+    #[inline(always)]
+    fn enter_ticks(
+        &mut self,
+        _: &Ecu,
+        _: u64,
+        _: TesterId,
+        _: TickCount,
+    ) -> Result<(), AllocError> {
+        Ok(())
+    }
+
+    #[inline(always)]
+    fn end_line(
+        &mut self,
+        setup: &Setup,
+        said: &BusLine,
+        _: u64,
+        _: &Clock,
+        drawn: &LineFrames,
+        _: &mut Vec<u8>,
+    ) -> Result<(), AllocError> {
+        self.take_line(setup, said, drawn.lists.as_slice())
+    }
+
+    ghost skips_ticks = { λ _ _ _ _ _ _ _ took. took };
 }
 
 /// Whether a frame says response pending.

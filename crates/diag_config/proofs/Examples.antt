@@ -1,11 +1,12 @@
 -- Patterns, templates and a row of answers as they are read, computed.
 use Rattle.std.proofs.Common.{◌≡◌, true, false, [], ◌∷◌, Some, None, Ok, Err, pos, refl, codes}
 use Rattle.diag_setup.specs.ExampleSetup.{echo_row, rounds_row, enter_row}
+use Rattle.diag_setup.specs.declared.raw.PatternItem.TheVariants as patterns
 use Rattle.diag_setup.specs.declared.raw.TemplateItem.TheVariants as items
 use Rattle.toml.specs.Data.{string, integer, array, no_items, item, no_members, member}
 use Rattle.diag_config.specs.Answer.{pattern_of, template_of}
 use Rattle.diag_config.specs.Key.{bad_value}
-use Rattle.diag_config.specs.Setup.{template, list, required, optional, with_default, answer_at}
+use Rattle.diag_config.specs.Setup.{template, list, required, optional, with_default, answer_at, ignore_at}
 
 echo_pattern : pattern_of (codes "28....*") ≡ Some (record { items = echo_row.pattern; more = true })
 echo_pattern = refl
@@ -65,3 +66,16 @@ the_row : answer_at (
     ) ≡ Ok enter_row
 unfolding answer_at required optional with_default
 the_row = refl
+
+patterns_to_ignore : ignore_at (member (codes "ignore") (array (item (string (codes "3E80")) (item (string (codes "28*")) no_items))) no_members)
+    ≡ Ok (record { items = patterns.Byte 0x3E ∷ patterns.Byte 0x80 ∷ []; more = false } ∷ record { items = patterns.Byte 0x28 ∷ []; more = true } ∷ [])
+unfolding ignore_at with_default
+patterns_to_ignore = refl
+
+ignored_text_alone : ignore_at (member (codes "ignore") (string (codes "3E80")) no_members) ≡ Err (bad_value (codes "ignore"))
+unfolding ignore_at with_default
+ignored_text_alone = refl
+
+ignored_half_an_item : ignore_at (member (codes "ignore") (array (item (string (codes "3E8")) no_items)) no_members) ≡ Err (bad_value (codes "ignore"))
+unfolding ignore_at with_default
+ignored_half_an_item = refl

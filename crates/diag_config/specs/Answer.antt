@@ -4,9 +4,9 @@ use Rattle.std.specs.Option.{option_and_then, option_zip}
 use Rattle.hex.specs.Hex.{hex_digit_value}
 use Rattle.diag_setup.specs.declared.raw.PatternItem.{PatternItem}
 use Rattle.diag_setup.specs.declared.raw.PatternItem.TheVariants as pattern
+use Rattle.diag_setup.specs.declared.raw.RawPattern.{RawPattern}
 use Rattle.diag_setup.specs.declared.raw.TemplateItem.{TemplateItem}
 use Rattle.diag_setup.specs.declared.raw.TemplateItem.TheVariants as template
-use Rattle.diag_config.specs.declared.answer.Pattern.{Pattern}
 
 -- the byte that two hex digits of either case write
 abbrev pub byte_of : ℕ → ℕ → Option ℕ
@@ -40,13 +40,13 @@ more_by None = Some false
 more_by (Some c) = if c == 42 then Some true else None
 
 -- a pattern has an item
-abbrev pub pattern_with : List PatternItem → Option ℕ → Option Pattern
+abbrev pub pattern_with : List PatternItem → Option ℕ → Option RawPattern
 pattern_with items last =
     if length items == 0 then None
     else option_map (λ more. record { items = items; more = more }) (more_by last)
 
 -- the pattern that a text says
-abbrev pub pattern_of : List ℕ → Option Pattern
+abbrev pub pattern_of : List ℕ → Option RawPattern
 pattern_of text = option_and_then (λ read. pattern_with read.0 read.1) (items_of pattern_item text)
 
 -- nothing stands behind the items of a template

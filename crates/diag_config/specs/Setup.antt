@@ -11,11 +11,11 @@ use Rattle.diag_setup.specs.declared.raw.RawRoutine.{RawRoutine}
 use Rattle.diag_setup.specs.declared.raw.RawKeyRow.{RawKeyRow}
 use Rattle.diag_setup.specs.declared.raw.RawLevel.{RawLevel}
 use Rattle.diag_setup.specs.declared.raw.RawAnswer.{RawAnswer}
+use Rattle.diag_setup.specs.declared.raw.RawPattern.{RawPattern}
 use Rattle.diag_setup.specs.declared.raw.TemplateItem.{TemplateItem}
 use Rattle.diag_setup.specs.declared.raw.RawSetup.{RawSetup}
 use Rattle.diag_setup.specs.declared.fault.SetupFault.{SetupFault}
 use Rattle.diag_setup.specs.Setup.{checked}
-use Rattle.diag_config.specs.declared.answer.Pattern.{Pattern}
 use Rattle.diag_config.specs.declared.rows.Times.{Times}
 use Rattle.diag_config.specs.declared.rows.LinkValues.{LinkValues}
 use Rattle.diag_config.specs.declared.rows.ServerValues.{ServerValues}
@@ -50,7 +50,7 @@ abbrev pub or_bad_value : {A : Type 0} → List ℕ → Option A → Result A Fa
 or_bad_value key (Some x) = Ok x
 or_bad_value key None = Err (bad_value key)
 
-abbrev pub pattern : List ℕ → Data → Result Pattern Fault
+abbrev pub pattern : List ℕ → Data → Result RawPattern Fault
 pattern key (string s) = or_bad_value key (pattern_of s)
 pattern key _ = Err (bad_value key)
 
@@ -123,12 +123,14 @@ did_at ms = do
   read_level ← with_default number ms (codes "read_level") (codes "did.read_level") 0
   write ← with_default truth ms (codes "write") (codes "did.write") false
   write_level ← with_default number ms (codes "write_level") (codes "did.write_level") 0
+  varies ← with_default truth ms (codes "varies") (codes "did.varies") false
   Ok (record {
     id = id;
     value = value;
     read_level = read_level;
     write = write;
     write_level = write_level;
+    varies = varies;
   })
 
 unfoldable pub code_at : Members → Result RawCode Fault
@@ -196,7 +198,7 @@ answer_at ms = do
     after_ms = after_ms;
   })
 
--- ---- the keys at the top, in four groups
+-- ---- the keys at the top, in five groups
 
 unfoldable pub timing_at : Members → Result Times Fault
 timing_at ms = do
@@ -241,6 +243,9 @@ server_at ms = do
     delay_ms = delay_ms;
   })
 
+unfoldable pub ignore_at : Members → Result (List RawPattern) Fault
+ignore_at ms = at_top (list pattern) ms (codes "ignore") []
+
 unfoldable pub tables_at : Members → Result SetupTables Fault
 tables_at ms = do
   testers ← at_top (list (row tester_at)) ms (codes "tester") []
@@ -264,6 +269,7 @@ setup_at ms = do
   timing ← timing_at ms
   transport ← transport_at ms
   server ← server_at ms
+  ignore ← ignore_at ms
   tables ← tables_at ms
   Ok (record {
     p2_ms = timing.p2_ms;
@@ -286,6 +292,7 @@ setup_at ms = do
     routines = tables.routines;
     levels = tables.levels;
     answers = tables.answers;
+    ignore = ignore;
   })
 
 -- ---- a whole text

@@ -9,7 +9,7 @@ ghost use Rattle.diag_config.specs.Setup.{each, list, or_bad_value, pattern, tem
 
 use crate::fault::KeyFault;
 use crate::value::FromValue;
-use diag_setup::{Items, PatternItem, TemplateItem};
+use diag_setup::{Items, PatternItem, RawPattern, TemplateItem};
 use std::alloc::Global;
 use toml::Value;
 
@@ -89,34 +89,69 @@ fn items<T: TextItem>(
     Ok((read, rest.first().copied()))
 }
 
-/// What the requests are that a row of answers is for.
-#[derive(Drop)]
-pub struct Pattern {
-    /// The bytes that they begin with.
-    pub items: Items<PatternItem>,
-    /// Whether they may have more.
-    pub more: bool,
-}
+impl FromValue for RawPattern {
+    ghost use Rattle.diag_setup.specs.declared.raw.RawPattern.{RawPattern};
 
-impl FromValue for Pattern {
-    ghost use Rattle.diag_config.specs.declared.answer.Pattern.{Pattern};
-
-    ghost Said = { Pattern };
+    ghost Said = { RawPattern };
 
     ghost said = { λ p. p };
 
     ghost kind = { pattern };
 
-    fn from_value(alloc: Global, key: &'static str, value: &Value) -> Result<Pattern, KeyFault> {
+    fn from_value(alloc: Global, key: &'static str, value: &Value) -> Result<RawPattern, KeyFault> {
+        pattern(alloc, key, value)
+    }
+}
+
+/// What a pattern says.
+fn pattern(alloc: Global, key: &'static str, value: &Value) -> Result<RawPattern, KeyFault>
+    ensures { KeyGives (λ p. p) result (pattern key.now (view value.now)) }
+{
+    match value {
+        Value::String(s) => read_pattern(alloc, key, s.as_bytes()),
+        _ => Err(KeyFault::BadValue(key)),
+    }
+}
+
+/// What the patterns of a list say, one after the other.
+fn each_pattern(
+    alloc: Global,
+    key: &'static str,
+    values: &[Value],
+) -> Result<Items<RawPattern>, KeyFault>
+    ensures { KeyGives (λ patterns. patterns) result (each (pattern key.now) (items_view values.now)) }
+{
+    let mut read = Items::new(alloc);
+    for value in values {
+        read.push(pattern(alloc, key, value)?)?;
+    }
+    Ok(read)
+}
+
+/// A list of patterns.
+#[derive(Drop)]
+pub struct Patterns(pub Items<RawPattern>);
+
+impl FromValue for Patterns {
+    ghost use Rattle.std.specs.Prelude.{List};
+    ghost use Rattle.diag_setup.specs.declared.raw.RawPattern.{RawPattern};
+
+    ghost Said = { List RawPattern };
+
+    ghost said = { λ p. p.0 };
+
+    ghost kind = { list pattern };
+
+    fn from_value(alloc: Global, key: &'static str, value: &Value) -> Result<Patterns, KeyFault> {
         match value {
-            Value::String(s) => read_pattern(alloc, key, s.as_bytes()),
+            Value::Array(values) => Ok(Patterns(each_pattern(alloc, key, values.as_slice())?)),
             _ => Err(KeyFault::BadValue(key)),
         }
     }
 }
 
 /// The pattern that a text says.
-fn read_pattern(alloc: Global, key: &'static str, text: &[u8]) -> Result<Pattern, KeyFault>
+fn read_pattern(alloc: Global, key: &'static str, text: &[u8]) -> Result<RawPattern, KeyFault>
     ensures { KeyGives (λ p. p) result (or_bad_value key.now (pattern_of text.now)) }
 {
     let (items, last) = items(alloc, key, text)?;
@@ -124,8 +159,8 @@ fn read_pattern(alloc: Global, key: &'static str, text: &[u8]) -> Result<Pattern
         return Err(KeyFault::BadValue(key));
     }
     match last {
-        None => Ok(Pattern { items, more: false }),
-        Some(b'*') => Ok(Pattern { items, more: true }),
+        None => Ok(RawPattern { items, more: false }),
+        Some(b'*') => Ok(RawPattern { items, more: true }),
         Some(_) => Err(KeyFault::BadValue(key)),
     }
 }

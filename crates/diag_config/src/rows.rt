@@ -2,14 +2,15 @@
 
 ghost use Rattle.toml.specs.View.{table_view};
 ghost use Rattle.diag_config.specs.Key.{KeyGives};
-ghost use Rattle.diag_config.specs.Setup.{tester_at, did_at, code_at, done_at, routine_at, row_at, level_at, answer_at, timing_at, transport_at, server_at, tables_at, setup_at};
+ghost use Rattle.diag_config.specs.Setup.{tester_at, did_at, code_at, done_at, routine_at, row_at, level_at, answer_at, timing_at, transport_at, server_at, ignore_at, tables_at, setup_at};
 
-use crate::answer::{Pattern, Reply};
+use crate::answer::{Patterns, Reply};
 use crate::fault::KeyFault;
 use crate::table::{FromTable, at_top, optional, required, with_default};
 use crate::value::{Hex, Text};
 use diag_setup::{
-    Items, RawAnswer, RawCode, RawDid, RawKeyRow, RawLevel, RawRoutine, RawSetup, RawTester,
+    Items, RawAnswer, RawCode, RawDid, RawKeyRow, RawLevel, RawPattern, RawRoutine, RawSetup,
+    RawTester,
 };
 use std::alloc::Global;
 use toml::Table;
@@ -80,12 +81,14 @@ impl FromTable for RawDid {
         let read_level = with_default(alloc, table, "read_level", "did.read_level", 0u32)?;
         let write = with_default(alloc, table, "write", "did.write", false)?;
         let write_level = with_default(alloc, table, "write_level", "did.write_level", 0u32)?;
+        let varies = with_default(alloc, table, "varies", "did.varies", false)?;
         Ok(RawDid {
             id,
             value: value.0,
             read_level,
             write,
             write_level,
+            varies,
         })
     }
 }
@@ -180,7 +183,7 @@ impl FromTable for RawAnswer {
 
     #[tactic(auto, unfolding(crate::specs::Setup::answer_at))]
     fn from_table(alloc: Global, table: &Table) -> Result<RawAnswer, KeyFault> {
-        let request: Pattern = required(alloc, table, "request", "answer.request")?;
+        let request: RawPattern = required(alloc, table, "request", "answer.request")?;
         let reply: Option<Reply> = optional(alloc, table, "reply", "answer.reply")?;
         let session = with_default(alloc, table, "session", "answer.session", 0u32)?;
         let level = with_default(alloc, table, "level", "answer.level", 0u32)?;
@@ -253,6 +256,16 @@ fn server(alloc: Global, table: &Table) -> Result<ServerValues, KeyFault>
     })
 }
 
+/// The patterns of the requests whose answers aren't compared.
+#[tactic(auto, unfolding(crate::specs::Setup::ignore_at))]
+fn ignore(alloc: Global, table: &Table) -> Result<Items<RawPattern>, KeyFault>
+    ensures { KeyGives (λ x. x) result (ignore_at (table_view table.now)) }
+{
+    let none = Patterns(Items::new(alloc));
+    let patterns = at_top(alloc, table, "ignore", none)?;
+    Ok(patterns.0)
+}
+
 /// The keys of the lists.
 #[tactic(auto, unfolding(crate::specs::Setup::tables_at))]
 fn tables(alloc: Global, table: &Table) -> Result<SetupTables, KeyFault>
@@ -282,6 +295,7 @@ pub fn setup(alloc: Global, table: &Table) -> Result<RawSetup, KeyFault>
     let timing = timing(alloc, table)?;
     let transport = transport(alloc, table)?;
     let server = server(alloc, table)?;
+    let ignore = ignore(alloc, table)?;
     let tables = tables(alloc, table)?;
     Ok(RawSetup {
         p2_ms: timing.p2_ms,
@@ -304,5 +318,6 @@ pub fn setup(alloc: Global, table: &Table) -> Result<RawSetup, KeyFault>
         routines: tables.routines,
         levels: tables.levels,
         answers: tables.answers,
+        ignore,
     })
 }

@@ -2,6 +2,7 @@
 use Rattle.std.specs.Prelude.{ℕ, ◌+◌, ◌-◌, ◌%◌, ◌==◌, ◌&&◌, ◌||◌, Bool, true, false, not, List, [], ◌∷◌, ◌++◌, length, drop, flat_map, Option, Some, None, is_some, is_none, option_map, if◌then◌else◌, nat_lt, nat_le, max, bit_and, slice_get, slice_index, unwrap_or, Result, Ok, Err}
 use Rattle.std.specs.List.{list_any, list_all}
 use Rattle.diag_setup.specs.Setup.{first_holding}
+use Rattle.diag_setup.specs.declared.raw.TemplateItem.{TemplateItem}
 use Rattle.diag_store.specs.Answers as answers
 use Rattle.diag_store.specs.Dids as dids
 use Rattle.diag_store.specs.Dtcs as dtcs
@@ -405,6 +406,15 @@ abbrev pub reply_of_row : State → ℕ → List ℕ → AnswerRow → Option (L
 reply_of_row s who p row =
     if is_barred s who row then Some (0x7F ∷ sid p ∷ nrc_code BusyRepeatRequest ∷ [])
     else answers.row_reply row p
+
+-- the template from which the row answers, where it does, and doesn't leave that to the services
+abbrev pub template_by : State → ℕ → Option AnswerRow → Option (List TemplateItem)
+template_by s who None = None
+template_by s who (Some row) =
+    if answers.has_reply row && not (is_barred s who row) then Some (answers.template_now row) else None
+
+abbrev pub template_for : State → ℕ → List ℕ → Option (List TemplateItem)
+template_for s who p = template_by s who (rule_for s who p)
 
 abbrev pub reply_by : State → ℕ → Bool → List ℕ → Option AnswerRow → Option (List ℕ)
 reply_by s who functional p None = own_reply s who functional p

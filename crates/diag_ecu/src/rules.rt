@@ -1,15 +1,15 @@
 //! The rows of answers: which decides of a request, what it answers, and what that does. None of it is used where a setup
 //! has no row.
-ghost use Rattle.std.specs.Prelude.{◌≡◌, ◌≤◌, length, option_map, Some, IfOk, OnOk};
+ghost use Rattle.std.specs.Prelude.{◌≡◌, ◌≤◌, length, option_map, Some, IfOk, IfSome, OnOk};
 ghost use Rattle.diag_store.specs.Answers.{row_reply};
-ghost use Rattle.diag_ecu.specs.Respond.{access_of, answered, decision, delay, effect_by, is_barred, place_for, reply, reply_by, rule_for};
+ghost use Rattle.diag_ecu.specs.Respond.{access_of, answered, decision, delay, effect_by, is_barred, place_for, reply, reply_by, rule_for, template_for};
 
 use crate::ecu::{Ecu, negative_reply};
 use crate::effect::{Decision, Effect};
 use crate::service::Nrc;
 use crate::session::DEFAULT_SESSION;
 use diag_pdu::Message;
-use diag_setup::TesterId;
+use diag_setup::{TemplateItem, TesterId};
 use diag_store::{Access, AnswerRow};
 use std::alloc::AllocError;
 
@@ -89,6 +89,21 @@ impl Ecu {
         };
         self.answers.move_on(place);
         self.enter(who, enter);
+    }
+
+    /// The items of the template from which a request is answered, where a row does that, and not the services.
+    pub fn template_for(&self, who: TesterId, p: &[u8]) -> Option<&[TemplateItem]>
+        requires { 1 ≤ length p.now }
+        ensures items { option_map (λ items. items.now) result ≡ template_for self.now who p.now }
+        ensures few { IfSome result (λ items. length items.now ≤ 4095) }
+    {
+        let Some((_, row)) = self.rule_for(who, p) else {
+            return None;
+        };
+        if !row.has_reply() || self.is_barred(who, row) {
+            return None;
+        }
+        Some(row.template_now())
     }
 
     /// The row that decides, behind its place.

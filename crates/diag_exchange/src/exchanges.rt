@@ -141,6 +141,7 @@ impl Exchanges {
     pub fn ask(&mut self, request: Request, over: &mut Vec<Over>) -> Result<(), AllocError>
         ensures ok { OnOk result (Took self.old self.new over.old.items over.new.items
             (Asked request)) }
+        ensures coming { OnOk result (self.new.coming ≡ self.old.coming) }
         ensures err { OnErr result (IsUnchanged self.old self.new) }
         ensures out { OnErr result (over.new.items ≡ over.old.items) }
     {
@@ -155,7 +156,8 @@ impl Exchanges {
     /// A message of the unit begins; nothing is over with it.
     pub fn begin(&mut self, start: Start)
         requires { self.old.coming ≡ None }
-        ensures { TookSilently self.old self.new (Began start) }
+        ensures took { TookSilently self.old self.new (Began start) }
+        ensures coming { self.new.coming ≡ Some start }
     {
         hear(&mut self.live, &start);
         self.coming = Some(start);
@@ -169,6 +171,7 @@ impl Exchanges {
         requires { IsSome self.old.coming }
         ensures ok { OnOk result (Took self.old self.new over.old.items over.new.items
             (Came bytes)) }
+        ensures coming { OnOk result (self.new.coming ≡ None) }
         ensures err { OnErr result (IsUnchanged self.old self.new) }
         ensures out { OnErr result (over.new.items ≡ over.old.items) }
     {
@@ -192,6 +195,7 @@ impl Exchanges {
     /// `AllocError` where memory is refused, and then nothing has changed.
     pub fn lose(&mut self, over: &mut Vec<Over>) -> Result<(), AllocError>
         ensures ok { OnOk result (Took self.old self.new over.old.items over.new.items Lost) }
+        ensures coming { OnOk result (self.new.coming ≡ None) }
         ensures err { OnErr result (IsUnchanged self.old self.new) }
         ensures out { OnErr result (over.new.items ≡ over.old.items) }
     {
@@ -199,6 +203,19 @@ impl Exchanges {
         hear_no_more(&mut self.live);
         take_out(&mut self.live, false, over);
         self.coming = None;
+        Ok(())
+    }
+
+    /// Where all has happened, the exchanges that aren't over are put behind `over`, in memory of their own.
+    ///
+    /// # Errors
+    /// `AllocError` where memory is refused.
+    pub fn left(&self, alloc: Global, over: &mut Vec<Over>) -> Result<(), AllocError>
+        ensures { OnOk result (Ended self.now over.old.items over.new.items) }
+    {
+        for held in &self.live {
+            over.push(held.tell_copy(alloc)?)?;
+        }
         Ok(())
     }
 

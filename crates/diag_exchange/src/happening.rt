@@ -1,9 +1,10 @@
 //! What happens to a tester, and what comes of it.
 
-ghost use Rattle.std.specs.Prelude.{◌≡◌};
+ghost use Rattle.std.specs.Prelude.{◌≡◌, option_copied, IfOk};
 ghost use Rattle.diag_exchange.specs.Asking.{first_byte, is_loud, is_pending, replaces, says_pending};
 
 use diag_pdu::Message;
+use std::alloc::{AllocError, Global};
 
 /// A line of the capture.
 #[derive(Clone, Copy, Drop)]
@@ -97,7 +98,49 @@ pub(crate) fn says_pending(bytes: &[u8]) -> bool
     matches!(bytes, [0x7F, _, 0x78])
 }
 
+/// Another message of these bytes, where there is one.
+fn copy_of(alloc: Global, message: Option<&Message>) -> Result<Option<Message>, AllocError>
+    ensures { IfOk result (λ copy. copy ≡ option_copied message.entry) }
+{
+    match message {
+        Some(message) => Ok(Some(Message::of(alloc, message.bytes())?)),
+        None => Ok(None),
+    }
+}
+
+impl Expected {
+    /// The same again.
+    ///
+    /// # Errors
+    /// `AllocError` where memory is refused.
+    fn try_copy(&self, alloc: Global) -> Result<Expected, AllocError>
+        ensures { IfOk result (λ copy. copy ≡ self.now) }
+    {
+        Ok(Expected {
+            reply: copy_of(alloc, self.reply.as_ref())?,
+            varies: copy_of(alloc, self.varies.as_ref())?,
+            own: self.own,
+            ignored: self.ignored,
+        })
+    }
+}
+
 impl Request {
+    /// The same again.
+    ///
+    /// # Errors
+    /// `AllocError` where memory is refused.
+    pub fn try_copy(&self, alloc: Global) -> Result<Request, AllocError>
+        ensures { IfOk result (λ copy. copy ≡ self.now) }
+    {
+        Ok(Request {
+            at: self.at,
+            functional: self.functional,
+            bytes: Message::of(alloc, self.bytes.bytes())?,
+            expected: self.expected.try_copy(alloc)?,
+        })
+    }
+
     /// The first byte, which is the service.
     pub fn first_byte(&self) -> u8
         ensures { result ≡ first_byte self.now }
@@ -127,6 +170,19 @@ impl Request {
 }
 
 impl Heard {
+    /// The same again.
+    ///
+    /// # Errors
+    /// `AllocError` where memory is refused.
+    pub fn try_copy(&self, alloc: Global) -> Result<Heard, AllocError>
+        ensures { IfOk result (λ copy. copy ≡ self.now) }
+    {
+        Ok(Heard {
+            start: self.start,
+            bytes: Message::of(alloc, self.bytes.bytes())?,
+        })
+    }
+
     /// Whether it says response pending.
     pub fn is_pending(&self) -> bool
         ensures { result ≡ is_pending self.now }

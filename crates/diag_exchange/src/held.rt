@@ -1,12 +1,12 @@
 //! An exchange that isn't over.
 
-ghost use Rattle.std.specs.Prelude.{◌≡◌, ◌+◌, ◌∷◌, [], option_copied, OnOk, OnErr};
+ghost use Rattle.std.specs.Prelude.{◌≡◌, ◌+◌, ◌∷◌, [], option_copied, IfOk, OnOk, OnErr};
 ghost use Rattle.diag_exchange.specs.Asking.{begins_as, begins_as_reply, first_byte, fits, is_positive};
 ghost use Rattle.diag_exchange.specs.Streaming.{asked_again, hearing, hears_no_more, is_candidate, is_done, may_hear, told, opened, with_message};
 
 use crate::happening::{Heard, Over, Request, Start};
 use diag_pdu::Message;
-use std::alloc::AllocError;
+use std::alloc::{AllocError, Global};
 
 /// A request with what the unit has sent to it so far.
 #[derive(Drop)]
@@ -92,6 +92,24 @@ impl Open {
             pendings: self.pendings,
             answer: self.answer,
         }
+    }
+
+    /// What is told of it, in memory of its own.
+    ///
+    /// # Errors
+    /// `AllocError` where memory is refused.
+    pub fn tell_copy(&self, alloc: Global) -> Result<Over, AllocError>
+        ensures { IfOk result (λ over. over ≡ told self.now) }
+    {
+        let answer = match &self.answer {
+            Some(heard) => Some(heard.try_copy(alloc)?),
+            None => None,
+        };
+        Ok(Over::Exchange {
+            request: self.request.try_copy(alloc)?,
+            pendings: self.pendings,
+            answer,
+        })
     }
 
     /// Whether a message that begins so may answer it.

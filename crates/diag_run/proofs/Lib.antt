@@ -1,6 +1,7 @@
 pub mod Finishing
 pub mod Following
 pub mod Inputs
+pub mod Judging
 pub mod Known
 pub mod Order
 pub mod Pieces

@@ -11,7 +11,7 @@ use Rattle.diag_setup.specs.declared.raw.RawKeyRow.{RawKeyRow}
 use Rattle.diag_setup.specs.declared.raw.RawLevel.{RawLevel}
 use Rattle.diag_setup.specs.declared.raw.TemplateItem.{TemplateItem}
 use Rattle.diag_setup.specs.Rows.{is_between, has_length, has_key, have_one_length, is_rising}
-use Rattle.diag_setup.specs.Setup.{level_sub, seed_of, key_of, is_name_byte, is_can_id, is_st_min, faults, is_in_range, times_are_in_range, link_is_in_range, server_is_in_range, testers_are_in_range, dids_are_in_range, codes_are_in_range, routines_are_in_range, levels_are_in_range, tester_is_in_range, did_is_in_range, code_is_in_range, routine_is_in_range, on_done_is_in_range, key_row_is_in_range, level_is_in_range, has_no_rows, is_known_level, did_levels_are_known, routine_level_is_known, IsSetup, did_id, dtc_code, routine_id, answers_are_in_range, answer_is_in_range, reply_is_in_range, enter_is_in_range, template_is_in_range, item_is_in_range, items_or_none, template_count, is_in_time, latest_answer_ms, answer_level_is_known}
+use Rattle.diag_setup.specs.Setup.{level_sub, seed_of, key_of, is_name_byte, is_can_id, is_st_min, faults, is_in_range, times_are_in_range, link_is_in_range, server_is_in_range, testers_are_in_range, dids_are_in_range, codes_are_in_range, routines_are_in_range, levels_are_in_range, tester_is_in_range, did_is_in_range, code_is_in_range, routine_is_in_range, on_done_is_in_range, key_row_is_in_range, level_is_in_range, has_no_rows, is_known_level, did_levels_are_known, routine_level_is_known, IsSetup, did_id, dtc_code, routine_id, answers_are_in_range, ignored_are_in_range, answer_is_in_range, reply_is_in_range, enter_is_in_range, template_is_in_range, item_is_in_range, items_or_none, template_count, is_in_time, latest_answer_ms, answer_level_is_known}
 use Rattle.diag_setup.specs.Fits.{TesterFits, DidFits, CodeFits, OnDoneFits, RoutineFits, KeyRowFits, LevelFits, AnswerFits, NumbersFit}
 use Rattle.diag_setup.proofs.SetupLemmas.{NoneHold, none_hold}
 
@@ -54,6 +54,13 @@ and9 a b c d e f g i j h =
     let front = and8 a b c d e f g i last.0 in
     (front.0, front.1, front.2, front.3, front.4, front.5, front.6, front.7, last.1)
 
+and10 : (a b c d e f g i j k : Bool) → (a && b && c && d && e && f && g && i && j && k) ≡ true
+    → (a ≡ true) × (b ≡ true) × (c ≡ true) × (d ≡ true) × (e ≡ true) × (f ≡ true) × (g ≡ true) × (i ≡ true) × (j ≡ true) × (k ≡ true)
+and10 a b c d e f g i j k h =
+    let last = and_parts (a && b && c && d && e && f && g && i && j) k h in
+    let front = and9 a b c d e f g i j last.0 in
+    (front.0, front.1, front.2, front.3, front.4, front.5, front.6, front.7, front.8, last.1)
+
 between : (low high n : ℕ) → is_between low high n ≡ true → (low ≤ n) × (n ≤ high)
 between low high n h =
     let parts = and_parts (nat_le low n) (nat_le n high) h in
@@ -70,12 +77,14 @@ abbrev Parts : RawSetup → Type 0
 Parts raw = (times_are_in_range raw ≡ true) × (link_is_in_range raw ≡ true) × (server_is_in_range raw ≡ true)
     × (testers_are_in_range raw.testers ≡ true) × (dids_are_in_range raw.dids ≡ true) × (codes_are_in_range raw.dtcs ≡ true)
     × (routines_are_in_range raw.routines ≡ true) × (levels_are_in_range raw.levels ≡ true) × (answers_are_in_range raw ≡ true)
+    × (ignored_are_in_range raw.ignore ≡ true)
 
 parts_of : (raw : RawSetup) → IsSetup raw → Parts raw
 parts_of raw h =
     let none : NoneHold (faults raw) = none_hold (faults raw) h.0 in
-    and9 (times_are_in_range raw) (link_is_in_range raw) (server_is_in_range raw) (testers_are_in_range raw.testers) (dids_are_in_range raw.dids)
-    (codes_are_in_range raw.dtcs) (routines_are_in_range raw.routines) (levels_are_in_range raw.levels) (answers_are_in_range raw) (not-false (is_in_range raw) none.0)
+    and10 (times_are_in_range raw) (link_is_in_range raw) (server_is_in_range raw) (testers_are_in_range raw.testers) (dids_are_in_range raw.dids)
+    (codes_are_in_range raw.dtcs) (routines_are_in_range raw.routines) (levels_are_in_range raw.levels) (answers_are_in_range raw) (ignored_are_in_range raw.ignore)
+    (not-false (is_in_range raw) none.0)
 
 pub numbers_fit : (raw : RawSetup) → IsSetup raw → NumbersFit raw
 numbers_fit raw h =

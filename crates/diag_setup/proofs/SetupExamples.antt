@@ -1,5 +1,5 @@
 -- Raw setups and what check makes of them, computed.
-use Rattle.std.proofs.Common.{◌≡◌, [], ◌∷◌, None, Some, Ok, refl, codes, replicate, Option}
+use Rattle.std.proofs.Common.{◌≡◌, false, [], ◌∷◌, None, Some, Ok, refl, codes, replicate, Option}
 use Rattle.diag_setup.specs.declared.raw.RawTester.{RawTester}
 use Rattle.diag_setup.specs.declared.raw.RawAnswer.{RawAnswer}
 use Rattle.diag_setup.specs.declared.raw.PatternItem.TheVariants as pattern
@@ -119,3 +119,17 @@ too_late = refl
 
 rows_of_1025 : fault_of (record two_testers { answers = replicate 1025 slow_row }) ≡ Some Range
 rows_of_1025 = refl
+
+-- ---- patterns of requests that aren't compared
+
+pattern_to_ignore_of_no_items : fault_of (record two_testers { ignore = record { items = []; more = false } ∷ [] }) ≡ Some Range
+pattern_to_ignore_of_no_items = refl
+
+pattern_to_ignore_of_65_items : fault_of (record two_testers { ignore = record { items = replicate 65 pattern.Any; more = false } ∷ [] }) ≡ Some Range
+pattern_to_ignore_of_65_items = refl
+
+patterns_to_ignore_256 : fault_of (record two_testers { ignore = replicate 256 (record { items = pattern.Any ∷ []; more = false }) }) ≡ None
+patterns_to_ignore_256 = refl
+
+patterns_to_ignore_257 : fault_of (record two_testers { ignore = replicate 257 (record { items = pattern.Any ∷ []; more = false }) }) ≡ Some Range
+patterns_to_ignore_257 = refl

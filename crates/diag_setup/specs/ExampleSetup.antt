@@ -23,6 +23,7 @@ did = record {
   read_level = 0;
   write = true;
   write_level = 1;
+  varies = false;
 }
 
 abbrev pub code : RawCode
@@ -71,6 +72,7 @@ two_testers = record {
   routines = routine ∷ [];
   levels = level ∷ [];
   answers = [];
+  ignore = [];
 }
 
 -- ---- the same with rows of answers

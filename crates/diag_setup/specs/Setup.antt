@@ -13,6 +13,7 @@ use Rattle.diag_setup.specs.declared.raw.RawRoutine.{RawRoutine}
 use Rattle.diag_setup.specs.declared.raw.RawKeyRow.{RawKeyRow}
 use Rattle.diag_setup.specs.declared.raw.RawLevel.{RawLevel}
 use Rattle.diag_setup.specs.declared.raw.RawAnswer.{RawAnswer}
+use Rattle.diag_setup.specs.declared.raw.RawPattern.{RawPattern}
 use Rattle.diag_setup.specs.declared.raw.TemplateItem.{TemplateItem}
 use Rattle.diag_setup.specs.declared.raw.TemplateItem.TheVariants.{OfRequest}
 use Rattle.diag_setup.specs.declared.fault.SetupFault.{SetupFault}
@@ -110,6 +111,9 @@ answer_is_in_range row =
     has_length 1 64 row.pattern && reply_is_in_range (length row.pattern) row.reply
     && nat_le row.session 126 && enter_is_in_range row && nat_le row.after_ms 600000
 
+abbrev pub pattern_is_in_range : RawPattern → Bool
+pattern_is_in_range pattern = has_length 1 64 pattern.items
+
 abbrev pub is_st_min : ℕ → Bool
 is_st_min st = nat_le st 127 || is_between 241 249 st
 
@@ -157,13 +161,16 @@ answers_are_in_range raw =
     && list_all (is_in_time (latest_answer_ms raw.p2_ms raw.p2_star_10ms)) raw.answers
     && nat_le (sum_by template_count raw.answers) 65536
 
+abbrev pub ignored_are_in_range : List RawPattern → Bool
+ignored_are_in_range patterns = nat_le (length patterns) 256 && list_all pattern_is_in_range patterns
+
 -- Range: every value and every number of rows is one that the table allows
 abbrev pub is_in_range : RawSetup → Bool
 is_in_range raw =
     times_are_in_range raw && link_is_in_range raw && server_is_in_range raw
     && testers_are_in_range raw.testers && dids_are_in_range raw.dids
     && codes_are_in_range raw.dtcs && routines_are_in_range raw.routines
-    && levels_are_in_range raw.levels && answers_are_in_range raw
+    && levels_are_in_range raw.levels && answers_are_in_range raw && ignored_are_in_range raw.ignore
 
 abbrev pub has_no_rows : RawLevel → Bool
 has_no_rows level = length level.rows == 0

@@ -4,12 +4,12 @@ ghost use Rattle.std.specs.Prelude.{◌≡◌, ◌==◌, ◌≤◌, ◌&&◌, Bo
 ghost use Rattle.std.specs.List.{list_all, list_any};
 ghost use Rattle.std.specs.Bool.{OnTrue};
 ghost use Rattle.diag_setup.specs.Rows.{is_between, have_one_length};
-ghost use Rattle.diag_setup.specs.Setup.{can_ids, has_name, has_repeated_name, has_no_rows, is_known_level, done_code_is_known, did_levels_are_known, routine_level_is_known, answer_level_is_known, lacks_rows, has_duplicates, names_unknown_code, names_unknown_level, key_of, seed_of, fault_of, is_in_range, times_are_in_range, link_is_in_range, server_is_in_range, tester_is_in_range, did_is_in_range, code_is_in_range, routine_is_in_range, key_row_is_in_range, level_is_in_range, is_st_min, is_name_byte, is_can_id};
+ghost use Rattle.diag_setup.specs.Setup.{can_ids, has_name, has_repeated_name, has_no_rows, is_known_level, done_code_is_known, did_levels_are_known, routine_level_is_known, answer_level_is_known, pattern_is_in_range, lacks_rows, has_duplicates, names_unknown_code, names_unknown_level, key_of, seed_of, fault_of, is_in_range, times_are_in_range, link_is_in_range, server_is_in_range, tester_is_in_range, did_is_in_range, code_is_in_range, routine_is_in_range, key_row_is_in_range, level_is_in_range, is_st_min, is_name_byte, is_can_id};
 
 use crate::fault::SetupFault;
 use crate::keyed::{has_key, has_repeat};
 use crate::raw::{
-    RawAnswer, RawCode, RawDid, RawKeyRow, RawLevel, RawRoutine, RawSetup, RawTester,
+    RawAnswer, RawCode, RawDid, RawKeyRow, RawLevel, RawPattern, RawRoutine, RawSetup, RawTester,
 };
 use arrayvec::ArrayVec;
 
@@ -30,6 +30,9 @@ const MOST_LEVELS: usize = 4;
 
 /// The most rows of a level.
 const MOST_KEY_ROWS: usize = 64;
+
+/// The most patterns of requests that aren't compared.
+const MOST_IGNORED: usize = 256;
 
 impl RawSetup {
     fn times_are_in_range(&self) -> bool
@@ -77,6 +80,7 @@ impl RawSetup {
             && are_in_range(self.routines.as_slice(), MOST_ROUTINES)
             && are_in_range(self.levels.as_slice(), MOST_LEVELS)
             && self.answers_are_in_range()
+            && are_in_range(self.ignore.as_slice(), MOST_IGNORED)
     }
 }
 
@@ -153,6 +157,14 @@ impl Ranged for RawKeyRow {
         is_between_len(1, 255, self.seed.len())
             && has_a_bit(self.seed.as_slice())
             && is_between_len(1, 255, self.key.len())
+    }
+}
+
+impl Ranged for RawPattern {
+    ghost in_range = { pattern_is_in_range };
+
+    fn is_in_range(&self) -> bool {
+        is_between_len(1, 64, self.items.len())
     }
 }
 

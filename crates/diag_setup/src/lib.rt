@@ -13,8 +13,8 @@ mod tester_id;
 pub use fault::SetupFault;
 pub use items::Items;
 pub use raw::{
-    Keyed, PatternItem, RawAnswer, RawCode, RawDid, RawKeyRow, RawLevel, RawRoutine, RawSetup,
-    RawTester, TemplateItem,
+    Keyed, PatternItem, RawAnswer, RawCode, RawDid, RawKeyRow, RawLevel, RawPattern, RawRoutine,
+    RawSetup, RawTester, TemplateItem,
 };
 pub use setup::{ServerParameters, Setup};
 pub use tester_id::TesterId;

@@ -48,6 +48,8 @@ pub struct RawSetup {
     pub levels: Items<RawLevel>,
     /// Up to 1024 rows of answers, in the order in which they are looked at, of up to 65536 templates in all.
     pub answers: Items<RawAnswer>,
+    /// Up to 256 patterns of requests whose answers aren't compared with a recording's.
+    pub ignore: Items<RawPattern>,
 }
 
 /// A tester, by its place in the list.
@@ -74,6 +76,8 @@ pub struct RawDid {
     pub write: bool,
     /// The sub-function of the level that writing needs; 0 is open.
     pub write_level: u32,
+    /// Whether its value varies from run to run of a unit, so that it isn't compared with a recording's.
+    pub varies: bool,
 }
 
 /// A trouble code with its status.
@@ -129,6 +133,15 @@ pub enum PatternItem {
     Byte(u8),
     /// Any byte.
     Any,
+}
+
+/// A pattern of requests.
+#[derive(Drop)]
+pub struct RawPattern {
+    /// 1 to 64 items: the bytes that the requests begin with.
+    pub items: Items<PatternItem>,
+    /// Whether they may have more bytes behind those.
+    pub more: bool,
 }
 
 /// An item of a template: a byte of an answer.

@@ -7,7 +7,7 @@ ghost use Rattle.diag_setup.specs.Rows.{is_rising};
 ghost use Rattle.diag_setup.specs.Fits.{TesterFits, DidFits, CodeFits, RoutineFits, LevelFits, AnswerFits, NumbersFit};
 
 use crate::fault::SetupFault;
-use crate::raw::{RawAnswer, RawCode, RawDid, RawLevel, RawRoutine, RawSetup, RawTester};
+use crate::raw::{RawAnswer, RawCode, RawDid, RawLevel, RawPattern, RawRoutine, RawSetup, RawTester};
 use crate::tester_id::TesterId;
 use diag_can::{CanId, Ids, TickCount};
 use diag_pdu::LinkSetup;
@@ -221,6 +221,13 @@ impl Setup {
         ensures fit { All AnswerFits result.now }
     {
         self.raw.answers.as_slice()
+    }
+
+    /// The patterns of the requests whose answers aren't compared with a recording's.
+    pub fn ignore(&self) -> &[RawPattern]
+        ensures { result.now ≡ self.now.ignore }
+    {
+        self.raw.ignore.as_slice()
     }
 }
 

@@ -235,6 +235,17 @@ impl AnswerRow {
         !self.templates.rows.is_empty()
     }
 
+    /// The items of the next template.
+    pub fn template_now(&self) -> &[TemplateItem]
+        ensures is { result.now ≡ template_now self.now }
+        ensures few { length result.now ≤ 4095 }
+    {
+        match self.templates.rows.get(self.next as usize) {
+            Some(template) => template.items.as_slice(),
+            None => &[],
+        }
+    }
+
     /// The next template, filled by a request.
     pub fn filled(&self, alloc: Global, p: &[u8]) -> Result<Vec<u8>, AllocError>
         ensures bytes { IfOk result (λ bytes. bytes.items ≡ filled (template_now self.now) p.now) }
@@ -329,8 +340,8 @@ fn is_of(item: PatternItem, b: u8) -> bool
     }
 }
 
-/// Whether a request fits a pattern.
-fn fits(items: &[PatternItem], more: bool, p: &[u8]) -> bool
+/// Whether a request fits a pattern: it has the bytes of its items, and behind them none, or any where more may come.
+pub fn fits(items: &[PatternItem], more: bool, p: &[u8]) -> bool
     ensures { result ≡ fits items.now more p.now }
 {
     if p.len() < items.len() {

@@ -10,7 +10,7 @@ mod routines;
 mod search;
 mod security;
 
-pub use answers::{Access, AnswerRow, Answers, Pattern, Template, Templates};
+pub use answers::{Access, AnswerRow, Answers, Pattern, Template, Templates, fits};
 pub use dids::{DidFault, DidRow, DidRule, Dids};
 pub use dtcs::{ALL_GROUPS, Dtc, DtcMemory};
 pub use levels::{KeyRow, KeyRows, Level, Levels};

@@ -54,6 +54,7 @@ pub fn raw_two_testers(alloc: Global) -> Result<RawSetup, AllocError>
         routines: rows(alloc, [routine(alloc)?])?,
         levels: rows(alloc, [level(alloc)?])?,
         answers: Items::new(alloc),
+        ignore: Items::new(alloc),
     })
 }
 
@@ -77,6 +78,7 @@ fn did(alloc: Global) -> Result<RawDid, AllocError>
         read_level: 0,
         write: true,
         write_level: 1,
+        varies: false,
     })
 }
 

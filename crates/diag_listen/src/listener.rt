@@ -1,0 +1,257 @@
+//! The unit's side to a tester, as it is heard.
+
+ghost use Rattle.std.specs.Prelude.{◌≡◌, ◌≤◌, [], ◌∷◌, ◌++◌, length, is_some, None, Some, IsSome, OnOk};
+ghost use Rattle.diag_can.specs.declared.frame.Event.{Event as AnEvent};
+ghost use Rattle.diag_can.specs.Log.{waited};
+ghost use Rattle.diag_pdu.specs.Kind.{IsRead};
+ghost use Rattle.diag_pdu.specs.Cut.{head_size};
+ghost use Rattle.diag_sides.specs.Receiver.{begun_partial, open_after};
+ghost use Rattle.diag_exchange.specs.Taking.{Ended};
+ghost use Rattle.diag_exchange.specs.declared.happening.Happening.TheVariants.{Began, Came};
+ghost use Rattle.diag_listen.specs.Listening.{Hears, HearsRequest, Listens, Moves, TookEach, after_ticks, began, kind_happens, lost_if, part_happens, ticks_happen};
+
+use diag_can::{FrameBytes, TickCount};
+use diag_exchange::{Exchanges, Over, Place, Request, Start};
+use diag_pdu::{LinkSetup, Message, Pci};
+use diag_sides::Receiver;
+use std::alloc::{AllocError, Global};
+
+/// The unit's side to a tester: the message that the unit sends it, and the exchanges that aren't over.
+///
+/// It sends nothing: what the tester's own flow control says it passes over. Its contract is the relation `Listens`, to
+/// the events of the unit's side that it heard and to what happened.
+#[derive(Drop)]
+pub struct Listener {
+    /// What frames are read by: the longest message, and N_Cr.
+    pub side: LinkSetup,
+    /// The message that is coming in.
+    pub receiver: Receiver,
+    /// The exchanges that aren't over.
+    pub exchanges: Exchanges,
+}
+
+/// The first frame of a message, which has these bytes of it.
+fn start_of(at: Place, bytes: &[u8]) -> Start
+    requires { 1 ≤ length bytes.now }
+    ensures { Began result ≡ began at bytes.now }
+{
+    Start {
+        at,
+        first: bytes[0],
+        second: bytes.get(1).copied(),
+    }
+}
+
+impl Listener {
+    /// Nothing was heard.
+    pub fn new(alloc: Global, side: LinkSetup) -> Listener
+        ensures listens { Listens result [] [] }
+        ensures side { result.side ≡ side }
+    {
+        Listener {
+            side,
+            receiver: Receiver::new(alloc),
+            exchanges: Exchanges::new(alloc),
+        }
+    }
+
+    /// Hears so much time, in milliseconds; what is over with it is put behind `over`.
+    ///
+    /// # Errors
+    /// `AllocError` where memory is refused; of what was heard nothing is said then.
+    #[inline(always)]
+    pub fn wait(&mut self, at: Place, ms: u64, over: &mut Vec<Over>) -> Result<(), AllocError>
+        ensures heard { OnOk result
+            (Hears self.old self.new over.old.items over.new.items at (waited ms)) }
+        ensures side { self.new.side ≡ self.old.side }
+    {
+        // (for its contract: the time is that of this place, and N_Cr is within the longest count)
+        let _ = at;
+        let _n_cr = self.side.n_cr.get();
+        if self.exchanges.coming.is_none() {
+            return Ok(());
+        }
+        // (a reception ends within the longest count)
+        match TickCount::new(ms.min(u64::from(TickCount::MAX)) as u16) {
+            Some(count) => self.pass(count, over),
+            None => Ok(()),
+        }
+    }
+
+    /// Hears so many ticks.
+    fn pass(&mut self, count: TickCount, over: &mut Vec<Over>) -> Result<(), AllocError>
+        ensures moves { OnOk result (Moves self.old self.new over.old.items over.new.items
+            (ticks_happen self.old.side count self.old.receiver.partial)
+            (after_ticks self.old.side count self.old.receiver.partial)) }
+        ensures side { self.new.side ≡ self.old.side }
+    {
+        self.receiver.pass(self.side.n_cr.get(), count.get());
+        if self.is_receiving() {
+            return Ok(());
+        }
+        self.lose(over)
+    }
+
+    /// Hears a frame of the unit.
+    ///
+    /// # Errors
+    /// As `wait`.
+    pub fn take(
+        &mut self,
+        at: Place,
+        frame: &FrameBytes,
+        over: &mut Vec<Over>,
+    ) -> Result<(), AllocError>
+        ensures heard { OnOk result (Hears self.old self.new over.old.items over.new.items at
+            (AnEvent.Physical frame.now ∷ [])) }
+        ensures side { self.new.side ≡ self.old.side }
+    {
+        let kind = Pci::of_frame(frame, self.side.max_request);
+        self.take_kind(at, &kind, over)
+    }
+
+    /// Hears a request of the tester, complete.
+    ///
+    /// # Errors
+    /// As `wait`.
+    pub fn ask(&mut self, request: Request, over: &mut Vec<Over>) -> Result<(), AllocError>
+        ensures heard { OnOk result
+            (HearsRequest self.old self.new over.old.items over.new.items request) }
+        ensures side { self.new.side ≡ self.old.side }
+    {
+        self.exchanges.ask(request, over)
+    }
+
+    /// Where all was heard, the exchanges that aren't over are put behind `over`, in memory of their own.
+    ///
+    /// # Errors
+    /// `AllocError` where memory is refused.
+    pub fn left(&self, alloc: Global, over: &mut Vec<Over>) -> Result<(), AllocError>
+        ensures { OnOk result (Ended self.now.exchanges over.old.items over.new.items) }
+    {
+        self.exchanges.left(alloc, over)
+    }
+
+    /// Hears a frame of this kind.
+    fn take_kind(
+        &mut self,
+        at: Place,
+        kind: &Pci,
+        over: &mut Vec<Over>,
+    ) -> Result<(), AllocError>
+        requires { IsRead self.old.side.max_request kind.now }
+        ensures moves { OnOk result (Moves self.old self.new over.old.items over.new.items
+            (kind_happens self.old.receiver.partial at kind.now)
+            (open_after self.old.receiver.partial kind.now)) }
+        ensures side { self.new.side ≡ self.old.side }
+    {
+        match kind {
+            Pci::Single(payload) => self.take_single(at, payload, over),
+            Pci::First { len, head } => self.take_first(at, *len, head.as_slice(), over),
+            Pci::Overflow => self.lose(over),
+            Pci::Consecutive {
+                sequence_number,
+                part,
+            } => self.take_part(kind, *sequence_number, part.as_slice(), over),
+            Pci::FlowControl { .. } | Pci::Ignored => Ok(()),
+        }
+    }
+
+    /// A message of one frame.
+    fn take_single(
+        &mut self,
+        at: Place,
+        payload: &FrameBytes,
+        over: &mut Vec<Over>,
+    ) -> Result<(), AllocError>
+        requires { 1 ≤ length payload.now }
+        ensures moves { OnOk result (Moves self.old self.new over.old.items over.new.items
+            (lost_if (is_some self.old.receiver.partial) ++ began at payload.now ∷ Came payload.now ∷ []) None) }
+        ensures side { self.new.side ≡ self.old.side }
+    {
+        self.lose(over)?;
+        self.exchanges.begin(start_of(at, payload.as_slice()));
+        self.exchanges.come(Message::in_place(payload.copy()), over)
+    }
+
+    /// The first frame of a message of several frames.
+    fn take_first(
+        &mut self,
+        at: Place,
+        len: u16,
+        head: &[u8],
+        over: &mut Vec<Over>,
+    ) -> Result<(), AllocError>
+        requires { (8 ≤ len) × (length head.now ≡ head_size len) }
+        ensures moves { OnOk result (Moves self.old self.new over.old.items over.new.items
+            (lost_if (is_some self.old.receiver.partial) ++ began at head.now ∷ [])
+            (Some (begun_partial len head.now))) }
+        ensures side { self.new.side ≡ self.old.side }
+    {
+        self.lose(over)?;
+        self.receiver.reserve(len)?;
+        self.receiver.begin(len, head);
+        self.exchanges.begin(start_of(at, head));
+        Ok(())
+    }
+
+    /// A ConsecutiveFrame: it completes the message, or goes on with it, or breaks it off.
+    fn take_part(
+        &mut self,
+        kind: &Pci,
+        number: u8,
+        part: &[u8],
+        over: &mut Vec<Over>,
+    ) -> Result<(), AllocError>
+        requires kind { kind.now ≡ Pci.Consecutive number part.now }
+        requires few { length part.now ≤ 7 }
+        ensures moves { OnOk result (Moves self.old self.new over.old.items over.new.items
+            (part_happens self.old.receiver.partial (Pci.Consecutive number part.now))
+            (open_after self.old.receiver.partial (Pci.Consecutive number part.now))) }
+        ensures side { self.new.side ≡ self.old.side }
+    {
+        let message = self.receiver.complete(kind);
+        let _grant = self.receiver.consecutive(&self.side, number, part);
+        match message {
+            Some(message) => self.come(message, over),
+            None if self.is_receiving() => Ok(()),
+            None => self.lose(over),
+        }
+    }
+
+    /// The message that was coming in is complete.
+    fn come(&mut self, message: Message, over: &mut Vec<Over>) -> Result<(), AllocError>
+        ensures took { OnOk result (IsSome self.old.exchanges.coming → TookEach self.old.exchanges self.new.exchanges
+            over.old.items over.new.items (Came message ∷ [])) }
+        ensures coming { OnOk result (self.new.exchanges.coming ≡ None) }
+        ensures receiver { self.new.receiver ≡ self.old.receiver }
+        ensures side { self.new.side ≡ self.old.side }
+    {
+        if self.exchanges.coming.is_none() {
+            return Ok(());
+        }
+        self.exchanges.come(message, over)
+    }
+
+    /// The message that was coming in, if any, never will be complete.
+    fn lose(&mut self, over: &mut Vec<Over>) -> Result<(), AllocError>
+        ensures took { OnOk result (TookEach self.old.exchanges self.new.exchanges
+            over.old.items over.new.items (lost_if (is_some self.old.exchanges.coming))) }
+        ensures coming { OnOk result (self.new.exchanges.coming ≡ None) }
+        ensures partial { self.new.receiver.partial ≡ None }
+        ensures side { self.new.side ≡ self.old.side }
+    {
+        self.receiver.end();
+        if self.exchanges.coming.is_none() {
+            return Ok(());
+        }
+        self.exchanges.lose(over)
+    }
+
+    /// Whether a message of several frames is coming in.
+    fn is_receiving(&self) -> bool
+        ensures { result ≡ is_some self.now.receiver.partial }
+    {
+        self.receiver.quiet(0, 0) == 0
+    }
+}
