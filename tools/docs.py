@@ -16,7 +16,7 @@ In a document a block is what is indented by four spaces, or stands between line
   it is put behind what the file has;
 - what the command before it prints, its faults included, where the text before it ends with `prints:`; where the text
   before says `status N` that is the command's status, else 0 is; `...` for the lines that are left out at the end;
-- lines that the command before it prints, where the text before it ends with `in it:`;
+- lines that the command before it prints, where the text before it ends with `in it:`; its status is told as above;
 - code, where the text before it ends with the path of a source in backticks and a colon: it stands in that file, word for
   word; in a document of QUOTING each block is code;
 - commands that can't be run here, where the first one begins with one of NOT_RUN, which says why; a line tells of each;
@@ -210,7 +210,7 @@ def play(name, room):
         elif block.is_part():
             told(set(block.lines) <= set(printed.splitlines()), f"{place}: what is shown is printed", printed)
         elif block.is_command():
-            shown = after if after is not None and after.is_printed() else None
+            shown = after if after is not None and (after.is_printed() or after.is_part()) else None
             printed = play_command(place, room, block, shown)
         elif block.why_not():
             print(f"docs: {place}: not run, for {block.why_not()}: {block.lines[0]}", flush=True)
@@ -232,7 +232,7 @@ def play_command(place, room, block, shown):
     printed, status = run(room, last, block.language)
     wanted = shown.status() if shown else 0
     told(status == wanted, f"{place}: {last.splitlines()[0]}", f"status {status} and not {wanted}: {printed}")
-    if shown:
+    if shown and shown.is_printed():
         told(is_as_shown(shown.text(), printed), f"{place}: it prints what is shown", printed)
     return printed
 

@@ -161,9 +161,14 @@ def parts_of(length):
     return -(-(length - head_size(length)) // 7)
 
 
+def begun(moments, now):
+    """The last moment up to `now` at which a message began, 0 where none did."""
+    return next((at for at in range(now, 0, -1) if is_a(moments[at][1], SINGLE, FIRST, OVERFLOW)), 0)
+
+
 def reception(setup, moments, now):
     """The length, the First's bytes and the parts of the reception that is open after moment `now`; None where none is."""
-    start = next((at for at in range(now, 0, -1) if is_a(moments[at][1], SINGLE, FIRST, OVERFLOW)), 0)
+    start = begun(moments, now)
     if not is_a(moments[start][1], FIRST):
         return None
     _, length, head = moments[start][1]

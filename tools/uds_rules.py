@@ -19,15 +19,28 @@ class Row:
 
     def fits(self, request):
         """Whether the pattern fits the bytes of a request."""
-        count = len(self.items)
-        return (len(request) == count or self.is_open and len(request) > count) and all(
-            want in (None, it) for want, it in zip(self.items, request)
-        )
+        return fits(self.items, self.is_open, request)
 
     def filled(self, number, request):
         """What the template of this number, from 0, says to a request: a message, or None where nothing is sent."""
-        text = self.reply[number % len(self.reply)]
-        return bytes(template_byte(text[at : at + 2], request) for at in range(0, len(text), 2)) or None
+        return bytes(template_byte(it, request) for it in self.template(number)) or None
+
+    def template(self, number):
+        """The items of the template of this number, from 0, round and round."""
+        return items_of(self.reply[number % len(self.reply)])
+
+
+def fits(items, is_open, request):
+    """Whether a pattern fits the bytes of a request."""
+    count = len(items)
+    return (len(request) == count or is_open and len(request) > count) and all(
+        want in (None, it) for want, it in zip(items, request)
+    )
+
+
+def items_of(text):
+    """The items of a pattern or of a template, of two characters each."""
+    return [text[at : at + 2] for at in range(0, len(text), 2)]
 
 
 def template_byte(item, request):
@@ -39,8 +52,7 @@ def template_byte(item, request):
 def pattern_of(text):
     """The items of a pattern, and whether more may follow."""
     plain = text.removesuffix("*")
-    found = [plain[at : at + 2] for at in range(0, len(plain), 2)]
-    return tuple(None if it == ".." else int(it, 16) for it in found), plain != text
+    return tuple(None if it == ".." else int(it, 16) for it in items_of(plain)), plain != text
 
 
 def rows_of(tree):

@@ -5,8 +5,9 @@
     tools/view.py --text SETUP RUN..         the journal in words, a line a step
 
 RUN is what `serial`, `play`, `bus` or `bus --journal` wrote. The frames and the journal of one run may stand in two
-files, as `bus` writes them; without a journal the messages of the frames are shown. `-` is standard input. SETUP is read
-as TOML 1.0, by which tools/setup.py goes, too.
+files, as `bus` writes them; without a journal the messages of the frames are shown. Of what `compare` wrote the page has
+the recorded unit and the server side by side. `-` is standard input. SETUP is read as TOML 1.0, by which tools/setup.py
+goes, too.
 """
 import argparse
 import html
@@ -17,10 +18,12 @@ import sys
 from bisect import bisect_left
 from dataclasses import dataclass
 
+from uds_compared import is_report, read_report
 from uds_names import service_name
 from uds_rules import pending
 from uds_run import Held, Session, Wrong, messages, read_run, read_setup, waits
 from uds_words import answer_words, changes, due_words, held_words, message_words, request_words, seconds
+from view_exchanges import exchanges_data, exchanges_text
 
 PARTS = os.path.join(os.path.dirname(os.path.abspath(__file__)), "view")
 KINDS = {"T": 0, "P": 1, "F": 2}
@@ -204,8 +207,15 @@ def lone(message, before, ahead, setup):
     }
 
 
+def late(message, of, entry, ahead, order, setup):
+    """A reply that goes later than its request, for the page: an arrow of its own, with how long it took."""
+    found = lone(message, order.behind(message, of.at, ahead), ahead, setup)
+    return found | {"of": of.at, "after": found["time"] - entry.time, "cut": not message.is_whole()}
+
+
 def chart(setup, run):
-    """The frames of replies, by entry; the entries of whose replies not all were sent; the messages of no entry."""
+    """The frames of replies that go with their requests, by entry; the entries of whose replies not all were sent; and the
+    messages that stand alone: of no entry, response pending, and replies that go later."""
     sent = messages(run.frames)
     if "journal" not in run.shows:
         return {}, [], [lone(it, 0, 0, setup) for it in sent]
@@ -218,8 +228,12 @@ def chart(setup, run):
         elif not of.is_reply:
             rest.append(lone(it, order.behind(it, of.at, ahead), ahead, setup))
         else:
-            replies[of.at] = shown_frames(it, run.entries[of.at].time + ahead)
             order.last[it.place] = of.at
+            entry = run.entries[of.at]
+            if it.frames[0].time - ahead > entry.time:
+                rest.append(late(it, of, entry, ahead, order, setup))
+                continue
+            replies[of.at] = shown_frames(it, entry.time + ahead)
             cut += [] if it.is_whole() else [of.at]
     return replies, cut, sorted(rest, key=lambda it: it["before"])
 
@@ -256,11 +270,12 @@ def part(name):
         return it.read()
 
 
-def page(data):
-    """The page, which needs nothing beside itself. No text of the run can end the data's element."""
+def page(data, name="page"):
+    """The page of this name, which needs nothing beside itself. No text of the run can end the data's element."""
     text = json.dumps(data, separators=(",", ":")).replace("<", "\\u003c")
     title = html.escape(data["title"]).encode("ascii", "xmlcharrefreplace").decode()
-    found = part("page.html").replace("{{style}}", part("page.css")).replace("{{script}}", part("page.js"))
+    script = part("common.js") + part(f"{name}.js")
+    found = part(f"{name}.html").replace("{{style}}", part("page.css")).replace("{{script}}", script)
     before, after = found.split("{{data}}")
     return before.replace("{{title}}", title) + text + after
 
@@ -270,6 +285,23 @@ def read(path):
         return it.read().decode("utf-8", "replace")
 
 
+def show_run(setup, run, title, as_text):
+    """Writes a run, as text or as a page."""
+    if as_text:
+        sys.stdout.writelines((journal_text if "journal" in run.shows else frames_text)(setup, run))
+    else:
+        sys.stdout.write(page(page_data(setup, run, title)))
+
+
+def show_exchanges(setup, name, text, title, as_text):
+    """Writes what `compare` wrote, as text or as a page."""
+    report = read_report(text.splitlines())
+    if as_text:
+        sys.stdout.writelines(exchanges_text(setup, report, name))
+    else:
+        sys.stdout.write(page(exchanges_data(setup, report, name, title), "exchanges"))
+
+
 def main(given=None):
     """Runs the tool by these words, or by those of the command line; returns its status."""
     words = argparse.ArgumentParser(description=__doc__, formatter_class=argparse.RawDescriptionHelpFormatter)
@@ -277,13 +309,14 @@ def main(given=None):
     words.add_argument("setup", metavar="SETUP")
     words.add_argument("run", metavar="RUN", nargs="+")
     given = words.parse_args(given)
+    title = " ".join(map(os.path.basename, given.run))
     try:
         setup = read_setup(read(given.setup))
-        run = read_run(setup, [(it, read(it)) for it in given.run])
-        if not given.text:
-            sys.stdout.write(page(page_data(setup, run, " ".join(map(os.path.basename, given.run)))))
+        texts = [(it, read(it)) for it in given.run]
+        if len(texts) == 1 and is_report(texts[0][1]):
+            show_exchanges(setup, *texts[0], title, given.text)
         else:
-            sys.stdout.writelines((journal_text if "journal" in run.shows else frames_text)(setup, run))
+            show_run(setup, read_run(setup, texts), title, given.text)
     except (Wrong, OSError) as fault:
         print(f"view: {fault}", file=sys.stderr)
         return 1

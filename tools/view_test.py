@@ -18,6 +18,7 @@ import tempfile
 import browser
 import bus
 import examples
+import uds_exchanges
 import uds_names
 import uds_run
 import view
@@ -336,16 +337,61 @@ def silence(room):
 
 
 def late(_):
-    """Of frames with their journal, each response pending stands alone, and a reply is that of its entry."""
+    """Of frames with their journal, each response pending and each reply that goes later than its request stand alone, at
+    their time; another reply is that of its entry."""
     folder = f"{TOP}/runs/bus_rule_slow_twice"
     setup = uds_run.read_setup(whole(f"{folder}/setup.toml"))
     found = uds_run.read_run(setup, [(it, whole(f"{it}/stdout")) for it in (folder, f"{folder}_journal")])
     replies, cut, rest = view.chart(setup, found)
-    pending = [(it["kind"], it["time"], it["before"], it["words"][:5]) for it in rest]
-    want = [("pending", 50, 2, "7F 14"), ("pending", 250, 6, "7F 3E"), ("pending", 400, 7, "7F 3E")]
-    told(pending == want and not cut, "response pending beside the journal", f"{pending}, {cut}")
-    after = {at: [it[1] for it in frames] for at, frames in replies.items()}
-    told(after == {0: [400], 1: [400], 4: [100]}, "how long each answer took", after)
+    alone = [(it["kind"], it["time"], it["before"], it["words"][:5], it.get("of"), it.get("after")) for it in rest]
+    want = [
+        ("pending", 50, 2, "7F 14", None, None), ("pending", 250, 6, "7F 3E", None, None), ("done", 300, 6, "7E 00", 4, 100),
+        ("done", 400, 7, "54 Cl", 0, 400), ("pending", 400, 7, "7F 3E", None, None), ("done", 400, 7, "7E 00", 1, 400),
+    ]
+    told(alone == want and not cut and not replies, "what goes later, beside the journal", f"{alone}, {cut}, {replies}")
+    demo = uds_run.read_setup(whole(f"{TOP}/demo/setup.toml"))
+    at_once = uds_run.read_run(demo, [("output", whole(f"{TOP}/demo/output.txt"))])
+    replies, _, rest = view.chart(demo, at_once)
+    told(len(replies) == 14 and all(it["kind"] == "flow" for it in rest), "what goes at once", f"{len(replies)}, {rest}")
+
+
+# ---- the recorded unit beside the server
+
+
+def spoilt():
+    """The demo's other unit, with a byte of a value and P2* changed, and a message that nobody asked."""
+    text = whole(f"{TOP}/demo/other_unit.log")
+    text = text.replace("7E8#2130303030303030", "7E8#2130303130303030", 1).replace("5003003201F4CC", "500300320BB8CC")
+    return f"{text}(1763800004.000000) can0 7E8#025003\n"
+
+
+def comparison(room, recording):
+    """What `compare` writes of a recording of the demo, by the slow reading."""
+    config = f"{TOP}/demo/setup.toml"
+    journal = run("bus", "--journal", config, put(f"{room}/capture", recording))
+    return uds_exchanges.compared(uds_exchanges.read_setup(whole(config)), recording.splitlines(), journal)[1]
+
+
+BESIDE = """\
+ 9 1763800000.740 workshop     22 F190 ReadDataByIdentifier -> 62 F190 "00000100000000000" after 2 ms  * server: 62 F190 "00000000000000000"
+14 1763800000.790 workshop     22 F195 ReadDataByIdentifier -> 62 F195 0203 after 2 ms
+34 1763800001.200 end_of_line  31 01 0203 RoutineControl startRoutine -> 71 01 0203 after 3 ms, response pending once before
+51 1763800001.600 end_of_line  3E 80 TesterPresent zeroSubFunction -> no answer
+87 1763800004.000 workshop     nobody asked -> 50 03  * server: no answer
+"""
+
+
+def beside(room):
+    """The text of a comparison, and what isn't one of this setup."""
+    found, setup = comparison(room, spoilt()), whole(f"{TOP}/demo/setup.toml")
+    lines = text_of(setup, found).splitlines()
+    told(len(lines) == 16 and set(BESIDE.splitlines()) <= set(lines), "the text of a comparison", "\n".join(lines))
+    for name, text, want in [
+        ("another setup", found.replace("workshop", "bench"), "no tester of the setup is bench"),
+        ("a stray line", f"{found}x\n", "line 19: no line of a comparison"),
+    ]:
+        ran = subprocess.run([VIEW, f"{TOP}/demo/setup.toml", put(f"{room}/told", text)], capture_output=True, timeout=60)
+        told(ran.returncode == 1 and ran.stdout == b"" and want in ran.stderr.decode(), f"a fault: {name}", ran)
 
 
 # ---- faults
@@ -488,6 +534,17 @@ def by_mouse(room, page):
     told(lit == 1 and is_quiet(page), "the chart follows the journal", lit)
 
 
+def later(room, page):
+    """A reply that goes later is an arrow at its time, and is marked with its request's line."""
+    slow = f"{TOP}/runs/bus_rule_slow_twice"
+    page.open(page_of(room, whole(f"{slow}/setup.toml"), *(whole(f"{it}/stdout") for it in (slow, f"{slow}_journal"))), 1600, 900)
+    shown = page.ask("[...document.querySelectorAll('text.later')].map((it) => it.textContent)")
+    told(shown == ["answered at 0.400", "answered at 0.400", "answered at 0.300"], "when an answer comes is said at its request", shown)
+    page.mouse("mouseMoved", *middle_of(page, "[...document.querySelectorAll('text.done')].find((it) => it.textContent.startsWith('54'))"))
+    lit = page.ask(AFTER_DRAWING % "[document.querySelectorAll('g.lit').length, document.querySelector('.line.lit').textContent]")
+    told(lit[0] == 2 and "14 FFFFFF" in lit[1] and is_quiet(page), "a later reply is marked with its request", lit)
+
+
 def not_sent(room, page):
     """A reply that waits, and one that was sent in part, say so."""
     log = put(f"{room}/log", examples.log(["7E0#0322F190", "7E0#300105", "7E0#0322F190", "7E0#023E00"]))
@@ -496,6 +553,28 @@ def not_sent(room, page):
     shown = page.ask("[...document.querySelectorAll('text.done')].map((it) => it.textContent.split(/[\\u00b7\\u25b8]/).pop().trim())")
     want = ["2 frames in 0 ms, the rest wasn't sent", "not sent", "not sent"]
     told(shown == want and drawn(page)["replies"] == 3 and is_quiet(page), "replies that weren't sent", shown)
+
+
+def beside_page(room, page):
+    """A page of a comparison has an arrow for each request and answer on both sides, and what differs in red."""
+    found = comparison(room, spoilt())
+    page.open(page_of(room, whole(f"{TOP}/demo/setup.toml"), found), 1500, HIGH)
+    counted = {
+        "exchanges": "g.exchange", "requests": "path.request", "answers": "path.reply", "red": "path.reply.differs",
+        "words": "text.differs.sent", "beside": "text.differs.expected", "none": "path.none.differs",
+    }
+    ask = AFTER_DRAWING % f"({{{','.join(f'{it}: document.querySelectorAll({what!r}).length' for it, what in counted.items())}}})"
+    want = {"exchanges": 16, "requests": 30, "answers": 29, "red": 7, "words": 4, "beside": 4, "none": 1}
+    shown = page.ask(ask)
+    told(shown == want and is_quiet(page), f"the page of a comparison: {want}", f"{shown}, {page.wrongs()}")
+    page.click(*middle_of(page, "[...document.querySelectorAll('text.differs')].find((it) => it.textContent.startsWith('50 03'))"))
+    bytes_ = page.ask(AFTER_DRAWING % "[...document.querySelectorAll('text.frame')].map((it) => it.textContent)")
+    red = page.ask("[...document.querySelectorAll('tspan.differs')].map((it) => it.textContent.trim())")
+    told(bytes_ == ["unit    50 03 00 32 0B B8", "server  50 03 00 32 01 F4"] and red == ["0B B8", "01 F4"], "the bytes of both", f"{bytes_}, {red}")
+    page.ask("differences.click(); 0")
+    told(page.ask(ask)["exchanges"] == 4, "the differences alone", page.ask(ask))
+    page.ask("tester0.click(); 0")
+    told(page.ask(ask)["exchanges"] == 1 and is_quiet(page), "those of one tester", page.ask(ask))
 
 
 def by_filter(room, page):
@@ -576,7 +655,7 @@ def pages(room):
         print(f"view: Chromium can't be used here ({it}): the pages aren't opened", flush=True)
         return
     try:
-        for group in (whole_pages, frames_page, by_mouse, not_sent, by_filter, hostile, long_page, picture):
+        for group in (whole_pages, frames_page, by_mouse, later, beside_page, not_sent, by_filter, hostile, long_page, picture):
             group(room, page)
     finally:
         page.close()
@@ -597,7 +676,7 @@ def main():
     if not os.access(PROGRAM, os.X_OK):
         print(f"view: {PROGRAM} isn't built\n0 passed, 1 failed")
         return 1
-    for group in (names, texts, lines_a_step, sessions, silence, late, faults, pages):
+    for group in (names, texts, lines_a_step, sessions, silence, late, beside, faults, pages):
         with tempfile.TemporaryDirectory() as room:
             group(room)
     print(f"{counts[True]} passed, {counts[False]} failed")

@@ -1,22 +1,19 @@
-"use strict";
 // Draws what is in sight of the run: on the left the chart, time downwards, on the right the journal.
 // An item is an entry of the journal by its number from 0, or behind them all a message that belongs to no entry.
 
-const run = JSON.parse(document.getElementById("data").textContent);
 const { names, texts, states, entries, lone, replies } = run;
 const COUNT = entries.kind.length;
 const HAS_JOURNAL = run.shows.includes("journal"), HAS_FRAMES = run.shows.includes("frames");
 // the entries of whose replies not all frames were sent
 const cut = new Set(run.cut);
+// the replies that go later than their requests, each as an item, by the entry
+const late = new Map();
+lone.forEach((it, at) => it.of !== undefined && late.set(it.of, COUNT + at));
 const [TICKS, , FUNCTIONAL] = [0, 1, 2];
 const OUTCOMES = ["passed", "done", "refused", "suppressed", "silent", "empty"];
 const WITHOUT_REPLY = ["suppressed", "silent", "empty"];
-const COLOURS = ["#1f6fb4", "#b5541c", "#2b8a3e", "#8a3ea8", "#0b7f8a", "#7a6a00", "#5a52c4", "#8c3b5e"];
-const SVG = "http://www.w3.org/2000/svg";
 // heights of the chart's rows and of the journal's lines, in pixels
 const STEP = 46, WAIT = 18, LONE = 26, FRAME = 17, LINE = 20;
-// the most that a browser lets an element be high
-const HIGHEST = 10_000_000;
 const BYTES_OF_A_LINE = 32;
 
 // ---- the items
@@ -25,9 +22,10 @@ const isEntry = (item) => item < COUNT;
 const isTicks = (item) => isEntry(item) && entries.kind[item] === TICKS;
 const placeOf = (item) => (isEntry(item) ? entries.place[item] : lone[item - COUNT].place);
 const stateAfter = (item) => (item < 0 ? states[0] : states[entries.held[item]]);
-const seconds = (ms) => `${Math.floor(ms / 1000)}.${String(ms % 1000).padStart(3, "0")}`;
 const timeOf = (item) => seconds(isEntry(item) ? entries.time[item] : lone[item - COUNT].time);
 const framesOf = (item) => (isEntry(item) ? replies[item] || [] : lone[item - COUNT].frames);
+// the entry that an item tells of, the item itself where there is none
+const ownerOf = (item) => (isEntry(item) || lone[item - COUNT].of === undefined ? item : lone[item - COUNT].of);
 
 function serviceOf(item) {
   return isEntry(item) ? texts[entries.ask[item]][0].slice(0, 2) : lone[item - COUNT].service;
@@ -48,17 +46,22 @@ function answerOf(item) {
   return isTicks(item) ? "" : texts[entries.answer[item]][0];
 }
 
-const isUnsent = (item) => HAS_FRAMES && framesOf(item).length === 0 && ["done", "refused"].includes(kindOf(item));
+const isUnsent = (item) => HAS_FRAMES && !late.has(item) && framesOf(item).length === 0 && ["done", "refused"].includes(kindOf(item));
+const isCut = (item) => (isEntry(item) ? cut.has(item) : lone[item - COUNT].cut === true);
 
-// How many of a message's frames were sent, and in which time; empty of one that is its only frame.
+// How long a reply took, how many of a message's frames were sent, and in which time; empty of one that is its only frame.
 function sentInWords(item) {
-  const frames = framesOf(item);
   if (isUnsent(item)) return "not sent";
-  if (cut.has(item) && frames.length === 1) return "the first frame alone was sent";
-  if (isEntry(item) && frames.length === 1 && frames[0][1] > 0) return `after ${frames[0][1]} ms`;
+  const after = isEntry(item) ? undefined : lone[item - COUNT].after;
+  return [after === undefined ? "" : `after ${after} ms`, framesInWords(item)].filter((it) => it !== "").join(", ");
+}
+
+function framesInWords(item) {
+  const frames = framesOf(item);
+  if (isCut(item) && frames.length === 1) return "the first frame alone was sent";
   if (frames.length < 2) return "";
   const took = `${frames.length} frames in ${frames[frames.length - 1][1] - frames[0][1]} ms`;
-  return cut.has(item) ? `${took}, the rest wasn't sent` : took;
+  return isCut(item) ? `${took}, the rest wasn't sent` : took;
 }
 
 // The lines that an item opens to, each with a frame's bytes or those of a message.
@@ -70,7 +73,7 @@ function detailsOf(item) {
   for (const [stamp, after, bytes] of frames.length > 1 ? frames : []) {
     found.push({ text: `(${stamp})  ${after < 0 ? "" : "+"}${after} ms  ${bytes}`, isFrame: true, side: "answer" });
   }
-  if (isEntry(item) && frames.length < 2) found.push(...bytesOf(texts[entries.answer[item]][1], "reply", "answer"));
+  if (isEntry(item) && !late.has(item) && frames.length < 2) found.push(...bytesOf(texts[entries.answer[item]][1], "reply", "answer"));
   return found;
 }
 
@@ -151,70 +154,11 @@ function show() {
   journal.fit();
 }
 
-// The last index whose value is at or below `most`, where values rise.
-function lastAt(list, value, most) {
-  let low = 0, high = list.length;
-  while (low < high) {
-    const middle = (low + high) >> 1;
-    if (value(list[middle]) <= most) low = middle + 1;
-    else high = middle;
-  }
-  return low - 1;
-}
-
-// ---- a strip that scrolls over more than a browser lets be high
-
-class Strip {
-  constructor(id, draw) {
-    this.scroller = document.getElementById(id);
-    [this.room] = this.scroller.getElementsByClassName("room");
-    [this.sight] = this.scroller.getElementsByClassName("sight");
-    this.total = 0;
-    this.draw = draw;
-    this.scroller.addEventListener("scroll", () => this.redraw());
-  }
-
-  get view() {
-    return this.scroller.clientHeight;
-  }
-
-  // What a pixel of the scroll bar's way stands for.
-  get scale() {
-    const way = Math.min(this.total, HIGHEST) - this.view;
-    return way > 0 ? (this.total - this.view) / way : 1;
-  }
-
-  get top() {
-    return this.scroller.scrollTop * this.scale;
-  }
-
-  set top(y) {
-    this.scroller.scrollTop = Math.max(y, 0) / this.scale;
-    this.redraw();
-  }
-
-  fit() {
-    this.sight.style.height = `${this.view}px`;
-    this.room.style.height = `${Math.max(Math.min(this.total, HIGHEST), this.view)}px`;
-    this.redraw();
-  }
-
-  redraw() {
-    this.draw(this.top, this.view);
-  }
-
-  // Brings a place of some height into sight, where it isn't.
-  reveal(y, height) {
-    if (y < this.top || y + height > this.top + this.view) this.top = y - this.view / 2;
-  }
-}
-
 // ---- the chart
 
 const usedLevels = [...new Set(states.map(([, level]) => level).filter((it) => it !== null))].sort((a, b) => a - b);
 const usedRoutines = [...new Set(states.flatMap(([, , routines]) => routines))].sort((a, b) => a - b);
 const hex = (number, digits) => number.toString(16).toUpperCase().padStart(digits, "0");
-const colour = (place) => COLOURS[place % COLOURS.length];
 
 // The bars beside the unit: each with its name, its place, and what it is in a state.
 const bars = [
@@ -244,20 +188,6 @@ function setApart() {
   return Math.max(testerX(names.length - 1) + MARGIN, chart.scroller.clientWidth);
 }
 
-function element(name, attributes, text) {
-  const it = document.createElementNS(SVG, name);
-  for (const [key, value] of Object.entries(attributes)) it.setAttribute(key, value);
-  if (text !== undefined) it.textContent = text;
-  return it;
-}
-
-// An arrow from x to another x, its head at the other.
-function arrow(from, to, y, attributes) {
-  const back = to > from ? -7 : 7;
-  const d = `M${from} ${y}L${to} ${y}M${to + back} ${y - 4}L${to} ${y}L${to + back} ${y + 4}`;
-  return element("path", { d, ...attributes });
-}
-
 function label(text, y, kind) {
   return element("text", { x: UNIT + 10, y, class: kind }, text);
 }
@@ -277,6 +207,11 @@ function drawStep(group, row, y) {
     arrow(x, UNIT, y + 18, { class: `request${functional}`, stroke: colour(place) }),
     label(askOf(item) + opening(item, "ask"), y + 14, "request"),
   );
+  if (late.has(item)) {
+    group.append(label(`answered at ${timeOf(late.get(item))}`, y + 34, "later"));
+    drawDetails(group, item, y + STEP);
+    return;
+  }
   if (WITHOUT_REPLY.includes(kind)) {
     group.append(element("path", { d: `M${UNIT} ${y + 38}H${UNIT + 60}`, class: `none ${kind}` }));
   } else {
@@ -331,9 +266,12 @@ function waitInWords(items) {
 
 const DRAWN = { step: drawStep, lone: drawLone, wait: drawWait };
 
+// Whether a row is of the item that is marked, as a later reply is.
+const isLit = (row) => row.items.some((item) => item === lit || ownerOf(item) === lit);
+
 function drawRow(svg, row, y) {
   const opens = row.kind !== "wait" && detailsOf(row.items[0]).length > 0;
-  const group = element("g", { class: `${opens ? "opens" : ""}${row.items.includes(lit) ? " lit" : ""}` });
+  const group = element("g", { class: `${opens ? "opens" : ""}${isLit(row) ? " lit" : ""}` });
   DRAWN[row.kind](group, row, y);
   svg.append(group);
 }
@@ -397,8 +335,9 @@ function drawChart(top, view) {
   let end = first;
   while (end < rows.length && rows[end].y < top + view - HEAD) end++;
   const seen = rows.slice(first, end);
-  const marked = seen.find((row) => row.items.includes(lit));
-  if (marked) svg.append(element("rect", { x: 0, y: marked.y - top + HEAD, width, height: marked.height, class: "lit" }));
+  for (const row of seen.filter(isLit)) {
+    svg.append(element("rect", { x: 0, y: row.y - top + HEAD, width, height: row.height, class: "lit" }));
+  }
   drawLives(svg, view);
   drawBars(svg, seen, top - HEAD);
   for (const row of seen) drawRow(svg, row, row.y - top + HEAD);
@@ -486,8 +425,8 @@ function told(item) {
 
 function follow(event) {
   const row = rowOfEvent(event);
-  if (!row || row.items.includes(lit)) return;
-  const item = row.items[0];
+  if (!row || isLit(row)) return;
+  const item = HAS_JOURNAL ? ownerOf(row.items[0]) : row.items[0];
   light(item);
   const at = lines.indexOf(item);
   if (at >= 0) journal.reveal(at * LINE, LINE);
@@ -528,15 +467,6 @@ function countsInWords() {
   if (run.shows.includes("frames")) words.push(`${frames} frames of the unit`);
   if (!HAS_JOURNAL) words.push("no journal was given: no requests and no session are shown");
   return words.concat(run.end.filter((it) => !it.startsWith("code"))).join(" \u00b7 ");
-}
-
-function testerBox(name, place) {
-  const label = document.createElement("label");
-  const box = document.createElement("input");
-  Object.assign(box, { type: "checkbox", id: `tester${place}`, checked: true });
-  label.style.color = colour(place);
-  label.append(box, ` ${name}`);
-  return label;
 }
 
 function fillHead() {

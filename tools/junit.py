@@ -1,0 +1,138 @@
+#!/usr/bin/env python3
+"""Turns what `compare` writes into JUnit XML, which build servers read: a test suite a tester, a test case an exchange,
+the difference as the failure's text. It reads standard input and writes standard output.
+
+    ./uds_play compare SETUP CAPTURE | tools/junit.py > report.xml
+
+The status is the one that the text tells: 0 where nothing differs, 8 where something does, 9 where nothing was compared,
+3 where the testers' lines are missing, for then the run ended by a fault. With 9 and 3 the report has an error, so it isn't
+green either. An exchange that is ignored is a test case that was skipped. No part of what is proved."""
+import signal
+import sys
+from typing import Iterable, Optional
+from xml.sax.saxutils import escape, quoteattr
+
+import uds_words
+from uds_compared import FAULT, NOT_COMPARED, NOTHING, Compared, Report, read_report
+
+# the most digits of a message in the name of a test case
+MOST_DIGITS = 32
+# the lines of an element
+Lines = list[str]
+
+# ---- the XML
+
+
+def element(name: str, attributes: dict, inner: Iterable[str] = (), text: str = "") -> Lines:
+    """The lines of an element with a text, or with the lines of what is in it."""
+    head = "".join(f" {key}={quoteattr(str(value))}" for key, value in attributes.items())
+    if text:
+        return [f"<{name}{head}>{escape(text)}</{name}>"]
+    if not inner:
+        return [f"<{name}{head}/>"]
+    return [f"<{name}{head}>", *(f"  {it}" for it in inner), f"</{name}>"]
+
+
+def shortened(digits: str) -> str:
+    return digits if len(digits) <= MOST_DIGITS else f"{digits[:MOST_DIGITS]}.."
+
+
+def digits(data: Optional[bytes]) -> str:
+    return "nothing" if data is None else data.hex().upper()
+
+
+def case_name(it: Compared) -> str:
+    """The name of an exchange's test case: its line, and the request, with its service in words."""
+    if it.request is None:
+        return f"line {it.line}: unasked {shortened(digits(it.sent))}"
+    words = f"{shortened(digits(it.request))} {uds_words.service_words(it.request)}"
+    return f"line {it.line}: {words}{', functional' if it.kind == 'F' else ''}"
+
+
+def message(it: Compared) -> str:
+    """What a failure says in short."""
+    if it.request is None:
+        return "nobody asked"
+    return "no answer" if it.sent is None else "an answer to none" if it.expected == "-" else "another answer"
+
+
+def difference(it: Compared) -> str:
+    """What a failure says in full."""
+    wanted = "nothing" if it.expected == "-" else it.expected
+    return f"line {it.line}: the unit sent {it.name} {digits(it.sent)}, expected {wanted}"
+
+
+def outcome(it: Compared) -> Lines:
+    """The lines in the test case of an exchange."""
+    if it.is_ignored():
+        return element("skipped", {"message": "ignored"})
+    return element("failure", {"type": "difference", "message": message(it)}, text=difference(it)) if it.differs() else []
+
+
+def case_of(it: Compared) -> Lines:
+    attributes = {"classname": it.name, "name": case_name(it), "time": f"{(it.wait or 0) / 1000:.3f}"}
+    return element("testcase", attributes, outcome(it))
+
+
+def suite(name: str, cases: list[Lines], counted: dict) -> Lines:
+    """A test suite of test cases, each as its lines, with how many of them failed, are in error, or were skipped."""
+    attributes = {"name": name, "tests": len(cases), **counted}
+    return element("testsuite", attributes, [line for case in cases for line in case])
+
+
+def suite_of(name: str, report: Report) -> Lines:
+    own = [it for it in report.exchanges if it.name == name]
+    counted = {"failures": sum(it.differs() for it in own), "errors": 0, "skipped": sum(it.is_ignored() for it in own)}
+    return suite(name, [case_of(it) for it in own], counted)
+
+
+def errors_of(report: Report) -> list[str]:
+    """What is wrong with the run as a whole."""
+    if report.stray:
+        number, text = report.stray
+        return [f"line {number} of standard input is none of compare's: {text[:60]}"]
+    if report.status() == FAULT:
+        return ["the run ended by a fault: the testers' lines are missing"]
+    return [NOTHING] if report.status() == NOT_COMPARED else []
+
+
+def error_suite(words: str) -> Lines:
+    """A test suite that says what is wrong with the run as a whole."""
+    inner = element("error", {"type": "compare", "message": printable(words)}, text=printable(words))
+    case = element("testcase", {"classname": "compare", "name": "the run", "time": "0.000"}, inner)
+    return suite("compare", [case], {"failures": 0, "errors": 1, "skipped": 0})
+
+
+def printable(text: str) -> str:
+    """A text without what XML can't have."""
+    return "".join(it if it.isprintable() else "?" for it in text)
+
+
+def xml_of(report: Report) -> Lines:
+    """The lines of the XML."""
+    errors = errors_of(report)
+    suites = [suite_of(name, report) for name in report.names()] + [error_suite(it) for it in errors]
+    attributes = {
+        "name": "uds_play compare",
+        "tests": len(report.exchanges) + len(errors),
+        "failures": sum(it.differs() for it in report.exchanges),
+        "errors": len(errors),
+    }
+    return ['<?xml version="1.0" encoding="UTF-8"?>', *element("testsuites", attributes, [line for it in suites for line in it])]
+
+
+def main() -> int:
+    if sys.argv[1:]:
+        print(__doc__, file=sys.stderr)
+        return 0 if sys.argv[1] in ("-h", "--help") else 1
+    report = read_report(sys.stdin)
+    for line in xml_of(report):
+        print(line)
+    if report.stray:
+        print(f"junit: {errors_of(report)[0]}", file=sys.stderr)
+    return report.status()
+
+
+if __name__ == "__main__":
+    signal.signal(signal.SIGPIPE, signal.SIG_DFL)
+    sys.exit(main())

@@ -1,0 +1,256 @@
+#!/usr/bin/env python3
+"""Makes the setup by which the server answers as the unit in a recording did, and says of what it can't explain where it
+stands.
+
+    tools/learn.py [--pair REQUEST:RESPONSE[=NAME]].. [--varies] CAPTURE > unit.toml
+
+CAPTURE is a recording of `candump -L`, or, where python-can is installed, one of ASC, BLF, TRC, CSV or MF4. The testers are
+the pairs that are given, or those that are found. With `--varies` an identifier that was read with different values, and
+seeds that differ, aren't compared; without it their values come one after the other, round and round.
+
+The judge is `compare` of the program (./uds_play builds it): a setup is made, compared with the recording, and what differs
+becomes rows of answers, until nothing differs or nothing gets better. The status is 0 where nothing differs; 8 where
+something does, which is told on standard error, exchange by exchange; 9 where nothing was compared; else that of the
+program's fault. No part of what is proved."""
+import argparse
+import os
+import shutil
+import sys
+import tempfile
+import time
+from dataclasses import replace
+from typing import Iterable, Iterator, Optional
+
+sys.dont_write_bytecode = True
+from learn_bus import MOST_TESTERS, Pair, Sending, functional_of, look, pair_of, pairs_of, sending_of
+from learn_judge import AGREES, DIFFERS, NOTHING, Judge, Program, Refused, Verdict
+from learn_model import learn_model
+from learn_rows import Plan
+from learn_setup import Unit, setup_text
+
+TOP = os.path.dirname(os.path.dirname(os.path.abspath(__file__)))
+PROGRAM = f"{TOP}/crates/uds_play/out/uds_play"
+# where Debian's packages stand, for a Python that isn't Debian's
+DEBIAN = "/usr/lib/python3/dist-packages"
+OTHERS = (".asc", ".blf", ".trc", ".csv", ".mf4", ".db")
+# so much of a recording is read at a time
+BLOCK = 1 << 22
+# the most rounds, and how many of them may bring nothing
+MOST_ROUNDS, MOST_IDLE = 16, 4
+# the most differences that are told one by one
+MOST_TOLD = 1000
+
+
+class Progress:
+    """A bar on a terminal, where it takes more than a second; nothing elsewhere."""
+
+    def __init__(self) -> None:
+        self.begun, self.is_shown = time.monotonic(), False
+
+    def at(self, part: float, words: str) -> None:
+        if sys.stderr.isatty() and time.monotonic() - self.begun > 1:
+            self.is_shown = True
+            print(f"\r\x1b[K{'#' * round(part * 30):<30} {words}", end="", file=sys.stderr, flush=True)
+
+    def end(self) -> None:
+        if self.is_shown:
+            print("\r\x1b[K", end="", file=sys.stderr, flush=True)
+
+
+def plain(text: str) -> str:
+    """A text in one line, without what would steer a terminal."""
+    return "".join(it if it.isprintable() else "?" for it in text)
+
+
+def say(text: str) -> None:
+    print(f"learn: {plain(text)}", file=sys.stderr)
+
+
+# ---- the recording
+
+
+def blocks_of(path: str) -> Iterator[str]:
+    """A recording in blocks of whole lines."""
+    with open(path, encoding="latin-1", newline="\n") as it:
+        while block := it.read(BLOCK):
+            yield block + it.readline()
+
+
+def converted(path: str, room: str) -> str:
+    """The path of the recording in the form of `candump -L`."""
+    if path == "-":
+        with open(f"{room}/capture.log", "wb") as out:
+            shutil.copyfileobj(sys.stdin.buffer, out)
+        return f"{room}/capture.log"
+    if not path.lower().endswith(OTHERS):
+        return path
+    if os.path.isdir(f"{DEBIAN}/can") and DEBIAN not in sys.path:
+        sys.path.append(DEBIAN)
+    import can  # pylint: disable=import-outside-toplevel
+
+    with can.LogReader(path) as messages, open(f"{room}/capture.log", "w", encoding="ascii") as out:
+        out.writelines(line_of(it) for it in messages)
+    return f"{room}/capture.log"
+
+
+def line_of(message) -> str:
+    """A message of python-can as a line."""
+    identifier = f"{message.arbitration_id:08X}" if message.is_extended_id else f"{message.arbitration_id:03X}"
+    data = bytes(message.data).hex().upper()
+    rest = f"#R{message.dlc}" if message.is_remote_frame else f"##0{data}" if message.is_fd else f"#{data}"
+    us = round(message.timestamp * 1_000_000)
+    return "" if message.is_error_frame else f"({us // 1_000_000:010d}.{us % 1_000_000:06d}) can0 {identifier}{rest}\n"
+
+
+# ---- the testers
+
+
+def named(pairs: Iterable[Pair]) -> list[Pair]:
+    """Each pair with a name."""
+    return [it if it.name else replace(it, name=f"tester_{it.request:X}") for it in pairs]
+
+
+def testers_of(given: list[Pair], found: list[Pair]) -> list[Pair]:
+    """The pairs that can be learned, of those given or else of those found; tells of the others."""
+    pairs = given or found
+    for it in found:
+        if it.is_extended and not given:
+            say(f"the pair {it.shown()} has identifiers of 29 bits, which a setup can't have: it isn't learned")
+    # a setup has testers of 11 bits and classic CAN alone; pairs of 29 bits would go on from here
+    own = [it for it in pairs if not it.is_extended]
+    for it in own[MOST_TESTERS:]:
+        say(f"the pair {it.shown()} is one too many: a setup has {MOST_TESTERS} testers")
+    if len(own) > 1 and not given:
+        say(f"{len(own)} pairs are taken as testers of one unit: {', '.join(it.shown() for it in own)}; --pair takes one of them")
+    return named(own[:MOST_TESTERS])
+
+
+# ---- rounds
+
+
+def count_of(verdict: Verdict) -> int:
+    """How many exchanges differ."""
+    return len(verdict.differing())
+
+
+def learned(unit: Unit, judge: Judge, source: str, progress: Progress) -> tuple[str, Verdict]:
+    """The setup by which the fewest exchanges differ, and what the judge says of it."""
+    first = judge(setup_text(unit, source))
+    progress.at(0.3, "the model")
+    learn_model(unit, first.exchanges)
+    plan, best = Plan(), None
+    unit.rows = plan.rows(unit, first.exchanges)
+    idle = 0
+    for number in range(MOST_ROUNDS):
+        text = setup_text(unit, source)
+        verdict = judge(text)
+        progress.at(0.4 + 0.6 * number / MOST_ROUNDS, f"{count_of(verdict)} exchanges differ")
+        idle = 0 if best is None or count_of(verdict) < count_of(best[1]) else idle + 1
+        best = (text, verdict) if idle == 0 else best
+        if verdict.status != DIFFERS or idle > MOST_IDLE or not plan.widen(verdict.exchanges):
+            break
+        unit.rows = plan.rows(unit, verdict.exchanges)
+    return best
+
+
+def tell(verdict: Verdict, varies: bool) -> None:
+    """Tells what differs."""
+    differing = verdict.differing()
+    if not varies and any(it.request[:1] == b"\x22" for it in differing):
+        say("with --varies the values that change aren't compared")
+    for it in differing[:MOST_TOLD]:
+        say(it.told())
+    if len(differing) > MOST_TOLD:
+        say(f"and {len(differing) - MOST_TOLD} more")
+    if verdict.status == NOTHING:
+        say("nothing was compared: no exchange of these testers is in the recording")
+
+
+# ---- the tool
+
+
+class NoTester(Exception):
+    """There is no tester in a recording."""
+
+
+def refuse(program: str, path: str, room: str) -> None:
+    """Has the program tell what is wrong with a recording in which no tester is found; NoTester where it takes it."""
+    pair = Pair(0x7E0, 0x7E8, name="tester")
+    Program(program, path, room, [pair.name])(setup_text(Unit([pair], None, Sending()), ""))
+    raise NoTester
+
+
+def unit_of(path: str, given: list[Pair], functional: Optional[int], varies: bool) -> Unit:
+    """What the frames tell of the unit. NoTester where there is none."""
+    sight = look(blocks_of(path))
+    pairs = testers_of(given, pairs_of(sight))
+    if not pairs:
+        raise NoTester
+    if functional is None:
+        functional = functional_of(sight, pairs)
+    return Unit(pairs, functional, sending_of(blocks_of(path), pairs), varies=varies)
+
+
+def arguments(given: Optional[list[str]]) -> argparse.Namespace:
+    words = argparse.ArgumentParser(description=__doc__, formatter_class=argparse.RawDescriptionHelpFormatter)
+    words.add_argument("--pair", action="append", default=[], metavar="REQUEST:RESPONSE[=NAME]", help="a tester; may stand several times")
+    words.add_argument("--functional", type=lambda it: int(it, 16), metavar="ID", help="the functional identifier, in hex")
+    words.add_argument("--varies", action="store_true", help="values and seeds that change aren't compared")
+    words.add_argument("--program", default=PROGRAM, help=argparse.SUPPRESS)
+    words.add_argument("capture", metavar="CAPTURE")
+    return words.parse_args(given)
+
+
+def pairs_given(texts: list[str]) -> list[Pair]:
+    """The pairs of the command line. ValueError where one isn't."""
+    found = []
+    for text in texts:
+        it = pair_of(text)
+        if it.is_extended:
+            raise ValueError(f"{text}: identifiers of 29 bits can't be learned yet")
+        found.append(it)
+    return found
+
+
+def main(given: Optional[list[str]] = None) -> int:
+    """Runs the tool by these words, or by those of the command line; returns its status."""
+    words, progress = arguments(given), Progress()
+    if not os.access(words.program, os.X_OK):
+        say(f"{words.program} isn't built: ./uds_play builds it")
+        return 2
+    try:
+        pairs = pairs_given(words.pair)
+    except ValueError as fault:
+        say(f"--pair {fault}")
+        return 1
+    with tempfile.TemporaryDirectory() as room:
+        try:
+            path = converted(words.capture, room)
+            try:
+                unit = unit_of(path, pairs, words.functional, words.varies)
+            except NoTester:
+                refuse(words.program, path, room)
+            progress.at(0.2, "the testers")
+            judge = Program(words.program, path, room, [it.name for it in unit.pairs])
+            text, verdict = learned(unit, judge, plain(os.path.basename(words.capture)), progress)
+        except NoTester:
+            say("no tester was found: --pair REQUEST:RESPONSE names one")
+            return NOTHING
+        except OSError as fault:
+            say(str(fault))
+            return 7
+        except ImportError:
+            say("this form of recording wants python-can (Debian's python3-can)")
+            return 7
+        except Refused as fault:
+            say(fault.told)
+            return fault.status
+        finally:
+            progress.end()
+    sys.stdout.write(text)
+    tell(verdict, words.varies)
+    return verdict.status if verdict.status in (DIFFERS, NOTHING) else AGREES
+
+
+if __name__ == "__main__":
+    sys.exit(main())

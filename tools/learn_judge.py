@@ -1,0 +1,96 @@
+"""The judge of what was learned: `compare` of the program, which says of each exchange of the recording whether a setup
+answers it so. For tools/learn.py; no part of what is proved."""
+import subprocess
+from dataclasses import dataclass
+from typing import Callable, Iterable, Optional
+
+AGREES, DIFFERS, NOTHING = 0, 8, 9
+
+
+@dataclass(slots=True)
+class Exchange:
+    """A request of a tester, or a message that nobody asked, where the request is empty: its line, its moment in
+    milliseconds, the tester's place from 0 and its name, `P`, `F` or `U`; what the unit sent, None for nothing; what was
+    expected, as it is told; how long the answer took; and how often response pending came before it."""
+
+    line: int
+    at: int
+    place: int
+    name: str
+    kind: str
+    request: bytes
+    sent: Optional[bytes]
+    expected: str
+    wait: int
+    pendings: int
+
+    def differs(self) -> bool:
+        return self.expected not in ("=", "~")
+
+    def told(self) -> str:
+        """The difference in words."""
+        sent = "nothing" if self.sent is None else self.sent.hex().upper()
+        expected = "nothing" if self.expected == "-" else self.expected
+        asked = "which nobody asked for" if self.kind == "U" else f"to {self.request.hex().upper()}, expected {expected}"
+        return f"line {self.line}: {self.name} was sent {sent} {asked}"
+
+
+@dataclass
+class Verdict:
+    """What the judge says of a setup: its exchanges in the order of their lines, and the status."""
+
+    exchanges: list[Exchange]
+    status: int
+
+    def differing(self) -> list[Exchange]:
+        return [it for it in self.exchanges if it.differs()]
+
+
+class Refused(Exception):
+    """The program doesn't take the recording, or the setup; with its status and what it tells."""
+
+    def __init__(self, status: int, told: str):
+        super().__init__(told)
+        self.status, self.told = status, told
+
+
+# what judges a setup, by its text
+Judge = Callable[[str], Verdict]
+
+
+class Messages(dict):
+    """Messages by their digits, each read once; None of a dash."""
+
+    def __missing__(self, digits: str) -> Optional[bytes]:
+        found = self[digits] = None if digits == "-" else bytes.fromhex(digits)
+        return found
+
+
+def read_verdict(text: str, status: int, names: Iterable[str]) -> Verdict:
+    """The verdict of what `compare` wrote."""
+    places = {name: place for place, name in enumerate(names)}
+    found, messages = [], Messages()
+    for text_of_one in text.splitlines():
+        parts = text_of_one.split(" ")
+        if len(parts) == 9:
+            line, stamp, name, kind, request, sent, expected, wait, pendings = parts
+            at = int(stamp[:-7] + stamp[-6:-3])
+            asked, waited = messages[request] or b"", 0 if wait == "-" else int(wait)
+            found.append(Exchange(int(line), at, places[name], name, kind, asked, messages[sent], expected, waited, int(pendings)))
+    return Verdict(sorted(found, key=lambda it: (it.line, it.place)), status)
+
+
+class Program:
+    """`compare` of the built program, on a recording."""
+
+    def __init__(self, program: str, capture: str, room: str, names: list[str]):
+        self.program, self.capture, self.room, self.names = program, capture, room, names
+
+    def __call__(self, setup: str) -> Verdict:
+        path = f"{self.room}/setup.toml"
+        with open(path, "w", encoding="utf-8") as it:
+            it.write(setup)
+        ran = subprocess.run([self.program, "compare", path, self.capture], capture_output=True, check=False)
+        if ran.returncode not in (AGREES, DIFFERS, NOTHING):
+            raise Refused(ran.returncode, ran.stderr.decode(errors="replace").strip())
+        return read_verdict(ran.stdout.decode(), ran.returncode, self.names)

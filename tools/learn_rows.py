@@ -1,0 +1,329 @@
+"""Rows of answers for what a recorded unit does otherwise than the server's model: of the exchanges that differ those of
+one request, or of one service that the model lacks, are explained by as few rows as do. For tools/learn.py; no part of what
+is proved."""
+from collections import defaultdict
+from dataclasses import dataclass, replace
+from enum import IntEnum
+from itertools import permutations
+from typing import Callable, Hashable, Iterable, Optional
+
+from learn_judge import Exchange
+from learn_model import Held, Walk, is_done, one_round, sub_of
+from learn_setup import Row, Seen, Unit, setup_text
+from uds_names import SERVICES
+from uds_rules import items_of
+
+# limits of rows
+MOST_ITEMS, MOST_BYTES, MOST_TEMPLATES, MOST_ALL_TEMPLATES, MOST_ROWS = 64, 4095, 4096, 65536, 1024
+# how long a setup may be, what a row may take in it besides its templates, and what each template takes besides its text
+MOST_TEXT, ROW_TEXT, TEMPLATE_TEXT = 1_040_000, 420, 8
+# the bytes of a request that a template can name
+NAMED = 16
+# how often response pending may come before an answer
+MOST_PENDINGS = 255
+LONGEST_AFTER = 600_000
+
+
+# services that change the session, or what is unlocked in it
+OF_THE_SESSION = (0x10, 0x11, 0x27)
+
+
+class Stage(IntEnum):
+    """How a request's exchanges are explained: by rows for a session or a level, by its answers one after the other
+    whatever the session, and so without entering a session."""
+
+    BY_SESSION = 1
+    IN_ORDER = 2
+    IN_ORDER_ALONE = 3
+
+
+@dataclass
+class Case:
+    """Exchanges of one request with one answer, in their order, and their tester's session before each."""
+
+    held: Held
+    all: list[Exchange]
+
+    @property
+    def request(self) -> bytes:
+        return self.all[0].request
+
+    @property
+    def answer(self) -> bytes:
+        return self.all[0].sent or b""
+
+    def differs(self) -> bool:
+        return any(it.differs() for it in self.all)
+
+
+def cases_of(unit: Unit, exchanges: list[Exchange]) -> list[Case]:
+    """The exchanges that have a request, those that are alike together."""
+    walk, found = Walk(unit.s3), {}
+    for it in exchanges:
+        if it.request:
+            held = walk.before(it)
+            held = held if held.level in unit.levels or not held.level else Held(held.session)
+            key = it.request, it.sent, held
+            if key not in found:
+                found[key] = Case(held, [])
+            found[key].all.append(it)
+            walk.take(it)
+    return list(found.values())
+
+
+def grouped(cases: Iterable[Case], key: Callable[[Case], Hashable]) -> dict[Hashable, list[Case]]:
+    found = defaultdict(list)
+    for it in cases:
+        found[key(it)].append(it)
+    return found
+
+
+def exchanges_of(cases: list[Case]) -> list[Exchange]:
+    """The exchanges of some cases, in order."""
+    return sorted((it for case in cases for it in case.all), key=lambda it: (it.line, it.place))
+
+
+def request_of(case: Case) -> bytes:
+    """The request, as far as a pattern can tell it from others."""
+    return case.request[: MOST_ITEMS + 1]
+
+
+# ---- a row for some exchanges
+
+
+def pattern_of(requests: list[bytes]) -> str:
+    """The pattern that fits these requests: the bytes that they have in common."""
+    size = min(MOST_ITEMS, min(map(len, requests)))
+    items = [f"{requests[0][at]:02X}" if len({it[at] for it in requests}) == 1 else ".." for at in range(size)]
+    return "".join(items) + ("*" if max(map(len, requests)) > size else "")
+
+
+def shortened(pattern: str, templates: list[str]) -> str:
+    """A pattern that lets more bytes follow, without the bytes at its end that may be any and that no template names."""
+    items = items_of(pattern.removesuffix("*"))
+    named = max((int(it[1], 16) for text in templates for it in items_of(text) if it[0] == "$"), default=0)
+    while pattern.endswith("*") and items[-1] == ".." and len(items) > named + 1:
+        items.pop()
+    return "".join(items) + "*" * pattern.endswith("*")
+
+
+def template_of(cases: list[Case]) -> Optional[str]:
+    """The one template that gives all answers: bytes that they have in common, or that their requests have at one place;
+    None where there is none."""
+    answers = [it.answer for it in cases]
+    if len(set(map(len, answers))) > 1 or len(answers[0]) > MOST_BYTES:
+        return None
+    items = [template_byte(cases, answers, at) for at in range(len(answers[0]))]
+    return None if None in items else "".join(items)
+
+
+def template_byte(cases: list[Case], answers: list[bytes], at: int) -> Optional[str]:
+    wanted = [it[at] for it in answers]
+    if len(set(wanted)) == 1:
+        return f"{wanted[0]:02X}"
+    size = min(NAMED, MOST_ITEMS, min(len(it.request) for it in cases))
+    named = (place for place in range(size) if [it.request[place] for it in cases] == wanted)
+    place = next(named, None)
+    return None if place is None else f"${place:X}"
+
+
+def after_of(unit: Unit, cases: list[Case]) -> int:
+    """The longest time that an answer took which came behind response pending; 0 where none did."""
+    most = unit.p2 + MOST_PENDINGS * max(1, unit.p2_star)
+    return min(max((it.wait for case in cases for it in case.all if it.pendings), default=0), most, LONGEST_AFTER)
+
+
+def entered(cases: list[Case]) -> int:
+    """The session that these requests enter, 0 for none: all of them are one request for it, and all were done."""
+    first = cases[0].all[0]
+    if not all(is_done(it.all[0]) for it in cases):
+        return 0
+    if first.request[0] == 0x11:
+        return 1
+    is_one = len({it.request for it in cases}) == 1
+    return sub_of(first) if first.request[0] == 0x10 and is_one and 1 <= sub_of(first) <= 126 else 0
+
+
+def row_of(unit: Unit, cases: list[Case], templates: list[str], held: Held) -> Row:
+    """The row for these exchanges, in a session and behind a level."""
+    pattern = shortened(pattern_of([it.request for it in cases]), templates)
+    return Row(pattern, templates, held.session, held.level, entered(cases), after_of(unit, cases), seen_of(cases))
+
+
+def seen_of(cases: list[Case]) -> Seen:
+    return Seen(sum(len(it.all) for it in cases), min(it.all[0].line for it in cases))
+
+
+def in_order(unit: Unit, cases: list[Case], held: Held) -> list[Row]:
+    """The answers to one request, one after the other; no row where they are too many or too long."""
+    answers = one_round([(it.sent or b"").hex().upper() for it in exchanges_of(cases)])
+    if len(answers) > MOST_TEMPLATES or any(len(it) > 2 * MOST_BYTES for it in answers):
+        return []
+    return [row_of(unit, cases, answers, held)]
+
+
+# ---- as few rows as do
+
+ANY = Held(0, 0)
+# how exchanges are parted that no one row explains
+SPLITS: dict[str, Callable[[Case], Hashable]] = {
+    "silence": lambda it: it.answer == b"",
+    "sub-function": lambda it: it.request[:2],
+    "request": request_of,
+    "session": lambda it: it.held.session,
+    "level": lambda it: it.held,
+}
+ORDERS = [
+    it
+    for it in permutations(SPLITS)
+    if it.index("session") < it.index("level") and it.index("silence") < it.index("sub-function") < it.index("request")
+]
+
+
+def explained(unit: Unit, cases: list[Case], held: Held, splits: tuple[str, ...]) -> list[Row]:
+    """Rows for these exchanges, by these splits in their order."""
+    template = template_of(cases)
+    if template is not None and (len({it.request for it in cases}) == 1 or is_wide(cases)):
+        return [row_of(unit, cases, [template], held)]
+    for at, name in enumerate(splits):
+        parts = grouped(cases, SPLITS[name])
+        if len(parts) > 1:
+            own = ((part, narrowed(held, name, part[0])) for part in parts.values())
+            rows = [row for part, where in own for row in explained(unit, part, where, splits[at + 1 :])]
+            return rows if not is_idle(name, cases, rows) else in_order(unit, cases, held)
+    parts = grouped(cases, request_of).values()
+    return [row for part in parts for row in in_order(unit, part, held)]
+
+
+def is_idle(name: str, cases: list[Case], rows: list[Row]) -> bool:
+    """Whether it explains nothing to part one request's exchanges by the session: in one session its answers change."""
+    is_one = len({it.request for it in cases}) == 1
+    return name in ("session", "level") and is_one and any(len(it.reply) > 1 for it in rows)
+
+
+def is_wide(cases: list[Case]) -> bool:
+    """Whether several requests are to have one row: they have their service in common, and no effect on the session."""
+    return cases[0].request[0] not in (0x10, 0x11)
+
+
+def narrowed(held: Held, name: str, case: Case) -> Held:
+    """The session and level that a row wants, parted by one of the splits."""
+    if name == "session":
+        return held._replace(session=case.held.session)
+    return case.held if name == "level" else held
+
+
+def fewest(unit: Unit, cases: list[Case]) -> list[Row]:
+    best = None
+    for order in ORDERS:
+        rows = explained(unit, cases, ANY, order)
+        best = rows if best is None or len(rows) < len(best) else best
+        if len(best) <= 1:
+            break
+    return best
+
+
+# ---- the rows of a unit
+
+
+class Plan:
+    """Which requests have rows, at which stage, and the rows that come of it."""
+
+    def __init__(self) -> None:
+        self.stages: dict[bytes, Stage] = {}
+        # the sessions and levels in which the exchanges of a request differed without rows
+        self.differed: dict[bytes, set[Held]] = defaultdict(set)
+        # services that the model lacks, whose requests share rows
+        self.services: set[int] = set()
+
+    def widen(self, exchanges: list[Exchange]) -> bool:
+        """Takes in what differs; returns whether anything is explained in another way than before."""
+        differing = {it.request[: MOST_ITEMS + 1] for it in exchanges if it.request and it.differs()}
+        lacking = {it[0] for it in differing} - self.services - set(SERVICES)
+        own = [it for it in differing if it[0] not in lacking and self.stages.get(it) != Stage.IN_ORDER_ALONE]
+        # what the others are answered depends on the session: as long as that isn't explained, they are looked at anew
+        first = [it for it in own if it not in self.stages or it[0] in OF_THE_SESSION]
+        self.services |= lacking
+        for request in first or own:
+            self.stages[request] = self.stage_behind(request)
+        return bool(lacking or own)
+
+    def stage_behind(self, request: bytes) -> Stage:
+        """How a request is explained that differs as it is explained now."""
+        stage = self.stages.get(request)
+        return Stage.BY_SESSION if stage is None else Stage(stage + 1)
+
+    def rows(self, unit: Unit, exchanges: list[Exchange]) -> list[Row]:
+        """The rows, the most special ones first."""
+        cases = cases_of(unit, exchanges)
+        by_request = grouped(cases, request_of)
+        found = []
+        for request, stage in self.stages.items():
+            own = by_request.get(request, [])
+            self.differed[request] |= {it.held for it in own if it.differs()}
+            found += rows_at(unit, own, stage, self.differed[request])
+        shared = (it for it in cases if it.request[0] in self.services and request_of(it) not in self.stages)
+        by_service = grouped(shared, lambda it: it.request[0])
+        for own in by_service.values():
+            found += fewest(unit, own)
+        found.sort(key=rank)
+        room = MOST_TEXT - len(setup_text(replace(unit, rows=[]), ""))
+        return limited(found + late_rows(unit, cases, found), room)
+
+
+def rank(row: Row) -> tuple:
+    """A row that wants a level, a session, or more bytes to be what they are, comes before one that doesn't."""
+    is_wide_row = ".." in row.request or row.request.endswith("*")
+    return is_wide_row, row.level == 0, row.session == 0, -len(row.request.replace(".", "")), row.request
+
+
+def rows_at(unit: Unit, cases: list[Case], stage: Stage, differed: set[Held]) -> list[Row]:
+    """The rows for all exchanges of one request, which differed in these sessions and levels."""
+    if not cases:
+        return []
+    if stage == Stage.BY_SESSION:
+        return by_session(unit, cases, differed)
+    found = in_order(unit, cases, ANY)
+    return [replace(it, enter=0) for it in found] if stage == Stage.IN_ORDER_ALONE else found
+
+
+def by_session(unit: Unit, cases: list[Case], differed: set[Held]) -> list[Row]:
+    """Rows for the sessions and levels in which the exchanges of a request differ; the model goes on answering in the
+    others."""
+    by_held = grouped(cases, lambda it: it.held)
+    # a row of a session that wants no level decides behind each level, too
+    wanted = {held for held in by_held if held in differed or Held(held.session, 0) in differed}
+    if wanted == set(by_held) or cases[0].request[0] not in SERVICES:
+        return fewest(unit, cases)
+    return [row for held in by_held if held in wanted for row in in_order(unit, by_held[held], held)]
+
+
+def late_rows(unit: Unit, cases: list[Case], rows: list[Row]) -> list[Row]:
+    """Rows that leave the answer to the server, and delay it: for requests with response pending that have no row."""
+    fitted = {it.request for it in rows}
+    late = grouped((it for it in cases if any(own.pendings and own.wait for own in it.all)), late_pattern)
+    found = []
+    for pattern, own in late.items():
+        if pattern not in fitted:
+            found.append(Row(pattern, None, after=after_of(unit, own), seen=seen_of(own)))
+    return sorted(found, key=lambda it: ("*" in it.request, it.request))
+
+
+def late_pattern(case: Case) -> str:
+    """The pattern of a request that is late: of what it asks for, whatever data is behind that."""
+    sizes = {0x2E: 3, 0x31: 4}
+    request = case.request
+    size = sizes.get(request[0], MOST_ITEMS)
+    return request[:size].hex().upper() + ("*" if len(request) > size else "")
+
+
+def limited(rows: list[Row], room: int) -> list[Row]:
+    """As many rows and templates as a setup may have, and as much text as there is room for."""
+    found, templates = [], 0
+    for it in rows[:MOST_ROWS]:
+        reply = it.reply or []
+        templates += len(reply)
+        room -= ROW_TEXT + sum(TEMPLATE_TEXT + len(text) for text in reply)
+        if templates <= MOST_ALL_TEMPLATES and room >= 0:
+            found.append(it)
+    return found

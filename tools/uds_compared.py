@@ -1,0 +1,93 @@
+"""Reads what `compare` writes: each exchange of a recording, the testers' counts, and what the text says as a whole. For
+tools/junit.py and tools/view.py; no part of what is proved."""
+import re
+from dataclasses import dataclass, field
+from typing import Iterable, Optional
+
+EXCHANGE = re.compile(
+    r"(\d+) (\d{10,})\.(\d{3})\d{3} (\w+) ([PFU]) ((?:[0-9A-F]{2})+|-) "
+    r"((?:[0-9A-F]{2})+|-) ((?:[0-9A-F]{2}|\?\?)+|[-=~]) (\d+|-) (\d+)"
+)
+COUNT = re.compile(r"(\w+) (\d+) exchanges, (\d+) differ")
+NOTHING = "nothing compared"
+AGREES, FAULT, DIFFERS, NOT_COMPARED = 0, 3, 8, 9
+
+
+@dataclass(slots=True)
+class Compared:
+    """An exchange: the recording's line, its stamp in milliseconds, the tester; `P` or `F`, or `U` for a message that
+    nobody asked; the request and what the unit sent, None for nothing; what was expected, as it is told; how many
+    milliseconds the answer took, None without one; and how often response pending came before it."""
+
+    line: int
+    at: int
+    name: str
+    kind: str
+    request: Optional[bytes]
+    sent: Optional[bytes]
+    expected: str
+    wait: Optional[int]
+    pendings: int
+
+    def is_ignored(self) -> bool:
+        return self.expected == "~"
+
+    def differs(self) -> bool:
+        return self.expected not in ("=", "~")
+
+
+@dataclass
+class Report:
+    """What the text tells: the exchanges; each tester's count of them and of those that differ; whether nothing was
+    compared; and the first line that is none of `compare`'s, with its number."""
+
+    exchanges: list[Compared] = field(default_factory=list)
+    counts: dict[str, tuple[int, int]] = field(default_factory=dict)
+    is_nothing: bool = False
+    stray: Optional[tuple[int, str]] = None
+
+    def status(self) -> int:
+        """The status that the text tells; that of a fault where the testers' lines are missing."""
+        if not self.counts or self.stray:
+            return FAULT
+        if any(differ for _, differ in self.counts.values()):
+            return DIFFERS
+        return NOT_COMPARED if self.is_nothing else AGREES
+
+    def names(self) -> list[str]:
+        """The testers in the order of their lines; without these, as they come."""
+        return list(self.counts or dict.fromkeys(it.name for it in self.exchanges))
+
+
+def message(digits: str) -> Optional[bytes]:
+    return None if digits == "-" else bytes.fromhex(digits)
+
+
+def read_exchange(found: re.Match) -> Compared:
+    line, seconds, parts, name, kind, request, sent, expected, wait, pendings = found.groups()
+    at = int(seconds) * 1000 + int(parts)
+    waited = None if wait == "-" else int(wait)
+    return Compared(int(line), at, name, kind, message(request), message(sent), expected, waited, int(pendings))
+
+
+def read_report(lines: Iterable[str]) -> Report:
+    """The report of the lines that `compare` wrote."""
+    report = Report()
+    for number, line in enumerate(lines, 1):
+        text = line.removesuffix("\n")
+        exchange, count = EXCHANGE.fullmatch(text), COUNT.fullmatch(text)
+        if exchange and not report.counts:
+            report.exchanges.append(read_exchange(exchange))
+        elif count and not report.is_nothing:
+            report.counts[count[1]] = int(count[2]), int(count[3])
+        elif text == NOTHING and report.counts:
+            report.is_nothing = True
+        else:
+            report.stray = report.stray or (number, text)
+    return report
+
+
+def is_report(text: str) -> bool:
+    """Whether a text begins as one of `compare` does."""
+    first = text.partition("\n")[0]
+    return bool(EXCHANGE.fullmatch(first) or COUNT.fullmatch(first))
