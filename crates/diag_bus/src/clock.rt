@@ -74,7 +74,7 @@ impl Clock {
     {
         match said {
             BusLine::Empty | BusLine::Ticks(_) => self.time = time,
-            BusLine::Stamped { moment, frame: _ } => self.go_on_to(*moment, time),
+            BusLine::Stamped { moment, frame: _ } => self.go_on_to(moment.ms(), time),
         }
     }
 
@@ -107,7 +107,8 @@ fn span_of(reference: Option<u64>, said: &BusLine) -> u64
         BusLine::Empty => 0,
         BusLine::Ticks(count) => u64::from(count.get()),
         BusLine::Stamped { moment, frame: _ } => {
-            moment.saturating_sub(reference.unwrap_or(*moment))
+            let moment = moment.ms();
+            moment.saturating_sub(reference.unwrap_or(moment))
         }
     }
 }

@@ -16,7 +16,8 @@ use Rattle.diag_can.specs.Bus.{bus_line}
 use Rattle.diag_can.specs.Lanes.{IsRunIn}
 use Rattle.diag_can.specs.Log.{without_return}
 use Rattle.diag_can.specs.FrameText.{EndsInBytes, bytes_or_none, last_bytes, last_digits}
-use Rattle.diag_can.specs.Usual.{IsFramed, IsUsual, usual_moment}
+use Rattle.diag_can.specs.Usual.{IsFramed, IsUsual}
+use Rattle.diag_can.specs.MomentText.{usual_moment}
 use Rattle.diag_can.specs.declared.bus.BusLine.{BusLine}
 use Rattle.diag_can.specs.declared.fault.LineFault.TheVariants.{BadLine}
 use Rattle.diag_can.specs.declared.frame.Frame.{Frame}
@@ -133,7 +134,7 @@ is_ok-from : (rest bytes : List ℕ) → decode_of rest ≡ Ok bytes → IsOk (d
 is_ok-from rest bytes is = rw is refl
 
 -- what a line says whose stamp and frame were read
-stamped_says : (line text : List ℕ) (moment : ℕ) (frame : Option Frame) → 28 ≤ length line → is_time line ≡ false → stamped_frame line ≡ Some (moment, text)
+pub stamped_says : (line text : List ℕ) (moment : ℕ) (frame : Option Frame) → 0 < length line → is_time line ≡ false → stamped_frame line ≡ Some (moment, text)
     → text_frame text ≡ Ok frame → line_says line ≡ Ok (Stamped moment frame)
 stamped_says [] text moment frame long plain stamp is = absurd (omega arith)
 stamped_says (c ∷ line) text moment frame long plain stamp is = rw (plain, stamp, is) refl
@@ -181,7 +182,7 @@ module _ (line : List ℕ) (place id : ℕ) (u : IsUsual line place id) where
       let long : 4 ≤ length text = omega (arith, length-drop place line) in
       let bytes : Ok value.0 ≡ Ok (last_bytes line count) = ap (λ (b : List ℕ). Ok b) (sym (ap bytes_or_none (ap decode_of same ∙ value.1))) in
       let read = data_from_digits rest value.0 all (omega (arith, size)) even value.1 ∙ bytes in
-      stamped_says line text (usual_moment line) _ u.framed.long u.framed.is_frame u.framed.stamped
+      stamped_says line text (usual_moment line) _ (omega (arith, u.framed.long)) u.framed.is_frame u.framed.stamped
       (text_frame-is text rest id u.run long u.id_is u.mark all ∙ ap (frame_of id) read)
 
 -- such a line, from the parts that were read

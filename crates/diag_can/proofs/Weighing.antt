@@ -7,7 +7,8 @@ use lib.Dec.{T, lt→ltb}
 use lib.Lanes.{chunk, pick_l, all_below, products, pair_sums, dots}
 use Rattle.diag_can.specs.Lanes.{IsRunIn}
 use Rattle.diag_can.specs.Stamp.{is_digit, decimal_value}
-use Rattle.diag_can.specs.Usual.{three_at, usual_moment}
+use Rattle.diag_can.specs.Usual.{three_at}
+use Rattle.diag_can.specs.MomentText.{usual_moment}
 
 -- ---- the lanes
 

@@ -2,14 +2,11 @@
 use Rattle.std.specs.Prelude.{◌≡◌, ℕ, ◌+◌, ◌-◌, ◌*◌, ◌%◌, ◌≤◌, ◌<◌, List, length, take, drop, slice_index, Some, true, false}
 use Rattle.std.specs.List.{prefix_len}
 use Rattle.hex.specs.Hex.{is_hex_digit}
-use Rattle.diag_can.specs.Stamp.{behind, is_digit, moment_of}
+use Rattle.diag_can.specs.MomentText.{usual_moment}
+use Rattle.diag_can.specs.Stamp.{behind, is_digit}
 use Rattle.diag_can.specs.Line.{id_of, is_time, stamped_frame}
 use Rattle.diag_can.specs.Bus.{HasNoFeed}
 use Rattle.diag_can.specs.Lanes.{IsRunIn}
-
--- the moment of a stamp of that form
-abbrev pub usual_moment : List ℕ → ℕ
-usual_moment line = moment_of (take 10 (drop 1 line)) (take 6 (drop 12 line))
 
 -- three bytes from a place on, weighed as digits are
 abbrev pub three_at : List ℕ → ℕ → ℕ

@@ -7,6 +7,7 @@ use crate::fault::LineFault;
 use crate::frame::TickCount;
 use crate::frame_text::FrameText;
 use crate::log::without_return;
+use crate::moment_text::MomentText;
 use crate::read::said_by;
 
 /// What a line of a log or of a capture says, whoever it is meant for.
@@ -18,7 +19,7 @@ pub enum BusLine<'a> {
     Ticks(TickCount),
     /// A frame was seen at this moment, in milliseconds; where it is a data frame with an 11-bit identifier, this one.
     Stamped {
-        moment: u64,
+        moment: MomentText<'a>,
         frame: Option<FrameText<'a>>,
     },
 }

@@ -124,7 +124,7 @@ pub fn line_end(text: &[u8]) -> Option<usize>
 }
 
 /// The first line of a text, whatever it says.
-#[inline(never)]
+#[inline(always)]
 fn other_front(text: &[u8]) -> Option<First<'_>>
     ensures { MatchOption result (HasNoFeed text.now) (λ first.
         IsFirst text.now first.line.now first.after.now first.said) }

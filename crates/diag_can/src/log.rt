@@ -8,6 +8,7 @@ ghost use Rattle.diag_can.specs.Reading.{fault_with, given_at};
 use crate::bus::BusLine;
 use crate::fault::LogFault;
 use crate::frame::{Event, Ids, TickCount};
+use crate::moment_text::MomentText;
 use crate::read::{frame_for, said_by};
 
 /// Whether the stamps of a log carry time.
@@ -82,22 +83,24 @@ fn push_time(events: &mut Vec<Event>, ms: u64) -> Result<(), LogFault>
 impl Reading {
     ghost use Rattle.diag_can.specs.Took.{Grown, Took};
 
-    /// Lets the time pass up to a moment, where stamps carry time.
-    fn pass_on(&mut self, timing: Timing, moment: u64) -> Result<(), LogFault>
+    /// Lets the time pass up to a moment, where stamps carry time. (Elsewhere nobody wants it.)
+    #[inline(always)]
+    fn pass_on(&mut self, timing: Timing, moment: &MomentText) -> Result<(), LogFault>
         requires { length self.old.events.items ≤ most_events }
-        ensures ok { OnOk result (Grown timing self.old self.new (Some moment) []) }
+        ensures ok { OnOk result (Grown timing self.old self.new (Some moment.now) []) }
         ensures err { IfErr result (λ fault.
             ((fault ≡ LogFault.TooManyEvents) × (most_events < length (self.old.events.items
-            ++ given_at timing self.old.reference (Some moment) [])))
+            ++ given_at timing self.old.reference (Some moment.now) [])))
             ⊎ (fault ≡ LogFault.Memory)) }
     {
         match timing {
             Timing::Lines => Ok(()),
-            Timing::Stamps => self.pass_to(moment),
+            Timing::Stamps => self.pass_to(moment.ms()),
         }
     }
 
     /// Lets the time pass from the reference to a later moment, which is the reference then.
+    #[inline(never)]
     fn pass_to(&mut self, moment: u64) -> Result<(), LogFault>
         requires { length self.old.events.items ≤ most_events }
         ensures ok { OnOk result (Grown Timing.Stamps self.old self.new (Some moment) []) }
@@ -129,7 +132,7 @@ impl Reading {
             BusLine::Stamped { moment, frame } => match frame_for(frame, ids) {
                 None => Ok(()),
                 Some(event) => {
-                    self.pass_on(timing, *moment)?;
+                    self.pass_on(timing, moment)?;
                     push_event(&mut self.events, event)
                 }
             },

@@ -1,9 +1,9 @@
 //! The log of a tester's link, whole or as its lines come.
 
-ghost use Rattle.std.specs.Prelude.{◌≡◌, ◌≢◌, ◌≤◌, ℕ, List, [], ◌∷◌, ◌++◌, length, Some, Ok, Err, IfOk, IfSome, IfErr, OnOk};
+ghost use Rattle.std.specs.Prelude.{◌≡◌, ◌≢◌, ◌<◌, ◌≤◌, ◌+◌, ℕ, List, [], ◌∷◌, ◌++◌, length, Some, Ok, Err, IfOk, IfSome, IfErr, OnOk};
 ghost use Rattle.diag_can.specs.Bus.{HasNoFeed, bus_line};
 ghost use Rattle.diag_can.specs.HasRead.{AreRead, HasLines, HasRead};
-ghost use Rattle.diag_can.specs.Log.{events, fault_after, most_events, without_return};
+ghost use Rattle.diag_can.specs.Log.{events, fault_after, most_events, most_lines, without_return};
 ghost use Rattle.diag_can.specs.Pieces.{TakesLines};
 ghost use Rattle.diag_can.specs.declared.log.Timing.{Timing};
 
@@ -107,7 +107,8 @@ impl LogReader {
         Ok(rest)
     }
 
-    /// Takes the line that comes next, with what it says where that is known.
+    /// Takes the line that comes next, with what it says where that is known. (What it says decides at once, so that the
+    /// lines of each front go on by themselves.)
     #[inline(always)]
     fn take_line(
         &mut self,
@@ -126,17 +127,32 @@ impl LogReader {
             → fault_after timing ids.now past (without_return line.now) ≡ Some fault) }
         ensures still { self.new.fault ≡ self.old.fault }
     {
+        match said {
+            Some(said) => {
+                self.lines = self.next_number()?;
+                self.reading.take(timing, ids, &said)
+            }
+            None => {
+                let number = self.next_number()?;
+                self.lines = number;
+                self.reading
+                    .take_line(timing, ids, number, without_return(line))
+            }
+        }
+    }
+
+    /// The number of the line that comes next, from 1.
+    #[inline(always)]
+    fn next_number(&self) -> Result<u32, LogFault>
+        ensures number { IfOk result (λ number. number ≡ self.now.lines + 1) }
+        ensures room { OnOk result (self.now.lines < most_lines) }
+        ensures err { IfErr result (λ fault.
+            (fault ≡ LogFault.TooManyLines) × (most_lines ≤ self.now.lines)) }
+    {
         if self.lines >= MAX_LINES {
             return Err(LogFault::TooManyLines);
         }
-        self.lines += 1;
-        let number = self.lines;
-        match said {
-            Some(said) => self.reading.take(timing, ids, &said),
-            None => self
-                .reading
-                .take_line(timing, ids, number, without_return(line)),
-        }
+        Ok(self.lines + 1)
     }
 
     /// The log's events, where these bytes of a line, or none, end it.

@@ -10,6 +10,7 @@ use crate::fault::LineFault;
 use crate::frame::{Event, Ids, TickCount};
 use crate::frame_text::FrameText;
 use crate::line::text_frame;
+use crate::moment_text::MomentText;
 use crate::stamp::{behind_name, decimal_value, is_digit, stamp_of};
 use crate::usual::usual_says;
 
@@ -81,7 +82,10 @@ pub fn line_says(line: &[u8]) -> Result<BusLine<'_>, LineFault>
         None => Err(LineFault::BadLine),
         Some((moment, text)) => {
             let frame = text_frame(text)?;
-            Ok(BusLine::Stamped { moment, frame })
+            Ok(BusLine::Stamped {
+                moment: MomentText::read(moment),
+                frame,
+            })
         }
     }
 }

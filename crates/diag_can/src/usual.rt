@@ -5,13 +5,15 @@ ghost use Rattle.std.specs.Prelude.{◌≡◌, ◌<◌, ◌≤◌, length, IfSom
 ghost use Rattle.diag_can.specs.Lanes.{IsRunIn};
 ghost use Rattle.diag_can.specs.Line.{line_says};
 ghost use Rattle.diag_can.specs.Stamp.{is_digit};
-ghost use Rattle.diag_can.specs.Usual.{BeginsFramed, IsUsual, three_at, usual_moment};
+ghost use Rattle.diag_can.specs.Usual.{BeginsFramed, IsUsual, three_at};
+ghost use Rattle.diag_can.specs.MomentText.{usual_moment};
 
 use crate::bus::BusLine;
 use crate::frame::CanId;
 use crate::frame_text::FrameText;
 use crate::lanes::{eight_of_word, ends_in_hex, is_within};
 use crate::line::short_id;
+use crate::moment_text::MomentText;
 use std::simd::prelude::*;
 
 /// The shortest line that is looked at.
@@ -42,7 +44,7 @@ pub fn said_from(line: &[u8], place: usize, id: CanId) -> BusLine<'_>
     ensures { line_says line.now ≡ Ok result }
 {
     BusLine::Stamped {
-        moment: usual_moment(line),
+        moment: MomentText::usual(line),
         frame: Some(FrameText::new(id, line, (line.len() - (place + 4)) / 2)),
     }
 }

@@ -178,19 +178,18 @@ impl Capture {
         ensures err { IfErr result (λ fault.
             HaltsIn self.old (fault_at (self.old.lines + 1) fault) (bytes.now ++ 10 ∷ []) self.new.text.items) }
     {
-        if self.kept.is_empty() {
-            self.take_whole(bytes, said)
-        } else {
-            self.take_kept(bytes)
+        match said {
+            Some(said) if self.kept.is_empty() => self.take_told(bytes, said),
+            _ => self.take_other(bytes),
         }
     }
 
-    /// Gives the bus a line of which nothing is kept.
+    /// Gives the bus a line of which nothing is kept, and which says this.
     #[inline(always)]
-    fn take_whole(&mut self, line: &[u8], said: Option<BusLine>) -> Result<(), BusFault>
+    fn take_told(&mut self, line: &[u8], said: BusLine) -> Result<(), BusFault>
         requires room { self.old.lines + 1 < 2 ^ 64 }
         requires line { HasNoFeed line.now }
-        requires says { IfSome said (λ said. bus_line line.now ≡ Ok said) }
+        requires says { bus_line line.now ≡ Ok said }
         requires none { self.old.kept.items ≡ [] }
         ensures ok { OnOk result (GoesOn self.old self.new (line.now ++ 10 ∷ []) []) }
         ensures lines { OnOk result (self.new.lines ≡ self.old.lines + 1) }
@@ -205,9 +204,9 @@ impl Capture {
         Ok(())
     }
 
-    /// Gives the bus the line that is kept and that these bytes end.
+    /// Gives the bus the line that these bytes end, behind what is kept of it, whatever it says.
     #[inline(never)]
-    fn take_kept(&mut self, bytes: &[u8]) -> Result<(), BusFault>
+    fn take_other(&mut self, bytes: &[u8]) -> Result<(), BusFault>
         requires room { self.old.lines + 1 < 2 ^ 64 }
         requires line { HasNoFeed bytes.now }
         ensures ok { OnOk result (GoesOn self.old self.new (bytes.now ++ 10 ∷ []) []) }
@@ -216,6 +215,11 @@ impl Capture {
         ensures err { IfErr result (λ fault.
             HaltsIn self.old (fault_at (self.old.lines + 1) fault) (bytes.now ++ 10 ∷ []) self.new.text.items) }
     {
+        if self.kept.is_empty() {
+            self.bus.take_line(bytes, &mut self.text)?;
+            self.lines += 1;
+            return Ok(());
+        }
         keep(&mut self.kept, bytes)?;
         self.bus.take_line(self.kept.as_slice(), &mut self.text)?;
         self.kept.clear();
@@ -270,21 +274,33 @@ impl Capture {
     }
 }
 
-/// Gives the bus a line, which says this, where that is known.
+/// Gives the bus a line, which says this. (One without a frame by a call of its own, so that a frame's parts stay in
+/// registers.)
 #[inline(always)]
-fn give(
-    bus: &mut Bus,
-    line: &[u8],
-    said: Option<BusLine>,
-    text: &mut Vec<u8>,
-) -> Result<(), BusFault>
-    requires { IfSome said (λ said. bus_line line.now ≡ Ok said) }
+fn give(bus: &mut Bus, line: &[u8], said: BusLine, text: &mut Vec<u8>) -> Result<(), BusFault>
+    requires { bus_line line.now ≡ Ok said }
     ensures { AnswersLine bus.old bus.new line.now text.old.items text.new.items result }
 {
-    match said {
-        Some(said) => bus.take(&said, text),
-        None => bus.take_line(line, text),
+    match &said {
+        BusLine::Stamped { .. } => bus.take(&said, text),
+        BusLine::Empty | BusLine::Ticks(_) => give_time(bus, line, said, text),
     }
+}
+
+/// The same of a line without a frame.
+#[inline(never)]
+fn give_time(
+    bus: &mut Bus,
+    line: &[u8],
+    said: BusLine,
+    text: &mut Vec<u8>,
+) -> Result<(), BusFault>
+    requires { bus_line line.now ≡ Ok said }
+    ensures { AnswersLine bus.old bus.new line.now text.old.items text.new.items result }
+{
+    // (for its contract: it is the line that says this)
+    let _ = line;
+    bus.take(&said, text)
 }
 
 /// Adds bytes to the line that is kept; refuses it where it is longer than a line may be.

@@ -1,7 +1,7 @@
 use Rattle.std.proofs.Common.{◌≡◌, ◌∷◌, [], ◌++◌, ◌∙◌, refl}
 use Rattle.std.proofs.lemmas.Result.{err_from_is_err_and}
 use Rattle.diag_run.proofs.Pieces.{give_halts, keep_halts, line_goes_on}
-use Rattle.diag_run.proofs.capture.Capture.take_kept.Goals as goal
+use Rattle.diag_run.proofs.capture.Capture.take_other.Goals as goal
 
 pub returns-in_err-keep-clause-err : goal.returns-in_err-keep-clause-err
 returns-in_err-keep-clause-err c =
