@@ -76,6 +76,11 @@ def eight():
     return [it for tester in range(8) for it in turn(tester)]
 
 
+def asked(texts):
+    """Those that aren't a unit's own."""
+    return [it for it in texts if not it.startswith("7E8")]
+
+
 # ---- files
 
 
@@ -113,9 +118,25 @@ def workloads(seed):
         "bus, one tester": (["bus"], 1, [turn(0)], 500),
         "bus, eight testers": (["bus"], 8, [eight()], 500),
         "bus, other traffic": (["bus"], 1, [other], 500),
+        "verify, one tester": (["verify"], 1, [asked(turn(0))], 500),
+        "verify, eight testers": (["verify"], 8, [asked(eight())], 500),
         "replay of reads": (["replay"], 1, [reads()], 500),
         "replay of eight testers": (["replay"], 8, [turn(it) for it in range(8)], 500),
     }
+
+
+def add_replies(program, config, capture):
+    """Puts the frames that the unit sends into a capture, some lines behind those that draw them."""
+    replies = subprocess.run([program, "bus", config, capture], stdout=subprocess.PIPE, check=True).stdout.decode("ascii").splitlines()
+    with open(capture, encoding="ascii") as it:
+        lines = it.read().splitlines()
+    done, mixed = 0, []
+    for number, line in enumerate(lines):
+        mixed.append(line)
+        due = max(0, (number - 16) * len(replies) // len(lines))
+        mixed += replies[done:due]
+        done = max(done, due)
+    return written(capture, (f"{it}\n" for it in [*mixed, *replies[done:]]))
 
 
 def words_of(room, program, work, lines):
@@ -123,6 +144,8 @@ def words_of(room, program, work, lines):
     command, testers, texts, apart = work
     config = config_of(room, testers)
     logs = [written(f"{room}/{NAMES[it]}.log", lines_of(own, lines // len(texts), apart)) for it, own in enumerate(texts)]
+    if command == ["verify"]:
+        add_replies(program, config, logs[0])
     if command != ["replay"]:
         return [*command, config, *logs]
     journal = f"{room}/journal"
@@ -153,15 +176,25 @@ def instructions(program, words):
     return int(re.search(rb"Collected : (\d+)", ran.stderr)[1])
 
 
+def count_of(work, words, lines):
+    """How many lines a run reads: with the unit's own frames they are more than were asked for."""
+    if work[0] != ["verify"]:
+        return lines
+    with open(words[-1], "rb") as it:
+        return sum(1 for _ in it)
+
+
 def for_a_line(room, programs, work):
     """The instructions of each program for a line more."""
     if not shutil.which("valgrind"):
         return ["-"] * len(programs)
     short = SHORT * work[1]
     first = words_of(room, programs[0], work, short)
+    fewer = count_of(work, first, short)
     less = [instructions(it, first) for it in programs]
     more = words_of(room, programs[0], work, 2 * short)
-    return [f"{(instructions(it, more) - less[at]) / short:,.0f}" for at, it in enumerate(programs)]
+    lines = count_of(work, more, 2 * short) - fewer
+    return [f"{(instructions(it, more) - less[at]) / lines:,.0f}" for at, it in enumerate(programs)]
 
 
 def answers(program, words):
@@ -171,6 +204,7 @@ def answers(program, words):
 def measure(room, name, programs, work, lines):
     cost = for_a_line(room, programs, work)
     words = words_of(room, programs[0], work, lines)
+    lines = count_of(work, words, lines)
     if len({answers(it, words) for it in programs}) > 1:
         sys.exit(f"workloads: {name}: the two write other bytes")
     runs = [[seconds(it, words) for it in programs] for _ in range(5)]

@@ -4,7 +4,7 @@ use Rattle.std.proofs.lemmas.Bool.Decides.{nat_tests}
 use Rattle.std.specs.Prelude.{if◌then◌else◌, ◌/◌, ◌%◌}
 use Rattle.diag_can.specs.Log.{waited}
 use Rattle.diag_can.specs.declared.frame.Event.TheVariants.{Ticks}
-use Rattle.std.proofs.Common.{◌≡◌, ◌≤◌, ◌<◌, min, None, Bool, ℕ, ◌+◌, false, zero, suc, Option, Some, List, [], ◌∷◌, ◌++◌, length, refl, ap, subst, sym, ◌∙◌, append_assoc, arith, inl, inr}
+use Rattle.std.proofs.Common.{◌≡◌, ◌≤◌, ◌<◌, min, None, Bool, ℕ, ◌+◌, false, zero, suc, Option, Some, List, [], ◌∷◌, ◌++◌, length, map, refl, ap, subst, sym, ◌∙◌, append_assoc, arith, inl, inr}
 use Rattle.std.proofs.lemmas.List.{append-nil, length-map, length-set}
 use Rattle.std.specs.Prelude.{◌==◌, replicate, slice_get, slice_set, IfSome}
 use Rattle.std.specs.Option.{option_to_list}
@@ -14,40 +14,42 @@ use Rattle.diag_pdu.specs.Cut.{counted_from}
 use Rattle.diag_tp.specs.Moments.{last_time}
 use Rattle.diag_setup.specs.declared.raw.RawSetup.{RawSetup}
 use Rattle.diag_desk.specs.declared.entry.Entry.{Entry}
-use Rattle.diag_world.specs.Server.{ServerState, Serves, Settled, closing_time, each_of, sent_to, server_of}
+use Rattle.diag_world.specs.Server.{ServerState, Serves, Settled, Waited, closing_time, each_of, entries_of_each, sent_to, server_of}
 use Rattle.diag_world.proofs.Worlds.{set_cases, other_place}
 use Rattle.diag_world.proofs.Waiting.{counted_more}
 use Rattle.std.proofs.lemmas.Grind.{flat_map-append}
 use Rattle.std.specs.List.{flat_map}
 use Rattle.diag_can.specs.declared.frame.Frame.{Frame}
-use Rattle.diag_bus.specs.Batch.{Drew, Gave, SameShape, entered, entry_added, lists_of}
-use Rattle.diag_bus.specs.declared.mid_line.MidLine.{MidLine}
+use Rattle.diag_bus.specs.Batch.{Drew, Gave, SameShape, lists_of}
+use Rattle.diag_bus.specs.Sink.{journal_of}
+use Rattle.diag_bus.specs.declared.line_frames.LineFrames.{LineFrames}
+use Rattle.diag_bus.specs.declared.node.Node.{Node}
 use Rattle.diag_port.specs.Port.{PortState}
-use Rattle.diag_bus.proofs.Entries.{entered_more}
+use Rattle.diag_port.specs.Standing.{entry_of_ticks}
 use Rattle.diag_desk.specs.Text.{ticks_of}
 use Rattle.diag_tp.specs.Link.{last_tick}
 use Rattle.diag_world.specs.Weaving.{items_of}
 use Rattle.diag_world.proofs.Times.{ticks_served}
 use Rattle.diag_bus.specs.Events.{frame_to}
 
--- one event more: the tester's list has grown by the frames, and the others are as they were; the entry was written
-pub drew_more : (setup : RawSetup) (old new : MidLine) (base : ℕ → List Sent) (before : List ℕ) (M : List (ℕ × Event)) (who i now : ℕ) (e : Event)
-    (asked : Option Entry) (frames more : List Sent)
-    → Settled (server_of old.server) (server_of new.server) who e asked more → who ≡ i + 1 → slice_get (lists_of old) i ≡ Some frames
-    → lists_of new ≡ slice_set (lists_of old) i (frames ++ more) → new.output ≡ old.output
-    → new.text.items ≡ old.text.items ++ entry_added old.output now asked
-    → ((K : List Entry) → Serves setup (server_of old.server) M K → IfSome asked (λ k. now ≡ ticks_of k.who K))
-    → Drew setup old base before M → Drew setup new base before (M ++ (who, e) ∷ [])
-drew_more setup old new base before M who i now e asked frames more settled is found lists output text clock h =
+-- one event more: the tester's list has grown by the frames, and the others are as they were; the sink took the entry
+pub drew_more : {S : Type 0} (took : S → RawSetup → List (List ℕ) → List Entry → Type 0) (setup : RawSetup) (old new : Node) (sink sink' : S)
+    (base : ℕ → List Sent) (past : List (List ℕ)) (M : List (ℕ × Event)) (who i : ℕ) (e : Event) (asked : Option Entry) (frames more : List Sent)
+    → Settled (server_of old.server) (server_of new.server) who e asked more → who ≡ i + 1 → slice_get (lists_of old.drawn) i ≡ Some frames
+    → lists_of new.drawn ≡ slice_set (lists_of old.drawn) i (frames ++ more)
+    → ((J K : List Entry) → Serves setup (server_of old.server) M J → J ≡ journal_of setup past ++ K → took sink setup past K
+    → took sink' setup past (K ++ option_to_list asked))
+    → Drew took setup old sink base past M → Drew took setup new sink' base past (M ++ (who, e) ∷ [])
+drew_more took setup old new sink sink' base past M who i e asked frames more settled is found lists enters h =
     let served = settled.served setup M h.journal h.serves in
     let K' = h.journal ++ option_to_list asked in
     let M' = M ++ (who, e) ∷ [] in
     record {
       journal = K';
       serves = served.serves;
-      lists = sym (length-map new.drawn.items (λ f. f.items))
-          ∙ (ap length lists ∙ (length-set (lists_of old) i (frames ++ more) ∙ (length-map old.drawn.items (λ f. f.items) ∙ h.lists)));
-      frames = λ j fs at. elim (set_cases (lists_of old) i j (frames ++ more) fs (subst (λ ls. slice_get ls j ≡ Some fs) lists at)) [
+      lists = sym (length-map new.drawn.lists.items (λ f. f.items))
+          ∙ (ap length lists ∙ (length-set (lists_of old.drawn) i (frames ++ more) ∙ (length-map old.drawn.lists.items (λ f. f.items) ∙ h.lists)));
+      frames = λ j fs at. elim (set_cases (lists_of old.drawn) i j (frames ++ more) fs (subst (λ ls. slice_get ls j ≡ Some fs) lists at)) [
         | inl p ↦ (
             let place : who ≡ j + 1 = omega (arith, is, p.0) in
             subst (λ t. sent_to setup M' K' t ≡ base t ++ fs) place
@@ -55,26 +57,55 @@ drew_more setup old new base before M who i now e asked frames more settled is f
             ∙ (append_assoc (base who) frames more ∙ ap (λ w. base who ++ w) (sym p.1)))))
         | inr p ↦ served.others (j + 1) (other_place i j who is p.0) ∙ h.frames j fs p.1
       ];
-      text = ap (λ o. entered o K') output
-          ∙ (entered_more old.output h.journal asked now (clock h.journal h.serves)
-          ∙ (ap (λ w. w ++ entry_added old.output now asked) h.text
-          ∙ (append_assoc before old.text.items (entry_added old.output now asked)
-          ∙ ap (λ w. before ++ w) (sym text))));
+      entries = h.entries ++ option_to_list asked;
+      run = ap (λ w. w ++ option_to_list asked) h.run ∙ append_assoc (journal_of setup past) h.entries (option_to_list asked);
+      entered = enters h.journal h.entries h.serves h.run h.entered;
     }
 
 -- events and further events
-pub gave_more : (a b c : MidLine) (L M : List (ℕ × Event)) → Gave a b L → Gave b c M → Gave a c (L ++ M)
-gave_more a b c L M h k = λ setup base before N d.
-    subst (λ w. Drew setup c base before w) (append_assoc N L M) (k setup base before (N ++ L) (h setup base before N d))
+module _ {S : Type 0} (took : S → RawSetup → List (List ℕ) → List Entry → Type 0) where
+  pub gave_more : {a b c : Node} {x y z : S} {L M : List (ℕ × Event)} → Gave took a x b y L → Gave took b y c z M → Gave took a x c z (L ++ M)
+  gave_more {a} {b} {c} {x} {y} {z} {L} {M} h k = λ setup base past N d.
+      subst (λ w. Drew took setup c z base past w) (append_assoc N L M) (k setup base past (N ++ L) (h setup base past N d))
 
-pub gave_none : (a : MidLine) → Gave a a []
-gave_none a = λ setup base before N d. subst (λ w. Drew setup a base before w) (sym (append-nil N)) d
+  pub gave_none : (a : Node) (x : S) → Gave took a x a x []
+  gave_none a x = λ setup base past N d. subst (λ w. Drew took setup a x base past w) (sym (append-nil N)) d
 
-pub same_more : (a b c : MidLine) → SameShape a b → SameShape b c → SameShape a c
-same_more a b c h k = record { ports = k.ports ∙ h.ports; lists = k.lists ∙ h.lists; output = k.output ∙ h.output; filled = λ known. k.filled (h.filled known); rest = λ known. k.rest (h.rest known) }
+  -- entries of ticks that make no difference
+  skipped : ((sink : S) (setup : RawSetup) (lines : List (List ℕ)) (K : List Entry) (who count : ℕ) → took sink setup lines K
+      → took sink setup lines (K ++ entry_of_ticks who count ∷ []))
+      → (sink : S) (setup : RawSetup) (lines : List (List ℕ)) (K : List Entry) (count : ℕ) (ts : List ℕ) → took sink setup lines K
+      → took sink setup lines (K ++ map (λ t. entry_of_ticks t count) ts)
+  skipped skips sink setup lines K count [] h = subst (took sink setup lines) (sym (append-nil K)) h
+  skipped skips sink setup lines K count (t ∷ ts) h =
+      let k = entry_of_ticks t count in
+      subst (took sink setup lines) (append_assoc K (k ∷ []) (map (λ u. entry_of_ticks u count) ts))
+      (skipped skips sink setup lines (K ++ k ∷ []) count ts (skips sink setup lines K t count h))
 
-pub same_none : (a : MidLine) → SameShape a a
-same_none a = record { ports = refl; lists = refl; output = refl; filled = λ known. known; rest = λ known. known }
+  -- ticks of each tester, in which no port did anything, and of which the sink was not told
+  pub gave_quiet : (old new : Node) (sink : S) (n count : ℕ)
+      → ((sink : S) (setup : RawSetup) (lines : List (List ℕ)) (K : List Entry) (who count : ℕ) → took sink setup lines K
+      → took sink setup lines (K ++ entry_of_ticks who count ∷ []))
+      → Waited (server_of old.server) (server_of new.server) n count → new.drawn ≡ old.drawn
+      → Gave took old sink new sink (each_of n (Ticks count))
+  gave_quiet old new sink n count skips waited same = λ setup base past M d.
+      let served = waited.served setup M d.journal d.serves in
+      let more = entries_of_each n count in
+      record {
+        journal = d.journal ++ more;
+        serves = served.0;
+        lists = ap (λ (f : LineFrames). length f.lists.items) same ∙ d.lists;
+        frames = λ i frames at. served.1 (i + 1) ∙ d.frames i frames (subst (λ (f : LineFrames). slice_get (lists_of f) i ≡ Some frames) same at);
+        entries = d.entries ++ more;
+        run = ap (λ w. w ++ more) d.run ∙ append_assoc (journal_of setup past) d.entries more;
+        entered = skipped skips sink setup past d.entries count (counted_from 1 n) d.entered;
+      }
+
+pub same_more : (a b c : Node) → SameShape a b → SameShape b c → SameShape a c
+same_more a b c h k = record { ports = k.ports ∙ h.ports; lists = k.lists ∙ h.lists; filled = λ known. k.filled (h.filled known); rest = λ known. k.rest (h.rest known) }
+
+pub same_none : (a : Node) → SameShape a a
+same_none a = record { ports = refl; lists = refl; filled = λ known. known; rest = λ known. known }
 
 pub frames_more : (setup : RawSetup) (frame : Option Frame) (n who : ℕ) → who ≡ n + 1
     → flat_map (frame_to setup frame) (counted_from 1 (n + 1)) ≡ flat_map (frame_to setup frame) (counted_from 1 n) ++ frame_to setup frame who

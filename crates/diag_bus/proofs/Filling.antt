@@ -19,7 +19,7 @@ use Rattle.diag_port.specs.Port.{PortState, port_of, port_quiet}
 use Rattle.diag_world.specs.Server.{ServerState, ServerView, Settled, quiet_of, server_of}
 use Rattle.diag_world.proofs.Worlds.{set_cases}
 use Rattle.diag_bus.specs.Batch.{IsRest, SameShape, lists_of}
-use Rattle.diag_bus.specs.declared.mid_line.MidLine.{MidLine}
+use Rattle.diag_bus.specs.declared.node.Node.{Node}
 use Rattle.diag_bus.specs.Requests.{AreFilled, filled_at}
 use Rattle.diag_bus.specs.Text.{drawn_for, drawn_text, gathered, line_of, own_text, time_of}
 use Rattle.diag_bus.specs.declared.clock.Start.{Start}
@@ -114,36 +114,34 @@ rest_after old new who e asked more rest q rest' settled is least known =
     omega (arith, least, known, here, most, now)
 
 -- frames were added to the list at this place
-pub shape_after : (old new : MidLine) (i : ℕ) (list : Vec Sent Global) (is_empty : Bool) → length new.server.ports ≡ length old.server.ports
-    → i < length old.drawn.items
-    → new.drawn.items ≡ slice_set old.drawn.items i list → new.output ≡ old.output
-    → new.filled ≡ (if is_empty then old.filled else filled_at old.filled i) → is_empty ≡ (vec_len list == 0)
+pub shape_after : (old new : Node) (i : ℕ) (list : Vec Sent Global) (is_empty : Bool) → length new.server.ports ≡ length old.server.ports
+    → i < length old.drawn.lists.items
+    → new.drawn.lists.items ≡ slice_set old.drawn.lists.items i list
+    → new.drawn.filled ≡ (if is_empty then old.drawn.filled else filled_at old.drawn.filled i) → is_empty ≡ (vec_len list == 0)
     → (IsRest old.server old.rest → IsRest new.server new.rest) → SameShape old new
-shape_after old new i list is_empty ports within set output filled tested rest =
+shape_after old new i list is_empty ports within set filled tested rest =
     let items = λ (f : Vec Sent Global). f.items in
-    let lists : lists_of new ≡ slice_set (lists_of old) i list.items = ap (map items) set ∙ map-set items old.drawn.items i list in
+    let lists : lists_of new.drawn ≡ slice_set (lists_of old.drawn) i list.items = ap (map items) set ∙ map-set items old.drawn.lists.items i list in
     record {
       ports = ports;
-      lists = ap length set ∙ length-set old.drawn.items i list;
-      output = output;
-      filled = filled_after old.filled new.filled (lists_of old) (lists_of new) i list.items is_empty
-          (omega (arith, within, length-map old.drawn.items items)) lists filled (λ e. none_in list (sym tested ∙ e));
+      lists = ap length set ∙ length-set old.drawn.lists.items i list;
+      filled = filled_after old.drawn.filled new.drawn.filled (lists_of old.drawn) (lists_of new.drawn) i list.items is_empty
+          (omega (arith, within, length-map old.drawn.lists.items items)) lists filled (λ e. none_in list (sym tested ∙ e));
       rest = rest;
     }
 
 -- the list at this place is as it was
-pub shape_same : (old new : MidLine) (i : ℕ) (list before : Vec Sent Global) → length new.server.ports ≡ length old.server.ports
-    → new.drawn.items ≡ slice_set old.drawn.items i list
-    → before ≡ get_or old.drawn.items i before → list.items ≡ before.items → new.output ≡ old.output → new.filled ≡ old.filled
+pub shape_same : (old new : Node) (i : ℕ) (list before : Vec Sent Global) → length new.server.ports ≡ length old.server.ports
+    → new.drawn.lists.items ≡ slice_set old.drawn.lists.items i list
+    → before ≡ get_or old.drawn.lists.items i before → list.items ≡ before.items → new.drawn.filled ≡ old.drawn.filled
     → (IsRest old.server old.rest → IsRest new.server new.rest) → SameShape old new
-shape_same old new i list before ports set was same output filled rest =
+shape_same old new i list before ports set was same filled rest =
     let items = λ (f : Vec Sent Global). f.items in
-    let lists : lists_of new ≡ lists_of old = ap (map items) set ∙ map-set_same items old.drawn.items i list before (same ∙ ap items was) in
+    let lists : lists_of new.drawn ≡ lists_of old.drawn = ap (map items) set ∙ map-set_same items old.drawn.lists.items i list before (same ∙ ap items was) in
     record {
       ports = ports;
-      lists = ap length set ∙ length-set old.drawn.items i list;
-      output = output;
-      filled = λ known. subst (λ (f : Filled). AreFilled f (lists_of new)) (sym filled) (subst (AreFilled old.filled) (sym lists) known);
+      lists = ap length set ∙ length-set old.drawn.lists.items i list;
+      filled = λ known. subst (λ (f : Filled). AreFilled f (lists_of new.drawn)) (sym filled) (subst (AreFilled old.drawn.filled) (sym lists) known);
       rest = rest;
     }
 

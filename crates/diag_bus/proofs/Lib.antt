@@ -13,6 +13,7 @@ pub mod Order
 pub mod Paces
 pub mod Passing
 pub mod Recordings
+pub mod Responders
 pub mod Runs
 pub mod Stamps
 pub mod Taking

@@ -12,7 +12,7 @@ use Rattle.diag_port.specs.Port.{AreWithin, PortState, time_after}
 use Rattle.diag_world.specs.Server.{MovedOn, ServerState, ServerView, server_of}
 use Rattle.diag_world.proofs.Worlds.{set_cases}
 use Rattle.diag_bus.specs.Batch.{AreSentBy, GoesOn, HasTime, IsBy, Lasts, OneSentIn, OneWentOn, SentIn, TookTime, lists_of}
-use Rattle.diag_bus.specs.declared.mid_line.MidLine.{MidLine}
+use Rattle.diag_bus.specs.declared.node.Node.{Node}
 use Rattle.diag_bus.specs.Events.{span_said}
 use Rattle.diag_bus.specs.declared.clock.Clock.{Clock}
 
@@ -99,34 +99,34 @@ within_sent : (from to last : ℕ) (more : List Sent) → AreWithin from to more
 within_sent from to last more h fits = λ k d less. (let one = h k d less in omega (arith, one.1, fits))
 
 -- the tester's list has grown by frames that were sent up to what its clock tells
-pub sent_one : (old new : MidLine) (place i span : ℕ) (e : Event) (asked : Option Entry) (frames more : List Sent)
+pub sent_one : (old new : Node) (place i span : ℕ) (e : Event) (asked : Option Entry) (frames more : List Sent)
     → MovedOn (server_of old.server).ports (server_of new.server).ports place e asked more
-    → ((now : ℕ) → time_after now e ≤ now + span) → slice_get (lists_of old) i ≡ Some frames
-    → lists_of new ≡ slice_set (lists_of old) i (frames ++ more) → OneSentIn old new place span
+    → ((now : ℕ) → time_after now e ≤ now + span) → slice_get (lists_of old.drawn) i ≡ Some frames
+    → lists_of new.drawn ≡ slice_set (lists_of old.drawn) i (frames ++ more) → OneSentIn old new place span
 sent_one old new place i span e asked frames more moved most found lists = λ last early by j fs at.
     let told = early moved.before moved.found in
     let fits : moved.after.link.now ≤ last = omega (arith, moved.time, most moved.before.link.now, told) in
-    elim (set_cases (lists_of old) i j (frames ++ more) fs (subst (λ ls. slice_get ls j ≡ Some fs) lists at)) [
+    elim (set_cases (lists_of old.drawn) i j (frames ++ more) fs (subst (λ ls. slice_get ls j ≡ Some fs) lists at)) [
       | inl p ↦ subst (λ (ss : List Sent). All (λ f. f.at ≤ last) ss) (sym p.1)
           (All-append (λ (f : Sent). f.at ≤ last) frames more (by i frames found) (within_sent moved.before.link.now moved.after.link.now last more moved.within fits))
       | inr p ↦ by j fs p.1
     ]
 
-pub sent_none : (a : MidLine) (span : ℕ) → SentIn a a span
+pub sent_none : (a : Node) (span : ℕ) → SentIn a a span
 sent_none a span = λ time last by fits old. old
 
 -- one tester more of those that go on by as much
-pub sent_some : (a b c : MidLine) (n place span : ℕ) → place ≡ n → SomeWentOn a.server b.server n span → SentIn a b span → OneSentIn b c place span
+pub sent_some : (a b c : Node) (n place span : ℕ) → place ≡ n → SomeWentOn a.server b.server n span → SentIn a b span → OneSentIn b c place span
     → SentIn a c span
 sent_some a b c n place span is some sent one = λ time last by fits old.
     one last (λ port at. (let low = (some time by place port at).1 (omega (arith, is)) in omega (arith, low, fits))) (sent time last by fits old)
 
 -- one tester more behind them
-pub sent_then : (a b c : MidLine) (n place m all : ℕ) → n + m ≤ all → TookTime a.server b.server n → SentIn a b n → OneSentIn b c place m → SentIn a c all
+pub sent_then : (a b c : Node) (n place m all : ℕ) → n + m ≤ all → TookTime a.server b.server n → SentIn a b n → OneSentIn b c place m → SentIn a c all
 sent_then a b c n place m all less took sent one = λ time last by fits old.
     one last (λ port at. (let low = took time by place port at in omega (arith, low, fits, less))) (sent time last by (omega (arith, fits, less)) old)
 
-pub sent_more : (a b c : MidLine) (n m all : ℕ) → n + m ≤ all → TookTime a.server b.server n → SentIn a b n → SentIn b c m → SentIn a c all
+pub sent_more : (a b c : Node) (n m all : ℕ) → n + m ≤ all → TookTime a.server b.server n → SentIn a b n → SentIn b c m → SentIn a c all
 sent_more a b c n m all less took first second = λ time last by fits old.
     second (time + n) last (took time by) (omega (arith, fits, less)) (first time last by (omega (arith, fits, less)) old)
 

@@ -13,11 +13,9 @@ use Rattle.diag_pdu.specs.Cut.{counted_from}
 use Rattle.diag_setup.specs.declared.raw.RawSetup.{RawSetup}
 use Rattle.diag_setup.specs.Rows.{in_order}
 use Rattle.diag_world.specs.Server.{ServerState}
-use Rattle.diag_bus.specs.Batch.{AreSentBy, LineTaken, added, entered, resumed}
-use Rattle.diag_bus.specs.declared.bus.Output.{Output}
-use Rattle.diag_bus.specs.declared.bus.Output.TheVariants.{Replies, Journal, End, Verdict}
+use Rattle.diag_bus.specs.Batch.{AreSentBy, LineTaken, resumed}
 use Rattle.diag_bus.specs.Events.{events_of}
-use Rattle.diag_bus.specs.Text.{drawn_by, drawn_for, gathered, line_of, line_text, run_of, sent_of, start_after, text_after, text_of, time_of, written}
+use Rattle.diag_bus.specs.Text.{drawn_by, drawn_for, gathered, line_of, line_text, sent_of, start_after, text_after, text_of, time_of}
 use Rattle.diag_bus.specs.declared.clock.Clock.{Clock}
 use Rattle.diag_bus.specs.declared.clock.Start.{Start}
 
@@ -64,17 +62,6 @@ push_after setup past (first ∷ lines) line =
 pub text_push : (setup : RawSetup) (lines : List (List ℕ)) (line : List ℕ)
     → text_of setup (lines ++ line ∷ []) ≡ text_of setup lines ++ line_text setup lines line
 text_push setup lines line = push_after setup [] lines line
-
--- what the whole text has more with a line that was taken
-pub wrote : (output : Output) (setup : RawSetup) (lines : List (List ℕ)) (line : List ℕ) (server : ServerState) (drawn : List (List Sent))
-    (clock : Clock) (T : List ℕ) → LineTaken setup lines line server drawn clock
-    → entered output (run_of setup (events_of setup (lines ++ line ∷ []))) ≡ entered output (run_of setup (events_of setup lines)) ++ T
-    → written output setup (lines ++ line ∷ []) ≡ written output setup lines ++ added output T setup clock.start drawn
-wrote Replies setup lines line server drawn clock T h more =
-    text_push setup lines line ∙ ap (λ w. text_of setup lines ++ w) (sym (line_writes setup lines line server drawn clock h))
-wrote Journal setup lines line server drawn clock T h more = more
-wrote End setup lines line server drawn clock T h more = refl
-wrote Verdict setup lines line server drawn clock T h more = refl
 
 -- the text of one line more
 pub lines_more : {X : Type 0} (f : X → List ℕ) (xs : List X) (i : ℕ) (x : X) (before text more : List ℕ) → i < length xs → x ≡ get_or xs i x
@@ -124,3 +111,13 @@ pub gathered_sent : (a time : ℕ) (lists : List (List Sent)) → AreSentBy list
 gathered_sent a time [] h = λ k d less. absurd (omega (arith, less))
 gathered_sent a time (frames ∷ lists) h = All-append (λ (d : Drawn). d.sent.at ≤ time) (map (drawn_for a) frames) (gathered (a + 1) lists)
     (All-map (λ (d : Drawn). d.sent.at ≤ time) (drawn_for a) frames (h 0 frames refl)) (gathered_sent (a + 1) time lists (λ i fs at. h (suc i) fs at))
+
+-- one frame more of a tester's list
+pub frames_more : {X Y : Type 0} (f : X → Y) (xs : List X) (i : ℕ) (x : X) (before now next : List Y) → i < length xs → x ≡ get_or xs i x
+    → now ≡ before ++ map f (take i xs) → next ≡ now ++ f x ∷ [] → next ≡ before ++ map f (take (i + 1) xs)
+frames_more {X = X} {Y} f xs i x before now next within read is grown =
+    grown
+    ∙ (ap (λ (w : List Y). w ++ f x ∷ []) is
+    ∙ (append_assoc before (map f (take i xs)) (f x ∷ [])
+    ∙ ap (λ (w : List Y). before ++ w) (sym (map-append f (take i xs) (x ∷ []))
+    ∙ ap (λ (ys : List X). map f ys) (sym (take_more xs i x within ∙ ap (λ y. take i xs ++ y ∷ []) (sym read))))))

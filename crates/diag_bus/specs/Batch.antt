@@ -8,65 +8,41 @@ use Rattle.diag_can.specs.Reading.{later}
 use Rattle.diag_tp.specs.declared.sent.Sent.{Sent}
 use Rattle.diag_setup.specs.declared.raw.RawSetup.{RawSetup}
 use Rattle.diag_desk.specs.declared.entry.Entry.{Entry}
-use Rattle.diag_desk.specs.declared.version.JournalVersion.TheVariants as version
-use Rattle.diag_desk.specs.Text.{ended, entry_line, journal_text_at, stamped_line, ticks_in}
 use Rattle.diag_port.specs.Port.{PortState, time_after}
 use Rattle.diag_world.specs.Server.{ServerState, ServerView, Serves, closing_time, quiet_of, sent_to, server_of}
 use Rattle.diag_bus.specs.Events.{clock_of, events_of, moment_said, reference, span_said}
 use Rattle.diag_bus.specs.Requests.{AreFilled, AreNamesOf}
-use Rattle.diag_bus.specs.Text.{drawn_text, sent_of, start_after, start_said}
-use Rattle.diag_bus.specs.declared.bus.Output.{Output}
-use Rattle.diag_bus.specs.declared.bus.Output.TheVariants.{Replies, Journal, End, Verdict}
+use Rattle.diag_bus.specs.Text.{run_of, sent_of, start_after, start_said}
 use Rattle.diag_bus.specs.declared.clock.Clock.{Clock}
 use Rattle.diag_bus.specs.declared.clock.Start.{Start}
-use Rattle.diag_bus.specs.declared.mid_line.MidLine.{MidLine}
-
--- ---- what is entered
-
--- the text of the entries, where a journal is wanted
-abbrev pub entered : Output → List Entry → List ℕ
-entered Replies journal = []
-entered Journal journal = journal_text_at journal
-entered End journal = []
-entered Verdict journal = []
-
--- what an entry adds to it, before which its tester's clock tells this time
-abbrev pub entry_added : Output → ℕ → Option Entry → List ℕ
-entry_added Replies now asked = []
-entry_added Journal now None = []
-entry_added Journal now (Some e) = ended (stamped_line version.Stamped (now + ticks_in e.step) (entry_line e))
-entry_added End now asked = []
-entry_added Verdict now asked = []
-
--- what a line adds to the text that wrote these entries and drew these frames
-abbrev pub added : Output → List ℕ → RawSetup → Option Start → List (List Sent) → List ℕ
-added Replies entries setup start lists = drawn_text setup start lists
-added Journal entries setup start lists = entries
-added End entries setup start lists = []
-added Verdict entries setup start lists = []
+use Rattle.diag_bus.specs.declared.line_frames.LineFrames.{LineFrames}
+use Rattle.diag_bus.specs.declared.node.Node.{Node}
 
 -- ---- in a line
 
--- the frames of each tester in this line
-abbrev pub lists_of : MidLine → List (List Sent)
-lists_of line = map (λ frames. frames.items) line.drawn.items
+-- the frames of each tester in a line
+abbrev pub lists_of : LineFrames → List (List Sent)
+lists_of drawn = map (λ frames. frames.items) drawn.lists.items
 
--- The server took M. Each tester was sent its frames of the line behind those that it had been sent, and the text of the
--- line stands behind what had been entered.
-pub record Drew (setup : RawSetup) (line : MidLine) (base : ℕ → List Sent) (before : List ℕ)
-    (M : List (ℕ × Event)) : Type 0 where
+-- The server took M. Each tester was sent its frames of the line behind those that it had been sent before; and the sink took
+-- these lines, and then the entries that the journal has more.
+pub record Drew {S : Type 0} (took : S → RawSetup → List (List ℕ) → List Entry → Type 0) (setup : RawSetup) (node : Node) (sink : S)
+    (base : ℕ → List Sent) (past : List (List ℕ)) (M : List (ℕ × Event)) : Type 0 where
   pub journal : List Entry
-  pub serves : Serves setup (server_of line.server) M journal
-  pub lists : length line.drawn.items ≡ length setup.testers
-  pub frames : (i : ℕ) (frames : List Sent) → slice_get (lists_of line) i ≡ Some frames
+  pub serves : Serves setup (server_of node.server) M journal
+  pub lists : length node.drawn.lists.items ≡ length setup.testers
+  pub frames : (i : ℕ) (frames : List Sent) → slice_get (lists_of node.drawn) i ≡ Some frames
       → sent_to setup M journal (i + 1) ≡ base (i + 1) ++ frames
-  pub text : entered line.output journal ≡ before ++ line.text.items
+  pub entries : List Entry
+  pub run : journal ≡ run_of setup (events_of setup past) ++ entries
+  pub entered : took sink setup past entries
 
--- the server was given these events: whatever it stood for, it stands for them behind it
-abbrev pub Gave : MidLine → MidLine → List (ℕ × Event) → Type 0
-Gave old new more = (setup : RawSetup) (base : ℕ → List Sent) (before : List ℕ) (M : List (ℕ × Event))
-    → Drew setup old base before M
-    → Drew setup new base before (M ++ more)
+-- the server was given these events: whatever it and the sink stood for, they stand for them behind it
+abbrev pub Gave : {S : Type 0} → (S → RawSetup → List (List ℕ) → List Entry → Type 0) → Node → S → Node → S
+    → List (ℕ × Event) → Type 0
+Gave took old sink new sink' more = (setup : RawSetup) (base : ℕ → List Sent) (past : List (List ℕ)) (M : List (ℕ × Event))
+    → Drew took setup old sink base past M
+    → Drew took setup new sink' base past (M ++ more)
 
 -- ---- time
 
@@ -107,44 +83,45 @@ abbrev pub AreSentBy : List (List Sent) → ℕ → Type 0
 AreSentBy lists time = (i : ℕ) (frames : List Sent) → slice_get lists i ≡ Some frames → All (λ f. f.at ≤ time) frames
 
 -- the tester's event sent no frame later than so much behind what its clock told
-abbrev pub OneSentIn : MidLine → MidLine → ℕ → ℕ → Type 0
+abbrev pub OneSentIn : Node → Node → ℕ → ℕ → Type 0
 OneSentIn old new place span = (last : ℕ)
     → ((port : PortState) → slice_get (server_of old.server).ports place ≡ Some port → port.link.now + span ≤ last)
-    → AreSentBy (lists_of old) last
-    → AreSentBy (lists_of new) last
+    → AreSentBy (lists_of old.drawn) last
+    → AreSentBy (lists_of new.drawn) last
 
 -- no frame was sent later than so much behind what the clocks told
-abbrev pub SentIn : MidLine → MidLine → ℕ → Type 0
+abbrev pub SentIn : Node → Node → ℕ → Type 0
 SentIn old new span = (time last : ℕ)
     → IsBy old.server time
     → time + span ≤ last
-    → AreSentBy (lists_of old) last
-    → AreSentBy (lists_of new) last
+    → AreSentBy (lists_of old.drawn) last
+    → AreSentBy (lists_of new.drawn) last
 
 -- so many ticks at least no port does anything before the last of them
 abbrev pub IsRest : ServerView → ℕ → Type 0
 IsRest server rest = rest ≤ quiet_of (server_of server).ports
 
--- as many testers as before, and the same output; where the lists have frames is known as before, and so is how long no port
--- does anything
-pub record SameShape (old new : MidLine) : Type 0 where
+-- as many testers as before; where the lists have frames is known as before, and so is how long no port does anything
+pub record SameShape (old new : Node) : Type 0 where
   pub ports : length new.server.ports ≡ length old.server.ports
-  pub lists : length new.drawn.items ≡ length old.drawn.items
-  pub output : new.output ≡ old.output
-  pub filled : AreFilled old.filled (lists_of old) → AreFilled new.filled (lists_of new)
+  pub lists : length new.drawn.lists.items ≡ length old.drawn.lists.items
+  pub filled : AreFilled old.drawn.filled (lists_of old.drawn) → AreFilled new.drawn.filled (lists_of new.drawn)
   pub rest : IsRest old.server old.rest → IsRest new.server new.rest
 
--- the line is that of so many testers, so much may pass, and for how long no port does anything is known
-pub record IsReady (line : MidLine) (testers span : ℕ) : Type 0 where
-  pub in_setup : length line.server.ports ≡ testers
-  pub lists : length line.drawn.items ≡ testers
-  pub early : HasTime line.server span
-  pub rest : IsRest line.server line.rest
+-- the node has so many testers, so much may pass, and for how long no port does anything is known
+pub record IsReady (node : Node) (testers span : ℕ) : Type 0 where
+  pub in_setup : length node.server.ports ≡ testers
+  pub lists : length node.drawn.lists.items ≡ testers
+  pub early : HasTime node.server span
+  pub rest : IsRest node.server node.rest
 
--- the server was given these events, by which at most so much passed, or those of them that there was memory for
-pub record Passed {A E : Type 0} (old new : MidLine) (span : ℕ) (more : List (ℕ × Event))
+-- the server was given these events, by which at most so much passed, or those of them that there was memory for; the sink
+-- was told of them, and `stays` holds of it whatever it took
+pub record Passed {S A E : Type 0} (took : S → RawSetup → List (List ℕ) → List Entry → Type 0) (stays : S → S → Type 0)
+    (old : Node) (sink : S) (new : Node) (sink' : S) (span : ℕ) (more : List (ℕ × Event))
     (result : Result A E) : Type 0 where
-  pub ok : OnOk result (Gave old new more)
+  pub ok : OnOk result (Gave took old sink new sink' more)
+  pub kept : stays sink sink'
   pub shape : SameShape old new
   pub pace : TookTime old.server new.server span
   pub sent : OnOk result (SentIn old new span)

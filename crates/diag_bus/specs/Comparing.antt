@@ -1,12 +1,16 @@
 -- What is kept of a recording and of the frames that the server sends: those by which the two are apart.
-use Rattle.std.specs.Prelude.{◌≡◌, ◌⊎◌, ℕ, ◌+◌, List, [], ◌∷◌, ◌++◌, length, map, Option, Some, None, Ok, slice_get}
+use Rattle.std.specs.Prelude.{◌≡◌, ◌≢◌, ◌<◌, ◌⊎◌, ℕ, ◌+◌, List, [], ◌∷◌, ◌++◌, length, map, Option, Some, None, Ok, option_map, slice_get}
+use Rattle.std.specs.Option.{option_to_list}
 use Rattle.diag_can.specs.Bus.{bus_line}
 use Rattle.diag_can.specs.declared.bus.BusLine.{BusLine}
 use Rattle.diag_tp.specs.declared.sent.Sent.{Sent}
+use Rattle.diag_setup.specs.Setup.{ids_of}
 use Rattle.diag_setup.specs.declared.raw.RawSetup.{RawSetup}
 use Rattle.diag_bus.specs.Events.{events_of}
 use Rattle.diag_bus.specs.Text.{sent_of}
-use Rattle.diag_bus.specs.Verdict.{bytes_of, difference, earlier, expected, recorded}
+use Rattle.diag_bus.specs.Requests.{AreWithin, IsAmongPlaces}
+use Rattle.diag_bus.specs.Verdict.{at_line, bytes_of, difference, earlier, expected, expected_of, recorded, reply_said}
+use Rattle.diag_bus.specs.declared.filled.Filled.{Filled}
 use Rattle.diag_bus.specs.declared.comparing.Comparison.{Comparison}
 use Rattle.diag_bus.specs.declared.comparing.Comparisons.{Comparisons}
 use Rattle.diag_bus.specs.declared.verdict.Recorded.{Recorded}
@@ -72,6 +76,27 @@ abbrev pub DrawnBy : RawSetup → List (List ℕ) → List ℕ → List (List Se
 DrawnBy setup lines line drawn = (i : ℕ) (frames : List Sent) → slice_get drawn i ≡ Some frames
     → sent_of setup (events_of setup (lines ++ line ∷ [])) (i + 1)
     ≡ sent_of setup (events_of setup lines) (i + 1) ++ frames
+
+-- what a line of this number that says this has of the unit's frames to the tester at a place, from 0
+abbrev pub said_has : RawSetup → ℕ → BusLine → ℕ → List Recorded
+said_has setup n said place = option_to_list (option_map (at_line n) (reply_said (ids_of setup (place + 1)).response (Ok said)))
+
+-- it has none of the testers at other places than these
+abbrev pub AnswersAt : RawSetup → BusLine → Filled → Type 0
+AnswersAt setup said places = AreWithin places (length setup.testers)
+    × ((i : ℕ) → i < length setup.testers → (IsAmongPlaces places i → ⊥) → reply_said (ids_of setup (i + 1)).response (Ok said) ≡ None)
+
+-- the tester at this place took the line of this number, and the others are as they were
+pub record TookAt (setup : RawSetup) (n : ℕ) (said : BusLine) (drawn : List (List Sent)) (old new : List Comparison) (place : ℕ)
+    : Type 0 where
+  pub others : (k : ℕ) → k ≢ place → slice_get new k ≡ slice_get old k
+  pub took : (before after : Comparison) (frames : List Sent) → slice_get old place ≡ Some before → slice_get new place ≡ Some after
+      → slice_get drawn place ≡ Some frames → Takes before after (said_has setup n said place) (expected_of frames)
+
+-- each tester took it
+abbrev pub TookAll : RawSetup → ℕ → BusLine → List (List Sent) → List Comparison → List Comparison → Type 0
+TookAll setup n said drawn old new = (k : ℕ) (before after : Comparison) (frames : List Sent) → slice_get old k ≡ Some before
+    → slice_get new k ≡ Some after → slice_get drawn k ≡ Some frames → Takes before after (said_has setup n said k) (expected_of frames)
 
 -- a line that says this was taken, and so were the frames that it draws
 abbrev pub TakesLine : RawSetup → Comparisons → Comparisons → BusLine → List (List Sent) → Type 0

@@ -1,8 +1,9 @@
 pub mod Batch
 pub mod Bus
 pub mod Comparing
-pub mod Entering
 pub mod Events
+pub mod Journal
 pub mod Requests
+pub mod Sink
 pub mod Text
 pub mod Verdict

@@ -1,4 +1,4 @@
--- Whose the frames of an identifier are, and where the testers' lists have frames.
+-- Whose the frames of an identifier are, where the testers' lists have frames, and to whom the unit's own frames may be.
 use Rattle.std.specs.Prelude.{◌≡◌, ◌≢◌, ◌≤◌, ◌<◌, ◌==◌, if◌then◌else◌, ℕ, ◌+◌, List, [], ◌∷◌, length, Some, slice_get}
 use Rattle.std.specs.List.{flat_map}
 use Rattle.diag_can.specs.declared.frame.Event.{Event}
@@ -14,6 +14,7 @@ use Rattle.diag_bus.specs.declared.filled.Filled.TheVariants.{Nowhere, At, Anywh
 use Rattle.diag_bus.specs.declared.request_ids.Owner.{Owner}
 use Rattle.diag_bus.specs.declared.request_ids.Owner.TheVariants.{Nobody, Tester, Each}
 use Rattle.diag_bus.specs.declared.request_ids.RequestIds.{RequestIds}
+use Rattle.diag_bus.specs.declared.response_ids.ResponseIds.{ResponseIds}
 
 -- what a frame with these bytes is to so many testers, by whose it is
 abbrev pub given : ℕ → Owner → List ℕ → List (ℕ × Event)
@@ -57,3 +58,34 @@ abbrev pub filled_at : Filled → ℕ → Filled
 filled_at Nowhere place = At place
 filled_at (At other) place = if other == place then At other else Anywhere
 filled_at Anywhere place = Anywhere
+
+-- both the places of the one and those of the other
+abbrev pub joined : Filled → Filled → Filled
+joined filled Nowhere = filled
+joined filled (At place) = filled_at filled place
+joined filled Anywhere = Anywhere
+
+-- ---- the unit's own frames
+
+-- the place is among these
+abbrev pub IsAmongPlaces : Filled → ℕ → Type 0
+IsAmongPlaces Nowhere i = ⊥
+IsAmongPlaces (At place) i = i ≡ place
+IsAmongPlaces Anywhere i = Unit {0}
+
+-- these are places of so many testers
+abbrev pub AreWithin : Filled → ℕ → Type 0
+AreWithin Nowhere n = Unit {0}
+AreWithin (At place) n = place < n
+AreWithin Anywhere n = Unit {0}
+
+-- among these are the places, from 0, of those of the first n testers whose response identifier this is
+pub record AreResponders (setup : RawSetup) (id n : ℕ) (places : Filled) : Type 0 where
+  pub within : AreWithin places n
+  pub each : (i : ℕ) → i < n → (ids_of setup (i + 1)).response ≡ id → IsAmongPlaces places i
+
+-- there are such for each identifier
+pub record AreResponsesOf (setup : RawSetup) (ids : ResponseIds) : Type 0 where
+  pub many : length ids.places.items ≡ 2048
+  pub each : (id : ℕ) (places : Filled) → slice_get ids.places.items id ≡ Some places
+      → AreResponders setup id (length setup.testers) places

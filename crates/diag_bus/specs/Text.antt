@@ -26,8 +26,6 @@ use Rattle.diag_world.specs.Server.{sent_to}
 use Rattle.diag_world.specs.Weaving.{items_of, steps_of}
 use Rattle.diag_bus.specs.Events.{events_of}
 use Rattle.diag_bus.specs.declared.clock.Start.{Start}
-use Rattle.diag_bus.specs.declared.bus.Output.{Output}
-use Rattle.diag_bus.specs.declared.bus.Output.TheVariants.{Replies, Journal, End, Verdict}
 use Rattle.diag_bus.specs.declared.writing.Drawn.{Drawn}
 
 -- ---- the run
@@ -110,14 +108,11 @@ text_after setup past (line ∷ lines) =
 abbrev pub text_of : RawSetup → List (List ℕ) → List ℕ
 text_of setup lines = text_after setup [] lines
 
--- ---- what is written while a capture goes by
+-- ---- the journal
 
--- the whole text for the lines so far
-abbrev pub written : Output → RawSetup → List (List ℕ) → List ℕ
-written Replies setup lines = text_of setup lines
-written Journal setup lines = journal_text_at (run_of setup (events_of setup lines))
-written End setup lines = []
-written Verdict setup lines = []
+-- the text of the journal of the lines' run
+abbrev pub journal_text_of : RawSetup → List (List ℕ) → List ℕ
+journal_text_of setup lines = journal_text_at (run_of setup (events_of setup lines))
 
 -- the ECU after the lines
 abbrev pub ecu_after : RawSetup → List (List ℕ) → State

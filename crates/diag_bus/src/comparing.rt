@@ -1,15 +1,24 @@
 //! What is kept of a recording and of the frames that the server sends, to compare the two.
 
-ghost use Rattle.std.specs.Prelude.{◌≡◌, ◌≤◌, ℕ, List, [], ◌∷◌, ◌++◌, ◌+◌, ◌≤◌, length, map, option_map, slice_get, Ok, OnOk, IfOk};
+ghost use Rattle.std.specs.Prelude.{◌≡◌, ◌≤◌, ◌<◌, ℕ, List, [], ◌∷◌, ◌++◌, ◌+◌, length, map, option_map, slice_get, Ok, OnOk, IfOk};
 ghost use Rattle.std.specs.Option.{option_to_list};
-ghost use Rattle.diag_bus.specs.Comparing.{Compared, Compares, ComparesLines, Takes, TakesLine};
+ghost use Rattle.diag_bus.specs.Batch.{lists_of};
+ghost use Rattle.diag_bus.specs.Comparing.{AnswersAt, Compared, Compares, ComparesLines, Takes, TakesLine, TookAll, TookAt};
+ghost use Rattle.diag_bus.specs.Requests.{AreFilled, AreResponsesOf};
 ghost use Rattle.diag_bus.specs.Verdict.{at_line, difference, expected_of, first_difference, is_pending, recorded, reply_said, verdict};
 ghost use Rattle.diag_bus.specs.declared.comparing.Comparison.{Comparison as AComparison};
 ghost use Rattle.diag_bus.specs.declared.verdict.Recorded.{Recorded as ARecorded};
 ghost use Rattle.diag_setup.specs.declared.raw.RawSetup.{RawSetup};
 
+use crate::clock::Clock;
+use crate::filled::Filled;
+use crate::line_frames::LineFrames;
+use crate::response_ids::ResponseIds;
+use crate::sink::Sink;
 use crate::verdict::{Difference, Recorded, Verdict, earlier, same_difference};
-use diag_can::{BusLine, CanId, FrameBytes};
+use diag_can::{BusLine, CanId, FrameBytes, TickCount};
+use diag_ecu::Ecu;
+use diag_pdu::{Message, Request};
 use diag_setup::{Setup, TesterId};
 use diag_tp::Sent;
 use std::alloc::{AllocError, Global};
@@ -142,28 +151,44 @@ impl Comparison {
     }
 }
 
-/// What is kept of all testers' frames.
+/// What is kept of all testers' frames, to judge the unit's own frames in the capture. Nothing is written.
 #[derive(Drop)]
 pub struct Comparisons {
     /// How many lines the recording had.
     pub lines: u64,
-    /// Of each tester, in order, where a verdict is wanted.
+    /// Of each tester, in order.
     pub testers: Vec<Comparison>,
+    /// To which testers a frame of the unit's may be.
+    pub responses: ResponseIds,
 }
 
 impl Comparisons {
-    /// Of so many testers nothing was recorded, and nothing sent.
-    pub fn new(alloc: Global, count: usize) -> Result<Comparisons, AllocError>
+    /// Of no tester anything: what `verify` begins with.
+    pub fn new(alloc: Global) -> Comparisons {
+        Comparisons {
+            lines: 0,
+            testers: Vec::new(alloc),
+            responses: ResponseIds {
+                places: Vec::new(alloc),
+            },
+        }
+    }
+
+    /// Of a setup's testers nothing was recorded, and nothing sent.
+    fn of(alloc: Global, setup: &Setup) -> Result<Comparisons, AllocError>
         ensures lines { IfOk result (λ kept. kept.lines ≡ 0) }
-        ensures many { IfOk result (λ kept. length kept.testers.items ≡ count) }
+        ensures many { IfOk result (λ kept. length kept.testers.items ≡ length setup.now.testers) }
+        ensures responses { IfOk result (λ kept. AreResponsesOf setup.now kept.responses) }
         ensures each { IfOk result (λ kept. (i : ℕ) (own : AComparison)
             → slice_get kept.testers.items i ≡ Some own → Compares own [] []) }
     {
-        let mut testers = Vec::with_capacity(alloc, count)?;
-        for made in 0..count {
-            testers.push(Comparison::new(alloc))?;
-        }
-        Ok(Comparisons { lines: 0, testers })
+        let responses = ResponseIds::new(alloc, setup)?;
+        let testers = no_frames(alloc, setup.testers())?;
+        Ok(Comparisons {
+            lines: 0,
+            testers,
+            responses,
+        })
     }
 
     /// How many frames of a tester were recorded.
@@ -178,28 +203,88 @@ impl Comparisons {
         }
     }
 
-    /// Takes a line that says this and draws these frames.
+    /// Takes a line that says this and draws these frames. Only the testers that it concerns are looked at.
+    #[inline(always)]
     pub fn take_line(
+        &mut self,
+        setup: &Setup,
+        said: &BusLine,
+        drawn: &LineFrames,
+    ) -> Result<(), AllocError>
+        requires in_setup { length self.old.testers.items ≡ length setup.now.testers }
+        requires responses { AreResponsesOf setup.now self.old.responses }
+        requires lists { length drawn.now.lists.items ≡ length setup.now.testers }
+        requires filled { AreFilled drawn.now.filled (lists_of drawn.now) }
+        ensures ok { OnOk result (TakesLine setup.now self.old self.new said.now (lists_of drawn.now)) }
+        ensures shape { length self.new.testers.items ≡ length self.old.testers.items }
+        ensures responses { self.new.responses ≡ self.old.responses }
+    {
+        self.lines = next(self.lines)?;
+        match drawn.filled.join(self.responders(said)) {
+            Filled::Nowhere => Ok(()),
+            Filled::At(place) => self.take_at(setup, said, place, drawn.lists.as_slice()),
+            Filled::Anywhere => self.take_each(setup, said, drawn.lists.as_slice()),
+        }
+    }
+
+    /// The places of the testers to which the line's frame may be one of the unit's.
+    #[inline(always)]
+    fn responders(&self, said: &BusLine) -> Filled
+        requires { length self.now.responses.places.items ≡ 2048 }
+        ensures { (setup : RawSetup) → AreResponsesOf setup self.now.responses
+            → AnswersAt setup said.now result }
+    {
+        match said {
+            BusLine::Stamped {
+                frame: Some(frame), ..
+            } => self.responses.of(frame.id()),
+            _ => Filled::Nowhere,
+        }
+    }
+
+    /// Takes the line for the tester at this place, from 0.
+    fn take_at(
+        &mut self,
+        setup: &Setup,
+        said: &BusLine,
+        place: usize,
+        drawn: &[Vec<Sent>],
+    ) -> Result<(), AllocError>
+        requires place { place < length setup.now.testers }
+        requires in_setup { length self.old.testers.items ≡ length setup.now.testers }
+        requires lists { length drawn.now ≡ length setup.now.testers }
+        ensures ok { OnOk result (TookAt setup.now self.old.lines said.now (map (λ f. f.items) drawn.now)
+            self.old.testers.items self.new.testers.items place) }
+        ensures shape { length self.new.testers.items ≡ length self.old.testers.items }
+        ensures lines { self.new.lines ≡ self.old.lines }
+        ensures responses { self.new.responses ≡ self.old.responses }
+    {
+        let Some(who) = setup.who(place) else {
+            unreachable!()
+        };
+        let frame = reply_in(setup.ids(who).response, self.lines, said);
+        self.testers[place].take(drawn[place].as_slice(), frame)
+    }
+
+    /// Takes the line for each tester.
+    #[inline(never)]
+    fn take_each(
         &mut self,
         setup: &Setup,
         said: &BusLine,
         drawn: &[Vec<Sent>],
     ) -> Result<(), AllocError>
-        requires in_setup { length self.old.testers.items ≤ length setup.now.testers }
+        requires in_setup { length self.old.testers.items ≡ length setup.now.testers }
         requires lists { length drawn.now ≡ length setup.now.testers }
-        ensures ok { OnOk result (TakesLine setup.now self.old self.new said.now
-            (map (λ frames. frames.items) drawn.now)) }
+        ensures ok { OnOk result (TookAll setup.now self.old.lines said.now (map (λ f. f.items) drawn.now)
+            self.old.testers.items self.new.testers.items) }
         ensures shape { length self.new.testers.items ≡ length self.old.testers.items }
+        ensures lines { self.new.lines ≡ self.old.lines }
+        ensures responses { self.new.responses ≡ self.old.responses }
     {
-        let line = next(self.lines)?;
-        for index in 0..self.testers.len() {
-            let Some(who) = setup.who(index) else {
-                unreachable!()
-            };
-            let frame = reply_in(setup.ids(who).response, line, said);
-            self.testers[index].take(drawn[index].as_slice(), frame)?;
+        for place in 0..self.testers.len() {
+            self.take_at(setup, said, place, drawn)?;
         }
-        self.lines = line;
         Ok(())
     }
 
@@ -250,6 +335,90 @@ impl Comparisons {
             None => self.first_lack(setup),
         }
     }
+}
+
+impl Sink for Comparisons {
+    ghost use Rattle.std.specs.Prelude.{◌≡◌, ◌×◌, [], false, length};
+    ghost use Rattle.diag_bus.specs.Comparing.{ComparesLines};
+    ghost use Rattle.diag_bus.specs.Requests.{AreResponsesOf};
+
+    ghost is_for = { λ kept setup. (length kept.testers.items ≡ length setup.testers)
+        × AreResponsesOf setup kept.responses };
+
+    ghost took = { λ kept setup lines _. ComparesLines setup kept lines };
+
+    ghost Aim = { Unit {0} };
+
+    ghost aim = { λ _. tt };
+
+    ghost written = { λ _ _ _. [] };
+
+    ghost wants_ticks = { false };
+
+    fn begin(&mut self, alloc: Global, setup: &Setup) -> Result<(), AllocError> {
+        *self = Comparisons::of(alloc, setup)?;
+        Ok(())
+    }
+
+    fn write_header(&self, _: &mut Vec<u8>) -> Result<(), AllocError> {
+        Ok(())
+    }
+
+    #[inline(always)]
+    fn wants_ticks(&self) -> bool {
+        false
+    }
+
+    #[inline(always)]
+    fn enter_request(
+        &mut self,
+        _: &Ecu,
+        _: u64,
+        _: TesterId,
+        _: &Request,
+        _: Option<&Message>,
+    ) -> Result<(), AllocError> {
+        Ok(())
+    }
+
+    #[inline(always)]
+    fn enter_ticks(
+        &mut self,
+        _: &Ecu,
+        _: u64,
+        _: TesterId,
+        _: TickCount,
+    ) -> Result<(), AllocError> {
+        Ok(())
+    }
+
+    #[inline(always)]
+    fn end_line(
+        &mut self,
+        setup: &Setup,
+        said: &BusLine,
+        _: u64,
+        _: &Clock,
+        drawn: &LineFrames,
+        _: &mut Vec<u8>,
+    ) -> Result<(), AllocError> {
+        self.take_line(setup, said, drawn)
+    }
+
+    ghost skips_ticks = { λ _ _ _ _ _ _ _ took. took };
+}
+
+/// Of so many testers nothing was recorded, and nothing sent.
+fn no_frames(alloc: Global, count: usize) -> Result<Vec<Comparison>, AllocError>
+    ensures many { IfOk result (λ testers. length testers.items ≡ count) }
+    ensures each { IfOk result (λ testers. (i : ℕ) (own : AComparison)
+        → slice_get testers.items i ≡ Some own → Compares own [] []) }
+{
+    let mut testers = Vec::with_capacity(alloc, count)?;
+    for made in 0..count {
+        testers.push(Comparison::new(alloc))?;
+    }
+    Ok(testers)
 }
 
 /// Whether a frame says response pending.

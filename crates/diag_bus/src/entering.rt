@@ -1,67 +1,57 @@
-//! The entries of the run's journal, as they are written.
+//! The entries of the run's journal, as a sink is told of them.
 
-use crate::bus::Output;
+use crate::sink::Sink;
 use diag_can::TickCount;
-use diag_desk::{EntryRef, JournalVersion, StepFault, StepRef, write_entry};
+use diag_desk::StepFault;
+use diag_ecu::Ecu;
 use diag_pdu::{Message, Request};
 use diag_setup::TesterId;
 use diag_world::Keeper;
 
-/// The entries of a line: their text, as far as a journal is wanted.
+/// Has a sink enter what the server takes.
 #[derive(Drop)]
-pub struct LineEntries<'a> {
-    /// What is wanted.
-    pub output: Output,
-    /// The text so far.
-    pub text: &'a mut Vec<u8>,
+pub struct Entering<'a, S> {
+    /// The sink.
+    pub sink: &'a mut S,
 }
 
-impl<'a> Keeper for LineEntries<'a> {
-    ghost use Rattle.std.specs.Prelude.{◌≡◌, refl};
-    ghost use Rattle.diag_bus.specs.Entering.{EntersLine};
+impl<'a, S: Sink> Keeper for Entering<'a, S> {
+    ghost use Rattle.std.specs.Prelude.{refl};
+    ghost use Rattle.diag_bus.specs.Sink.{Enters, StaysFor};
 
-    ghost keeps = { EntersLine };
+    ghost keeps = { λ old ecu before k new. Enters S.took old.sink.now new.sink.now ecu before k
+        × StaysFor S.is_for S.aim old.sink.now new.sink.now };
 
     ghost is_full = { λ _. ⊥ };
 
-    ghost unkept = { λ old new. new.text.now.items ≡ old.text.now.items };
+    ghost unkept = { λ old new. StaysFor S.is_for S.aim old.sink.now new.sink.now };
 
-    ghost place = { λ entries. entries.text.ghost_name };
+    ghost place = { λ entering. entering.sink.ghost_name };
 
+    #[inline(always)]
     fn keep_request(
         &mut self,
+        ecu: &Ecu,
         before: u64,
         who: TesterId,
         request: &Request,
         reply: Option<&Message>,
     ) -> Result<(), StepFault> {
-        if let Output::Journal = self.output {
-            let entry = EntryRef {
-                who,
-                step: StepRef::of_request(request),
-                reply: reply.map(Message::bytes),
-            };
-            write_entry(self.text, JournalVersion::Stamped, before, &entry)?;
-        }
+        self.sink.enter_request(ecu, before, who, request, reply)?;
         Ok(())
     }
 
+    #[inline(always)]
     fn keep_ticks(
         &mut self,
+        ecu: &Ecu,
         before: u64,
         who: TesterId,
         count: TickCount,
     ) -> Result<(), StepFault> {
-        if let Output::Journal = self.output {
-            let entry = EntryRef {
-                who,
-                step: StepRef::of_ticks(count),
-                reply: None,
-            };
-            write_entry(self.text, JournalVersion::Stamped, before, &entry)?;
-        }
+        self.sink.enter_ticks(ecu, before, who, count)?;
         Ok(())
     }
 
-    ghost unkept_same = { λ _. refl };
+    ghost unkept_same = { λ _. (λ _ h. h, refl) };
 }

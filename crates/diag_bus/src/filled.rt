@@ -1,7 +1,7 @@
 //! Where the testers' lists have frames.
 
 ghost use Rattle.std.specs.Prelude.{◌≡◌, if◌then◌else◌};
-ghost use Rattle.diag_bus.specs.Requests.{filled_at};
+ghost use Rattle.diag_bus.specs.Requests.{filled_at, joined};
 
 /// Which of the testers' lists may have frames, so that the others needn't be looked at.
 #[derive(Clone, Copy)]
@@ -26,6 +26,18 @@ impl Filled {
             Filled::Nowhere => Filled::At(place),
             Filled::At(other) if other == place => self,
             Filled::At(_) | Filled::Anywhere => Filled::Anywhere,
+        }
+    }
+
+    /// Both the places of this and those of another.
+    #[inline(always)]
+    pub fn join(self, other: Filled) -> Filled
+        ensures { result ≡ joined self other }
+    {
+        match other {
+            Filled::Nowhere => self,
+            Filled::At(place) => self.after(place, false),
+            Filled::Anywhere => Filled::Anywhere,
         }
     }
 }

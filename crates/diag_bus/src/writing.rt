@@ -10,7 +10,7 @@ ghost use Rattle.diag_bus.specs.Requests.{AreNamesOf};
 ghost use Rattle.diag_bus.specs.Text.{bus_moment, drawn_for, drawn_text, gathered, line_of, own_text, time_of};
 
 use crate::clock::{Clock, Start};
-use diag_can::LineWriter;
+use diag_can::{Frame, LineWriter};
 use diag_setup::{Setup, TesterId};
 use diag_tp::Sent;
 use std::alloc::{AllocError, Global};
@@ -22,15 +22,6 @@ pub struct Drawn {
     pub who: TesterId,
     /// The frame, with its time on the tester's link.
     pub sent: Sent,
-}
-
-/// What reply lines are written with.
-#[derive(Drop)]
-pub struct Writing {
-    /// The writers of the testers' lines.
-    pub writers: Vec<LineWriter>,
-    /// Room to put a line's frames in order.
-    pub batch: Vec<Drawn>,
 }
 
 /// A link's time as a moment of the bus.
@@ -54,40 +45,44 @@ fn sort_batch(batch: &mut Vec<Drawn>) -> Result<(), AllocError>
     Ok(())
 }
 
-/// Moves a tester's frames to the end of a batch; the room that they had stays.
-fn add_frames(
-    batch: &mut Vec<Drawn>,
-    who: TesterId,
-    frames: &mut Vec<Sent>,
-) -> Result<(), AllocError>
+/// Copies a tester's frames to the end of a batch.
+fn add_frames(batch: &mut Vec<Drawn>, who: TesterId, frames: &[Sent]) -> Result<(), AllocError>
     ensures { OnOk result
-        (batch.new.items ≡ batch.old.items ++ map (drawn_for who) frames.old.items) }
+        (batch.new.items ≡ batch.old.items ++ map (drawn_for who) frames.now) }
 {
-    for sent in frames.drain(..) {
-        batch.push(Drawn { who, sent })?;
+    for sent in frames {
+        batch.push(Drawn {
+            who,
+            sent: same_sent(sent),
+        })?;
     }
     Ok(())
 }
 
-/// Moves the frames of each tester's list into a batch, one list behind the other.
-fn gather(
-    setup: &Setup,
-    drawn: &mut Vec<Vec<Sent>>,
-    batch: &mut Vec<Drawn>,
-) -> Result<(), AllocError>
-    requires { length drawn.old.items ≡ length setup.now.testers }
-    ensures all { OnOk result (batch.new.items
-        ≡ batch.old.items ++ gathered 1 (map (λ f. f.items) drawn.old.items)) }
-    ensures lists { length drawn.new.items ≡ length drawn.old.items }
+/// The same frame again.
+fn same_sent(sent: &Sent) -> Sent
+    ensures { result ≡ sent.now }
+{
+    Sent {
+        at: sent.at,
+        frame: Frame {
+            id: sent.frame.id,
+            bytes: sent.frame.bytes.copy(),
+        },
+    }
+}
+
+/// Copies the frames of each tester's list into a batch, one list behind the other.
+fn gather(setup: &Setup, drawn: &[Vec<Sent>], batch: &mut Vec<Drawn>) -> Result<(), AllocError>
+    requires { length drawn.now ≡ length setup.now.testers }
+    ensures { OnOk result (batch.new.items
+        ≡ batch.old.items ++ gathered 1 (map (λ f. f.items) drawn.now)) }
 {
     for index in 0..setup.testers() {
-        if drawn[index].is_empty() {
-            continue;
-        }
         let Some(who) = setup.who(index) else {
             unreachable!()
         };
-        add_frames(batch, who, &mut drawn[index])?;
+        add_frames(batch, who, drawn[index].as_slice())?;
     }
     Ok(())
 }
@@ -228,25 +223,24 @@ fn write_batch(
     Ok(())
 }
 
-/// Adds the reply lines of the frames in the testers' lists, in the order of the bus. The batch is room to work in, and
-/// the lists are empty afterwards. Refused, the text is as it was.
+/// Adds the reply lines of the frames in the testers' lists, in the order of the bus. The batch is room to work in. Refused,
+/// the text is as it was.
 #[inline(never)]
 pub(crate) fn write_drawn(
     setup: &Setup,
     clock: &Clock,
     writers: &mut Vec<LineWriter>,
-    drawn: &mut Vec<Vec<Sent>>,
+    drawn: &[Vec<Sent>],
     batch: &mut Vec<Drawn>,
     text: &mut Vec<u8>,
 ) -> Result<(), AllocError>
     requires names { AreNamesOf setup.now writers.old.items }
-    requires testers { length drawn.old.items ≡ length setup.now.testers }
+    requires testers { length drawn.now ≡ length setup.now.testers }
     requires start { StartsBelow clock.now.start moment_end }
-    requires sent { AreSentBy (map (λ f. f.items) drawn.old.items) closing_time }
+    requires sent { AreSentBy (map (λ f. f.items) drawn.now) closing_time }
     ensures ok { OnOk result (text.new.items ≡ text.old.items
-        ++ drawn_text setup.now clock.now.start (map (λ f. f.items) drawn.old.items)) }
+        ++ drawn_text setup.now clock.now.start (map (λ f. f.items) drawn.now)) }
     ensures err { OnErr result (text.new.items ≡ text.old.items) }
-    ensures lists { length drawn.new.items ≡ length drawn.old.items }
     ensures names { writers.new.items ≡ writers.old.items }
 {
     batch.clear();

@@ -7,9 +7,7 @@ use Rattle.diag_can.specs.Bus.{HasNoFeed, begun_line, bus_lines, ended_lines}
 use Rattle.diag_can.proofs.BusLines.{begun_line-line, bus_lines-begun, bus_lines-ended, ended_lines-line}
 use Rattle.diag_setup.specs.declared.raw.RawSetup.{RawSetup}
 use Rattle.diag_bus.specs.Events.{events_of, first_fault, unless_fault}
-use Rattle.diag_bus.specs.Text.{written}
-use Rattle.diag_bus.specs.declared.bus.Output.{Output}
-use Rattle.diag_bus.specs.declared.bus.Output.TheVariants.{Replies}
+use Rattle.diag_bus.specs.Text.{text_of}
 use Rattle.diag_bus.proofs.Runs.{run}
 use Rattle.diag_text.specs.declared.fault.RunFault.{RunFault}
 use Rattle.diag_text.specs.declared.fault.RunFault.TheVariants as fault
@@ -40,13 +38,12 @@ end_begun seen (c ∷ kept) is = let none : HasNoFeed [] = λ k d less. absurd (
 -- ---- what was written and taken
 
 written_now : (setup : RawSetup) (new : Serving) (seen wrote noted : List ℕ) (s : ServingStands new seen wrote noted) → new.capture.bus.setup ≡ setup
-    → wrote ≡ written Replies setup (capture_of s.taken)
+    → wrote ≡ text_of setup (capture_of s.taken)
 written_now setup new seen wrote noted s same =
     sym (append-nil wrote)
     ∙ (ap (λ (t : List ℕ). wrote ++ t) (sym s.sent)
     ∙ (s.capture.due
-    ∙ (ap (λ (o : Output). written o new.capture.bus.setup (ended_lines noted)) s.output
-    ∙ (ap (λ (u : RawSetup). written Replies u (ended_lines noted)) same ∙ ap (written Replies setup) s.lines))))
+    ∙ (ap (λ (u : RawSetup). text_of u (ended_lines noted)) same ∙ ap (text_of setup) s.lines)))
 
 so_far_took : (setup : RawSetup) (serving : Serving) (seen wrote noted : List ℕ) → ServingStands serving seen wrote noted → serving.capture.bus.setup ≡ setup
     → TookSoFar setup seen wrote noted
@@ -54,7 +51,7 @@ so_far_took setup serving seen wrote noted s same = record {
   taken = s.taken;
   heard = s.heard;
   good = s.good;
-  well = ap first_fault (sym s.lines) ∙ s.capture.took.well;
+  well = ap first_fault (sym s.lines) ∙ s.capture.took_lines.well;
   text = written_now setup serving seen wrote noted s same;
   recorded = s.recorded;
 }
@@ -161,7 +158,7 @@ module _ (setup : RawSetup) (old new : Serving) (i i' i'' o o' o'' r r' r'' : Op
       sym (end_lines so_far.seen old.hearing.kept.items kept) ∙ bus_lines-ended (so_far.seen ++ feed) (end_begun so_far.seen old.hearing.kept.items kept) in
       let same : new.capture.bus.setup ≡ setup = on.setup ∙ so_far.set in
       let read : bus_lines (record_text (capture_of s.taken)) ≡ capture_of s.taken = record_lines (capture_of s.taken) (plain_capture s.taken s.good) in
-      let well : first_fault (capture_of s.taken) ≡ None = ap first_fault (sym s.lines) ∙ s.capture.took.well in
+      let well : first_fault (capture_of s.taken) ≡ None = ap first_fault (sym s.lines) ∙ s.capture.took_lines.well in
       let M = events_of setup (bus_lines (record_text (capture_of s.taken))) in
       record {
         bytes = so_far.seen;

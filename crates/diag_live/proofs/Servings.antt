@@ -1,5 +1,5 @@
 -- How a call of a live run goes: what is heard, with the time before it, recorded and taken.
-use Rattle.std.proofs.Common.{◌≡◌, ◌⊎◌, ℕ, ◌+◌, ◌-◌, ◌<◌, ◌≤◌, ◌^◌, min, max, List, [], ◌∷◌, ◌++◌, length, map, take, drop, None, Some, inl, inr, Err, refl, sym, ap, subst, ◌∙◌, append_assoc, length-append, suc, zero, arith}
+use Rattle.std.proofs.Common.{◌≡◌, ◌⊎◌, ℕ, ◌+◌, ◌-◌, ◌<◌, ◌≤◌, ◌^◌, min, max, List, [], ◌∷◌, ◌++◌, length, map, take, drop, None, Some, inl, inr, Ok, Err, refl, sym, ap, subst, ◌∙◌, append_assoc, length-append, suc, zero, arith}
 use Rattle.std.proofs.lemmas.List.{append-nil, length-map, length-take, take-append-drop, take-map}
 use Rattle.std.proofs.lemmas.List.Concat.{flat_map-cons}
 use Rattle.std.proofs.Math.Seq.{take-append_seam}
@@ -8,14 +8,12 @@ use Rattle.diag_can.specs.declared.fault.LineFault.{LineFault}
 use Rattle.diag_can.proofs.BusLines.{bus_lines-ended, bus_lines-more}
 use Rattle.diag_setup.specs.declared.raw.RawSetup.{RawSetup}
 use Rattle.diag_bus.specs.Events.{first_fault}
-use Rattle.diag_bus.specs.Text.{written}
-use Rattle.diag_bus.specs.declared.bus.Output.{Output}
-use Rattle.diag_bus.specs.declared.bus.Output.TheVariants.{Replies, Verdict}
+use Rattle.diag_bus.specs.Text.{text_of}
 use Rattle.diag_bus.specs.declared.fault.BusFault.{BusFault}
 use Rattle.diag_bus.specs.declared.fault.BusFault.TheVariants as bus
-use Rattle.diag_run.specs.Capture.{IsCutShort, IsFaultyLine, IsFrontOf, StopsIn, StopsOn}
+use Rattle.diag_run.specs.Capture.{IsCutShort, IsFaultyLine, IsFrontOf, StopsOn}
 use Rattle.diag_run.specs.Capturing.{HaltsIn, Stands, fault_of}
-use Rattle.diag_run.specs.declared.capture.Capture.{Capture}
+use Rattle.diag_run.specs.Wanted.{any_lines, replies_wanted, reply_lines}
 use Rattle.diag_run.specs.declared.capture.CaptureFault.{CaptureFault}
 use Rattle.diag_run.specs.declared.capture.CaptureFault.TheVariants as capture
 use Rattle.diag_text.specs.declared.fault.RunFault.{RunFault}
@@ -30,6 +28,12 @@ use Rattle.diag_live.specs.declared.hearing.Hearing.{Hearing}
 use Rattle.diag_port.specs.Port.{Grew}
 use Rattle.diag_live.proofs.Records.{capture_of-append, capture_says, good_join, lines_more, lines_of-append, plain_capture, record_text-append}
 use Rattle.diag_live.proofs.Numbers.{AreTicks, all_heard, fault_behind, heard_before, nothing_heard, passed_ticks}
+
+no_end_told : (more told : List ℕ) → Ok more ≡ Err told → ⊥
+no_end_told more told same = cc
+
+abbrev type_of : {T : Type 0} → T → Type 0
+type_of {T} x = T
 
 -- ---- what is fresh
 
@@ -118,15 +122,14 @@ module _ (old : Serving) (seen wrote noted : List ℕ) (s : ServingStands old se
   all_read = ap bus_lines (append-nil (noted ++ text)) ∙ (bus_lines-ended (noted ++ text) all_closed ∙ all_ended)
 
   was_well : first_fault (capture_of s.taken) ≡ None
-  was_well = ap first_fault (sym s.lines) ∙ s.capture.took.well
+  was_well = ap first_fault (sym s.lines) ∙ s.capture.took_lines.well
 
-  was_written : wrote ≡ written Replies old.capture.bus.setup (capture_of s.taken)
+  was_written : wrote ≡ text_of old.capture.bus.setup (capture_of s.taken)
   was_written =
       sym (append-nil wrote)
       ∙ (ap (λ (t : List ℕ). wrote ++ t) (sym s.sent)
       ∙ (s.capture.due
-      ∙ (ap (λ (o : Output). written o old.capture.bus.setup (ended_lines noted)) s.output
-      ∙ ap (written Replies old.capture.bus.setup) s.lines)))
+      ∙ ap (text_of old.capture.bus.setup) s.lines))
 
   -- a front of the text was recorded, and nothing of it was taken
   pub cut_before : (part : List ℕ) (given : List (List ℕ)) → IsFrontOf part text → AreFront (ended_lines seen ++ lines) given
@@ -145,7 +148,7 @@ module _ (old : Serving) (seen wrote noted : List ℕ) (s : ServingStands old se
 
   -- the text was recorded, and taken in part
   pub cut_within : (sent : List ℕ) (given : List (List ℕ)) → AreFront (ended_lines seen ++ lines) given
-      → IsCutShort Replies old.capture.bus.setup (capture_of all) (wrote ++ sent)
+      → IsCutShort reply_lines old.capture.bus.setup (capture_of all) (wrote ++ sent)
       → IsLiveCutShort old.capture.bus.setup given (wrote ++ sent) (noted ++ text)
   cut_within sent given heard cut =
       let k = length cut.taken in
@@ -158,9 +161,9 @@ module _ (old : Serving) (seen wrote noted : List ℕ) (s : ServingStands old se
         heard = (heard.0, heard.1 ∙ ap (λ (l : List (List ℕ)). l ++ heard.0) (sym all_lines ∙ ap lines_of (sym parts)));
         good = subst AreGood (sym parts) all_good;
         well = ap first_fault front ∙ cut.well;
-        text = subst (λ (l : List (List ℕ)). IsFrontOf (wrote ++ sent) (written Replies old.capture.bus.setup l)) (sym front) (elim cut.front [
+        text = subst (λ (l : List (List ℕ)). IsFrontOf (wrote ++ sent) (text_of old.capture.bus.setup l)) (sym front) (elim cut.front [
           | inl x ↦ x
-          | inr x ↦ subst (IsFrontOf (wrote ++ sent)) (append-nil (written Replies old.capture.bus.setup cut.taken)) x.1
+          | inr x ↦ subst (IsFrontOf (wrote ++ sent)) (append-nil (text_of old.capture.bus.setup cut.taken)) x.1
         ]);
         more = record_text (capture_of (drop k all));
         recorded = all_noted ∙ (ap (λ (t : List Taken). record_text (capture_of t)) (sym parts) ∙ text_join (take k all) (drop k all));
@@ -169,7 +172,7 @@ module _ (old : Serving) (seen wrote noted : List ℕ) (s : ServingStands old se
 
   -- a line of the capture is at fault
   pub late_within : (sent : List ℕ) (given : List (List ℕ)) (m : ℕ) (b : BusFault) → AreFront (ended_lines seen ++ lines) given
-      → IsFaultyLine Replies old.capture.bus.setup m b (capture_of all) (wrote ++ sent)
+      → IsFaultyLine reply_lines old.capture.bus.setup m b (capture_of all) (wrote ++ sent)
       → (n : ℕ) → n ≡ length (lines_of s.taken) + max (m - (length s.taken + length f.time)) 1
       → IsFaulty old.capture.bus.setup n b given (wrote ++ sent) (noted ++ text)
   late_within sent given m b heard line n number =
@@ -195,7 +198,7 @@ module _ (old : Serving) (seen wrote noted : List ℕ) (s : ServingStands old se
         good = subst AreGood (sym split) all_good;
         first = ap (λ (t : List Taken). first_fault (capture_of t)) split
             ∙ (line.first ∙ (ap (λ (x : BusFault). Some (m, x)) among.late ∙ ap (λ k. Some (k, bus.Late)) (sym length_before)));
-        text = line.text ∙ ap (written Replies old.capture.bus.setup) (take-map capture_line (m - 1) all);
+        text = line.text ∙ ap (text_of old.capture.bus.setup) (take-map capture_line (m - 1) all);
         recorded = all_noted ∙ ap (λ (t : List Taken). record_text (capture_of t)) (sym split);
       })
     where
@@ -212,13 +215,13 @@ module _ (old : Serving) (seen wrote noted : List ℕ) (s : ServingStands old se
 -- where the fault of the capture lies
 pub range_of : (old : Serving) (seen wrote noted : List ℕ) (s : ServingStands old seen wrote noted) (text : List ℕ) (ticks : ℕ) (lines : List (List ℕ))
     (f : Fresh ticks text lines)
-    (sent : List ℕ) (m : ℕ) (x : BusFault) → IsFaultyLine Replies old.capture.bus.setup m x
+    (sent : List ℕ) (m : ℕ) (x : BusFault) → IsFaultyLine reply_lines old.capture.bus.setup m x
     (capture_of (all old seen wrote noted s text ticks lines f)) (wrote ++ sent)
     → m < length s.taken + 1 + length (f.time ++ map Heard lines)
 range_of old seen wrote noted s text ticks lines f sent m x line =
     let joined : capture_of s.taken ++ capture_of (f.time ++ map Heard lines) ≡ capture_of (s.taken ++ (f.time ++ map Heard lines)) =
     sym (capture_of-append s.taken (f.time ++ map Heard lines)) in
-    let well : first_fault (capture_of s.taken) ≡ None = ap first_fault (sym s.lines) ∙ s.capture.took.well in
+    let well : first_fault (capture_of s.taken) ≡ None = ap first_fault (sym s.lines) ∙ s.capture.took_lines.well in
     let among = fault_behind (capture_of s.taken) (capture_of (f.time ++ map Heard lines)) m x (capture_says (f.time ++ map Heard lines) f.good) well
     (ap first_fault joined ∙ line.first) in
     omega (arith, among.high, length-map s.taken capture_line, length-map (f.time ++ map Heard lines) capture_line)
@@ -260,21 +263,20 @@ module _ (old : Serving) (piece text : List ℕ) (ticks : ℕ) (brings : (seen :
       ]
 
   module _ (heard first : ℕ) (same : heard ≡ old.hearing.lines) (place : first ≡ min (old.capture.lines + ticks) (2 ^ 64 - 1)) where
-    taking : (came : CaptureFault) (sent : List ℕ) → old.capture.lines + length text + 1 < 2 ^ 64 → HaltsIn old.capture came text sent
+    taking : (came : CaptureFault) (sent : List ℕ) → old.capture.lines + length text + 1 < 2 ^ 64 → HaltsIn any_lines replies_wanted old.capture came text sent
         → ServingHalts old (numbered heard first came) piece sent text
     taking came sent small halts = λ seen wrote noted s rest.
         let b = brings seen s.follows in
         let f = b.fresh in
         let given = bus_lines ((seen ++ piece) ++ rest) in
         let setup = old.capture.bus.setup in
-        let stops : StopsOn Replies setup (fault_of came) (capture_of (all old seen wrote noted s text ticks b.lines f)) (wrote ++ sent) =
-        subst (λ (l : List (List ℕ)). StopsOn Replies setup (fault_of came) l (wrote ++ sent)) (all_read old seen wrote noted s text ticks b.lines f)
-        (subst (λ (o : Output). StopsIn o setup (fault_of came) ((noted ++ text) ++ []) (wrote ++ sent)) s.output
-        ((halts noted wrote s.capture).stops [])) in
+        let stops : StopsOn reply_lines setup (fault_of came) (capture_of (all old seen wrote noted s text ticks b.lines f)) (wrote ++ sent) =
+        subst (λ (l : List (List ℕ)). StopsOn reply_lines setup (fault_of came) l (wrote ++ sent)) (all_read old seen wrote noted s text ticks b.lines f)
+        ((halts noted wrote s.capture).stops []) in
         on seen wrote noted s rest b came stops
       where
         on : (seen wrote noted : List ℕ) (s : ServingStands old seen wrote noted) (rest : List ℕ) (b : Brings text ticks seen piece) (came : CaptureFault)
-            → StopsOn Replies old.capture.bus.setup (fault_of came) (capture_of (all old seen wrote noted s text ticks b.lines b.fresh))
+            → StopsOn reply_lines old.capture.bus.setup (fault_of came) (capture_of (all old seen wrote noted s text ticks b.lines b.fresh))
             (wrote ++ sent)
             → LiveStopsOn old.capture.bus.setup (numbered heard first came) (bus_lines ((seen ++ piece) ++ rest)) (wrote ++ sent) (noted ++ text)
         on seen wrote noted s rest b capture.Memory stops =
@@ -282,10 +284,7 @@ module _ (old : Serving) (piece text : List ℕ) (ticks : ℕ) (brings : (seen :
         on seen wrote noted s rest b capture.Write stops =
             cut_within old seen wrote noted s text ticks b.lines b.fresh sent (bus_lines ((seen ++ piece) ++ rest)) (b.front rest) stops
         on seen wrote noted s rest b capture.Read stops = absurd stops
-        on seen wrote noted s rest b (capture.Otherwise told) stops = absurd (clash stops.wanted)
-          where
-            clash : Replies ≡ Verdict → ⊥
-            clash x = cc
+        on seen wrote noted s rest b (capture.Otherwise told) stops = absurd (no_end_told [] told.items stops.told)
         on seen wrote noted s rest b (capture.Line m x) stops =
             let f = b.fresh in
             let lines = b.lines in
@@ -322,26 +321,22 @@ module _ (old : Serving) (piece text : List ℕ) (ticks : ℕ) (brings : (seen :
 module _ (old new : Serving) (text sent noted : List ℕ) (ticks : ℕ) (seen wrote before : List ℕ) (s : ServingStands old seen wrote before)
     (lines : List (List ℕ)) (f : Fresh ticks text lines)
     (d : Delivered old.capture new.capture text sent noted) where
-  on_from : Stands new.capture (before ++ text) (wrote ++ sent)
+  on_from : Stands any_lines replies_wanted new.capture (before ++ text) (wrote ++ sent)
   on_from = d.on.stands before wrote s.capture
-
-  new_output : new.capture.bus.output ≡ Replies
-  new_output = d.on.output ∙ s.output
 
   noted_here : before ++ noted ≡ before ++ text
   noted_here = ap (λ (t : List ℕ). before ++ t) d.whole
 
-  pub delivered_text : wrote ++ sent ≡ written Replies old.capture.bus.setup (capture_of (all old seen wrote before s text ticks lines f))
+  pub delivered_text : wrote ++ sent ≡ text_of old.capture.bus.setup (capture_of (all old seen wrote before s text ticks lines f))
   delivered_text =
       sym (append-nil (wrote ++ sent))
       ∙ (ap (λ (t : List ℕ). (wrote ++ sent) ++ t) (sym d.none)
       ∙ (on_from.due
-      ∙ (ap (λ (o : Output). written o new.capture.bus.setup (ended_lines (before ++ text))) new_output
-      ∙ (ap (λ (u : RawSetup). written Replies u (ended_lines (before ++ text))) d.on.setup
-      ∙ ap (written Replies old.capture.bus.setup) (all_ended old seen wrote before s text ticks lines f)))))
+      ∙ (ap (λ (u : RawSetup). text_of u (ended_lines (before ++ text))) d.on.setup
+      ∙ ap (text_of old.capture.bus.setup) (all_ended old seen wrote before s text ticks lines f))))
 
   pub delivered_well : first_fault (capture_of (all old seen wrote before s text ticks lines f)) ≡ None
-  delivered_well = ap first_fault (sym (all_ended old seen wrote before s text ticks lines f)) ∙ on_from.took.well
+  delivered_well = ap first_fault (sym (all_ended old seen wrote before s text ticks lines f)) ∙ on_from.took_lines.well
 
   pub delivered_noted : before ++ noted ≡ record_text (capture_of (all old seen wrote before s text ticks lines f))
   delivered_noted = noted_here ∙ all_noted old seen wrote before s text ticks lines f
@@ -357,9 +352,8 @@ module _ (old new : Serving) (text sent noted : List ℕ) (ticks : ℕ) (seen wr
     recorded = delivered_noted;
     lines = ap ended_lines noted_here ∙ all_ended old seen wrote before s text ticks lines f;
     closed = ap begun_line noted_here ∙ all_closed old seen wrote before s text ticks lines f;
-    capture = subst (λ (t : List ℕ). Stands new.capture t (wrote ++ sent)) (sym noted_here) on_from;
+    capture = subst (λ (t : List ℕ). Stands any_lines replies_wanted new.capture t (wrote ++ sent)) (sym noted_here) on_from;
     sent = d.none;
-    output = new_output;
   }
 
   -- or a line at fault comes behind them
@@ -408,7 +402,7 @@ module _ (h : Hearing) (span ticks : ℕ) (text text' piece : List ℕ) (was : t
         front = λ rest. ((e.next rest).bad ∷ (e.next rest).others, (e.next rest).are);
       }
 
-  module _ (old : Serving) (k : Capture) (hearing : h ≡ old.hearing) (capture_same : k ≡ old.capture) where
+  module _ (old : Serving) (k : type_of old.capture) (hearing : h ≡ old.hearing) (capture_same : k ≡ old.capture) where
     follows_h : (seen : List ℕ) → HasHeard old.hearing seen → HasHeard h seen
     follows_h seen f = subst (λ (x : Hearing). HasHeard x seen) (sym hearing) f
 
@@ -416,7 +410,7 @@ module _ (h : Hearing) (span ticks : ℕ) (text text' piece : List ℕ) (was : t
         → Delivered k new.capture text' sent noted
         → ServingGoesOn old new piece sent noted
     serve_goes_on new next grew same sent noted d =
-        let here : Delivered old.capture new.capture text' sent noted = subst (λ (x : Capture). Delivered x new.capture text' sent noted) capture_same d in
+        let here : Delivered old.capture new.capture text' sent noted = subst (λ (x : type_of old.capture). Delivered x new.capture text' sent noted) capture_same d in
         record {
           setup = here.on.setup;
           stands = λ seen wrote before s.
@@ -431,22 +425,22 @@ module _ (h : Hearing) (span ticks : ℕ) (text text' piece : List ℕ) (was : t
         → (sent noted : List ℕ) (came : RunFault) → Undelivered k heard first text' sent noted came → ServingHalts old came piece sent noted
     serve_halts new grew heard first same place sent noted came u =
         undelivered_halts old piece text' ticks (λ seen f. brings_ended new grew seen (follows_h seen f)) heard first same
-        (place ∙ ap (λ (x : Capture). min (x.lines + ticks) (2 ^ 64 - 1)) capture_same) sent noted came
-        (subst (λ (x : Capture). Undelivered x heard first text' sent noted came) capture_same u)
+        (place ∙ ap (λ (x : type_of old.capture). min (x.lines + ticks) (2 ^ 64 - 1)) capture_same) sent noted came
+        (subst (λ (x : type_of old.capture). Undelivered x heard first text' sent noted came) capture_same u)
 
     pub bad_serve_halts : (n : ℕ) (bad : LineFault) → Grew text text' (λ more. (seen : List ℕ) → HasHeard h seen → EndsBefore n bad seen piece more)
         → (heard first : ℕ) → heard ≡ old.hearing.lines → first ≡ min (k.lines + ticks) (2 ^ 64 - 1)
         → (sent noted : List ℕ) (came : RunFault) → Undelivered k heard first text' sent noted came → ServingHalts old came piece sent noted
     bad_serve_halts n bad grew heard first same place sent noted came u =
         undelivered_halts old piece text' ticks (λ seen f. brings_before n bad grew seen (follows_h seen f)) heard first same
-        (place ∙ ap (λ (x : Capture). min (x.lines + ticks) (2 ^ 64 - 1)) capture_same) sent noted came
-        (subst (λ (x : Capture). Undelivered x heard first text' sent noted came) capture_same u)
+        (place ∙ ap (λ (x : type_of old.capture). min (x.lines + ticks) (2 ^ 64 - 1)) capture_same) sent noted came
+        (subst (λ (x : type_of old.capture). Undelivered x heard first text' sent noted came) capture_same u)
 
     pub bad_line_halts : (new : Serving) (n : ℕ) (bad : LineFault)
         → Grew text text' (λ more. (seen : List ℕ) → HasHeard h seen → EndsBefore n bad seen piece more)
         → (sent noted : List ℕ) → Delivered k new.capture text' sent noted → ServingHalts old (fault.Capture n (bus.Line bad)) piece sent noted
     bad_line_halts new n bad grew sent noted d = λ seen wrote before s rest.
-        let here : Delivered old.capture new.capture text' sent noted = subst (λ (x : Capture). Delivered x new.capture text' sent noted) capture_same d in
+        let here : Delivered old.capture new.capture text' sent noted = subst (λ (x : type_of old.capture). Delivered x new.capture text' sent noted) capture_same d in
         let e = grew.holds seen (follows_h seen s.follows) in
         let next = e.next rest in
         delivered_bad old new text' sent noted ticks seen wrote before s e.lines

@@ -3,7 +3,9 @@ use Rattle.std.specs.Prelude.{◌≡◌, ◌⊎◌, ◌<◌, ◌^◌, ℕ, ◌+�
 use Rattle.std.specs.Io.KnownBytes.{Appends, Consumes, IsAtEnd, Keeps}
 use Rattle.diag_can.specs.Bus.{begun_line, bus_lines, ended_lines}
 use Rattle.diag_setup.specs.declared.raw.RawSetup.{RawSetup}
-use Rattle.diag_bus.specs.declared.bus.Output.TheVariants.{Replies}
+use Rattle.diag_bus.specs.declared.replies.Replies.{Replies}
+use Rattle.diag_bus.specs.declared.sink.Sink.{Ghosts}
+use Rattle.diag_run.specs.Wanted.{any_lines, replies_wanted}
 use Rattle.diag_run.specs.Capture.{IsFrontOf}
 use Rattle.diag_text.specs.Bytes.{Sends, Takes}
 use Rattle.diag_run.specs.Capturing.{GoesOn, HaltsIn, Stands, fault_of}
@@ -27,9 +29,8 @@ pub record ServingStands (serving : Serving) (seen wrote noted : List ℕ) : Typ
   pub recorded : noted ≡ record_text (capture_of taken)
   pub lines : ended_lines noted ≡ capture_of taken
   pub closed : begun_line noted ≡ []
-  pub capture : Stands serving.capture noted wrote
+  pub capture : Stands any_lines replies_wanted serving.capture noted wrote
   pub sent : serving.capture.text.items ≡ []
-  pub output : serving.capture.bus.output ≡ Replies
 
 -- these bytes were heard further, these written, and those recorded
 pub record ServingGoesOn (old new : Serving) (bytes sent noted : List ℕ) : Type 0 where
@@ -44,16 +45,16 @@ ServingHalts old fault bytes sent noted = (seen wrote before : List ℕ) → Ser
     (wrote ++ sent) (before ++ noted)
 
 -- the capture's text was recorded and taken
-pub record Delivered (old new : Capture) (text sent noted : List ℕ) : Type 0 where
+pub record Delivered {g : Ghosts Replies} (old new : Capture Replies g) (text sent noted : List ℕ) : Type 0 where
   pub whole : noted ≡ text
-  pub on : GoesOn old new text sent
+  pub on : GoesOn any_lines replies_wanted old new text sent
   pub none : new.text.items ≡ []
 
 -- it was recorded, and then the fault came in taking it
-pub record HaltsTaking (old : Capture) (text sent noted : List ℕ) (fault : CaptureFault) : Type 0 where
+pub record HaltsTaking {g : Ghosts Replies} (old : Capture Replies g) (text sent noted : List ℕ) (fault : CaptureFault) : Type 0 where
   pub whole : noted ≡ text
   pub countable : old.lines + length text + 1 < 2 ^ 64
-  pub halts : HaltsIn old fault text sent
+  pub halts : HaltsIn any_lines replies_wanted old fault text sent
 
 -- it was not recorded whole, and nothing of it was taken
 pub record HaltsRecording (text sent noted : List ℕ) (fault : CaptureFault) : Type 0 where
@@ -72,7 +73,7 @@ numbered heard first (capture.Line n fault) = CaptureLine (input_number heard fi
 numbered heard first fault = fault_of fault
 
 -- the fault came in delivering the capture's text
-pub record Undelivered (old : Capture) (heard first : ℕ) (text sent noted : List ℕ) (fault : RunFault)
+pub record Undelivered {g : Ghosts Replies} (old : Capture Replies g) (heard first : ℕ) (text sent noted : List ℕ) (fault : RunFault)
     : Type 0 where
   pub came : CaptureFault
   pub told : fault ≡ numbered heard first came

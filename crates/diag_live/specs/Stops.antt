@@ -6,8 +6,7 @@ use Rattle.diag_can.specs.declared.fault.LineFault.{LineFault}
 use Rattle.diag_can.specs.declared.frame.Event.{Event}
 use Rattle.diag_setup.specs.declared.raw.RawSetup.{RawSetup}
 use Rattle.diag_bus.specs.Events.{bus_events, first_fault}
-use Rattle.diag_bus.specs.Text.{IsRun, run_of, sent_of, written}
-use Rattle.diag_bus.specs.declared.bus.Output.TheVariants.{Replies}
+use Rattle.diag_bus.specs.Text.{IsRun, run_of, sent_of, text_of}
 use Rattle.diag_bus.specs.declared.fault.BusFault.{BusFault}
 use Rattle.diag_bus.specs.declared.fault.BusFault.TheVariants as bus
 use Rattle.diag_run.specs.Capture.{IsFrontOf}
@@ -29,7 +28,7 @@ pub record Lived (setup : RawSetup) (input input' out out' noted noted' : Option
   pub M : List (ℕ × Event)
   pub events : bus_events (record_text (capture_of taken)) setup ≡ Ok M
   pub run : IsRun setup M (run_of setup M) (sent_of setup M)
-  pub text : Appends out out' (written Replies setup (capture_of taken))
+  pub text : Appends out out' (text_of setup (capture_of taken))
   pub lines : bus_lines (record_text (capture_of taken)) ≡ capture_of taken
   pub recorded : Appends noted noted' (record_text (capture_of taken))
 
@@ -51,7 +50,7 @@ pub record IsBadLine (setup : RawSetup) (n : ℕ) (fault : LineFault) (lines : L
   pub good : AreGood taken
   pub says : bus_line bad ≡ Err fault
   pub well : first_fault (capture_of taken) ≡ None
-  pub text : wrote ≡ written Replies setup (capture_of taken)
+  pub text : wrote ≡ text_of setup (capture_of taken)
   pub recorded : noted ≡ record_text (capture_of taken)
 
 -- The capture's first line at fault is one by which a tester's clock would pass its last time: the n-th line of the input,
@@ -64,7 +63,7 @@ pub record IsLate (setup : RawSetup) (n : ℕ) (lines : List (List ℕ)) (wrote 
   pub number : n ≡ length (lines_of before) + 1
   pub good : AreGood (before ++ late ∷ behind)
   pub first : first_fault (capture_of (before ++ late ∷ behind)) ≡ Some (length before + 1, bus.Late)
-  pub text : wrote ≡ written Replies setup (capture_of before)
+  pub text : wrote ≡ text_of setup (capture_of before)
   pub recorded : noted ≡ record_text (capture_of (before ++ late ∷ behind))
 
 -- The first lines of the input were taken, with ticks between them, and none is at fault. A front of what they write was
@@ -75,7 +74,7 @@ pub record IsLiveCutShort (setup : RawSetup) (lines : List (List ℕ)) (wrote no
   pub heard : AreFront (lines_of (taken ++ next)) lines
   pub good : AreGood (taken ++ next)
   pub well : first_fault (capture_of taken) ≡ None
-  pub text : IsFrontOf wrote (written Replies setup (capture_of taken))
+  pub text : IsFrontOf wrote (text_of setup (capture_of taken))
   pub more : List ℕ
   pub recorded : noted ≡ record_text (capture_of taken) ++ more
   pub front : IsFrontOf more (record_text (capture_of next))
@@ -110,7 +109,7 @@ pub record TookSoFar (setup : RawSetup) (seen wrote noted : List ℕ) : Type 0 w
   pub heard : lines_of taken ≡ ended_lines seen
   pub good : AreGood taken
   pub well : first_fault (capture_of taken) ≡ None
-  pub text : wrote ≡ written Replies setup (capture_of taken)
+  pub text : wrote ≡ text_of setup (capture_of taken)
   pub recorded : noted ≡ record_text (capture_of taken)
 
 -- The input could not be heard further than this; or the fault is one of what was heard of it, and of the whole of it

@@ -7,7 +7,7 @@ ghost use Rattle.diag_run.specs.Run.{TellsOf};
 
 use crate::bench::{Bench, Heard};
 use crate::serving::Serving;
-use diag_bus::{Bus, Output};
+use diag_bus::{Bus, Replies};
 use diag_run::{Outcome, read_config};
 use diag_setup::Setup;
 use diag_text::RunFault;
@@ -36,7 +36,7 @@ pub fn live<B: Bench, W: Write, R: Write>(
     ensures fault { IfErr result (Stopped setup (B.remaining bench.old) (B.remaining bench.new)
         (W.contents out.old) (W.contents out.new) (R.contents recorder.old) (R.contents recorder.new)) }
 {
-    let bus = Bus::new(alloc, setup, Output::Replies)?;
+    let bus = Bus::new(alloc, setup, Replies::new(alloc))?;
     let mut serving = Serving::begin(alloc, bus, bench.now())?;
     for _ in 0..u64::MAX {
         match turn(&mut serving, bench, out, recorder) {

@@ -6,10 +6,11 @@ ghost use Rattle.diag_text.specs.Bytes.{Sends};
 ghost use Rattle.diag_world.specs.Server.{quiet_of};
 ghost use Rattle.diag_live.specs.Live.{capture_of, passed, record_text};
 ghost use Rattle.diag_live.specs.Serving.{numbered};
+ghost use Rattle.diag_run.specs.Wanted.{any_lines};
 
 use crate::hearing::{HearFault, Hearing};
 use crate::restamp::add_time;
-use diag_bus::{Bus, BusFault, Output};
+use diag_bus::{Bus, BusFault, Replies};
 use diag_run::{Capture, CaptureFault, run_fault};
 use diag_text::{RunFault, write_text};
 use std::alloc::{AllocError, Global};
@@ -19,7 +20,7 @@ use std::io::Write;
 #[derive(Drop)]
 pub(crate) struct Serving {
     hearing: Hearing,
-    capture: Capture,
+    capture: Capture<Replies>,
     /// What the capture grows by.
     text: Vec<u8>,
     /// The moment up to which the time was passed.
@@ -30,9 +31,8 @@ impl Serving {
     ghost use Rattle.diag_live.specs.Serving.{Delivered, ServingGoesOn, ServingHalts, ServingStands, Undelivered, last_feed};
 
     /// A run that begins at this moment.
-    pub(crate) fn begin(alloc: Global, bus: Bus, now: u64) -> Result<Serving, AllocError>
-        requires took { TookLines bus [] }
-        requires output { bus.output ≡ Output.Replies }
+    pub(crate) fn begin(alloc: Global, bus: Bus<Replies>, now: u64) -> Result<Serving, AllocError>
+        requires { TookLines any_lines bus [] }
         ensures stands { IfOk result (λ serving. ServingStands serving [] [] []) }
         ensures setup { IfOk result (λ serving. serving.capture.bus.setup ≡ bus.setup) }
     {

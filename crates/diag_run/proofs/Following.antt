@@ -1,181 +1,188 @@
 -- A capture that is read to its end, or up to a fault.
-use Rattle.std.proofs.Common.{◌≡◌, ℕ, List, [], ◌++◌, Option, inl, refl, sym, ap, subst}
+use Rattle.std.proofs.Common.{◌≡◌, ℕ, List, [], ◌++◌, Option, Result, inl, refl, sym, ap, subst}
 use Rattle.std.specs.Io.KnownBytes.{Appends, Consumes, IsAtEnd, Keeps}
 use Rattle.std.proofs.KnownBytes.{Appends-nil, Appends-trans, Consumes-kept, Consumes-nil, Consumes-trans}
 use Rattle.diag_setup.specs.declared.raw.RawSetup.{RawSetup}
+use Rattle.diag_desk.specs.declared.entry.Entry.{Entry}
 use Rattle.diag_can.specs.Bus.{bus_lines}
 use Rattle.diag_bus.specs.Bus.{BusState}
+use Rattle.diag_bus.specs.declared.sink.Sink.{Ghosts}
 use Rattle.diag_bus.specs.Events.{events_of, unless_fault}
 use Rattle.diag_bus.proofs.Runs.{run}
-use Rattle.diag_bus.specs.declared.bus.Output.{Output}
 use Rattle.diag_text.specs.Bytes.{Sends, Takes}
 use Rattle.diag_run.specs.Capture.{Followed, StopsReading}
 use Rattle.diag_run.specs.Capturing.{Closes, FollowedFrom, GoesOn, HaltsAtEnd, HaltsIn, Stands, StopsFrom, StopsWithin, fault_of}
 use Rattle.diag_run.specs.Files.{SaysSetup}
+use Rattle.diag_run.specs.Wanted.{Wanted, wanted}
 use Rattle.diag_run.specs.declared.capture.Capture.{Capture}
 use Rattle.diag_run.specs.declared.capture.CaptureFault.{CaptureFault}
 use Rattle.diag_run.specs.declared.capture.CaptureFault.TheVariants.{Memory, Read}
 use Rattle.diag_run.proofs.Pieces.{GoesOn-trans, halts_within, later_within, read_fails, refused_at, stops_at, stops_at_end}
 
--- so much of the capture was read, and all that was due was written
-pub record ReadSoFar (old new : Capture) (r r' w w' : Option (List ℕ)) : Type 0 where
-  pub bytes : List ℕ
-  pub read : Consumes r r' bytes
-  pub sent : List ℕ
-  pub sends : Appends w w' sent
-  pub on : GoesOn old new bytes sent
-  pub none : new.text.items ≡ []
+module _ {S A : Type 0} (g : Ghosts S) (took : S → RawSetup → List (List ℕ) → List Entry → Type 0) (aim : S → A) (written : A → RawSetup → List (List ℕ) → List ℕ)
+    (ends : S → RawSetup → List (List ℕ) → Result (List ℕ) (List ℕ)) where
+  abbrev want_of : S → Wanted
+  want_of = wanted written ends aim
 
-module _ (old mid : Capture) (r r' r'' w w' w'' : Option (List ℕ)) (so_far : ReadSoFar old mid r r' w w') where
-  pub one_piece_more : (new : Capture) (piece : List ℕ) → Consumes r' r'' piece → Sends w' w'' (GoesOn mid new piece) → new.text.items ≡ []
-      → ReadSoFar old new r r'' w w''
-  one_piece_more new piece read sends none = record {
-    bytes = so_far.bytes ++ piece;
-    read = Consumes-trans r r' r'' so_far.bytes piece so_far.read read;
-    sent = so_far.sent ++ sends.0;
-    sends = Appends-trans w w' w'' so_far.sent sends.0 so_far.sends sends.1;
-    on = GoesOn-trans old mid new so_far.bytes piece so_far.sent sends.0 so_far.on sends.2;
-    none = none;
-  }
+  -- so much of the capture was read, and all that was due was written
+  pub record ReadSoFar (old new : Capture S g) (r r' w w' : Option (List ℕ)) : Type 0 where
+    pub bytes : List ℕ
+    pub read : Consumes r r' bytes
+    pub sent : List ℕ
+    pub sends : Appends w w' sent
+    pub on : GoesOn took want_of old new bytes sent
+    pub none : new.text.items ≡ []
 
-  pub so_far_stops : (fault : CaptureFault) (piece : List ℕ) → Consumes r' r'' piece → Sends w' w'' (HaltsIn mid fault piece)
-      → Takes r r'' (λ bytes. Sends w w'' (StopsWithin old fault bytes))
-  so_far_stops fault piece read sends = (
-    so_far.bytes ++ piece,
-    Consumes-trans r r' r'' so_far.bytes piece so_far.read read,
-    (
-      so_far.sent ++ sends.0,
-      Appends-trans w w' w'' so_far.sent sends.0 so_far.sends sends.1,
-      later_within old mid so_far.bytes piece so_far.sent sends.0 fault so_far.on (halts_within mid fault piece sends.0 sends.2),
-    ),
-  )
+  module _ (old mid : Capture S g) (r r' r'' w w' w'' : Option (List ℕ)) (so_far : ReadSoFar old mid r r' w w') where
+    pub one_piece_more : (new : Capture S g) (piece : List ℕ) → Consumes r' r'' piece → Sends w' w'' (GoesOn took want_of mid new piece) → new.text.items ≡ []
+        → ReadSoFar old new r r'' w w''
+    one_piece_more new piece read sends none = record {
+      bytes = so_far.bytes ++ piece;
+      read = Consumes-trans r r' r'' so_far.bytes piece so_far.read read;
+      sent = so_far.sent ++ sends.0;
+      sends = Appends-trans w w' w'' so_far.sent sends.0 so_far.sends sends.1;
+      on = GoesOn-trans g took aim written ends old mid new so_far.bytes piece so_far.sent sends.0 so_far.on sends.2;
+      none = none;
+    }
 
-module _ (old mid : Capture) (r r' r'' w w' : Option (List ℕ)) (so_far : ReadSoFar old mid r r' w w') where
-  -- the next read failed
-  pub so_far_fails : (fault : CaptureFault) → fault ≡ Read → Keeps r' r'' → Takes r r'' (λ bytes. Sends w w' (StopsWithin old fault bytes))
-  so_far_fails fault is kept = subst (λ (f : CaptureFault). Takes r r'' (λ bytes. Sends w w' (StopsWithin old f bytes))) (sym is) (
-    so_far.bytes,
-    Consumes-kept r r' r'' so_far.bytes so_far.read kept,
-    (so_far.sent, so_far.sends, read_fails old mid so_far.bytes so_far.sent so_far.on so_far.none),
-  )
+    pub so_far_stops : (fault : CaptureFault) (piece : List ℕ) → Consumes r' r'' piece → Sends w' w'' (HaltsIn took want_of mid fault piece)
+        → Takes r r'' (λ bytes. Sends w w'' (StopsWithin took want_of old fault bytes))
+    so_far_stops fault piece read sends = (
+      so_far.bytes ++ piece,
+      Consumes-trans r r' r'' so_far.bytes piece so_far.read read,
+      (
+        so_far.sent ++ sends.0,
+        Appends-trans w w' w'' so_far.sent sends.0 so_far.sends sends.1,
+        later_within g took aim written ends old mid so_far.bytes piece so_far.sent sends.0 fault so_far.on (halts_within g took aim written ends mid fault piece sends.0 sends.2),
+      ),
+    )
 
--- ---- from the first read on
+  module _ (old mid : Capture S g) (r r' r'' w w' : Option (List ℕ)) (so_far : ReadSoFar old mid r r' w w') where
+    -- the next read failed
+    pub so_far_fails : (fault : CaptureFault) → fault ≡ Read → Keeps r' r'' → Takes r r'' (λ bytes. Sends w w' (StopsWithin took want_of old fault bytes))
+    so_far_fails fault is kept = subst (λ (f : CaptureFault). Takes r r'' (λ bytes. Sends w w' (StopsWithin took want_of old f bytes))) (sym is) (
+      so_far.bytes,
+      Consumes-kept r r' r'' so_far.bytes so_far.read kept,
+      (so_far.sent, so_far.sends, read_fails g took aim written ends old mid so_far.bytes so_far.sent so_far.on so_far.none),
+    )
 
--- the first read failed
-pub first_read_fails : (output : Output) (setup : RawSetup) (r r' w : Option (List ℕ)) (fault : CaptureFault) → fault ≡ Read → Keeps r r'
-    → StopsFrom output setup r r' w w fault
-first_read_fails output setup r r' w fault is kept = subst (StopsFrom output setup r r' w w) (sym is) (record {
-  seen = [];
-  read = Consumes-kept r r r' [] (Consumes-nil r) kept;
-  wrote = [];
-  sent = Appends-nil w;
-  stops = (refl, inl (refl, refl));
-})
+  -- ---- from the first read on
 
--- memory was refused before a line was taken
-pub first_refused : (output : Output) (setup : RawSetup) (r r' w : Option (List ℕ)) (bytes : List ℕ) (fault : CaptureFault) → fault ≡ Memory
-    → Consumes r r' bytes
-    → StopsFrom output setup r r' w w fault
-first_refused output setup r r' w bytes fault is read = subst (StopsFrom output setup r r' w w) (sym is) (record {
-  seen = bytes;
-  read = read;
-  wrote = [];
-  sent = Appends-nil w;
-  stops = refused_at output setup bytes r';
-})
-
-module _ (begun : Capture) (bus : BusState) (same : begun.bus ≡ bus) (stands : Stands begun [] []) (r r' w w' : Option (List ℕ)) (bytes : List ℕ)
-    (read : Consumes r r' bytes) where
-  pub stops_from : (fault : CaptureFault) → Sends w w' (StopsWithin begun fault bytes) → StopsFrom bus.output bus.setup r r' w w' fault
-  stops_from fault sends = subst (λ (b : BusState). StopsFrom b.output b.setup r r' w w' fault) same (record {
-    seen = bytes;
-    read = read;
-    wrote = sends.0;
-    sent = sends.1;
-    stops = stops_at begun.bus.output begun.bus.setup bytes sends.0 fault r' (sends.2 [] [] stands);
+  -- the first read failed
+  pub first_read_fails : (want : Wanted) (setup : RawSetup) (r r' w : Option (List ℕ)) (fault : CaptureFault) → fault ≡ Read → Keeps r r'
+      → StopsFrom want setup r r' w w fault
+  first_read_fails want setup r r' w fault is kept = subst (StopsFrom want setup r r' w w) (sym is) (record {
+    seen = [];
+    read = Consumes-kept r r r' [] (Consumes-nil r) kept;
+    wrote = [];
+    sent = Appends-nil w;
+    stops = (refl, inl (refl, refl));
   })
 
-  module _ (mid : Capture) (w'' : Option (List ℕ)) (on : Sends w w' (GoesOn begun mid bytes)) (end : IsAtEnd r') where
-    pub stops_from_end : (fault : CaptureFault) → Sends w' w'' (HaltsAtEnd mid fault) → StopsFrom bus.output bus.setup r r' w w'' fault
-    stops_from_end fault halts =
-        let goes = on.2 in
-        subst (λ (b : BusState). StopsFrom b.output b.setup r r' w w'' fault) same
-        (subst (λ (o : Output). StopsFrom o begun.bus.setup r r' w w'' fault) goes.output
-        (subst (λ (u : RawSetup). StopsFrom mid.bus.output u r r' w w'' fault) goes.setup
-        (record {
-          seen = bytes;
-          read = read;
-          wrote = on.0 ++ halts.0;
-          sent = Appends-trans w w' w'' on.0 halts.0 on.1 halts.1;
-          stops = stops_at_end mid.bus.output mid.bus.setup bytes (on.0 ++ halts.0) fault r' end (halts.2 bytes on.0 (goes.stands [] [] stands));
-        })))
+  -- memory was refused before a line was taken
+  pub first_refused : (want : Wanted) (setup : RawSetup) (r r' w : Option (List ℕ)) (bytes : List ℕ) (fault : CaptureFault) → fault ≡ Memory
+      → Consumes r r' bytes
+      → StopsFrom want setup r r' w w fault
+  first_refused want setup r r' w bytes fault is read = subst (StopsFrom want setup r r' w w) (sym is) (record {
+    seen = bytes;
+    read = read;
+    wrote = [];
+    sent = Appends-nil w;
+    stops = refused_at g took aim written ends want setup bytes r';
+  })
 
-    pub followed_from : Sends w' w'' (Closes mid) → FollowedFrom bus.output bus.setup r r' w w''
-    followed_from closes =
-        let goes = on.2 in
-        let here = closes.2 bytes on.0 (goes.stands [] [] stands) in
-        subst (λ (b : BusState). FollowedFrom b.output b.setup r r' w w'') same
-        (subst (λ (o : Output). FollowedFrom o begun.bus.setup r r' w w'') goes.output
-        (subst (λ (u : RawSetup). FollowedFrom mid.bus.output u r r' w w'') goes.setup
-        (record {
-          bytes = bytes;
-          read = read;
-          end = end;
-          well = here.0;
-          borne = here.1;
-          text = subst (Appends w w'') here.2 (Appends-trans w w' w'' on.0 closes.0 on.1 closes.1);
-        })))
+  module _ (begun : Capture S g) (bus : BusState S) (same : begun.bus ≡ bus) (stands : Stands took want_of begun [] []) (r r' w w' : Option (List ℕ)) (bytes : List ℕ)
+      (read : Consumes r r' bytes) where
+    pub stops_from : (fault : CaptureFault) → Sends w w' (StopsWithin took want_of begun fault bytes) → StopsFrom (want_of bus.sink) bus.setup r r' w w' fault
+    stops_from fault sends = subst (λ (b : BusState S). StopsFrom (want_of b.sink) b.setup r r' w w' fault) same (record {
+      seen = bytes;
+      read = read;
+      wrote = sends.0;
+      sent = sends.1;
+      stops = stops_at g took aim written ends (want_of begun.bus.sink) begun.bus.setup bytes sends.0 fault r' (sends.2 [] [] stands);
+    })
 
--- ---- behind the config
+    module _ (mid : Capture S g) (w'' : Option (List ℕ)) (on : Sends w w' (GoesOn took want_of begun mid bytes)) (end : IsAtEnd r') where
+      pub stops_from_end : (fault : CaptureFault) → Sends w' w'' (HaltsAtEnd took want_of mid fault) → StopsFrom (want_of bus.sink) bus.setup r r' w w'' fault
+      stops_from_end fault halts =
+          let goes = on.2 in
+          subst (λ (b : BusState S). StopsFrom (want_of b.sink) b.setup r r' w w'' fault) same
+          (subst (λ (o : Wanted). StopsFrom o begun.bus.setup r r' w w'' fault) goes.want
+          (subst (λ (u : RawSetup). StopsFrom (want_of mid.bus.sink) u r r' w w'' fault) goes.setup
+          (record {
+            seen = bytes;
+            read = read;
+            wrote = on.0 ++ halts.0;
+            sent = Appends-trans w w' w'' on.0 halts.0 on.1 halts.1;
+            stops = stops_at_end g took aim written ends (want_of mid.bus.sink) mid.bus.setup bytes (on.0 ++ halts.0) fault r' end (halts.2 bytes on.0 (goes.stands [] [] stands));
+          })))
 
-module _ (output output' : Output) (setup setup' : RawSetup) (same_output : output' ≡ output) (same_setup : setup' ≡ setup)
-    (config config' r r' w w' : Option (List ℕ)) (says : SaysSetup config config' setup) where
-  pub followed : FollowedFrom output' setup' r r' w w' → Followed output config config' r r' w w'
-  followed from =
-      let here : FollowedFrom output setup r r' w w' =
-      subst (λ (o : Output). FollowedFrom o setup r r' w w') same_output (subst (λ (u : RawSetup). FollowedFrom output' u r r' w w') same_setup from) in
-      let M = events_of setup (bus_lines here.bytes) in
-      record {
-        setup = setup;
-        says = says;
-        bytes = here.bytes;
-        read = here.read;
-        end = here.end;
-        M = M;
-        events = ap (unless_fault M) here.well;
-        run = run setup M;
-        borne = here.borne;
-        text = here.text;
-      }
+      pub followed_from : (new : Capture S g) → Sends w' w'' (Closes took want_of mid new) → FollowedFrom (want_of bus.sink) bus.setup r r' w w''
+      followed_from new closes =
+          let goes = on.2 in
+          let here = closes.2 bytes on.0 (goes.stands [] [] stands) in
+          subst (λ (b : BusState S). FollowedFrom (want_of b.sink) b.setup r r' w w'') same
+          (subst (λ (o : Wanted). FollowedFrom o begun.bus.setup r r' w w'') goes.want
+          (subst (λ (u : RawSetup). FollowedFrom (want_of mid.bus.sink) u r r' w w'') goes.setup
+          (record {
+            bytes = bytes;
+            read = read;
+            end = end;
+            well = here.0;
+            ended = here.1;
+            text = subst (Appends w w'') here.2 (Appends-trans w w' w'' on.0 closes.0 on.1 closes.1);
+          })))
 
-  pub stops_reading : (fault : CaptureFault) → StopsFrom output' setup' r r' w w' fault → StopsReading output config config' r r' w w' (fault_of fault)
-  stops_reading fault from =
-      let here : StopsFrom output setup r r' w w' fault =
-      subst (λ (o : Output). StopsFrom o setup r r' w w' fault) same_output (subst (λ (u : RawSetup). StopsFrom output' u r r' w w' fault) same_setup from) in
-      record { setup = setup; says = says; seen = here.seen; read = here.read; wrote = here.wrote; sent = here.sent; stops = here.stops }
+  -- ---- behind the config
 
--- memory was refused behind the config
-pub refused_behind : (output : Output) (setup : RawSetup) (config config' r w : Option (List ℕ)) → SaysSetup config config' setup
-    → StopsReading output config config' r r w w (fault_of Memory)
-refused_behind output setup config config' r w says =
-    stops_reading output output setup setup refl refl config config' r r w w says Memory (first_refused output setup r r w [] Memory refl (Consumes-nil r))
+  module _ (want want' : Wanted) (setup setup' : RawSetup) (same_want : want' ≡ want) (same_setup : setup' ≡ setup)
+      (config config' r r' w w' : Option (List ℕ)) (says : SaysSetup config config' setup) where
+    pub followed : FollowedFrom want' setup' r r' w w' → Followed want config config' r r' w w'
+    followed from =
+        let here : FollowedFrom want setup r r' w w' =
+        subst (λ (o : Wanted). FollowedFrom o setup r r' w w') same_want (subst (λ (u : RawSetup). FollowedFrom want' u r r' w w') same_setup from) in
+        let M = events_of setup (bus_lines here.bytes) in
+        record {
+          setup = setup;
+          says = says;
+          bytes = here.bytes;
+          read = here.read;
+          end = here.end;
+          M = M;
+          events = ap (unless_fault M) here.well;
+          run = run setup M;
+          ended = here.ended;
+          text = here.text;
+        }
 
--- what follows the first piece
-module _ (begun mid : Capture) (r r' r'' w w' w'' : Option (List ℕ)) (piece : List ℕ) (read : Consumes r r' piece)
-    (on : Sends w w' (GoesOn begun mid piece)) where
-  pub then_on : (new : Capture) → Takes r' r'' (λ bytes. Sends w' w'' (GoesOn mid new bytes)) → Takes r r'' (λ bytes. Sends w w'' (GoesOn begun new bytes))
-  then_on new next =
-      let sends = next.2 in (
-        piece ++ next.0,
-        Consumes-trans r r' r'' piece next.0 read next.1,
-        (on.0 ++ sends.0, Appends-trans w w' w'' on.0 sends.0 on.1 sends.1, GoesOn-trans begun mid new piece next.0 on.0 sends.0 on.2 sends.2),
-      )
+    pub stops_reading : (fault : CaptureFault) → StopsFrom want' setup' r r' w w' fault → StopsReading want config config' r r' w w' (fault_of fault)
+    stops_reading fault from =
+        let here : StopsFrom want setup r r' w w' fault =
+        subst (λ (o : Wanted). StopsFrom o setup r r' w w' fault) same_want (subst (λ (u : RawSetup). StopsFrom want' u r r' w w' fault) same_setup from) in
+        record { setup = setup; says = says; seen = here.seen; read = here.read; wrote = here.wrote; sent = here.sent; stops = here.stops }
 
-  pub then_stops : (fault : CaptureFault) → Takes r' r'' (λ bytes. Sends w' w'' (StopsWithin mid fault bytes))
-      → Takes r r'' (λ bytes. Sends w w'' (StopsWithin begun fault bytes))
-  then_stops fault next =
-      let sends = next.2 in (
-        piece ++ next.0,
-        Consumes-trans r r' r'' piece next.0 read next.1,
-        (on.0 ++ sends.0, Appends-trans w w' w'' on.0 sends.0 on.1 sends.1, later_within begun mid piece next.0 on.0 sends.0 fault on.2 sends.2),
-      )
+  -- memory was refused behind the config
+  pub refused_behind : (want : Wanted) (setup : RawSetup) (config config' r w : Option (List ℕ)) → SaysSetup config config' setup
+      → StopsReading want config config' r r w w (fault_of Memory)
+  refused_behind want setup config config' r w says =
+      stops_reading want want setup setup refl refl config config' r r w w says Memory (first_refused want setup r r w [] Memory refl (Consumes-nil r))
+
+  -- what follows the first piece
+  module _ (begun mid : Capture S g) (r r' r'' w w' w'' : Option (List ℕ)) (piece : List ℕ) (read : Consumes r r' piece)
+      (on : Sends w w' (GoesOn took want_of begun mid piece)) where
+    pub then_on : (new : Capture S g) → Takes r' r'' (λ bytes. Sends w' w'' (GoesOn took want_of mid new bytes)) → Takes r r'' (λ bytes. Sends w w'' (GoesOn took want_of begun new bytes))
+    then_on new next =
+        let sends = next.2 in (
+          piece ++ next.0,
+          Consumes-trans r r' r'' piece next.0 read next.1,
+          (on.0 ++ sends.0, Appends-trans w w' w'' on.0 sends.0 on.1 sends.1, GoesOn-trans g took aim written ends begun mid new piece next.0 on.0 sends.0 on.2 sends.2),
+        )
+
+    pub then_stops : (fault : CaptureFault) → Takes r' r'' (λ bytes. Sends w' w'' (StopsWithin took want_of mid fault bytes))
+        → Takes r r'' (λ bytes. Sends w w'' (StopsWithin took want_of begun fault bytes))
+    then_stops fault next =
+        let sends = next.2 in (
+          piece ++ next.0,
+          Consumes-trans r r' r'' piece next.0 read next.1,
+          (on.0 ++ sends.0, Appends-trans w w' w'' on.0 sends.0 on.1 sends.1, later_within g took aim written ends begun mid piece next.0 on.0 sends.0 fault on.2 sends.2),
+        )

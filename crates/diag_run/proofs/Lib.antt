@@ -1,6 +1,8 @@
+pub mod Endings
 pub mod Finishing
 pub mod Following
 pub mod Inputs
+pub mod Judging
 pub mod Known
 pub mod Order
 pub mod Pieces

@@ -104,7 +104,7 @@ settled_out old new who e asked before after none grew =
 
 -- what the server took and the journal's text keeps
 pub took_more : (old new : Playing) (who : ℕ) (e : Event) → 1 ≤ who → old.out.items ≡ []
-    → ServerTook EntersOne (server_of old.server) (server_of new.server) old.journal new.journal who e old.out.items new.out.items
+    → ServerTook (λ j _ before k j'. EntersOne j before k j') (server_of old.server) (server_of new.server) old.journal new.journal who e old.out.items new.out.items
     → Took old new who e
 took_more old new who e some none took = λ setup version M K serves h.
     let moved = took.sent.holds.moved in

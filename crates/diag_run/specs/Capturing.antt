@@ -1,13 +1,14 @@
 -- What is kept of a capture between two reads, and how a step of it goes.
-use Rattle.std.specs.Prelude.{◌≡◌, ℕ, List, ◌++◌, length, None, Option}
+use Rattle.std.specs.Prelude.{◌≡◌, ℕ, List, ◌++◌, [], length, None, Option, IsOk}
 use Rattle.std.specs.Io.KnownBytes.{Appends, Consumes, IsAtEnd}
 use Rattle.diag_can.specs.Bus.{begun_line, bus_lines, ended_lines}
 use Rattle.diag_bus.specs.Bus.{TookLines}
 use Rattle.diag_bus.specs.Events.{first_fault}
-use Rattle.diag_bus.specs.Text.{written}
-use Rattle.diag_bus.specs.declared.bus.Output.{Output}
+use Rattle.diag_bus.specs.declared.sink.Sink.{Ghosts}
 use Rattle.diag_setup.specs.declared.raw.RawSetup.{RawSetup}
-use Rattle.diag_run.specs.Capture.{IsBorneOut, IsCutShort, StopsAt, StopsIn, capture_text}
+use Rattle.diag_run.specs.Capture.{IsCutShort, StopsAt, StopsIn, StopsOn, capture_text}
+use Rattle.diag_run.specs.Wanted.{Wanted}
+use Rattle.diag_desk.specs.declared.entry.Entry.{Entry}
 use Rattle.diag_run.specs.declared.capture.Capture.{Capture}
 use Rattle.diag_run.specs.declared.capture.CaptureFault.{CaptureFault}
 use Rattle.diag_run.specs.declared.capture.CaptureFault.TheVariants.{Line, Memory, Read, Write, Otherwise}
@@ -24,71 +25,91 @@ fault_of (Otherwise told) = run.Otherwise told
 
 -- these bytes were read, and these were written: the bus took the lines that were ended, the one that is begun is kept,
 -- and so is what is still to be written
-pub record Stands (capture : Capture) (seen wrote : List ℕ) : Type 0 where
-  pub took : TookLines capture.bus (ended_lines seen)
+pub record Stands {S : Type 0} {g : Ghosts S} (took : S → RawSetup → List (List ℕ) → List Entry → Type 0) (want_of : S → Wanted)
+    (capture : Capture S g) (seen wrote : List ℕ) : Type 0 where
+  pub took_lines : TookLines took capture.bus (ended_lines seen)
   pub kept : capture.kept.items ≡ begun_line seen
   pub count : capture.lines ≡ length (ended_lines seen)
   pub due : wrote ++ capture.text.items
-      ≡ written capture.bus.output capture.bus.setup (ended_lines seen)
+      ≡ (want_of capture.bus.sink).written capture.bus.setup (ended_lines seen)
 
 -- these bytes were read further, and these were written further
-pub record GoesOn (old new : Capture) (bytes sent : List ℕ) : Type 0 where
+pub record GoesOn {S : Type 0} {g : Ghosts S} (took : S → RawSetup → List (List ℕ) → List Entry → Type 0) (want_of : S → Wanted)
+    (old new : Capture S g) (bytes sent : List ℕ) : Type 0 where
   pub setup : new.bus.setup ≡ old.bus.setup
-  pub output : new.bus.output ≡ old.bus.output
-  pub stands : (seen wrote : List ℕ) → Stands old seen wrote
-      → Stands new (seen ++ bytes) (wrote ++ sent)
+  pub want : want_of new.bus.sink ≡ want_of old.bus.sink
+  pub stands : (seen wrote : List ℕ) → Stands took want_of old seen wrote
+      → Stands took want_of new (seen ++ bytes) (wrote ++ sent)
 
 -- The fault is one of these bytes, whatever followed them; and so would a failed writing have been.
-pub record Halts (output : Output) (setup : RawSetup) (fault : CaptureFault) (seen wrote : List ℕ)
+pub record Halts (want : Wanted) (setup : RawSetup) (fault : CaptureFault) (seen wrote : List ℕ)
     : Type 0 where
-  pub stops : (rest : List ℕ) → StopsIn output setup (fault_of fault) (seen ++ rest) wrote
-  pub cut : (rest : List ℕ) → IsCutShort output setup (bus_lines (seen ++ rest)) wrote
+  pub stops : (rest : List ℕ) → StopsIn want setup (fault_of fault) (seen ++ rest) wrote
+  pub cut : (rest : List ℕ) → IsCutShort want setup (bus_lines (seen ++ rest)) wrote
 
 -- the fault came with these bytes, behind which these were written
-abbrev pub HaltsIn : Capture → CaptureFault → List ℕ → List ℕ → Type 0
-HaltsIn capture fault bytes sent = (seen wrote : List ℕ) → Stands capture seen wrote
-    → Halts capture.bus.output capture.bus.setup fault (seen ++ bytes) (wrote ++ sent)
+abbrev pub HaltsIn : {S : Type 0} → {g : Ghosts S} → (S → RawSetup → List (List ℕ) → List Entry → Type 0) → (S → Wanted)
+    → Capture S g → CaptureFault → List ℕ → List ℕ → Type 0
+HaltsIn took want_of capture fault bytes sent = (seen wrote : List ℕ) → Stands took want_of capture seen wrote
+    → Halts (want_of capture.bus.sink) capture.bus.setup fault (seen ++ bytes) (wrote ++ sent)
 
--- all that was read is whole lines that were taken, which are borne out where a verdict is wanted, and what they and
--- the end write was written
-abbrev pub Closes : Capture → List ℕ → Type 0
-Closes capture sent = (seen wrote : List ℕ) → Stands capture seen wrote
+-- all that was read is whole lines that were taken, and what they and the end write was written; the sink stands for them
+abbrev pub Closes : {S : Type 0} → {g : Ghosts S} → (S → RawSetup → List (List ℕ) → List Entry → Type 0) → (S → Wanted)
+    → Capture S g → Capture S g → List ℕ → Type 0
+Closes took want_of old new sent = (seen wrote : List ℕ) → Stands took want_of old seen wrote
     → (first_fault (bus_lines seen) ≡ None)
-    × IsBorneOut capture.bus.output capture.bus.setup (bus_lines seen)
-    × (wrote ++ sent ≡ capture_text capture.bus.output capture.bus.setup (bus_lines seen))
+    × IsOk ((want_of old.bus.sink).ends old.bus.setup (bus_lines seen))
+    × (wrote ++ sent ≡ capture_text (want_of old.bus.sink) old.bus.setup (bus_lines seen))
+    × took new.bus.sink old.bus.setup (bus_lines seen) []
+
+-- the same of the lines that were ended, where no line is begun
+abbrev pub ClosesEnded : {S : Type 0} → {g : Ghosts S} → (S → RawSetup → List (List ℕ) → List Entry → Type 0) → (S → Wanted)
+    → Capture S g → Capture S g → List ℕ → Type 0
+ClosesEnded took want_of old new sent = (seen wrote : List ℕ) → Stands took want_of old seen wrote
+    → IsOk ((want_of old.bus.sink).ends old.bus.setup (ended_lines seen))
+    × (wrote ++ sent ≡ capture_text (want_of old.bus.sink) old.bus.setup (ended_lines seen))
+    × took new.bus.sink old.bus.setup (ended_lines seen) []
+
+-- why not all of it was written
+abbrev pub HaltsEnded : {S : Type 0} → {g : Ghosts S} → (S → RawSetup → List (List ℕ) → List Entry → Type 0) → (S → Wanted)
+    → Capture S g → CaptureFault → List ℕ → Type 0
+HaltsEnded took want_of capture fault sent = (seen wrote : List ℕ) → Stands took want_of capture seen wrote
+    → StopsOn (want_of capture.bus.sink) capture.bus.setup (fault_of fault) (ended_lines seen) (wrote ++ sent)
 
 -- the fault came at the end of the capture
-abbrev pub HaltsAtEnd : Capture → CaptureFault → List ℕ → Type 0
-HaltsAtEnd capture fault sent = (seen wrote : List ℕ) → Stands capture seen wrote
-    → StopsIn capture.bus.output capture.bus.setup (fault_of fault) seen (wrote ++ sent)
+abbrev pub HaltsAtEnd : {S : Type 0} → {g : Ghosts S} → (S → RawSetup → List (List ℕ) → List Entry → Type 0) → (S → Wanted)
+    → Capture S g → CaptureFault → List ℕ → Type 0
+HaltsAtEnd took want_of capture fault sent = (seen wrote : List ℕ) → Stands took want_of capture seen wrote
+    → StopsIn (want_of capture.bus.sink) capture.bus.setup (fault_of fault) seen (wrote ++ sent)
 
 -- the capture could not be read further, or the fault is one of its bytes, whatever follows them
-abbrev pub StopsAfter : Output → RawSetup → CaptureFault → List ℕ → List ℕ → Type 0
-StopsAfter output setup Read seen wrote = (first_fault (ended_lines seen) ≡ None)
-    × (wrote ≡ written output setup (ended_lines seen))
-StopsAfter output setup fault seen wrote =
-    (rest : List ℕ) → StopsIn output setup (fault_of fault) (seen ++ rest) wrote
+abbrev pub StopsAfter : Wanted → RawSetup → CaptureFault → List ℕ → List ℕ → Type 0
+StopsAfter want setup Read seen wrote = (first_fault (ended_lines seen) ≡ None)
+    × (wrote ≡ want.written setup (ended_lines seen))
+StopsAfter want setup fault seen wrote =
+    (rest : List ℕ) → StopsIn want setup (fault_of fault) (seen ++ rest) wrote
 
 -- the fault came when these bytes more had been read, and these more written
-abbrev pub StopsWithin : Capture → CaptureFault → List ℕ → List ℕ → Type 0
-StopsWithin capture fault bytes sent = (seen wrote : List ℕ) → Stands capture seen wrote
-    → StopsAfter capture.bus.output capture.bus.setup fault (seen ++ bytes) (wrote ++ sent)
+abbrev pub StopsWithin : {S : Type 0} → {g : Ghosts S} → (S → RawSetup → List (List ℕ) → List Entry → Type 0) → (S → Wanted)
+    → Capture S g → CaptureFault → List ℕ → List ℕ → Type 0
+StopsWithin took want_of capture fault bytes sent = (seen wrote : List ℕ) → Stands took want_of capture seen wrote
+    → StopsAfter (want_of capture.bus.sink) capture.bus.setup fault (seen ++ bytes) (wrote ++ sent)
 
 -- the capture was read whole, and its text written
-pub record FollowedFrom (output : Output) (setup : RawSetup) (capture capture' out out' : Option (List ℕ))
+pub record FollowedFrom (want : Wanted) (setup : RawSetup) (capture capture' out out' : Option (List ℕ))
     : Type 0 where
   pub bytes : List ℕ
   pub read : Consumes capture capture' bytes
   pub end : IsAtEnd capture'
   pub well : first_fault (bus_lines bytes) ≡ None
-  pub borne : IsBorneOut output setup (bus_lines bytes)
-  pub text : Appends out out' (capture_text output setup (bus_lines bytes))
+  pub ended : IsOk (want.ends setup (bus_lines bytes))
+  pub text : Appends out out' (capture_text want setup (bus_lines bytes))
 
 -- the fault came with the capture
-pub record StopsFrom (output : Output) (setup : RawSetup) (capture capture' out out' : Option (List ℕ))
+pub record StopsFrom (want : Wanted) (setup : RawSetup) (capture capture' out out' : Option (List ℕ))
     (fault : CaptureFault) : Type 0 where
   pub seen : List ℕ
   pub read : Consumes capture capture' seen
   pub wrote : List ℕ
   pub sent : Appends out out' wrote
-  pub stops : StopsAt output setup capture' (fault_of fault) seen wrote
+  pub stops : StopsAt want setup capture' (fault_of fault) seen wrote

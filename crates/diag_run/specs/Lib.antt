@@ -1,8 +1,8 @@
 pub mod Capture
 pub mod Capturing
-pub mod Ending
 pub mod Files
 pub mod Logs
 pub mod Playing
 pub mod Run
+pub mod Wanted
 pub mod Faults

@@ -7,11 +7,13 @@ ghost use Rattle.diag_text.specs.Bytes.{Sends, Takes};
 ghost use Rattle.diag_run.specs.Capture.{Followed, Stops};
 ghost use Rattle.diag_run.specs.Capturing.{GoesOn, StopsWithin, fault_of, FollowedFrom, StopsFrom};
 ghost use Rattle.diag_run.specs.Run.{TellsOf};
+ghost use Rattle.diag_run.specs.Wanted.{wanted};
 
 use crate::capture::{Capture, CaptureFault};
+use crate::ending::Ending;
 use crate::file_run::Outcome;
 use crate::files::read_config;
-use diag_bus::{Bus, Output};
+use diag_bus::Bus;
 use diag_text::RunFault;
 use std::alloc::Global;
 use std::io::{Read, Write};
@@ -27,24 +29,24 @@ const LINES_BEFORE_A_READ: u64 = u64::MAX - 65_537;
 ///
 /// # Errors
 /// The first fault in this order: the config, the capture in the order of its bytes, and last, where a verdict is wanted,
-/// that the unit answered otherwise. After a fault of the config nothing was written, nor before `Otherwise`. Before a
-/// fault of a line, and after a read that failed, what the lines before write was written; after `Memory` and `Write` a
-/// front of it. `Read(0)` is the config, `Read(1)` the capture.
-pub fn run_bus<R: Read, W: Write>(
+/// that the unit answered otherwise. After a fault of the config nothing was written, nor before the `Otherwise` of a verdict.
+/// Before a fault of a line, and after a read that failed, what the lines before write was written; after `Memory` and `Write`
+/// a front of it. `Read(0)` is the config, `Read(1)` the capture.
+pub fn run_bus<S: Ending, R: Read, W: Write>(
     alloc: Global,
-    output: Output,
+    sink: S,
     config: &mut R,
     capture: &mut R,
     out: &mut W,
 ) -> Result<(), RunFault>
-    ensures done { OnOk result (Followed output (R.remaining config.old) (R.remaining config.new)
+    ensures done { OnOk result (Followed (wanted S.written S.ends S.aim sink) (R.remaining config.old) (R.remaining config.new)
         (R.remaining capture.old) (R.remaining capture.new)
         (W.contents out.old) (W.contents out.new)) }
-    ensures fault { IfErr result (Stops R.remaining output config.old config.new
+    ensures fault { IfErr result (Stops R.remaining (wanted S.written S.ends S.aim sink) config.old config.new
         capture.old capture.new (W.contents out.old) (W.contents out.new)) }
 {
     let setup = read_config(alloc, config)?;
-    let bus = Bus::new(alloc, setup, output)?;
+    let bus = Bus::new(alloc, setup, sink)?;
     match run_capture(alloc, bus, capture, out) {
         Ok(()) => Ok(()),
         Err(fault) => Err(run_fault(fault)),
@@ -65,17 +67,17 @@ pub fn run_fault(fault: CaptureFault) -> RunFault
 }
 
 /// Runs a capture from its first read to its end.
-fn run_capture<R: Read, W: Write>(
+fn run_capture<S: Ending, R: Read, W: Write>(
     alloc: Global,
-    bus: Bus,
+    bus: Bus<S>,
     capture: &mut R,
     out: &mut W,
 ) -> Result<(), CaptureFault>
-    requires { TookLines bus [] }
-    ensures done { OnOk result (FollowedFrom bus.output bus.setup
+    requires { TookLines S.took bus [] }
+    ensures done { OnOk result (FollowedFrom (wanted S.written S.ends S.aim bus.sink) bus.setup
         (R.remaining capture.old) (R.remaining capture.new)
         (W.contents out.old) (W.contents out.new)) }
-    ensures fault { IfErr result (StopsFrom bus.output bus.setup
+    ensures fault { IfErr result (StopsFrom (wanted S.written S.ends S.aim bus.sink) bus.setup
         (R.remaining capture.old) (R.remaining capture.new)
         (W.contents out.old) (W.contents out.new)) }
 {
@@ -91,19 +93,19 @@ fn run_capture<R: Read, W: Write>(
 }
 
 /// Reads a capture further, to its end.
-fn follow<R: Read, W: Write>(
-    taking: &mut Capture,
+fn follow<S: Ending, R: Read, W: Write>(
+    taking: &mut Capture<S>,
     capture: &mut R,
     out: &mut W,
 ) -> Result<(), CaptureFault>
     requires { taking.old.text.items ≡ [] }
     ensures ok { OnOk result (Takes (R.remaining capture.old) (R.remaining capture.new) (λ bytes.
-        Sends (W.contents out.old) (W.contents out.new) (GoesOn taking.old taking.new bytes))) }
+        Sends (W.contents out.old) (W.contents out.new) (GoesOn S.took (wanted S.written S.ends S.aim) taking.old taking.new bytes))) }
     ensures end { OnOk result (IsAtEnd (R.remaining capture.new)) }
     ensures lines { OnOk result (taking.new.lines + 1 < 2 ^ 64) }
     ensures err { IfErr result (λ fault.
         Takes (R.remaining capture.old) (R.remaining capture.new) (λ bytes.
-        Sends (W.contents out.old) (W.contents out.new) (StopsWithin taking.old fault bytes))) }
+        Sends (W.contents out.old) (W.contents out.new) (StopsWithin S.took (wanted S.written S.ends S.aim) taking.old fault bytes))) }
 {
     let mut buffer = [0u8; PIECE];
     for _ in 0..u64::MAX {
@@ -136,21 +138,21 @@ fn read_piece<R: Read>(capture: &mut R, buffer: &mut [u8]) -> Result<usize, Capt
 }
 
 /// Runs, and says how it ended: with the whole text written, or with the line and the status of the run's fault.
-pub fn run_bus_and_tell<R: Read + Drop, W: Write>(
+pub fn run_bus_and_tell<S: Ending, R: Read + Drop, W: Write>(
     alloc: Global,
-    output: Output,
+    sink: S,
     mut config: R,
     mut capture: R,
     out: &mut W,
 ) -> Outcome
     ensures done { result ≡ Outcome.Done → (config' : R) × (capture' : R)
-        × Followed output (R.remaining config) (R.remaining config')
+        × Followed (wanted S.written S.ends S.aim sink) (R.remaining config) (R.remaining config')
         (R.remaining capture) (R.remaining capture') (W.contents out.old) (W.contents out.new) }
     ensures fault { TellsOf (λ fault. (config' : R) × (capture' : R)
-        × Stops R.remaining output config config' capture capture'
+        × Stops R.remaining (wanted S.written S.ends S.aim sink) config config' capture capture'
         (W.contents out.old) (W.contents out.new) fault) result }
 {
-    match run_bus(alloc, output, &mut config, &mut capture, out) {
+    match run_bus(alloc, sink, &mut config, &mut capture, out) {
         Ok(()) => Outcome::Done,
         Err(fault) => Outcome::of(alloc, &fault),
     }

@@ -1,16 +1,18 @@
 //! A capture that comes piece by piece: its lines go to the bus, and what they write goes out.
 
-ghost use Rattle.std.specs.Prelude.{◌≡◌, ◌⊎◌, ◌+◌, ◌<◌, ◌≤◌, ◌^◌, ◌∷◌, [], ◌++◌, ℕ, List, length, vec_len, Ok, IfOk, IfSome, IfErr, OnOk};
+ghost use Rattle.std.specs.Prelude.{◌≡◌, ◌⊎◌, ◌+◌, ◌<◌, ◌≤◌, ◌^◌, ◌∷◌, [], ◌++◌, ℕ, List, length, vec_len, Ok, IfOk, IfSome, IfErr, OnErr, OnOk};
 ghost use Rattle.std.specs.Io.KnownBytes.{Appends};
 ghost use Rattle.diag_can.specs.Bus.{HasNoFeed, bus_line, ended_lines};
 ghost use Rattle.diag_bus.specs.Bus.{AnswersLine, TookLines};
 ghost use Rattle.diag_text.specs.Bytes.{AppendsFront, Sends};
 ghost use Rattle.diag_world.specs.Server.{quiet_of};
 ghost use Rattle.diag_run.specs.Faults.{fault_at};
-ghost use Rattle.diag_run.specs.Capture.{IsBorneOut, IsFrontOf, StopsOn, capture_text};
+ghost use Rattle.diag_run.specs.Capture.{IsFrontOf};
+ghost use Rattle.diag_run.specs.Wanted.{IsEndFault, wanted};
+ghost use Rattle.diag_port.specs.Port.{Grew};
 
-use crate::ending::add_end;
-use diag_bus::{Bus, BusFault};
+use crate::ending::Ending;
+use diag_bus::{Bus, BusFault, Sink};
 use diag_can::{BusLine, LONGEST_LINE, LineFault, first_line};
 use diag_text::write_text;
 use std::alloc::{AllocError, Global};
@@ -46,8 +48,8 @@ impl From<AllocError> for CaptureFault {
 
 /// What is kept of a capture between two reads.
 #[derive(Drop)]
-pub struct Capture {
-    bus: Bus,
+pub struct Capture<S: Sink> {
+    bus: Bus<S>,
     /// The line that is begun at the end of what was read.
     kept: Vec<u8>,
     /// What is still to be written.
@@ -57,16 +59,16 @@ pub struct Capture {
     ghost short: { vec_len kept ≤ 4096 },
 }
 
-impl Capture {
-    ghost use Rattle.diag_run.specs.Capturing.{Closes, GoesOn, HaltsAtEnd, HaltsIn, Stands, fault_of};
+impl<S: Ending> Capture<S> {
+    ghost use Rattle.diag_run.specs.Capturing.{Closes, ClosesEnded, GoesOn, HaltsAtEnd, HaltsEnded, HaltsIn, Stands};
 
     /// A capture of which nothing was read. What stands before its first line is still to be written.
     ///
     /// # Errors
     /// Memory was refused; the bus is let go.
-    pub fn begin(alloc: Global, bus: Bus) -> Result<Capture, AllocError>
-        requires { TookLines bus [] }
-        ensures stands { IfOk result (λ capture. Stands capture [] []) }
+    pub fn begin(alloc: Global, bus: Bus<S>) -> Result<Capture<S>, AllocError>
+        requires { TookLines S.took bus [] }
+        ensures stands { IfOk result (λ capture. Stands S.took (wanted S.written S.ends S.aim) capture [] []) }
         ensures bus { IfOk result (λ capture. capture.bus ≡ bus) }
         ensures lines { IfOk result (λ capture. capture.lines ≡ 0) }
     {
@@ -103,11 +105,11 @@ impl Capture {
     pub fn take_piece<W: Write>(&mut self, piece: &[u8], out: &mut W) -> Result<(), CaptureFault>
         requires { self.old.lines + length piece.now + 1 < 2 ^ 64 }
         ensures ok { OnOk result (Sends (W.contents out.old) (W.contents out.new)
-            (GoesOn self.old self.new piece.now)) }
+            (GoesOn S.took (wanted S.written S.ends S.aim) self.old self.new piece.now)) }
         ensures written { OnOk result (self.new.text.items ≡ []) }
         ensures lines { OnOk result (self.new.lines ≤ self.old.lines + length piece.now) }
         ensures err { IfErr result (λ fault. Sends (W.contents out.old) (W.contents out.new)
-            (HaltsIn self.old fault piece.now)) }
+            (HaltsIn S.took (wanted S.written S.ends S.aim) self.old fault piece.now)) }
     {
         let mut rest = piece;
         while let Some(first) = first_line(rest) {
@@ -132,11 +134,11 @@ impl Capture {
         requires line { HasNoFeed bytes.now }
         requires says { IfSome said (λ said. bus_line bytes.now ≡ Ok said) }
         ensures ok { OnOk result (Sends (W.contents out.old) (W.contents out.new)
-            (GoesOn self.old self.new (bytes.now ++ 10 ∷ []))) }
+            (GoesOn S.took (wanted S.written S.ends S.aim) self.old self.new (bytes.now ++ 10 ∷ []))) }
         ensures lines { OnOk result (self.new.lines ≡ self.old.lines + 1) }
         ensures kept { OnOk result (self.new.kept.items ≡ []) }
         ensures err { IfErr result (λ fault. Sends (W.contents out.old) (W.contents out.new)
-            (HaltsIn self.old fault (bytes.now ++ 10 ∷ []))) }
+            (HaltsIn S.took (wanted S.written S.ends S.aim) self.old fault (bytes.now ++ 10 ∷ []))) }
     {
         let number = self.lines + 1;
         if let Err(fault) = self.end_line(bytes, said) {
@@ -153,11 +155,11 @@ impl Capture {
         requires room { self.old.lines + 1 < 2 ^ 64 }
         requires line { HasNoFeed bytes.now }
         ensures ok { OnOk result (Sends (W.contents out.old) (W.contents out.new)
-            (GoesOn self.old self.new bytes.now)) }
+            (GoesOn S.took (wanted S.written S.ends S.aim) self.old self.new bytes.now)) }
         ensures written { OnOk result (self.new.text.items ≡ []) }
         ensures lines { OnOk result (self.new.lines ≡ self.old.lines) }
         ensures err { IfErr result (λ fault. Sends (W.contents out.old) (W.contents out.new)
-            (HaltsIn self.old fault bytes.now)) }
+            (HaltsIn S.took (wanted S.written S.ends S.aim) self.old fault bytes.now)) }
     {
         let number = self.lines + 1;
         if let Err(fault) = keep(&mut self.kept, bytes) {
@@ -172,11 +174,11 @@ impl Capture {
         requires room { self.old.lines + 1 < 2 ^ 64 }
         requires line { HasNoFeed bytes.now }
         requires says { IfSome said (λ said. bus_line bytes.now ≡ Ok said) }
-        ensures ok { OnOk result (GoesOn self.old self.new (bytes.now ++ 10 ∷ []) []) }
+        ensures ok { OnOk result (GoesOn S.took (wanted S.written S.ends S.aim) self.old self.new (bytes.now ++ 10 ∷ []) []) }
         ensures lines { OnOk result (self.new.lines ≡ self.old.lines + 1) }
         ensures kept { OnOk result (self.new.kept.items ≡ []) }
         ensures err { IfErr result (λ fault.
-            HaltsIn self.old (fault_at (self.old.lines + 1) fault) (bytes.now ++ 10 ∷ []) self.new.text.items) }
+            HaltsIn S.took (wanted S.written S.ends S.aim) self.old (fault_at (self.old.lines + 1) fault) (bytes.now ++ 10 ∷ []) self.new.text.items) }
     {
         if self.kept.is_empty() {
             self.take_whole(bytes, said)
@@ -192,11 +194,11 @@ impl Capture {
         requires line { HasNoFeed line.now }
         requires says { IfSome said (λ said. bus_line line.now ≡ Ok said) }
         requires none { self.old.kept.items ≡ [] }
-        ensures ok { OnOk result (GoesOn self.old self.new (line.now ++ 10 ∷ []) []) }
+        ensures ok { OnOk result (GoesOn S.took (wanted S.written S.ends S.aim) self.old self.new (line.now ++ 10 ∷ []) []) }
         ensures lines { OnOk result (self.new.lines ≡ self.old.lines + 1) }
         ensures kept { OnOk result (self.new.kept.items ≡ []) }
         ensures err { IfErr result (λ fault.
-            HaltsIn self.old (fault_at (self.old.lines + 1) fault) (line.now ++ 10 ∷ []) self.new.text.items) }
+            HaltsIn S.took (wanted S.written S.ends S.aim) self.old (fault_at (self.old.lines + 1) fault) (line.now ++ 10 ∷ []) self.new.text.items) }
     {
         if let Err(fault) = give(&mut self.bus, line, said, &mut self.text) {
             return Err(fault);
@@ -210,11 +212,11 @@ impl Capture {
     fn take_kept(&mut self, bytes: &[u8]) -> Result<(), BusFault>
         requires room { self.old.lines + 1 < 2 ^ 64 }
         requires line { HasNoFeed bytes.now }
-        ensures ok { OnOk result (GoesOn self.old self.new (bytes.now ++ 10 ∷ []) []) }
+        ensures ok { OnOk result (GoesOn S.took (wanted S.written S.ends S.aim) self.old self.new (bytes.now ++ 10 ∷ []) []) }
         ensures lines { OnOk result (self.new.lines ≡ self.old.lines + 1) }
         ensures kept { OnOk result (self.new.kept.items ≡ []) }
         ensures err { IfErr result (λ fault.
-            HaltsIn self.old (fault_at (self.old.lines + 1) fault) (bytes.now ++ 10 ∷ []) self.new.text.items) }
+            HaltsIn S.took (wanted S.written S.ends S.aim) self.old (fault_at (self.old.lines + 1) fault) (bytes.now ++ 10 ∷ []) self.new.text.items) }
     {
         keep(&mut self.kept, bytes)?;
         self.bus.take_line(self.kept.as_slice(), &mut self.text)?;
@@ -223,26 +225,18 @@ impl Capture {
         Ok(())
     }
 
-    /// Takes a line that is begun as the last, and writes what is to be written and what the capture's end adds.
+    /// Takes a line that is begun as the last, and writes what is to be written and what the capture's end adds. The bus can be
+    /// asked behind it.
     ///
     /// # Errors
-    /// Those of `take_piece`, `Line` with the line that is begun; and `Otherwise` with what is told of the first
-    /// difference, where a verdict is wanted, with nothing written.
-    pub fn finish<W: Write>(mut self, alloc: Global, out: &mut W) -> Result<(), CaptureFault>
-        requires { self.lines + 1 < 2 ^ 64 }
-        ensures ok { OnOk result (Sends (W.contents out.old) (W.contents out.new) (Closes self)) }
-        ensures err { IfErr result (λ fault. Sends (W.contents out.old) (W.contents out.new)
-            (HaltsAtEnd self fault)) }
-    {
-        self.end(alloc, out)
-    }
-
-    /// As `finish`.
-    fn end<W: Write>(&mut self, alloc: Global, out: &mut W) -> Result<(), CaptureFault>
+    /// Those of `take_piece`, `Line` with the line that is begun; and `Otherwise` with what is told in place of what the end adds,
+    /// behind what the lines write.
+    pub fn finish<W: Write>(&mut self, alloc: Global, out: &mut W) -> Result<(), CaptureFault>
         requires { self.old.lines + 1 < 2 ^ 64 }
-        ensures ok { OnOk result (Sends (W.contents out.old) (W.contents out.new) (Closes self.old)) }
+        ensures ok { OnOk result (Sends (W.contents out.old) (W.contents out.new)
+            (Closes S.took (wanted S.written S.ends S.aim) self.old self.new)) }
         ensures err { IfErr result (λ fault. Sends (W.contents out.old) (W.contents out.new)
-            (HaltsAtEnd self.old fault)) }
+            (HaltsAtEnd S.took (wanted S.written S.ends S.aim) self.old fault)) }
     {
         if self.kept.is_empty() {
             return self.close(alloc, out);
@@ -253,33 +247,47 @@ impl Capture {
 
     /// Writes what is to be written and what the capture's end adds.
     fn close<W: Write>(&mut self, alloc: Global, out: &mut W) -> Result<(), CaptureFault>
-        ensures ok { OnOk result (Sends (W.contents out.old) (W.contents out.new) (λ sent.
-            (seen wrote : List ℕ) → Stands self.old seen wrote
-            → IsBorneOut self.old.bus.output self.old.bus.setup (ended_lines seen)
-            × (wrote ++ sent
-            ≡ capture_text self.old.bus.output self.old.bus.setup (ended_lines seen)))) }
-        ensures err { IfErr result (λ fault. Sends (W.contents out.old) (W.contents out.new) (λ sent.
-            (seen wrote : List ℕ) → Stands self.old seen wrote
-            → StopsOn self.old.bus.output self.old.bus.setup (fault_of fault) (ended_lines seen)
-            (wrote ++ sent))) }
+        ensures ok { OnOk result (Sends (W.contents out.old) (W.contents out.new)
+            (ClosesEnded S.took (wanted S.written S.ends S.aim) self.old self.new)) }
+        ensures err { IfErr result (λ fault. Sends (W.contents out.old) (W.contents out.new)
+            (HaltsEnded S.took (wanted S.written S.ends S.aim) self.old fault)) }
     {
         if let Err(fault) = add_end(alloc, &self.bus, &mut self.text) {
             return Err(stop(fault, &mut self.text, out));
         }
         write_out(&mut self.text, out)
     }
+
+    /// What was taken.
+    pub fn bus(&self) -> &Bus<S>
+        ensures { result.now ≡ self.now.bus }
+    {
+        &self.bus
+    }
+}
+
+/// Adds what the end of the bus's capture adds.
+fn add_end<S: Ending>(alloc: Global, bus: &Bus<S>, text: &mut Vec<u8>) -> Result<(), CaptureFault>
+    ensures ok { OnOk result (Grew text.old.items text.new.items (λ more.
+        (lines : List (List ℕ)) → TookLines S.took bus.now lines
+        → S.ends bus.now.sink bus.now.setup lines ≡ Ok more)) }
+    ensures err { IfErr result (IsEndFault (λ result. (lines : List (List ℕ)) → TookLines S.took bus.now lines
+        → S.ends bus.now.sink bus.now.setup lines ≡ result)) }
+    ensures kept { OnErr result (text.new.items ≡ text.old.items) }
+{
+    bus.sink().add_end(alloc, bus.setup(), bus.ecu(), text)
 }
 
 /// Gives the bus a line, which says this, where that is known.
 #[inline(always)]
-fn give(
-    bus: &mut Bus,
+fn give<S: Sink>(
+    bus: &mut Bus<S>,
     line: &[u8],
     said: Option<BusLine>,
     text: &mut Vec<u8>,
 ) -> Result<(), BusFault>
     requires { IfSome said (λ said. bus_line line.now ≡ Ok said) }
-    ensures { AnswersLine bus.old bus.new line.now text.old.items text.new.items result }
+    ensures { AnswersLine S.took S.aim S.written bus.old bus.new line.now text.old.items text.new.items result }
 {
     match said {
         Some(said) => bus.take(&said, text),

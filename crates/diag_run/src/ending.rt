@@ -1,58 +1,118 @@
 //! What the end of a capture adds.
 
-ghost use Rattle.std.specs.Prelude.{◌≡◌, ℕ, List, IfErr, OnOk, OnErr};
-ghost use Rattle.diag_bus.specs.Bus.{TookLines};
-ghost use Rattle.diag_run.specs.Capture.{IsBorneOut, closing};
-ghost use Rattle.diag_run.specs.Ending.{IsEndFault};
+ghost use Rattle.std.specs.Prelude.{◌≡◌, Ok, IfErr, OnOk, OnErr};
 ghost use Rattle.diag_port.specs.Port.{Grew};
+ghost use Rattle.diag_run.specs.Wanted.{EndsAs, IsEndFault};
 
 use crate::capture::CaptureFault;
-use diag_bus::{Bus, Output, Verdict};
+use diag_bus::{Comparisons, Journal, NoText, Replies, Sink, Verdict};
+use diag_ecu::Ecu;
+use diag_setup::Setup;
 use diag_text::{agreement_text, end_text, verdict_text};
 use std::alloc::Global;
 
-/// Adds what the capture's end adds, which is for a verdict how many frames agree.
-///
-/// # Errors
-/// `Memory`; and `Otherwise` where a verdict is wanted and something differs. The text is as it was.
-pub(crate) fn add_end(alloc: Global, bus: &Bus, text: &mut Vec<u8>) -> Result<(), CaptureFault>
-    ensures ok { OnOk result (Grew text.old.items text.new.items (λ more.
-        (lines : List (List ℕ)) → TookLines bus.now lines
-        → IsBorneOut bus.now.output bus.now.setup lines
-        × (more ≡ closing bus.now.output bus.now.setup lines))) }
-    ensures err { IfErr result (IsEndFault bus.now) }
-    ensures kept { OnErr result (text.new.items ≡ text.old.items) }
-{
-    match bus.output() {
-        Output::Replies | Output::Journal => Ok(()),
-        Output::End => {
-            let end = end_text(alloc, bus.setup(), bus.ecu())?;
-            text.extend_from_slice(end.as_slice())?;
-            Ok(())
-        }
-        Output::Verdict => add_verdict(alloc, bus, text),
-    }
+/// A sink with what the end of a capture adds.
+pub trait Ending: Sink {
+    ghost use Rattle.std.specs.Prelude.{ℕ, List, Result};
+    ghost use Rattle.diag_setup.specs.declared.raw.RawSetup.{RawSetup};
+
+    /// What the capture's end adds; or what is told in place of that, where the run ends otherwise.
+    ghost ends: { Self → RawSetup → List (List ℕ) → Result (List ℕ) (List ℕ) };
+
+    /// Adds what the capture's end adds, where the ECU is this.
+    ///
+    /// # Errors
+    /// `Memory`; and `Otherwise` with what is told in place of that. The text is as it was.
+    fn add_end(
+        &self,
+        alloc: Global,
+        setup: &Setup,
+        ecu: &Ecu,
+        text: &mut Vec<u8>,
+    ) -> Result<(), CaptureFault>
+        requires begun { Self.is_for self.now setup.now }
+        ensures ok { OnOk result (Grew text.old.items text.new.items (λ more.
+            EndsAs Self.took ends self.now setup.now ecu.now (Ok more))) }
+        ensures err { IfErr result (IsEndFault (EndsAs Self.took ends self.now setup.now ecu.now)) }
+        ensures kept { OnErr result (text.new.items ≡ text.old.items) };
+
+    /// It is that of what the sink is asked for.
+    ghost ends_as_asked: { (a b : Self) → Self.aim a ≡ Self.aim b → ends a ≡ ends b };
 }
 
-/// Adds how many frames agree, where all do; answers what is told of the first difference where one is.
-fn add_verdict(alloc: Global, bus: &Bus, text: &mut Vec<u8>) -> Result<(), CaptureFault>
-    requires { bus.now.output ≡ Output.Verdict }
-    ensures ok { OnOk result (Grew text.old.items text.new.items (λ more.
-        (lines : List (List ℕ)) → TookLines bus.now lines
-        → IsBorneOut Output.Verdict bus.now.setup lines
-        × (more ≡ closing Output.Verdict bus.now.setup lines))) }
-    ensures err { IfErr result (IsEndFault bus.now) }
-    ensures kept { OnErr result (text.new.items ≡ text.old.items) }
-{
-    match bus.verdict() {
-        Verdict::Agrees => {
-            let agreed = agreement_text(alloc, bus)?;
-            text.extend_from_slice(agreed.as_slice())?;
-            Ok(())
-        }
-        verdict => {
-            let told = verdict_text(alloc, bus.setup(), &verdict)?;
-            Err(CaptureFault::Otherwise(told))
+impl Ending for Replies {
+    ghost use Rattle.std.specs.Prelude.{[], Ok, refl};
+
+    ghost ends = { λ _ _ _. Ok [] };
+
+    fn add_end(&self, _: Global, _: &Setup, _: &Ecu, _: &mut Vec<u8>) -> Result<(), CaptureFault> {
+        Ok(())
+    }
+
+    ghost ends_as_asked = { λ _ _ _. refl };
+}
+
+impl Ending for Journal {
+    ghost use Rattle.std.specs.Prelude.{[], Ok, refl};
+
+    ghost ends = { λ _ _ _. Ok [] };
+
+    fn add_end(&self, _: Global, _: &Setup, _: &Ecu, _: &mut Vec<u8>) -> Result<(), CaptureFault> {
+        Ok(())
+    }
+
+    ghost ends_as_asked = { λ _ _ _. refl };
+}
+
+/// The end of the run.
+impl Ending for NoText {
+    ghost use Rattle.std.specs.Prelude.{Ok, refl};
+    ghost use Rattle.diag_bus.specs.Text.{ecu_after};
+    ghost use Rattle.diag_text.specs.Text.{end_text};
+
+    ghost ends = { λ _ setup lines. Ok (end_text setup (ecu_after setup lines)) };
+
+    fn add_end(
+        &self,
+        alloc: Global,
+        setup: &Setup,
+        ecu: &Ecu,
+        text: &mut Vec<u8>,
+    ) -> Result<(), CaptureFault> {
+        let end = end_text(alloc, setup, ecu)?;
+        text.extend_from_slice(end.as_slice())?;
+        Ok(())
+    }
+
+    ghost ends_as_asked = { λ _ _ _. refl };
+}
+
+/// How many frames agree, where all do; what is told of the first difference where one is.
+impl Ending for Comparisons {
+    ghost use Rattle.std.specs.Prelude.{refl};
+    ghost use Rattle.diag_run.specs.Wanted.{judged};
+
+    ghost ends = { λ _. judged };
+
+    fn add_end(
+        &self,
+        alloc: Global,
+        setup: &Setup,
+        _: &Ecu,
+        text: &mut Vec<u8>,
+    ) -> Result<(), CaptureFault> {
+        match self.verdict(setup) {
+            Verdict::Agrees => {
+                let agreed = agreement_text(alloc, setup, self)?;
+                text.extend_from_slice(agreed.as_slice())?;
+                Ok(())
+            }
+            verdict => {
+                let told = verdict_text(alloc, setup, &verdict)?;
+                Err(CaptureFault::Otherwise(told))
+            }
         }
     }
+
+    ghost ends_as_asked = { λ _ _ _. refl };
 }

@@ -9,6 +9,7 @@ use diag_can::{TickCount, Timing};
 use diag_desk::{
     EntryRef, JournalVersion, MOST_ENTRIES, StepFault, StepRef, write_entry, write_header,
 };
+use diag_ecu::Ecu;
 use diag_pdu::{Message, Request};
 use diag_setup::TesterId;
 use diag_world::Keeper;
@@ -65,7 +66,7 @@ impl Keeper for JournalLines {
     ghost use Rattle.diag_desk.specs.Entry.{most_entries};
     ghost use Rattle.diag_run.specs.Playing.{EntersOne, IsUnkept};
 
-    ghost keeps = { EntersOne };
+    ghost keeps = { λ old _ before k new. EntersOne old before k new };
 
     ghost is_full = { λ lines. most_entries ≤ lines.count };
 
@@ -75,6 +76,7 @@ impl Keeper for JournalLines {
 
     fn keep_request(
         &mut self,
+        _: &Ecu,
         before: u64,
         who: TesterId,
         request: &Request,
@@ -90,6 +92,7 @@ impl Keeper for JournalLines {
 
     fn keep_ticks(
         &mut self,
+        _: &Ecu,
         before: u64,
         who: TesterId,
         count: TickCount,

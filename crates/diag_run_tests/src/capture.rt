@@ -1,12 +1,12 @@
 //! A capture of the whole bus, line by line.
 
 use crate::ending::{Trouble, holds};
-use diag_bus::{Bus, BusFault, Output};
+use diag_bus::{Bus, BusFault, Replies};
 use diag_stored::two_testers;
 use std::alloc::{AllocError, Global};
 
 /// Gives the bus the lines of a capture, and puts what they draw behind the text.
-fn take_lines(bus: &mut Bus, lines: &[&str], text: &mut Vec<u8>) -> Result<(), BusFault> {
+fn take_lines(bus: &mut Bus<Replies>, lines: &[&str], text: &mut Vec<u8>) -> Result<(), BusFault> {
     bus.begin(text)?;
     for line in lines {
         bus.take_line(line.as_bytes(), text)?;
@@ -30,7 +30,7 @@ const DRAWN: &[u8] = b"\
 ";
 
 /// Whether the lines of the capture draw these.
-fn draws(alloc: Global, bus: &mut Bus) -> Result<bool, AllocError> {
+fn draws(alloc: Global, bus: &mut Bus<Replies>) -> Result<bool, AllocError> {
     let mut text = Vec::new(alloc);
     match take_lines(bus, &CAPTURE, &mut text) {
         Ok(()) => Ok(text.as_slice() == DRAWN),
@@ -39,9 +39,9 @@ fn draws(alloc: Global, bus: &mut Bus) -> Result<bool, AllocError> {
     }
 }
 
-fn opened(alloc: Global) -> Result<Bus, AllocError> {
+fn opened(alloc: Global) -> Result<Bus<Replies>, AllocError> {
     let setup = two_testers(alloc)?;
-    Bus::new(alloc, setup, Output::Replies)
+    Bus::new(alloc, setup, Replies::new(alloc))
 }
 
 #[test]

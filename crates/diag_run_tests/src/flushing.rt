@@ -3,7 +3,7 @@
 use crate::devices::CANNOT_WRITE;
 use crate::ending::{End, Trouble, WELL, holds, is_end, is_whole};
 use crate::given::{GIVEN, Given};
-use diag_bus::Output;
+use diag_bus::Replies;
 use diag_run::{run_and_tell, run_bus_and_tell};
 use diag_stored::CONFIG;
 use std::alloc::{AllocError, Global};
@@ -90,7 +90,13 @@ fn follows(
     text: [&str; 2],
 ) -> Result<bool, AllocError> {
     let mut out = Flushed::failing(alloc, fails_at)?;
-    let outcome = run_bus_and_tell(alloc, Output::Replies, CONFIG.as_bytes(), CAPTURE, &mut out);
+    let outcome = run_bus_and_tell(
+        alloc,
+        Replies::new(alloc),
+        CONFIG.as_bytes(),
+        CAPTURE,
+        &mut out,
+    );
     if out.taken.len() < text[0].len().saturating_add(text[1].len()) {
         return Err(AllocError);
     }

@@ -3,10 +3,10 @@
 ghost use Rattle.std.specs.Prelude.{◌≡◌, ◌++◌, ℕ, List, codes, decimal, IfOk, OnOk};
 ghost use Rattle.hex.specs.Hex.{encode_upper};
 ghost use Rattle.diag_setup.specs.Setup.{name_of};
-ghost use Rattle.diag_bus.specs.Bus.{TookLines};
+ghost use Rattle.diag_bus.specs.Comparing.{ComparesLines};
 ghost use Rattle.diag_bus.specs.Verdict.{agreement_text, expected_text, verdict_text};
 
-use diag_bus::{Bus, Difference, Output, Verdict};
+use diag_bus::{Comparisons, Difference, Verdict};
 use diag_can::{FrameBytes, write_hex};
 use diag_setup::{Setup, TesterId};
 use std::alloc::{AllocError, Global};
@@ -15,18 +15,20 @@ use std::alloc::{AllocError, Global};
 ///
 /// # Errors
 /// `AllocError` where memory is refused.
-pub fn agreement_text(alloc: Global, bus: &Bus) -> Result<Vec<u8>, AllocError>
-    requires { bus.now.output ≡ Output.Verdict }
-    ensures { IfOk result (λ text. (lines : List (List ℕ)) → TookLines bus.now lines
-        → text.items ≡ agreement_text bus.now.setup lines) }
+pub fn agreement_text(
+    alloc: Global,
+    setup: &Setup,
+    kept: &Comparisons,
+) -> Result<Vec<u8>, AllocError>
+    ensures { IfOk result (λ text. (lines : List (List ℕ)) → ComparesLines setup.now kept.now lines
+        → text.items ≡ agreement_text setup.now lines) }
 {
-    let setup = bus.setup();
     let mut text = Vec::new(alloc);
     for index in 0..setup.testers() {
         let Some(who) = setup.who(index) else {
             unreachable!()
         };
-        add_agreement(&mut text, setup.name(who), bus.recorded(who))?;
+        add_agreement(&mut text, setup.name(who), kept.recorded(who))?;
     }
     Ok(text)
 }

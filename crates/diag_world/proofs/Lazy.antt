@@ -206,7 +206,7 @@ told_on now (Physical bytes) told = omega arith
 told_on now (Functional bytes) told = omega arith
 
 -- its clock doesn't go back
-pub told_after : {X U V : Type 0} (keeps : X → ℕ → Entry → X → Type 0) (unkept : X → X → Type 0) (ecu ecu' : State) (old new : PortState) (keeper keeper' : X) (who : ℕ) (e : Event)
+pub told_after : {X U V : Type 0} (keeps : X → State → ℕ → Entry → X → Type 0) (unkept : X → X → Type 0) (ecu ecu' : State) (old new : PortState) (keeper keeper' : X) (who : ℕ) (e : Event)
     (out out' : List Sent) (r : Result U V) → old.link.now ≤ last_tick
     → OnOk r (TesterTook keeps ecu ecu' old new keeper keeper' who e out out') → OnErr r (TookNothing unkept ecu ecu' old new keeper keeper' out out')
     → (old.link.now ≤ new.link.now) × (new.link.now ≤ last_tick)

@@ -55,7 +55,7 @@ module _ {ecu : State} (links : List LazyLink) {now : ServerView} (passed at : �
   }
 
 -- a port took an event, and the ECU of whoever took its step answered it
-module _ {X Y : Type 0} (keeps : X → ℕ → Entry → X → Type 0) (ecu_of : Y → State) (keeper_of : Y → X) (taker taker' : Y) (old new : PortState)
+module _ {X Y : Type 0} (keeps : X → State → ℕ → Entry → X → Type 0) (ecu_of : Y → State) (keeper_of : Y → X) (taker taker' : Y) (old new : PortState)
     (who : ℕ) (e : Event) (out out' : List Sent) where
   abbrev Answers : Y → ℕ → Timed → Y → Type 0
   Answers a before x b = Answered keeps (ecu_of a) (ecu_of b) (keeper_of a) (keeper_of b) before x
@@ -142,7 +142,7 @@ module _ {ecu : State} {ports : List Port} {now : ServerView} {who i : ℕ} {por
       (server_went (view_of ecu ports) next who i e asked port port' more here.is here.found refl went)
 
   -- and took it for a keeper
-  pub took_here : {X : Type 0} (keeps : X → ℕ → Entry → X → Type 0) (keeper keeper' : X) (ecu' : State) (port' : Port) (e : Event) (out out' : List Sent)
+  pub took_here : {X : Type 0} (keeps : X → State → ℕ → Entry → X → Type 0) (keeper keeper' : X) (ecu' : State) (port' : Port) (e : Event) (out out' : List Sent)
       → TesterTook keeps ecu ecu' (port_of port) (port_of port') keeper keeper' who e out out'
       → ServerTook keeps (server_of now) (state_at ecu' (slice_set ports i port')) keeper keeper' who e out out'
   took_here keeps keeper keeper' ecu' port' e out out' took =
@@ -154,5 +154,6 @@ module _ {ecu : State} {ports : List Port} {now : ServerView} {who i : ℕ} {por
         by = same_who ecu who took.asked went.took.by;
         sent = record { more = took.sent.more; grown = took.sent.grown; holds = settled };
         early = subst (λ (S : PortState). S.link.now ≤ closing_time) before went.early;
-        kept = subst (λ (S : PortState). HasKept keeps keeper keeper' S.link.now took.asked) before took.kept;
+        kept = subst (λ (v : ServerView). HasKept (λ k. keeps k v.ecu) keeper keeper' settled.moved.before.link.now took.asked) here.seen
+            (subst (λ (S : PortState). HasKept (λ k. keeps k ecu) keeper keeper' S.link.now took.asked) before took.kept);
       }

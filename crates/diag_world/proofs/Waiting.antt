@@ -1,5 +1,5 @@
 -- Ticks of each tester, in which no port does anything.
-use Rattle.std.proofs.Common.{◌≡◌, ◌≢◌, ◌≤◌, ◌<◌, ℕ, zero, suc, ◌+◌, ◌-◌, Bool, true, false, Some, List, [], ◌∷◌, ◌++◌, length, map, refl, ap, subst, sym, ◌∙◌, append_assoc, arith, inl, inr}
+use Rattle.std.proofs.Common.{◌≡◌, ◌≢◌, ◌≤◌, ◌<◌, ℕ, zero, suc, ◌+◌, ◌-◌, Bool, true, false, Some, List, [], ◌∷◌, ◌++◌, length, map, refl, ap, ap₂, subst, sym, ◌∙◌, append_assoc, arith, inl, inr}
 use Rattle.std.proofs.lemmas.Bool.{eqb-true}
 use Rattle.std.proofs.lemmas.List.{append-nil, map-append, length-set}
 use Rattle.std.specs.Prelude.{◌==◌, slice_get, slice_set}
@@ -10,7 +10,7 @@ use Rattle.diag_setup.specs.declared.raw.RawSetup.{RawSetup}
 use Rattle.diag_desk.specs.declared.entry.Entry.{Entry}
 use Rattle.diag_port.specs.Port.{PortState, port_quiet}
 use Rattle.diag_port.specs.Standing.{entry_of_ticks}
-use Rattle.diag_world.specs.Server.{ServerState, Serves, Settled, Waited, each_of, quiet_of, sent_to}
+use Rattle.diag_world.specs.Server.{ServerState, Serves, Settled, Waited, each_of, entries_of_each, quiet_of, sent_to}
 use Rattle.diag_world.proofs.Worlds.{set_cases}
 
 -- ---- counting on
@@ -27,13 +27,21 @@ waited_none s count = record {
   many = refl;
   time = λ i port at. (let fits : port.link.now ≤ port.link.now + count = omega arith in (port, at, fits));
   rest = λ i above. refl;
-  served = λ setup M K h. (K, subst (λ N. Serves setup s N K) (sym (append-nil M)) h, λ t. ap (λ N. sent_to setup N K t) (append-nil M));
+  served = λ setup M K h. (
+    subst (λ N. Serves setup s N (K ++ [])) (sym (append-nil M)) (subst (λ J. Serves setup s M J) (sym (append-nil K)) h),
+    λ t. ap₂ (λ N J. sent_to setup N J t) (append-nil M) (append-nil K),
+  );
 }
 
 -- one tester more
 pub each_more : (n : ℕ) (e : Event) (who : ℕ) → who ≡ n + 1 → each_of (n + 1) e ≡ each_of n e ++ (who, e) ∷ []
 each_more n e who is = ap (map (λ t. (t, e))) (counted_more 1 n)
     ∙ (map-append (λ t. (t, e)) (counted_from 1 n) ((1 + n) ∷ []) ∙ ap (λ t. each_of n e ++ (t, e) ∷ []) (omega (arith, is)))
+
+pub entries_more : (n count who : ℕ) → who ≡ n + 1 → entries_of_each (n + 1) count ≡ entries_of_each n count ++ entry_of_ticks who count ∷ []
+entries_more n count who is = ap (map (λ t. entry_of_ticks t count)) (counted_more 1 n)
+    ∙ (map-append (λ t. entry_of_ticks t count) (counted_from 1 n) ((1 + n) ∷ [])
+    ∙ ap (λ t. entries_of_each n count ++ entry_of_ticks t count ∷ []) (omega (arith, is)))
 
 -- ---- waiting
 
@@ -77,14 +85,16 @@ waited_more a b c n who count is w settled =
       served = λ setup M K h.
           let before = w.served setup M K h in
           let M' = M ++ each_of n e in
-          let K' = before.0 ++ entry_of_ticks who count ∷ [] in
-          let served = settled.served setup M' before.0 before.1 in
+          let K' = K ++ entries_of_each n count in
+          let served = settled.served setup M' K' before.0 in
+          let entries : K' ++ entry_of_ticks who count ∷ [] ≡ K ++ entries_of_each (n + 1) count =
+          append_assoc K (entries_of_each n count) (entry_of_ticks who count ∷ []) ∙ ap (λ w. K ++ w) (sym (entries_more n count who is)) in
           let events : M' ++ (who, e) ∷ [] ≡ M ++ each_of (n + 1) e =
           append_assoc M (each_of n e) ((who, e) ∷ []) ∙ ap (λ w. M ++ w) (sym (each_more n e who is)) in (
-            K',
-            subst (λ N. Serves setup c N K') events served.serves,
-            λ t. subst (λ N. sent_to setup N K' t ≡ sent_to setup M K t) events
-                (sent_as setup M' before.0 K' (M' ++ (who, e) ∷ []) who t served.grown served.others ∙ before.2 t),
+            subst (λ J. Serves setup c (M ++ each_of (n + 1) e) J) entries (subst (λ N. Serves setup c N (K' ++ entry_of_ticks who count ∷ [])) events served.serves),
+            λ t. subst (λ J. sent_to setup (M ++ each_of (n + 1) e) J t ≡ sent_to setup M K t) entries
+                (subst (λ N. sent_to setup N (K' ++ entry_of_ticks who count ∷ []) t ≡ sent_to setup M K t) events
+                (sent_as setup M' K' (K' ++ entry_of_ticks who count ∷ []) (M' ++ (who, e) ∷ []) who t served.grown served.others ∙ before.1 t)),
           );
     }
   where

@@ -17,7 +17,7 @@ use Rattle.diag_port.specs.declared.port.Port.{Port}
 use Rattle.diag_port.specs.Late.{pace_of}
 use Rattle.diag_port.specs.Placing.{drawn}
 use Rattle.diag_port.specs.Port.{AreWithin, Grew, PortState, port_of, port_quiet, time_after}
-use Rattle.diag_port.specs.Standing.{HasKept, PortStands, PortTook}
+use Rattle.diag_port.specs.Standing.{HasKept, PortStands, PortTook, entry_of_ticks}
 use Rattle.diag_world.specs.Weaving.{items_of, steps_of}
 
 -- what a contract sees of a server: the ECU, and the testers' ports in order, with the room that was made in them
@@ -74,9 +74,9 @@ abbrev pub closing_time : ℕ
 closing_time = 2 ^ 63
 
 -- the ECU answered a step, with this delay, whose entry a keeper has, before which its tester's clock told this, and went on
-abbrev pub Answered : {X : Type 0} → (X → ℕ → Entry → X → Type 0) → State → State → X → X → ℕ → Timed → Type 0
+abbrev pub Answered : {X : Type 0} → (X → State → ℕ → Entry → X → Type 0) → State → State → X → X → ℕ → Timed → Type 0
 Answered keeps ecu ecu' keeper keeper' before x =
-    keeps keeper before x.entry keeper'
+    keeps keeper ecu before x.entry keeper'
     × (x.entry.reply ≡ reply_to ecu x.entry.who x.entry.step)
     × (x ≡ timed_entry ecu x.entry)
     × (ecu' ≡ after_step ecu x.entry.who x.entry.step)
@@ -91,11 +91,11 @@ pub record PortWent (ecu ecu' : State) (old new : PortState) (who : ℕ) (e : Ev
 
 -- a port took a tester's event, whose entry a keeper has, and these frames were handed out behind those before: all
 -- that are due
-pub record TesterTook {X : Type 0} (keeps : X → ℕ → Entry → X → Type 0) (ecu ecu' : State)
+pub record TesterTook {X : Type 0} (keeps : X → State → ℕ → Entry → X → Type 0) (ecu ecu' : State)
     (old new : PortState) (keeper keeper' : X) (who : ℕ) (e : Event) (out out' : List Sent)
     : Type 0 where
   pub asked : Option Entry
-  pub kept : HasKept keeps keeper keeper' old.link.now asked
+  pub kept : HasKept (λ k. keeps k ecu) keeper keeper' old.link.now asked
   pub sent : Grew out out' (λ more. PortWent ecu ecu' old new who e asked more)
 
 -- a port, the ECU and the frames that were handed out are as before, and a keeper is as a refused keep leaves it
@@ -142,26 +142,31 @@ pub record Settled (old new : ServerState) (who : ℕ) (e : Event) (asked : Opti
 
 -- A server took a tester's event, and these frames were handed out behind those before; a keeper has its entry, before
 -- which the tester's clock told what it did.
-pub record ServerTook {X : Type 0} (keeps : X → ℕ → Entry → X → Type 0) (old new : ServerState)
+pub record ServerTook {X : Type 0} (keeps : X → State → ℕ → Entry → X → Type 0) (old new : ServerState)
     (keeper keeper' : X) (who : ℕ) (e : Event) (out out' : List Sent) : Type 0 where
   pub asked : Option Entry
   pub by : IfSome asked (λ k. k.who ≡ who)
   pub sent : Grew out out' (λ more. Settled old new who e asked more)
   pub early : sent.holds.moved.before.link.now ≤ closing_time
-  pub kept : HasKept keeps keeper keeper' sent.holds.moved.before.link.now asked
+  pub kept : HasKept (λ k. keeps k old.ecu) keeper keeper' sent.holds.moved.before.link.now asked
 
 -- an event to each of so many testers, in order
 abbrev pub each_of : ℕ → Event → List (ℕ × Event)
 each_of n e = map (λ t. (t, e)) (counted_from 1 n)
 
--- The first n testers took so many ticks each, in order, in which their ports did nothing: their clocks went on, and no
--- tester is sent a frame more. The other ports are as before.
+-- the entries of so many ticks of each of so many testers, in order
+abbrev pub entries_of_each : ℕ → ℕ → List Entry
+entries_of_each n count = map (λ t. entry_of_ticks t count) (counted_from 1 n)
+
+-- The first n testers took so many ticks each, in order, in which their ports did nothing: their clocks went on, these are
+-- in the journal, and no tester is sent a frame more. The other ports are as before.
 pub record Waited (old new : ServerState) (n count : ℕ) : Type 0 where
   pub many : length new.ports ≡ length old.ports
   pub time : (i : ℕ) (port : PortState) → slice_get new.ports i ≡ Some port
       → (before : PortState) × (slice_get old.ports i ≡ Some before)
       × (port.link.now ≤ before.link.now + count)
   pub rest : (i : ℕ) → n ≤ i → slice_get new.ports i ≡ slice_get old.ports i
-  pub served : EachRun old (λ setup M K. (journal : List Entry)
-      × Serves setup new (M ++ each_of n (Ticks count)) journal
-      × ((t : ℕ) → sent_to setup (M ++ each_of n (Ticks count)) journal t ≡ sent_to setup M K t))
+  pub served : EachRun old (λ setup M K.
+      Serves setup new (M ++ each_of n (Ticks count)) (K ++ entries_of_each n count)
+      × ((t : ℕ) → sent_to setup (M ++ each_of n (Ticks count)) (K ++ entries_of_each n count) t
+      ≡ sent_to setup M K t))

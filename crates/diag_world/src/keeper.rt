@@ -7,6 +7,7 @@ ghost use Rattle.diag_world.specs.Server.{closing_time};
 
 use diag_can::TickCount;
 use diag_desk::StepFault;
+use diag_ecu::Ecu;
 use diag_pdu::{Message, Request};
 use diag_setup::TesterId;
 
@@ -14,9 +15,10 @@ use diag_setup::TesterId;
 pub trait Keeper {
     ghost use Rattle.std.specs.Prelude.{ℕ};
     ghost use Rattle.diag_desk.specs.declared.entry.Entry.{Entry};
+    ghost use Rattle.diag_ecu.specs.State.{State};
 
-    /// What is kept with this entry more, before which its tester's clock told this time.
-    ghost keeps: { Self → ℕ → Entry → Self → Type 0 };
+    /// What is kept with this entry more, before which the ECU was this, and its tester's clock told this time.
+    ghost keeps: { Self → State → ℕ → Entry → Self → Type 0 };
 
     /// No further entry can be kept.
     ghost is_full: { Self → Type 0 };
@@ -27,12 +29,13 @@ pub trait Keeper {
     /// The name of what is written to, where that is borrowed.
     ghost place: { Self → ℕ };
 
-    /// Keeps the entry of a request and its reply; `before` is the ticks of its tester before it.
+    /// Keeps the entry of a request and its reply; `ecu` is the ECU before it, and `before` the ticks of its tester.
     ///
     /// # Errors
     /// `JournalFull` where no further entry can be kept, `Memory` where memory is refused. What is kept is then as before.
     fn keep_request(
         &mut self,
+        ecu: &Ecu,
         before: u64,
         who: TesterId,
         request: &Request,
@@ -40,18 +43,24 @@ pub trait Keeper {
     ) -> Result<(), StepFault>
         requires early { before ≤ closing_time }
         ensures kept { OnOk result
-            (keeps self.old before (asks who request.now (option_copied reply.entry)) self.new) }
+            (keeps self.old ecu.now before (asks who request.now (option_copied reply.entry)) self.new) }
         ensures full { result ≡ Err StepFault.JournalFull → is_full self.old }
         ensures err { OnErr result (unkept self.old self.new) }
         ensures place { place self.new ≡ place self.old };
 
-    /// Keeps the entry of so many ticks; `before` is the ticks of their tester before them.
+    /// Keeps the entry of so many ticks; `ecu` is the ECU before them, and `before` the ticks of their tester.
     ///
     /// # Errors
     /// As `keep_request`.
-    fn keep_ticks(&mut self, before: u64, who: TesterId, count: TickCount) -> Result<(), StepFault>
+    fn keep_ticks(
+        &mut self,
+        ecu: &Ecu,
+        before: u64,
+        who: TesterId,
+        count: TickCount,
+    ) -> Result<(), StepFault>
         requires early { before ≤ closing_time }
-        ensures kept { OnOk result (keeps self.old before (entry_of_ticks who count) self.new) }
+        ensures kept { OnOk result (keeps self.old ecu.now before (entry_of_ticks who count) self.new) }
         ensures full { result ≡ Err StepFault.JournalFull → is_full self.old }
         ensures err { OnErr result (unkept self.old self.new) }
         ensures place { place self.new ≡ place self.old };
@@ -67,7 +76,7 @@ pub struct NoJournal;
 impl Keeper for NoJournal {
     ghost use Rattle.std.specs.Prelude.{◌≡◌, refl};
 
-    ghost keeps = { λ old _ _ new. new ≡ old };
+    ghost keeps = { λ old _ _ _ new. new ≡ old };
 
     ghost is_full = { λ _. ⊥ };
 
@@ -77,6 +86,7 @@ impl Keeper for NoJournal {
 
     fn keep_request(
         &mut self,
+        _: &Ecu,
         _: u64,
         _: TesterId,
         _: &Request,
@@ -85,7 +95,7 @@ impl Keeper for NoJournal {
         Ok(())
     }
 
-    fn keep_ticks(&mut self, _: u64, _: TesterId, _: TickCount) -> Result<(), StepFault> {
+    fn keep_ticks(&mut self, _: &Ecu, _: u64, _: TesterId, _: TickCount) -> Result<(), StepFault> {
         Ok(())
     }
 

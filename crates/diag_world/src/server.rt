@@ -241,7 +241,7 @@ impl<'a, K: Keeper> TakeSteps for Answering<'a, K> {
         let bytes = request.message.bytes();
         let decided = self.ecu.put_reply(who, request.functional, bytes, reply)?;
         self.keeper
-            .keep_request(before, who, request, reply.as_ref())?;
+            .keep_request(self.ecu, before, who, request, reply.as_ref())?;
         self.ecu.apply(who, bytes, decided);
         Ok(decided.after_ms)
     }
@@ -253,7 +253,7 @@ impl<'a, K: Keeper> TakeSteps for Answering<'a, K> {
         who: TesterId,
         count: TickCount,
     ) -> Result<(), StepFault> {
-        self.keeper.keep_ticks(before, who, count)?;
+        self.keeper.keep_ticks(self.ecu, before, who, count)?;
         self.ecu.ticks(who, count);
         Ok(())
     }

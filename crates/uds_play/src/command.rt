@@ -5,7 +5,6 @@ ghost use Rattle.uds_play.specs.declared.command.Refusal.TheVariants.{Memory};
 
 use clap::error::ErrorKind;
 use clap::{Arg, ArgAction, ArgMatches, Command, Error};
-use diag_bus::Output;
 use diag_can::Timing;
 use diag_run::Job;
 use std::alloc::{AllocError, Global};
@@ -39,6 +38,19 @@ pub enum Task<'a> {
     Live {
         record: Option<&'a str>,
     },
+}
+
+/// What is written over a capture.
+#[derive(Clone, Copy)]
+pub enum Output {
+    /// The reply lines.
+    Replies,
+    /// The journal of the run.
+    Journal,
+    /// The end of the run.
+    End,
+    /// The verdict on the unit's own frames.
+    Verdict,
 }
 
 /// Why nothing is run.

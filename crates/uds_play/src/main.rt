@@ -15,12 +15,12 @@ mod command;
 mod source;
 mod standard;
 
-use command::{Refusal, Request, Task, read_words};
+use command::{Output, Refusal, Request, Task, read_words};
 use crossbeam_channel::{Receiver, bounded};
-use diag_bus::Output;
+use diag_bus::{Comparisons, Journal, NoText, Replies};
 use diag_can::Timing;
 use diag_live::{Bench, Heard, live};
-use diag_run::{Job, Outcome, read_config, run_bus_and_tell, run_text};
+use diag_run::{Ending, Job, Outcome, read_config, run_bus_and_tell, run_text};
 use diag_setup::Setup;
 use diag_stored::{CONFIG, LOG_A, LOG_B};
 use diag_text::{RunFault, write_whole};
@@ -147,10 +147,26 @@ fn run_files<R: Print + Eprint + Files + Input + AllocGlobal + Threads + Wait + 
     }
 }
 
-/// The run over a capture: the file at its path, or standard input.
+/// The run over a capture, for what is to be written of it.
 fn run_bus<R: Print + Eprint + Files + Input + AllocGlobal>(
     rt: &R,
     output: Output,
+    config: &str,
+    capture: Option<&str>,
+) -> ExitCode {
+    let alloc = rt.alloc();
+    match output {
+        Output::Replies => run_capture(rt, Replies::new(alloc), config, capture),
+        Output::Journal => run_capture(rt, Journal::new(alloc), config, capture),
+        Output::End => run_capture(rt, NoText, config, capture),
+        Output::Verdict => run_capture(rt, Comparisons::new(alloc), config, capture),
+    }
+}
+
+/// The run over a capture: the file at its path, or standard input.
+fn run_capture<S: Ending, R: Print + Eprint + Files + Input + AllocGlobal>(
+    rt: &R,
+    sink: S,
     config: &str,
     capture: Option<&str>,
 ) -> ExitCode {
@@ -158,7 +174,7 @@ fn run_bus<R: Print + Eprint + Files + Input + AllocGlobal>(
         return refuse(rt, &Refusal::Memory);
     };
     let mut out = io::writer(rt);
-    let outcome = run_bus_and_tell(rt.alloc(), output, config, capture, &mut out);
+    let outcome = run_bus_and_tell(rt.alloc(), sink, config, capture, &mut out);
     tell(rt, &outcome)
 }
 

@@ -2,7 +2,7 @@
 
 use crate::devices::Pipe;
 use crate::ending::{End, WELL, is_end};
-use diag_bus::Output;
+use diag_bus::Replies;
 use diag_live::{Bench, Heard, run_live_and_tell};
 use diag_run::run_bus_and_tell;
 use diag_stored::CONFIG;
@@ -94,6 +94,12 @@ pub fn serves(
 /// Whether the bus draws this text of a record.
 fn is_drawn(alloc: Global, record: &[u8], text: &str) -> Result<bool, AllocError> {
     let mut out = Pipe::open(alloc)?;
-    let outcome = run_bus_and_tell(alloc, Output::Replies, CONFIG.as_bytes(), record, &mut out);
+    let outcome = run_bus_and_tell(
+        alloc,
+        Replies::new(alloc),
+        CONFIG.as_bytes(),
+        record,
+        &mut out,
+    );
     Ok(is_end(&outcome, WELL)? && out.taken.as_slice() == text.as_bytes())
 }

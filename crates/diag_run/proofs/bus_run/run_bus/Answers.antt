@@ -1,3 +1,5 @@
+use Rattle.diag_run.specs.Wanted.{wanted}
+use Rattle.diag_run.proofs.Pieces.{want_same}
 use Rattle.std.proofs.Common.{inl, inr, refl}
 use Rattle.std.proofs.KnownBytes.{Keeps-refl}
 use Rattle.std.proofs.lemmas.Result.{err_from_is_err_and}
@@ -12,15 +14,15 @@ returns-in_err-setup-clause-fault g c =
 pub returns-in_err-bus-clause-fault : goal.returns-in_err-bus-clause-fault
 returns-in_err-bus-clause-fault g c =
     let p = err_from_is_err_and c.from_residual-in_err-bus.result c.from_residual-in_err-bus.ensures.1 in
-    rw (p.1, p.2) (inr (refused_behind c.args.output c.in_ok-setup.setup _ _ _ _ c.in_ok-setup.ensures.says))
+    rw (p.1, p.2) (inr (refused_behind g.S.Sink g.S.Sink.took g.S.Sink.aim g.S.Sink.written g.S.Ending.ends (wanted g.S.Sink.written g.S.Ending.ends g.S.Sink.aim c.args.sink) c.in_ok-setup.setup _ _ _ _ c.in_ok-setup.ensures.says))
 
 pub returns-in-Ok-clause-done : goal.returns-in-Ok-clause-done
 returns-in-Ok-clause-done g c =
-    followed c.args.output _ c.in_ok-setup.setup _ c.in_ok-bus.ensures.output c.in_ok-bus.ensures.setup _ _ _ _ _ _ c.in_ok-setup.ensures.says
+    followed g.S.Sink g.S.Sink.took g.S.Sink.aim g.S.Sink.written g.S.Ending.ends (wanted g.S.Sink.written g.S.Ending.ends g.S.Sink.aim c.args.sink) _ c.in_ok-setup.setup _ (want_same g.S.Sink g.S.Sink.took g.S.Sink.aim g.S.Sink.written g.S.Ending.ends g.met.S.Ending.ends_as_asked c.in_ok-bus.bus.sink c.args.sink c.in_ok-bus.ensures.aim) c.in_ok-bus.ensures.setup _ _ _ _ _ _ c.in_ok-setup.ensures.says
     c.in-Ok.ensures.done
 
 pub returns-in-Err-clause-fault : goal.returns-in-Err-clause-fault
 returns-in-Err-clause-fault g c =
     rw c.run_fault.ensures
-    (inr (stops_reading c.args.output _ c.in_ok-setup.setup _ c.in_ok-bus.ensures.output c.in_ok-bus.ensures.setup _ _ _ _ _ _ c.in_ok-setup.ensures.says
+    (inr (stops_reading g.S.Sink g.S.Sink.took g.S.Sink.aim g.S.Sink.written g.S.Ending.ends (wanted g.S.Sink.written g.S.Ending.ends g.S.Sink.aim c.args.sink) _ c.in_ok-setup.setup _ (want_same g.S.Sink g.S.Sink.took g.S.Sink.aim g.S.Sink.written g.S.Ending.ends g.met.S.Ending.ends_as_asked c.in_ok-bus.bus.sink c.args.sink c.in_ok-bus.ensures.aim) c.in_ok-bus.ensures.setup _ _ _ _ _ _ c.in_ok-setup.ensures.says
     c.in-Err.fault c.in-Err.ensures.fault))

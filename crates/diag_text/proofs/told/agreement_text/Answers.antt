@@ -1,4 +1,4 @@
-use Rattle.std.proofs.Common.{◌≡◌, ◌+◌, ◌++◌, ℕ, List, [], ◌∷◌, codes, decimal, length, ap, ap₂, sym, ◌∙◌, arith}
+use Rattle.std.proofs.Common.{◌≡◌, ◌≤◌, ◌+◌, ◌++◌, ℕ, List, [], ◌∷◌, codes, decimal, length, ap, ap₂, sym, ◌∙◌, arith}
 use Rattle.std.proofs.lemmas.Grind.{flat_map-append}
 use Rattle.std.proofs.lemmas.List.{append-nil}
 use Rattle.std.specs.List.{flat_map}
@@ -19,13 +19,14 @@ line_more f n =
 pub loop-index-preserved : goal.loop-index-preserved
 loop-index-preserved c = λ lines h.
     let i = c.loop-index.index in
-    let bus = c.args.bus.now in
-    let who = who_found c.setup-setup.result.now i c.in-Some.who c.in-Some.ensures in
-    let name : c.name.result.now ≡ name_of bus.setup (i + 1) = c.name.ensures ∙ ap₂ name_of c.setup-setup.ensures who in
-    let count : c.recorded.result ≡ length (recorded bus.setup lines (i + 1)) =
-    c.recorded.ensures lines h c.requires ∙ ap (λ t. length (recorded bus.setup lines t)) who in
-    let all = flat_map (agreed_line bus.setup lines) (counted_from 1 i) in
+    let setup = c.args.setup.now in
+    let who = who_found setup i c.in-Some.who c.in-Some.ensures in
+    let within : i + 1 ≤ length setup.testers = omega (arith, c.loop-index-test.true, c.testers-index-end.ensures.same) in
+    let name : c.name.result.now ≡ name_of setup (i + 1) = c.name.ensures ∙ ap (name_of setup) who in
+    let count : c.recorded.result ≡ length (recorded setup lines (i + 1)) =
+    c.recorded.ensures setup lines h (omega (arith, who, within)) ∙ ap (λ t. length (recorded setup lines t)) who in
+    let all = flat_map (agreed_line setup lines) (counted_from 1 i) in
     c.in_ok-add_agreement.ensures
     ∙ (ap (λ (w : List ℕ). w ++ (c.name.result.now ++ codes " " ++ decimal c.recorded.result ++ codes " frames agree\n")) (c.loop-index.invariant lines h)
     ∙ (ap₂ (λ (n : List ℕ) k. all ++ (n ++ codes " " ++ decimal k ++ codes " frames agree\n")) name count
-    ∙ sym (line_more (agreed_line bus.setup lines) i)))
+    ∙ sym (line_more (agreed_line setup lines) i)))

@@ -6,7 +6,7 @@ use Rattle.diag_bus.proofs.Lines.{run_is}
 use Rattle.diag_bus.proofs.bus.Bus.ecu.Goals as goal
 
 pub returns : goal.returns
-returns c = λ lines h.
+returns g c = λ lines h.
     let setup = c.args.self.now.setup in
     c.ecu.ensures
     ∙ (ap (λ s. s.server.ecu) c.self.view_is

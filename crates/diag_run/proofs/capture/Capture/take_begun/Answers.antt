@@ -6,18 +6,19 @@ use Rattle.diag_run.specs.Capturing.{HaltsIn}
 use Rattle.diag_run.specs.Faults.{fault_at}
 use Rattle.diag_run.proofs.Pieces.{answered_halts, begun_goes_on, both_on_ok, keep_halts, write_fails}
 use Rattle.diag_run.proofs.capture.Capture.take_begun.Goals as goal
+use Rattle.diag_run.specs.Wanted.{wanted}
 
 pub returns-in-Err-clause-err : goal.returns-in-Err-clause-err
 returns-in-Err-clause-err g c =
     let capture = c.args.self.now in
     let bytes = c.args.bytes.now in
-    let kept : HaltsIn capture c.fault_at.result bytes capture.text.items =
-    subst (λ (f : CaptureFault). HaltsIn capture f bytes capture.text.items) (sym c.fault_at.ensures)
-    (subst (λ (b : List ℕ). HaltsIn capture (fault_at (capture.lines + 1) c.in-Err.fault) b capture.text.items) (append-nil bytes)
-    (keep_halts capture bytes [] c.in-Err.fault c.requires.line c.in-Err.ensures.err)) in (
+    let kept : HaltsIn g.S.Sink.took (wanted g.S.Sink.written g.S.Ending.ends g.S.Sink.aim) capture c.fault_at.result bytes capture.text.items =
+    subst (λ (f : CaptureFault). HaltsIn g.S.Sink.took (wanted g.S.Sink.written g.S.Ending.ends g.S.Sink.aim) capture f bytes capture.text.items) (sym c.fault_at.ensures)
+    (subst (λ (b : List ℕ). HaltsIn g.S.Sink.took (wanted g.S.Sink.written g.S.Ending.ends g.S.Sink.aim) capture (fault_at (capture.lines + 1) c.in-Err.fault) b capture.text.items) (append-nil bytes)
+    (keep_halts g.S.Sink g.S.Sink.took g.S.Sink.aim g.S.Sink.written g.S.Ending.ends capture bytes [] c.in-Err.fault c.requires.line c.in-Err.ensures.err)) in (
       c.stop.ensures.0,
       c.stop.ensures.1,
-      answered_halts capture c.fault_at.result c.stop.result bytes capture.text.items c.stop.ensures.0 kept c.stop.ensures.2,
+      answered_halts g.S.Sink g.S.Sink.took g.S.Sink.aim g.S.Sink.written g.S.Ending.ends capture c.fault_at.result c.stop.result bytes capture.text.items c.stop.ensures.0 kept c.stop.ensures.2,
     )
 
 pub returns-clause-ok : goal.returns-clause-ok
@@ -27,7 +28,7 @@ returns-clause-ok g c =
     (λ w. (
       capture.text.items,
       w.0,
-      begun_goes_on capture _ c.args.bytes.now capture.text.items c.requires.line refl c.in_default.ensures.ok refl (rw w.1 (append-nil capture.text.items)),
+      begun_goes_on g.S.Sink g.S.Sink.took g.S.Sink.aim g.S.Sink.written g.S.Ending.ends capture _ c.args.bytes.now capture.text.items c.requires.line refl c.in_default.ensures.ok refl (rw w.1 (append-nil capture.text.items)),
     ))
     (both_on_ok _ _ c.write_out.result c.write_out.ensures.ok c.write_out.ensures.none)
 
@@ -37,7 +38,7 @@ returns-clause-err g c =
     (λ fault failed. (
       failed.1.0,
       failed.1.3,
-      subst (λ (f : CaptureFault). HaltsIn c.args.self.now f c.args.bytes.now failed.1.0) (sym failed.0)
-          (write_fails c.args.self.now c.args.bytes.now failed.1.0 (failed.1.1, failed.1.2)),
+      subst (λ (f : CaptureFault). HaltsIn g.S.Sink.took (wanted g.S.Sink.written g.S.Ending.ends g.S.Sink.aim) c.args.self.now f c.args.bytes.now failed.1.0) (sym failed.0)
+          (write_fails g.S.Sink g.S.Sink.took g.S.Sink.aim g.S.Sink.written g.S.Ending.ends c.args.self.now c.args.bytes.now failed.1.0 (failed.1.1, failed.1.2)),
     ))
     c.write_out.ensures.err

@@ -4,23 +4,23 @@ use Rattle.diag_run.proofs.Pieces.{give_halts, keep_halts, line_goes_on}
 use Rattle.diag_run.proofs.capture.Capture.take_kept.Goals as goal
 
 pub returns-in_err-keep-clause-err : goal.returns-in_err-keep-clause-err
-returns-in_err-keep-clause-err c =
+returns-in_err-keep-clause-err g c =
     let p = err_from_is_err_and c.from_residual.result c.from_residual.ensures.1 in
     rw (p.1, p.2)
-    (keep_halts c.args.self.now c.args.bytes.now (10 ∷ []) c.in_err-keep.field-0.0 c.requires.line c.in_err-keep.ensures.err)
+    (keep_halts g.S.Sink g.S.Sink.took g.S.Sink.aim g.S.Sink.written g.S.Ending.ends c.args.self.now c.args.bytes.now (10 ∷ []) c.in_err-keep.field-0.0 c.requires.line c.in_err-keep.ensures.err)
 
 pub returns-in_err-take_line-clause-err : goal.returns-in_err-take_line-clause-err
-returns-in_err-take_line-clause-err c =
+returns-in_err-take_line-clause-err g c =
     let p = err_from_is_err_and c.from_residual-in_err-take_line.result c.from_residual-in_err-take_line.ensures.1 in
     let fault = c.in_err-take_line.field-0.0 in
     let whole : c.as_slice.result.now ≡ c.args.self.now.kept.items ++ c.args.bytes.now = c.as_slice.ensures.value ∙ c.in_ok-keep.ensures.ok in
     rw (p.1, p.2)
-    (give_halts c.args.self.now c.args.bytes.now c.as_slice.result.now c.take_line.new.text.items fault c.requires.line whole
+    (give_halts g.S.Sink g.S.Sink.took g.S.Sink.aim g.S.Sink.written g.S.Ending.ends c.args.self.now c.args.bytes.now c.as_slice.result.now c.take_line.new.text.items fault c.requires.line whole
     c.in_err-take_line.ensures.err (c.take_line.ensures.fault fault c.in_err-take_line.was))
 
 pub returns-clause-ok : goal.returns-clause-ok
-returns-clause-ok c =
+returns-clause-ok g c =
     let whole : c.as_slice.result.now ≡ c.args.self.now.kept.items ++ c.args.bytes.now = c.as_slice.ensures.value ∙ c.in_ok-keep.ensures.ok in
     let gave = c.in_ok-take_line.ensures.took in
-    line_goes_on c.args.self.now _ c.take_line.ensures.setup c.take_line.ensures.output c.args.bytes.now c.as_slice.result.now gave.more c.requires.line whole
+    line_goes_on g.S.Sink g.S.Sink.took g.S.Sink.aim g.S.Sink.written g.S.Ending.ends g.met.S.Ending.ends_as_asked c.args.self.now _ c.take_line.ensures.setup c.take_line.ensures.aim c.args.bytes.now c.as_slice.result.now gave.more c.requires.line whole
     gave.holds c.clear.ensures.items refl gave.grown

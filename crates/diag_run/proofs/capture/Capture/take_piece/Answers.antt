@@ -6,7 +6,7 @@ use Rattle.diag_run.proofs.capture.Capture.take_piece.Goals as goal
 
 pub loop-first-preserved : goal.loop-first-preserved
 loop-first-preserved g c =
-    one_line_more _ _ _ _ _ c.args.piece.now c.loop-first.rest.now c.loop-first.invariant c.take_line.new.self c.in-Some.first.line.now
+    one_line_more g.S.Sink g.S.Sink.took g.S.Sink.aim g.S.Sink.written g.S.Ending.ends _ _ _ _ _ c.args.piece.now c.loop-first.rest.now c.loop-first.invariant c.take_line.new.self c.in-Some.first.line.now
     c.in-Some.first.after.now c.in-Some.ensures.is c.in_default-take_line.ensures.ok c.in_default-take_line.ensures.lines
 
 pub take_begun-requires-clause-room : goal.take_begun-requires-clause-room
@@ -17,12 +17,12 @@ take_begun-requires-clause-room g c =
 
 pub returns-clause-ok : goal.returns-clause-ok
 returns-clause-ok g c = on_ok_weaker c.take_begun.result
-    (so_far_done _ _ _ _ _ c.args.piece.now c.loop-first.rest.now c.loop-first.invariant c.take_begun.new.self) c.take_begun.ensures.ok
+    (so_far_done g.S.Sink g.S.Sink.took g.S.Sink.aim g.S.Sink.written g.S.Ending.ends _ _ _ _ _ c.args.piece.now c.loop-first.rest.now c.loop-first.invariant c.take_begun.new.self) c.take_begun.ensures.ok
 
 pub returns-clause-err : goal.returns-clause-err
 returns-clause-err g c =
     IfErr-weaker c.take_begun.result _ _
-    (λ fault halts. so_far_halts _ _ _ _ _ c.args.piece.now c.loop-first.rest.now c.loop-first.invariant fault c.loop-first.rest.now []
+    (λ fault halts. so_far_halts g.S.Sink g.S.Sink.took g.S.Sink.aim g.S.Sink.written g.S.Ending.ends _ _ _ _ _ c.args.piece.now c.loop-first.rest.now c.loop-first.invariant fault c.loop-first.rest.now []
     (sym (append-nil c.loop-first.rest.now)) halts)
     c.take_begun.ensures.err
 
@@ -30,5 +30,5 @@ pub returns-in-Err-clause-err : goal.returns-in-Err-clause-err
 returns-in-Err-clause-err g c =
     let whole = c.in-Some.first.line.now in
     let after = c.in-Some.first.after.now in
-    so_far_halts _ _ _ _ _ c.args.piece.now c.loop-first.rest.now c.loop-first.invariant c.in-Err.fault (whole ++ 10 ∷ []) after
+    so_far_halts g.S.Sink g.S.Sink.took g.S.Sink.aim g.S.Sink.written g.S.Ending.ends _ _ _ _ _ c.args.piece.now c.loop-first.rest.now c.loop-first.invariant c.in-Err.fault (whole ++ 10 ∷ []) after
     (c.in-Some.ensures.is ∙ sym (append_assoc whole (10 ∷ []) after)) c.in-Err.ensures.err

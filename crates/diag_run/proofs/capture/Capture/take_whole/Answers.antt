@@ -3,16 +3,16 @@ use Rattle.diag_run.proofs.Pieces.{give_halts, line_goes_on}
 use Rattle.diag_run.proofs.capture.Capture.take_whole.Goals as goal
 
 pub returns-in-Err-clause-err : goal.returns-in-Err-clause-err
-returns-in-Err-clause-err c =
+returns-in-Err-clause-err g c =
     let line = c.args.line.now in
     let whole : line ≡ c.args.self.now.kept.items ++ line = ap (λ (k : List ℕ). k ++ line) (sym c.requires.none) in
-    give_halts c.args.self.now line line c.give.new.text.items c.in-Err.fault c.requires.line whole c.in-Err.ensures.err
+    give_halts g.S.Sink g.S.Sink.took g.S.Sink.aim g.S.Sink.written g.S.Ending.ends c.args.self.now line line c.give.new.text.items c.in-Err.fault c.requires.line whole c.in-Err.ensures.err
     (c.give.ensures.fault c.in-Err.fault c.in-Err.is)
 
 pub returns-clause-ok : goal.returns-clause-ok
-returns-clause-ok c =
+returns-clause-ok g c =
     let line = c.args.line.now in
     let whole : line ≡ c.args.self.now.kept.items ++ line = ap (λ (k : List ℕ). k ++ line) (sym c.requires.none) in
-    let gave = c.in_default.ensures.took in
-    line_goes_on c.args.self.now _ c.give.ensures.setup c.give.ensures.output line line gave.more c.requires.line whole gave.holds
+    let gave = c.in_default.ensures.takes in
+    line_goes_on g.S.Sink g.S.Sink.took g.S.Sink.aim g.S.Sink.written g.S.Ending.ends g.met.S.Ending.ends_as_asked c.args.self.now _ c.give.ensures.setup c.give.ensures.asked line line gave.more c.requires.line whole gave.holds
     c.requires.none refl gave.grown

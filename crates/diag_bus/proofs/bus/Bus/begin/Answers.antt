@@ -1,5 +1,0 @@
-use Rattle.std.proofs.Common.{rules}
-use Rattle.diag_bus.proofs.bus.Bus.begin.Goals as goal
-
-pub returns-in-Journal-clause-ok : goal.returns-in-Journal-clause-ok
-returns-in-Journal-clause-ok c = search rules

@@ -1,5 +1,0 @@
-use Rattle.std.proofs.Common.{rules}
-use Rattle.diag_bus.proofs.bus.Bus.verdict.Goals as goal
-
-pub returns : goal.returns
-returns c = search rules

@@ -1,0 +1,8 @@
+use Rattle.std.proofs.lemmas.Result.{on_ok_weaker}
+use Rattle.diag_bus.proofs.Entries.{entry_more}
+use Rattle.diag_bus.proofs.journal.JournalSink.enter_request.Goals as goal
+
+pub returns-clause-entered : goal.returns-clause-entered
+returns-clause-entered c =
+    on_ok_weaker c.add_request.result (λ wrote. λ setup lines K ecu before taken.
+    entry_more c.args.self.now c.add_request.new.self setup lines K _ c.args.before wrote before taken) c.add_request.ensures

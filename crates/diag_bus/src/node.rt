@@ -1,0 +1,247 @@
+//! The unit on the bus: it is given what a line says, its time to every tester, and its frame to those it is for.
+
+ghost use Rattle.std.specs.Prelude.{◌≡◌, ◌≢◌, ◌≤◌, ◌<◌, ◌-◌, ℕ, List, Option, [], ◌∷◌, ◌++◌, Ok, Some, length, false, slice_get, IfSome, IsSome, OnOk};
+ghost use Rattle.std.specs.List.{flat_map};
+ghost use Rattle.diag_can.specs.declared.frame.Event.{Event as AnEvent};
+ghost use Rattle.diag_can.specs.Log.{waited};
+ghost use Rattle.diag_pdu.specs.Cut.{counted_from};
+ghost use Rattle.diag_tp.specs.declared.sent.Sent.{Sent as ASent};
+ghost use Rattle.diag_setup.specs.declared.raw.RawSetup.{RawSetup};
+ghost use Rattle.diag_world.specs.Server.{closing_time, each_of};
+ghost use Rattle.diag_bus.specs.Events.{frame_said, frame_to};
+ghost use Rattle.diag_bus.specs.Requests.{AreFilled, AreRequestsOf, IsOwner, given};
+
+use crate::entering::Entering;
+use crate::line_frames::LineFrames;
+use crate::request_ids::{Owner, RequestIds};
+use crate::sink::Sink;
+use diag_can::{BusLine, Event, FrameText, TickCount};
+use diag_setup::{Setup, TesterId};
+use diag_world::{Server, ServerFault};
+use std::alloc::AllocError;
+
+/// The most milliseconds that one count of ticks gives.
+const LONGEST_COUNT: u64 = TickCount::MAX as u64;
+
+/// The unit on the bus: the server, and the frames that it sends with a line.
+#[derive(Drop)]
+pub struct Node {
+    /// The ECU and each tester's port.
+    pub server: Server,
+    /// The frames that each tester is sent with the line.
+    pub drawn: LineFrames,
+    /// So many ticks at least no port does anything before the last of them.
+    pub rest: u64,
+}
+
+impl Node {
+    ghost use Rattle.diag_bus.specs.Batch.{Gave, HasTime, IsEarly, IsReady, IsRest, Lasts, OneSentIn, OneWentOn, Passed, SameShape, SentIn, TookTime, lists_of};
+    ghost use Rattle.diag_bus.specs.Sink.{StaysFor};
+
+    /// Begins a line: nothing was drawn.
+    pub fn begin(&mut self)
+        requires filled { AreFilled self.old.drawn.filled (lists_of self.old.drawn) }
+        ensures empty { (i : ℕ) (frames : List ASent)
+            → slice_get (lists_of self.new.drawn) i ≡ Some frames → frames ≡ [] }
+        ensures server { self.new.server ≡ self.old.server }
+        ensures shape { SameShape self.old self.new }
+    {
+        self.drawn.clear();
+    }
+
+    /// Gives the server an event of a tester.
+    #[inline(never)]
+    fn give<S: Sink>(
+        &mut self,
+        who: TesterId,
+        event: &Event,
+        sink: &mut S,
+    ) -> Result<(), AllocError>
+        requires in_setup { who ≤ length self.old.server.ports }
+        requires lists { length self.old.drawn.lists.items ≡ length self.old.server.ports }
+        requires early { IsEarly self.old.server (who - 1) }
+        ensures ok { OnOk result (Gave S.took self.old sink.old self.new sink.new ((who, event.now) ∷ [])) }
+        ensures kept { StaysFor S.is_for S.aim sink.old sink.new }
+        ensures shape { SameShape self.old self.new }
+        ensures pace { (span : ℕ) → Lasts event.now span
+            → OneWentOn self.old.server self.new.server (who - 1) span }
+        ensures sent { OnOk result ((span : ℕ) → Lasts event.now span
+            → OneSentIn self.old self.new (who - 1) span) }
+    {
+        let index = who.index();
+        let out = &mut self.drawn.lists[index];
+        let mut entering = Entering { sink: &mut *sink };
+        match self.server.take(who, event, &mut entering, out) {
+            Ok(()) => {
+                self.drawn.filled = self.drawn.filled.after(index, out.is_empty());
+                self.rest = self.rest.min(self.server.quiet_at(who));
+                Ok(())
+            }
+            Err(ServerFault::Memory) => Err(AllocError),
+            Err(ServerFault::Clock) => unreachable!(),
+            Err(ServerFault::JournalFull) => unreachable!(),
+        }
+    }
+
+    /// For how many ticks no port does anything before the last of them, where these are more than so many, and the sink
+    /// doesn't want them.
+    #[inline(always)]
+    fn rest_after<S: Sink>(&self, count: TickCount, sink: &S) -> Option<u64>
+        requires known { IsRest self.now.server self.now.rest }
+        ensures more { IfSome result (λ rest. count < rest) }
+        ensures is { IfSome result (λ rest. IsRest self.now.server rest) }
+        ensures silent { IsSome result → S.wants_ticks ≡ false }
+    {
+        if sink.wants_ticks() {
+            return None;
+        }
+        let count = u64::from(count.get());
+        if count < self.rest {
+            return Some(self.rest);
+        }
+        self.quiet_after(count)
+    }
+
+    /// The same, where the ports have to be looked at.
+    #[inline(never)]
+    fn quiet_after(&self, count: u64) -> Option<u64>
+        ensures more { IfSome result (λ rest. count < rest) }
+        ensures is { IfSome result (λ rest. IsRest self.now.server rest) }
+    {
+        let rest = self.server.quiet();
+        if count < rest { Some(rest) } else { None }
+    }
+
+    /// Gives the server so many ticks of each tester, in order.
+    #[inline(always)]
+    pub fn give_each<S: Sink>(
+        &mut self,
+        setup: &Setup,
+        count: TickCount,
+        sink: &mut S,
+    ) -> Result<(), AllocError>
+        requires { IsReady self.old (length setup.now.testers) count }
+        ensures { Passed S.took (StaysFor S.is_for S.aim) self.old sink.old self.new sink.new count
+            (each_of (length setup.now.testers) (AnEvent.Ticks count)) result }
+    {
+        if let Some(rest) = self.rest_after(count, sink) {
+            self.server.pass_quietly(setup, count);
+            self.rest = rest - u64::from(count.get());
+            return Ok(());
+        }
+        self.give_to_each(setup, &Event::Ticks(count), sink)
+    }
+
+    /// Lets so many milliseconds pass for each tester.
+    #[inline(always)]
+    fn pass<S: Sink>(&mut self, setup: &Setup, ms: u64, sink: &mut S) -> Result<(), AllocError>
+        requires { IsReady self.old (length setup.now.testers) ms }
+        ensures { Passed S.took (StaysFor S.is_for S.aim) self.old sink.old self.new sink.new ms
+            (flat_map (each_of (length setup.now.testers)) (waited ms)) result }
+    {
+        if ms >= LONGEST_COUNT {
+            return self.pass_parts(setup, ms, sink);
+        }
+        match TickCount::new(ms as u16) {
+            None => Ok(()),
+            Some(count) => self.give_each(setup, count, sink),
+        }
+    }
+
+    /// The same by the longest count each, and last the rest.
+    #[inline(never)]
+    fn pass_parts<S: Sink>(
+        &mut self,
+        setup: &Setup,
+        ms: u64,
+        sink: &mut S,
+    ) -> Result<(), AllocError>
+        requires { IsReady self.old (length setup.now.testers) ms }
+        ensures { Passed S.took (StaysFor S.is_for S.aim) self.old sink.old self.new sink.new ms
+            (flat_map (each_of (length setup.now.testers)) (waited ms)) result }
+    {
+        for part in 0..ms / LONGEST_COUNT {
+            self.give_each(setup, TickCount::longest(), sink)?;
+        }
+        match TickCount::new((ms % LONGEST_COUNT) as u16) {
+            None => Ok(()),
+            Some(rest) => self.give_each(setup, rest, sink),
+        }
+    }
+
+    /// Gives the server a frame, by whose it is.
+    #[inline(always)]
+    fn give_frame<S: Sink>(
+        &mut self,
+        setup: &Setup,
+        owner: Owner,
+        frame: &FrameText,
+        sink: &mut S,
+    ) -> Result<(), AllocError>
+        requires in_setup { length self.old.server.ports ≡ length setup.now.testers }
+        requires lists { length self.old.drawn.lists.items ≡ length setup.now.testers }
+        requires owner { (id : ℕ) × IsOwner setup.now id (length setup.now.testers) owner }
+        requires early { HasTime self.old.server 0 }
+        ensures { Passed S.took (StaysFor S.is_for S.aim) self.old sink.old self.new sink.new 0
+            (given (length setup.now.testers) owner frame.now.bytes) result }
+    {
+        match owner {
+            Owner::Nobody => Ok(()),
+            Owner::Tester(who) => self.give(who, &Event::Physical(frame.bytes()), sink),
+            Owner::Each => self.give_to_each(setup, &Event::Functional(frame.bytes()), sink),
+        }
+    }
+
+    /// Gives the server an event of each tester, in order.
+    fn give_to_each<S: Sink>(
+        &mut self,
+        setup: &Setup,
+        event: &Event,
+        sink: &mut S,
+    ) -> Result<(), AllocError>
+        requires in_setup { length self.old.server.ports ≡ length setup.now.testers }
+        requires lists { length self.old.drawn.lists.items ≡ length setup.now.testers }
+        requires early { HasTime self.old.server 0 }
+        ensures ok { OnOk result
+            (Gave S.took self.old sink.old self.new sink.new (each_of (length setup.now.testers) event.now)) }
+        ensures kept { StaysFor S.is_for S.aim sink.old sink.new }
+        ensures shape { SameShape self.old self.new }
+        ensures pace { (span : ℕ) → Lasts event.now span
+            → TookTime self.old.server self.new.server span }
+        ensures sent { OnOk result ((span : ℕ) → Lasts event.now span
+            → SentIn self.old self.new span) }
+    {
+        for index in 0..setup.testers() {
+            let Some(who) = setup.who(index) else {
+                unreachable!()
+            };
+            self.give(who, event, sink)?;
+        }
+        Ok(())
+    }
+
+    /// Gives the server what a line says: so many milliseconds, and its frame.
+    #[inline(always)]
+    pub fn take<S: Sink>(
+        &mut self,
+        setup: &Setup,
+        ids: &RequestIds,
+        ms: u64,
+        said: &BusLine,
+        sink: &mut S,
+    ) -> Result<(), AllocError>
+        requires ready { IsReady self.old (length setup.now.testers) ms }
+        requires ids { AreRequestsOf setup.now ids.now }
+        ensures { Passed S.took (StaysFor S.is_for S.aim) self.old sink.old self.new sink.new ms (flat_map (each_of (length setup.now.testers)) (waited ms)
+            ++ flat_map (frame_to setup.now (frame_said said.now)) (counted_from 1 (length setup.now.testers))) result }
+    {
+        self.pass(setup, ms, sink)?;
+        match said {
+            BusLine::Empty | BusLine::Ticks(_) => Ok(()),
+            BusLine::Stamped { moment: _, frame } => match frame {
+                Some(frame) => self.give_frame(setup, ids.owner(frame.id()), frame, sink),
+                None => Ok(()),
+            },
+        }
+    }
+}

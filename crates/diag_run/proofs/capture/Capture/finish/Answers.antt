@@ -1,0 +1,58 @@
+use Rattle.std.proofs.Common.{◌≡◌, ◌<◌, ◌++◌, ℕ, Bool, true, false, Vec, Global, vec_len, [], length, arith}
+use Rattle.std.specs.Prelude.{◌==◌}
+use Rattle.std.proofs.KnownBytes.{Appends-trans}
+use Rattle.std.proofs.lemmas.Bool.Decides.{nat_tests}
+use Rattle.std.proofs.lemmas.List.{nil_from_length}
+use Rattle.std.proofs.lemmas.Result.{IfErr-weaker, err_from_is_err_and, on_ok_weaker}
+use Rattle.diag_run.proofs.Pieces.{closes_begun, closes_ended, cut_begun, halts_begun, halts_ended}
+use Rattle.diag_run.proofs.capture.Capture.finish.Goals as goal
+
+none_kept : {empty : Bool} (kept : Vec ℕ Global) → empty ≡ (vec_len kept == 0) → empty ≡ true → kept.items ≡ []
+none_kept kept is tested = nil_from_length kept.items (grind (arith, nat_tests))
+
+some_kept : {empty : Bool} (kept : Vec ℕ Global) → empty ≡ (vec_len kept == 0) → empty ≡ false → 0 < length kept.items
+some_kept kept is tested = grind (arith, nat_tests)
+
+pub returns-then-is_empty-clause-ok : goal.returns-then-is_empty-clause-ok
+returns-then-is_empty-clause-ok g c =
+    let none = none_kept c.args.self.now.kept c.is_empty.ensures c.if-is_empty.true in
+    on_ok_weaker c.close.result (λ s. (s.0, s.1, closes_ended g.S.Sink g.S.Sink.took g.S.Sink.aim g.S.Sink.written g.S.Ending.ends c.args.self.now none c.close.new.self s.0 s.2)) c.close.ensures.ok
+
+pub returns-then-is_empty-clause-err : goal.returns-then-is_empty-clause-err
+returns-then-is_empty-clause-err g c =
+    let none = none_kept c.args.self.now.kept c.is_empty.ensures c.if-is_empty.true in
+    IfErr-weaker c.close.result _ _ (λ fault h. (h.0, h.1, halts_ended g.S.Sink g.S.Sink.took g.S.Sink.aim g.S.Sink.written g.S.Ending.ends c.args.self.now none fault h.0 h.2)) c.close.ensures.err
+
+pub returns-in_err-take_line-clause-err : goal.returns-in_err-take_line-clause-err
+returns-in_err-take_line-clause-err g c =
+    let p = err_from_is_err_and c.from_residual.result c.from_residual.ensures.1 in
+    let begun = some_kept c.args.self.now.kept c.is_empty.ensures c.if-is_empty.false in
+    let halts = c.in_err-take_line.ensures.err in
+    rw (p.1, p.2) (halts.0, halts.1, halts_begun g.S.Sink g.S.Sink.took g.S.Sink.aim g.S.Sink.written g.S.Ending.ends c.args.self.now begun c.in_err-take_line.field-0.0 halts.0 halts.2)
+
+pub returns-clause-ok : goal.returns-clause-ok
+returns-clause-ok g c =
+    let begun = some_kept c.args.self.now.kept c.is_empty.ensures c.if-is_empty.false in
+    let on = c.in_ok-take_line.ensures.ok in
+    let mid = c.take_line.new.self in
+    on_ok_weaker c.close-2.result
+    (λ s. (
+      on.0 ++ s.0,
+      Appends-trans _ _ _ on.0 s.0 on.1 s.1,
+      closes_begun g.S.Sink g.S.Sink.took g.S.Sink.aim g.S.Sink.written g.S.Ending.ends c.args.self.now begun mid on.0 on.2 c.close-2.new.self s.0
+          (closes_ended g.S.Sink g.S.Sink.took g.S.Sink.aim g.S.Sink.written g.S.Ending.ends mid c.in_ok-take_line.ensures.kept c.close-2.new.self s.0 s.2),
+    ))
+    c.close-2.ensures.ok
+
+pub returns-clause-err : goal.returns-clause-err
+returns-clause-err g c =
+    let begun = some_kept c.args.self.now.kept c.is_empty.ensures c.if-is_empty.false in
+    let on = c.in_ok-take_line.ensures.ok in
+    let mid = c.take_line.new.self in
+    IfErr-weaker c.close-2.result _ _
+    (λ fault h. (
+      on.0 ++ h.0,
+      Appends-trans _ _ _ on.0 h.0 on.1 h.1,
+      cut_begun g.S.Sink g.S.Sink.took g.S.Sink.aim g.S.Sink.written g.S.Ending.ends c.args.self.now begun mid on.0 on.2 fault h.0 (halts_ended g.S.Sink g.S.Sink.took g.S.Sink.aim g.S.Sink.written g.S.Ending.ends mid c.in_ok-take_line.ensures.kept fault h.0 h.2),
+    ))
+    c.close-2.ensures.err
