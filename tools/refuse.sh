@@ -9,14 +9,14 @@
 # an error, too: a thread that found no memory at its start left its work to its caller's thread.
 # A request may fall in any thread; how many there are may then be another from run to run.
 # A test that makes more than 2,500 requests has as many of them refused, evenly chosen, as fit in REFUSE_TEST_SECONDS
-# (default 3). REFUSE_SECONDS (default 600) bounds the runs of the program, and each suite anew; what
+# (default 3). REFUSE_SECONDS (default 1800) bounds the runs of the program, and each suite anew; what
 # was not reached has failed. The last line is 'N passed, M failed'.
 set -uo pipefail
 cd "$(dirname "$0")/.." || exit 2
 room=$(mktemp -d)
 trap 'rm -rf "$room"' EXIT
 cc -O2 -shared -fPIC -o "$room/refuse.so" tools/refuse.c -ldl || { echo "refuse: no C compiler"; echo "0 passed, 1 failed"; exit 1; }
-end=$(($(date +%s) + ${REFUSE_SECONDS:-600}))
+end=$(($(date +%s) + ${REFUSE_SECONDS:-1800}))
 passed=0
 failed=0
 
