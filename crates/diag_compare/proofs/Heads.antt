@@ -28,7 +28,8 @@ use Rattle.diag_exchange.specs.declared.happening.Heard.{Heard}
 use Rattle.diag_exchange.specs.declared.happening.Place.{Place}
 use Rattle.diag_exchange.specs.declared.happening.Start.{Start}
 use Rattle.diag_exchange.proofs.Lists.{Each}
-use Rattle.diag_compare.specs.Hearing.{all_happen, asks, began, breaks, came, entries_by, entry_happens, frame_happens, happen_after, happenings, is_of, line_happens, lost_if, place_of, receives, time_of_line, unit_events, unit_frame, unit_happens, unit_side}
+use Rattle.diag_compare.specs.Hearing.{asks, entries_by, entry_happens, happen_after, happenings, is_of, line_happens, place_of, time_of_line, unit_events, unit_frame, unit_side}
+use Rattle.diag_listen.specs.Listening.{all_happen, began, breaks, came, frame_happens, lost_if, receives, unit_happens}
 use Rattle.diag_compare.specs.Meaning.{IsHeaded, messages, messages_after}
 use Rattle.diag_compare.proofs.FirstFrames.{HasHead, IsFirst, first_of_kind}
 use Rattle.diag_compare.proofs.Messages.{IsOfUnit, coming_append, each_time, each_unit, messages_append, unit_push}

@@ -32,7 +32,8 @@ use Rattle.diag_exchange.specs.declared.happening.Place.{Place}
 use Rattle.diag_exchange.specs.declared.happening.Request.{Request}
 use Rattle.diag_exchange.specs.declared.happening.Start.{Start}
 use Rattle.diag_exchange.proofs.Lists.{change_last_here, change_later, change_not_here}
-use Rattle.diag_compare.specs.Hearing.{all_happen, asks, breaks, came, entries_by, entry_happens, frame_happens, happen_after, happenings, in_states, is_of, line_happens, lost_if, place_of, receives, time_of_line, unit_events, unit_frame, unit_happens, unit_side}
+use Rattle.diag_compare.specs.Hearing.{asks, entries_by, entry_happens, happen_after, happenings, in_states, is_of, line_happens, place_of, time_of_line, unit_events, unit_frame, unit_side}
+use Rattle.diag_listen.specs.Listening.{all_happen, breaks, came, frame_happens, lost_if, receives, unit_happens}
 use Rattle.diag_compare.specs.Meaning.{Question, entry_question, question, question_of}
 
 -- ---- the requests of what happened

@@ -1,21 +1,14 @@
 -- What a capture has of the unit's messages to a tester, and of the tester's requests, in the order of the bus.
-use Rattle.std.specs.Prelude.{ℕ, ◌+◌, ◌==◌, ◌&&◌, nat_lt, not, Bool, true, false, if◌then◌else◌, List, [], ◌∷◌, ◌++◌, length, drop, filter, slice_get, slice_index, Option, Some, None, Result, Ok, Err}
+use Rattle.std.specs.Prelude.{ℕ, ◌+◌, ◌==◌, Bool, if◌then◌else◌, List, [], ◌∷◌, ◌++◌, length, drop, filter, Option, Some, None, Result, Ok, Err}
 use Rattle.std.specs.List.{flat_map}
 use Rattle.diag_can.specs.declared.bus.BusLine.{BusLine}
 use Rattle.diag_can.specs.declared.fault.LineFault.{LineFault}
 use Rattle.diag_can.specs.declared.frame.Event.{Event}
-use Rattle.diag_can.specs.declared.frame.Event.TheVariants.{Physical, Functional, Ticks}
+use Rattle.diag_can.specs.declared.frame.Event.TheVariants.{Physical}
 use Rattle.diag_can.specs.declared.frame.Frame.{Frame}
-use Rattle.diag_pdu.specs.Cut.{consecutive_count}
-use Rattle.diag_pdu.specs.Kind.{kind}
-use Rattle.diag_pdu.specs.declared.pci.Pci.{Pci}
-use Rattle.diag_pdu.specs.declared.pci.Pci.TheVariants.{Single, First, Overflow, Consecutive, FlowControl, Ignored}
 use Rattle.diag_pdu.specs.declared.setup.LinkSetup.{LinkSetup}
 use Rattle.diag_pdu.specs.declared.step.Step.{Step}
 use Rattle.diag_pdu.specs.declared.step.Step.TheVariants as step
-use Rattle.diag_tp.specs.Gives.{gives}
-use Rattle.diag_tp.specs.Moments.{history}
-use Rattle.diag_tp.specs.Reception.{Reception, open_at}
 use Rattle.diag_setup.specs.Setup.{ids_of, link_of}
 use Rattle.diag_setup.specs.declared.raw.RawSetup.{RawSetup}
 use Rattle.diag_ecu.specs.State.{State}
@@ -25,8 +18,9 @@ use Rattle.diag_bus.specs.Events.{clock_of, events_of, frame_said, line_said, re
 use Rattle.diag_bus.specs.Text.{ecu_after, run_of}
 use Rattle.diag_exchange.specs.declared.happening.Expected.{Expected}
 use Rattle.diag_exchange.specs.declared.happening.Happening.{Happening}
-use Rattle.diag_exchange.specs.declared.happening.Happening.TheVariants.{Asked, Began, Came, Lost}
+use Rattle.diag_exchange.specs.declared.happening.Happening.TheVariants.{Asked}
 use Rattle.diag_exchange.specs.declared.happening.Place.{Place}
+use Rattle.diag_listen.specs.Listening.{all_happen}
 
 -- the line behind these, and the bus's time of it
 abbrev pub place_of : RawSetup → List (List ℕ) → List ℕ → Place
@@ -60,52 +54,6 @@ unit_after setup t past (line ∷ lines) =
 -- the events of the unit's side
 abbrev pub unit_events : RawSetup → ℕ → List (List ℕ) → List Event
 unit_events setup t lines = unit_after setup t [] lines
-
--- ---- messages of the unit
-
--- some part is to come
-abbrev pub is_unfinished : Option Reception → Bool
-is_unfinished None = false
-is_unfinished (Some r) = nat_lt (length r.parts) (consecutive_count r.len)
-
--- a message is coming in
-abbrev pub receives : LinkSetup → List Event → Bool
-receives s E = is_unfinished (open_at s (history E))
-
-abbrev pub lost_if : Bool → List Happening
-lost_if true = Lost ∷ []
-lost_if false = []
-
-abbrev pub came : Option Step → Bool → List Happening
-came (Some (step.Request request)) broken = Came request.message ∷ []
-came (Some (step.Ticks n)) broken = lost_if broken
-came None broken = lost_if broken
-
-abbrev pub began : Place → List ℕ → Happening
-began at bytes = Began (record { at = at; first = slice_index bytes 0; second = slice_get bytes 1 })
-
--- a reception was under way, and isn't any more
-abbrev pub breaks : LinkSetup → List Event → Event → Bool
-breaks s E e = receives s E && not (receives s (E ++ e ∷ []))
-
-abbrev pub frame_happens : LinkSetup → Place → List Event → List ℕ → Pci → List Happening
-frame_happens s at E bytes (Single payload) = lost_if (receives s E) ++ began at payload ∷ Came payload ∷ []
-frame_happens s at E bytes (First len head) = lost_if (receives s E) ++ began at head ∷ []
-frame_happens s at E bytes Overflow = lost_if (receives s E)
-frame_happens s at E bytes (Consecutive number part) =
-    came (gives s E (Physical bytes)) (breaks s E (Physical bytes))
-frame_happens s at E bytes (FlowControl status block gap) = []
-frame_happens s at E bytes Ignored = []
-
--- what an event of the unit's side is, behind these
-abbrev pub unit_happens : LinkSetup → Place → List Event → Event → List Happening
-unit_happens s at E (Physical bytes) = frame_happens s at E bytes (kind bytes s.max_request)
-unit_happens s at E (Functional bytes) = []
-unit_happens s at E (Ticks n) = lost_if (breaks s E (Ticks n))
-
-abbrev pub all_happen : LinkSetup → Place → List Event → List Event → List Happening
-all_happen s at E [] = []
-all_happen s at E (e ∷ es) = unit_happens s at E e ++ all_happen s at (E ++ e ∷ []) es
 
 -- ---- requests
 
