@@ -125,6 +125,12 @@ module _ {ecu : State} {ports : List Port} {now : ServerView} {who i : ℕ} {por
   pub closed_here : closing_time < port.link.state.now → IsClosed (server_of now).ports (who - 1)
   closed_here late = record { port = port_of port; found = state_there; late = late }
 
+  -- and the other way round
+  pub late_there : IsClosed (server_of now).ports (who - 1) → closing_time < port.link.state.now
+  late_there closed =
+      let same : closed.port ≡ port_of port = same_item closed.port (port_of port) _ closed.found state_there in
+      subst (λ (S : PortState). closing_time < S.link.now) same closed.late
+
   -- a port that stands for the same leaves the server what it was
   pub same_here : (ecu' : State) (port' : Port) → port_of port' ≡ port_of port → ecu' ≡ ecu → state_at ecu' (slice_set ports i port') ≡ server_of now
   same_here ecu' port' same still =

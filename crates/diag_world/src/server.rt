@@ -121,8 +121,9 @@ impl Server {
     /// Takes an event of a tester, has the entry that it gives kept, and hands out the frames that it draws.
     ///
     /// # Errors
-    /// `Clock` where the tester's link has come to its closing time, `JournalFull` where the keeper can't keep the entry,
-    /// `Memory` where memory is refused. The server and the frames are then as before, and so is what is kept.
+    /// `Clock` exactly where the tester's link has come past its closing time, which is looked at first; `JournalFull` where
+    /// the keeper can't keep the entry, `Memory` where memory is refused. The server and the frames are then as before, and
+    /// so is what is kept.
     #[inline(always)]
     pub fn take<K: Keeper>(
         &mut self,
@@ -147,6 +148,8 @@ impl Server {
             closing_time < last_time (items_of M who)) }
         ensures closed { result ≡ Err ServerFault.Clock
             → IsClosed (server_of self.old).ports (who - 1) }
+        ensures first { IsClosed (server_of self.old).ports (who - 1)
+            → result ≡ Err ServerFault.Clock }
     {
         let index = who.index();
         let lazy = &mut self.links[index];
@@ -223,7 +226,7 @@ struct Answering<'a, K> {
 
 impl<'a, K: Keeper> TakeSteps for Answering<'a, K> {
     ghost use Rattle.std.specs.Prelude.{◌≡◌, ◌≤◌, refl};
-    ghost use Rattle.diag_port.specs.Standing.{may_delay};
+    ghost use Rattle.diag_ecu.specs.Respond.{may_delay};
     ghost use Rattle.diag_world.specs.Server.{Answered, closing_time};
 
     ghost allows = { λ _ _ before. before ≤ closing_time };
@@ -244,7 +247,7 @@ impl<'a, K: Keeper> TakeSteps for Answering<'a, K> {
 
     #[inline(always)]
     fn can_delay(&self) -> bool {
-        self.ecu.has_answers()
+        self.ecu.can_delay()
     }
 
     #[inline(always)]
@@ -301,6 +304,7 @@ fn take_at<K: Keeper>(
     ensures full { result ≡ Err ServerFault.JournalFull
         → K.is_full keeper.old × GivesStep port.old.link.state event.now }
     ensures clock { result ≡ Err ServerFault.Clock → closing_time < port.old.link.state.now }
+    ensures first { closing_time < port.old.link.state.now → result ≡ Err ServerFault.Clock }
 {
     if port.now() > CLOSING_TIME {
         return Err(ServerFault::Clock);
