@@ -38,10 +38,19 @@ def reads(tester=0):
     return [f"{own}#023E00", f"{own}#03220100", f"{own}#03220100CCCCCCCC", f"{own}#021003"]
 
 
-def other_traffic(dice):
+def other_traffic(dice, identifier):
     """Nine frames of ten are for nobody."""
-    others = [f"{dice.randrange(0x100, 0x700):03X}#{dice.randbytes(8).hex().upper()}" for _ in range(90)]
+    others = [f"{identifier()}#{dice.randbytes(8).hex().upper()}" for _ in range(90)]
     return [it for at in range(0, 90, 9) for it in [*others[at : at + 9], "7E0#03220100"]]
+
+
+def other_id(dice):
+    return f"{dice.randrange(0x100, 0x700):03X}"
+
+
+def wide_id(dice):
+    """One of 29 bits, as those of SAE J1939 are."""
+    return f"{0x18000000 + dice.randrange(0x1000000):08X}"
 
 
 def message(own, length):
@@ -103,11 +112,13 @@ def config_of(room, testers):
 def workloads(seed):
     """By name: the words of the command, how many testers, each tester's texts (of `bus` one list), the microseconds."""
     dice = random.Random(seed)
-    other = other_traffic(dice)
+    other = other_traffic(dice, lambda: other_id(dice))
     rough = hostile(dice)
+    wide = other_traffic(dice, lambda: wide_id(dice))
     return {
         "reads": (["serial"], 1, [reads()], 500),
         "other traffic": (["serial"], 1, [other], 500),
+        "others of 29 bits": (["serial"], 1, [wide], 500),
         "long requests": (["serial"], 1, [message("7E0", 4000)], 500),
         "long replies": (["serial"], 1, [long_replies()], 500),
         "ticks": (["serial"], 1, [ticks()], 500),
@@ -118,6 +129,7 @@ def workloads(seed):
         "bus, one tester": (["bus"], 1, [turn(0)], 500),
         "bus, eight testers": (["bus"], 8, [eight()], 500),
         "bus, other traffic": (["bus"], 1, [other], 500),
+        "bus, others of 29 bits": (["bus"], 1, [wide], 500),
         "verify, one tester": (["verify"], 1, [asked(turn(0))], 500),
         "verify, eight testers": (["verify"], 8, [asked(eight())], 500),
         "replay of reads": (["replay"], 1, [reads()], 500),

@@ -1,4 +1,4 @@
-//! `bus`: a capture of the whole bus, answered as it comes.
+//! `bus` and `verify`: a capture of the whole bus, answered as it comes, or compared.
 
 use crate::fault::Fault;
 use crate::feed::{Feed, FeedFault};
@@ -9,6 +9,7 @@ use crate::link::NEVER;
 use crate::server::Server;
 use crate::setup::Setup;
 use crate::text::{self, Outlet};
+use crate::verdict::Verdict;
 
 /// The most bytes of a line, its LF not counted.
 pub const LINE_BYTES: usize = 4096;
@@ -17,6 +18,7 @@ pub enum Wanted {
     Replies,
     Journal,
     End,
+    Verdict,
 }
 
 pub fn run(setup: &Setup, feed: Feed, wanted: Wanted) -> Result<(), Fault> {
@@ -34,6 +36,11 @@ pub fn run(setup: &Setup, feed: Feed, wanted: Wanted) -> Result<(), Fault> {
             bus.follow(feed)?;
             text::print([bus.server.end_text(setup).as_bytes()])
         }
+        Wanted::Verdict => {
+            let mut bus = Bus::new(setup, Verdict::new(setup), NoJournal);
+            bus.follow(feed)?;
+            text::print([bus.server.frames.text(setup)?.as_bytes()])
+        }
     }
 }
 
@@ -41,6 +48,9 @@ pub fn run(setup: &Setup, feed: Feed, wanted: Wanted) -> Result<(), Fault> {
 trait Written {
     /// Tells what the stamps of frames are later than the testers' clocks.
     fn set_later(&mut self, _later: u64) {}
+
+    /// Takes a frame that the unit in the capture sent to a tester.
+    fn record(&mut self, _who: usize, _line: u64, _bytes: &[u8]) {}
 
     /// Writes what isn't written yet.
     fn leave(&mut self) -> Result<(), Fault> {
@@ -51,6 +61,13 @@ trait Written {
 impl Written for NoFrames {}
 
 impl Written for NoJournal {}
+
+impl Written for Verdict {
+    #[inline]
+    fn record(&mut self, who: usize, line: u64, bytes: &[u8]) {
+        Verdict::record(self, who, line, bytes);
+    }
+}
 
 impl Written for BusText {
     fn set_later(&mut self, later: u64) {
@@ -68,12 +85,13 @@ impl Written for JournalText<Outlet, true> {
     }
 }
 
-/// For whom a frame is, by its identifier.
+/// For whom a frame is, by its identifier; one of the unit's own is to a tester.
 #[derive(Clone, Copy)]
 enum For {
     Nobody,
     All,
     Tester(u8),
+    Unit(u8),
 }
 
 /// Nothing falls due before the moment `due`; all testers' clocks tell `now`.
@@ -92,6 +110,7 @@ impl<F: Frames + Written, J: Journal + Written> Bus<F, J> {
         by_id[setup.functional as usize] = For::All;
         for (who, tester) in setup.testers.iter().enumerate() {
             by_id[tester.request as usize] = For::Tester(who as u8);
+            by_id[tester.response as usize] = For::Unit(who as u8);
         }
         Bus { server: Server::new(setup, frames, journal), by_id, now: 0, due: NEVER, reference: None, lines: 0 }
     }
@@ -152,6 +171,7 @@ impl<F: Frames + Written, J: Journal + Written> Bus<F, J> {
                 For::Nobody => {}
                 For::Tester(who) => self.frame(who as usize, false, frame.bytes()),
                 For::All => (0..self.server.testers()).for_each(|who| self.frame(who, true, frame.bytes())),
+                For::Unit(who) => self.own(who as usize, frame.bytes()),
             }
         }
         if self.due <= self.now {
@@ -190,6 +210,15 @@ impl<F: Frames + Written, J: Journal + Written> Bus<F, J> {
         }
         self.server.frame(who, functional, bytes);
         self.due = self.due.min(self.server.due(who));
+    }
+
+    /// Takes a frame of the unit's own, behind what the server sends with the line.
+    #[inline]
+    fn own(&mut self, who: usize, bytes: &[u8]) {
+        if self.due <= self.now {
+            self.expire_up_to(0);
+        }
+        self.server.frames.record(who, self.lines, bytes);
     }
 
     /// Sends what is due by now, the earlier first, and at one moment by the testers' order: before the present that of

@@ -33,7 +33,7 @@ import workloads as module
 RUNS = 15
 
 # other flags under which both have to write the same bytes
-FLAGS = {"serial": [[], ["--journal"]], "bus": [[], ["--journal"], ["--end"]], "replay": [[]]}
+FLAGS = {"serial": [[], ["--journal"]], "bus": [[], ["--journal"], ["--end"]], "verify": [[]], "replay": [[]]}
 
 
 def built(room):
@@ -44,8 +44,10 @@ def built(room):
 
 
 def ran(program, words):
+    """Returns the status, the output and the fault; the notes, of which the twin has none, are left out."""
     it = subprocess.run([program, *words], stdout=subprocess.PIPE, stderr=subprocess.PIPE, check=False)
-    return it.returncode, it.stdout, it.stderr
+    told = b"\n".join(line for line in it.stderr.splitlines() if not line.startswith(b"uds_play: note: "))
+    return it.returncode, it.stdout, told
 
 
 def check_bytes(name, programs, words):

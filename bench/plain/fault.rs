@@ -19,6 +19,7 @@ pub enum Fault {
     Read(usize),
     Write,
     Differs(u64),
+    Otherwise(String),
 }
 
 impl Fault {
@@ -30,7 +31,7 @@ impl Fault {
             Fault::CaptureLine { .. } | Fault::JournalLine(_) | Fault::Long(_) => 3,
             Fault::JournalFull => 5,
             Fault::Read(_) | Fault::Write => 7,
-            Fault::Differs(_) => 8,
+            Fault::Differs(_) | Fault::Otherwise(_) => 8,
         }
     }
 }
@@ -51,6 +52,7 @@ impl Display for Fault {
             Fault::Read(file) => write!(out, "cannot read file {file}"),
             Fault::Write => write!(out, "cannot write"),
             Fault::Differs(entry) => write!(out, "entry {entry} differs"),
+            Fault::Otherwise(what) => out.write_str(what),
         }
     }
 }

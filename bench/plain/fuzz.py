@@ -120,8 +120,23 @@ def lines(dice, testers, count, faults):
 
 
 def ran(program, words, text=None):
+    """The status, the output and the fault; the notes, of which the twin has none, are left out."""
     it = subprocess.run([program, *words], input=text, stdout=subprocess.PIPE, stderr=subprocess.PIPE, check=False)
-    return it.returncode, it.stdout, it.stderr
+    told = [line for line in it.stderr.splitlines() if not line.startswith(b"uds_play: note: ")]
+    return it.returncode, it.stdout, told
+
+
+def with_replies(dice, capture, replies):
+    """A capture with the server's replies among its lines, in order, now and then with one that is wrong or missing."""
+    mixed, replies = [], replies.splitlines(keepends=True)
+    wrong = dice.choice([0, 0, 0.01])
+    lines = capture.splitlines(keepends=True)
+    for number, line in enumerate(lines):
+        mixed.append(line)
+        due = max(0, (number - dice.choice([0, 3, 16])) * len(replies) // len(lines))
+        mixed += [it if dice.random() >= wrong else dice.choice(["", it.strip()[:-2] + "\n"]) for it in replies[:due]]
+        replies = replies[due:]
+    return "".join(mixed)
 
 
 def case(dice, room, programs, counts):
@@ -165,6 +180,9 @@ def case(dice, room, programs, counts):
     for flags in ([], ["--journal"], ["--end"]):
         same("bus", *flags, config, path)
     same("bus", config, text=capture.encode())
+    recorded = with_replies(dice, capture, ran(programs[0], ["bus", config, path])[1].decode())
+    if recorded != capture:
+        same("verify", config, put("recorded", recorded))
 
 
 def main():

@@ -1,9 +1,10 @@
-//! A plain twin of `uds_play`, for measuring only: it does what `uds_play serial`, `bus` and `replay` do, byte for
-//! byte, in ordinary Rust with the standard library alone. Nothing of it is proved, and nothing uses it but a benchmark,
-//! which holds the program's speed and memory against it.
+//! A plain twin of `uds_play`, for measuring only: it does what `uds_play serial`, `bus`, `verify` and `replay` do, byte
+//! for byte, in ordinary Rust with the standard library alone. Nothing of it is proved, and nothing uses it but a
+//! benchmark, which holds the program's speed and memory against it.
 //!
 //!     plain serial [--journal] [--stamps] CONFIG LOG..
 //!     plain bus [--journal | --end] CONFIG [CAPTURE]
+//!     plain verify CONFIG [CAPTURE]
 //!     plain replay CONFIG JOURNAL
 //!
 //! Build it in this folder:
@@ -12,7 +13,7 @@
 //!
 //! Files are read by pieces, and each line is looked at once, where its event is used. What `serial` prints is kept
 //! until all logs have ended well, for a fault leaves nothing written; what `bus` prints leaves as it comes. Left out
-//! are `play`, `verify`, `live`, `--help` and `--version`, and of the setup's TOML what no setup uses.
+//! are `play`, `live`, `--help` and `--version`, and of the setup's TOML what no setup uses.
 
 mod bus;
 mod ecu;
@@ -29,6 +30,7 @@ mod serial;
 mod server;
 mod setup;
 mod text;
+mod verdict;
 
 use fault::Fault;
 use feed::{Feed, Limits};
@@ -105,6 +107,15 @@ fn run_bus(words: Words) -> Result<(), Fault> {
         (false, true) => bus::Wanted::End,
         (false, false) => bus::Wanted::Replies,
     };
+    follow(words, wanted)
+}
+
+fn run_verify(words: Words) -> Result<(), Fault> {
+    follow(words, bus::Wanted::Verdict)
+}
+
+/// Follows a capture.
+fn follow(words: Words, wanted: bus::Wanted) -> Result<(), Fault> {
     let source = match words.others() {
         [] => "-",
         [path] => path,
@@ -132,6 +143,7 @@ fn run() -> Result<(), Fault> {
     let (known, job): (&[&str], Job) = match words.next().as_deref() {
         Some("serial") => (&["--journal", "--stamps"], run_serial),
         Some("bus") => (&["--journal", "--end"], run_bus),
+        Some("verify") => (&[], run_verify),
         Some("replay") => (&[], run_replay),
         _ => return Err(Fault::Usage),
     };

@@ -21,3 +21,4 @@ pub mod Texts
 pub mod Verdicts
 mod VerdictExamples
 pub mod Owners
+pub mod Responders

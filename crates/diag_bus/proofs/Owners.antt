@@ -20,10 +20,10 @@ use Rattle.diag_bus.specs.declared.request_ids.Owner.{Owner}
 use Rattle.diag_bus.specs.declared.request_ids.Owner.TheVariants as owner
 use Rattle.diag_bus.proofs.Batches.{found_at, frames_more, functional_more}
 
-abbrev request_id : RawTester → ℕ
+abbrev pub request_id : RawTester → ℕ
 request_id t = id_by t.extended t.request
 
-abbrev response_id : RawTester → ℕ
+abbrev pub response_id : RawTester → ℕ
 response_id t = id_by t.extended t.response
 
 -- ---- no request has the identifier of another, and none a functional one
@@ -50,7 +50,7 @@ first_apart t ts k once there same =
     let both : true ≡ false = sym there ∙ (ap (has_key itself (can_ids ts)) same ∙ none) in
     cc
 
-others_once : (t : RawTester) (ts : List RawTester) → has_repeat itself (can_ids (t ∷ ts)) ≡ false → has_repeat itself (can_ids ts) ≡ false
+pub others_once : (t : RawTester) (ts : List RawTester) → has_repeat itself (can_ids (t ∷ ts)) ≡ false → has_repeat itself (can_ids ts) ≡ false
 others_once t ts once =
     let behind = (or_parts (has_key itself (response_id t ∷ can_ids ts) (request_id t)) (has_repeat itself (response_id t ∷ can_ids ts)) once).1 in
     (or_parts (has_key itself (can_ids ts) (response_id t)) (has_repeat itself (can_ids ts)) behind).1
@@ -75,7 +75,7 @@ functional_apart ids shared (v ∷ ts) zero t none at =
 functional_apart ids shared (v ∷ ts) (suc i) t none at =
     functional_apart ids shared ts i t (or_parts (asks_by ids shared v) (list_any (asks_by ids shared) ts) none).1 at
 
-ids_once : (setup : RawSetup) → fault_of setup ≡ None
+pub ids_once : (setup : RawSetup) → fault_of setup ≡ None
     → (has_repeat itself (can_ids setup.testers) ≡ false) × (list_any (asks_by (can_ids setup.testers) setup.functional) setup.testers ≡ false)
 ids_once setup well =
     let none : NoneHold (faults setup) = none_hold (faults setup) well in

@@ -1,23 +1,27 @@
 -- A recording with a line more, of all testers.
-use Rattle.std.proofs.Common.{◌≡◌, ◌<◌, ◌≤◌, Bool, ℕ, zero, suc, ◌+◌, Some, Ok, List, [], ◌∷◌, ◌++◌, length, map, inl, inr, refl, ap, subst, sym, ◌∙◌, append_assoc, arith}
+use Rattle.std.proofs.Common.{◌≡◌, ◌≢◌, ◌<◌, ◌≤◌, Bool, true, false, ℕ, zero, suc, ◌+◌, ◌-◌, Option, Some, None, Ok, List, [], ◌∷◌, ◌++◌, length, map, inl, inr, refl, ap, subst, sym, ◌∙◌, append_assoc, arith}
+use Rattle.std.proofs.lemmas.Bool.{eq-eqb, ne_eqb}
 use Rattle.std.proofs.lemmas.List.{append-nil, map-append, length-append, length-set}
 use Rattle.std.proofs.lemmas.List.Elements.{filter-append}
 use Rattle.std.proofs.lemmas.Option.{none-some, same_Some, slice_get_within}
 use Rattle.std.specs.List.{filter}
-use Rattle.std.specs.Prelude.{not, option_map, slice_get, slice_set}
+use Rattle.std.specs.Prelude.{◌==◌, ◌&&◌, if◌then◌else◌, IfSome, not, option_map, slice_get, slice_set}
 use Rattle.std.specs.Option.{option_to_list}
 use Rattle.diag_can.specs.declared.bus.BusLine.{BusLine}
+use Rattle.diag_can.specs.declared.frame.Frame.{Frame}
 use Rattle.diag_tp.specs.declared.sent.Sent.{Sent}
 use Rattle.diag_tp.specs.Wire.{wire, sendings, grant}
 use Rattle.diag_setup.specs.Setup.{ids_of}
 use Rattle.diag_setup.specs.declared.raw.RawSetup.{RawSetup}
 use Rattle.diag_world.proofs.Worlds.{set_cases}
-use Rattle.diag_bus.specs.Comparing.{Compares, ComparesLines, Takes, TakesLine}
-use Rattle.diag_bus.specs.Events.{events_of}
+use Rattle.diag_bus.specs.Comparing.{Compares, ComparesLines, Each, EachExpects, EachRecords, Expects, Records, TakesLine, frame_has}
+use Rattle.diag_bus.specs.Events.{events_of, frame_said}
+use Rattle.diag_bus.specs.Requests.{AreFilled, IsResponder, IsWithin}
 use Rattle.diag_bus.specs.Text.{sent_of}
 use Rattle.diag_bus.specs.Verdict.{at_line, expected, expected_of, is_pending, line_has, recorded, recorded_from, reply_said, sent_bytes}
 use Rattle.diag_bus.specs.declared.comparing.Comparison.{Comparison}
 use Rattle.diag_bus.specs.declared.comparing.Comparisons.{Comparisons}
+use Rattle.diag_bus.specs.declared.filled.Filled.TheVariants.{At, Nowhere}
 use Rattle.diag_bus.specs.declared.verdict.Recorded.{Recorded}
 use Rattle.diag_bus.proofs.Batches.{found_at}
 use Rattle.diag_world.proofs.Waiting.{get_set_other}
@@ -44,62 +48,176 @@ expected_more frames more =
 
 -- ---- of all testers
 
--- what a line that says this has of the unit's frames to the tester at an index
-abbrev pub said_has : RawSetup → ℕ → BusLine → ℕ → List Recorded
-said_has setup n said i = option_to_list (option_map (at_line n) (reply_said (ids_of setup (i + 1)).response (Ok said)))
+-- what is kept of none of them changed
+pub each_same : (P : ℕ → Comparison → Comparison → Type 0) (old : List Comparison)
+    → ((i : ℕ) (own : Comparison) → slice_get old i ≡ Some own → P i own own) → Each P old old
+each_same P old h = record {
+  many = refl;
+  each = λ i before after was is. subst (λ (c : Comparison). P i before c) (same_Some _ _ (sym was ∙ is)) (h i before was);
+}
 
--- the testers before an index took the line, and the others are as they were
-pub record TookEach (setup : RawSetup) (n : ℕ) (said : BusLine) (drawn : List (List Sent)) (old new : List Comparison) (index : ℕ) : Type 0 where
-  pub lists : length new ≡ length old
-  pub left : (k : ℕ) → index ≤ k → slice_get new k ≡ slice_get old k
-  pub done : (k : ℕ) (before after : Comparison) (frames : List Sent) → k < index → slice_get old k ≡ Some before → slice_get new k ≡ Some after
-      → slice_get drawn k ≡ Some frames → Takes before after (said_has setup n said k) (expected_of frames)
+-- that of one of them did
+pub each_at : (P : ℕ → Comparison → Comparison → Type 0) (old : List Comparison) (place : ℕ) (own new : Comparison)
+    → slice_get old place ≡ Some own → P place own new → ((i : ℕ) (c : Comparison) → i ≢ place → slice_get old i ≡ Some c → P i c c)
+    → Each P old (slice_set old place new)
+each_at P old place own new here took others = record {
+  many = length-set old place new;
+  each = λ i before after was is. elim (set_cases old place i new after is) [
+    | inl p ↦ (
+        let mine : own ≡ before = same_Some _ _ (sym here ∙ (ap (slice_get old) (sym p.0) ∙ was)) in
+        subst (λ j. P j before after) (sym p.0) (subst (λ (c : Comparison). P place before c) (sym p.1) (subst (λ (c : Comparison). P place c new) mine took)))
+    | inr p ↦ subst (λ (c : Comparison). P i before c) (same_Some _ _ (sym was ∙ p.1)) (others i before p.0 was)
+  ];
+}
 
-module _ (setup : RawSetup) (n : ℕ) (said : BusLine) (drawn : List (List Sent)) (old : List Comparison) where
-  pub took_one : (new : List Comparison) (i : ℕ) → TookEach setup n said drawn old new i → (before after : Comparison) (own : List Sent)
-      → slice_get new i ≡ Some before → slice_get drawn i ≡ Some own → Takes before after (said_has setup n said i) (expected_of own)
-      → TookEach setup n said drawn old (slice_set new i after) (i + 1)
-  took_one new i h before after own here drew takes = record {
-    lists = length-set new i after ∙ h.lists;
-    left = λ k above. get_set_other new i k after (λ e. absurd (omega (arith, above, e))) ∙ h.left k (omega (arith, above));
-    done = λ k first last frames less was is at. elim (set_cases new i k after last is) [
-      | inl p ↦ (
-          let same : k ≡ i = p.0 in
-          let was_here : before ≡ first = same_Some _ _ (sym here ∙ (h.left i (omega arith) ∙ (ap (slice_get old) (sym same) ∙ was))) in
-          let drew_here : own ≡ frames = same_Some _ _ (sym drew ∙ (ap (slice_get drawn) (sym same) ∙ at)) in
-          subst (λ j. Takes first last (said_has setup n said j) (expected_of frames)) (sym same)
-          (subst (λ (f : List Sent). Takes first last (said_has setup n said i) (expected_of f)) drew_here
-          (subst (λ (c : Comparison). Takes first c (said_has setup n said i) (expected_of own)) (sym p.1)
-          (subst (λ (c : Comparison). Takes c after (said_has setup n said i) (expected_of own)) was_here takes))))
-      | inr p ↦ (let below : k < i = omega (arith, less, p.0) in h.done k first last frames below was p.1 at)
-    ];
-  }
+-- those before an index did, and the others are as they were
+pub record UpTo (P : ℕ → Comparison → Comparison → Type 0) (old new : List Comparison) (index : ℕ) : Type 0 where
+  pub many : length new ≡ length old
+  pub left : (i : ℕ) → index ≤ i → slice_get new i ≡ slice_get old i
+  pub done : (i : ℕ) (before after : Comparison) → i < index → slice_get old i ≡ Some before → slice_get new i ≡ Some after → P i before after
 
--- all testers took the line
-pub took_all : (setup : RawSetup) (old new : Comparisons) (said : BusLine) (drawn : List (List Sent)) → new.lines ≡ old.lines + 1
-    → TookEach setup (old.lines + 1) said drawn old.testers.items new.testers.items (length old.testers.items)
-    → length drawn ≡ length setup.testers
+pub none_yet : (P : ℕ → Comparison → Comparison → Type 0) (old : List Comparison) → UpTo P old old 0
+none_yet P old = record { many = refl; left = λ i above. refl; done = λ i before after less was is. absurd (omega (arith, less)) }
+
+pub one_more : (P : ℕ → Comparison → Comparison → Type 0) (old now : List Comparison) (i : ℕ) → UpTo P old now i → (own new : Comparison)
+    → slice_get now i ≡ Some own → P i own new → UpTo P old (slice_set now i new) (i + 1)
+one_more P old now i h own new here took = record {
+  many = length-set now i new ∙ h.many;
+  left = λ k above. get_set_other now i k new (λ e. absurd (omega (arith, above, e))) ∙ h.left k (omega (arith, above));
+  done = λ k before after less was is. elim (set_cases now i k new after is) [
+    | inl p ↦ (
+        let mine : own ≡ before = same_Some _ _ (sym here ∙ (h.left i (omega arith) ∙ (ap (slice_get old) (sym p.0) ∙ was))) in
+        subst (λ j. P j before after) (sym p.0) (subst (λ (c : Comparison). P i before c) (sym p.1) (subst (λ (c : Comparison). P i c new) mine took)))
+    | inr p ↦ (let below : k < i = omega (arith, less, p.0) in h.done k before after below was p.1)
+  ];
+}
+
+pub all_done : (P : ℕ → Comparison → Comparison → Type 0) (old new : List Comparison) → UpTo P old new (length old) → Each P old new
+all_done P old new h = record {
+  many = h.many;
+  each = λ i before after was is. h.done i before after (slice_get_within old i before was) was is;
+}
+
+-- ---- frames of the server
+
+pub expects_none : (own : Comparison) (frames : List (List ℕ)) → frames ≡ [] → Expects own own frames
+expects_none own frames none recorded expected h =
+    subst (λ (fs : List (List ℕ)). Compares own recorded (expected ++ fs)) (sym none)
+    (subst (λ (e : List (List ℕ)). Compares own recorded e) (sym (append-nil expected)) h)
+
+-- an empty list has none
+pub expects_empty : (own : Comparison) (frames : List Sent) → frames ≡ [] → Expects own own (expected_of frames)
+expects_empty own frames none = expects_none own (expected_of frames) (ap expected_of none)
+
+-- no list has any
+pub expects_nowhere : (drawn : List (List Sent)) (old : List Comparison) → AreFilled Nowhere drawn → EachExpects drawn old old
+expects_nowhere drawn old empty = each_same _ old (λ i own at frames drew. expects_empty own frames (empty i frames drew))
+
+-- no list has any but this
+pub expects_at : (drawn : List (List Sent)) (old : List Comparison) (place : ℕ) (own new : Comparison) (frames : List Sent) → AreFilled (At place) drawn
+    → slice_get old place ≡ Some own → slice_get drawn place ≡ Some frames → Expects own new (expected_of frames)
+    → EachExpects drawn old (slice_set old place new)
+expects_at drawn old place own new frames filled here drew took =
+    each_at _ old place own new here
+    (λ others found. subst (λ (fs : List Sent). Expects own new (expected_of fs)) (same_Some _ _ (sym drew ∙ found)) took)
+    (λ i c apart at others found. expects_empty c others (filled.1 i others apart found))
+
+-- ---- a frame of the recording
+
+pub records_none : (own : Comparison) (frames : List Recorded) → frames ≡ [] → Records own own frames
+records_none own frames none recorded expected h =
+    subst (λ (fs : List Recorded). Compares own (recorded ++ fs) expected) (sym none)
+    (subst (λ (r : List Recorded). Compares own r expected) (sym (append-nil recorded)) h)
+
+module _ (setup : RawSetup) (t n : ℕ) (frame : Frame) where
+  abbrev response : ℕ
+  response = (ids_of setup t).response
+
+  -- it has another identifier
+  pub other_none : response ≢ frame.id → frame_has setup t n (Some frame) ≡ []
+  other_none apart = rw (ne_eqb frame.id response (λ same. apart (sym same))) refl
+
+  -- it says response pending
+  pub pending_none : is_pending frame.bytes ≡ true → frame_has setup t n (Some frame) ≡ []
+  pending_none pending = rw pending (none (frame.id == response))
+    where
+      none : (b : Bool) → option_to_list (option_map (at_line n) (if b && false then Some frame.bytes else None)) ≡ []
+      none true = refl
+      none false = refl
+
+  -- it is the unit's own to the tester
+  pub own_frame : response ≡ frame.id → is_pending frame.bytes ≡ false → frame_has setup t n (Some frame) ≡ at_line n frame.bytes ∷ []
+  own_frame same shown = rw (eq-eqb frame.id response (sym same), shown) refl
+
+module _ (setup : RawSetup) (n : ℕ) (frame : Frame) (responder : Option ℕ) (old : List Comparison)
+    (h : IsResponder setup frame.id (length old) responder) where
+  one_of : (i : ℕ) (own : Comparison) → slice_get old i ≡ Some own → IsWithin (length old) (i + 1)
+  one_of i own at = let within = slice_get_within old i own at in (omega arith, omega (arith, within))
+
+  -- it is the unit's own to none of them
+  pub nobody_records : responder ≡ None → EachRecords setup n (Some frame) old old
+  nobody_records none = each_same _ old (λ i own at. records_none own _
+      (other_none setup (i + 1) n frame (λ same. none-some (i + 1) (sym none ∙ h.alone (i + 1) (one_of i own at) same))))
+
+  pub pending_records : is_pending frame.bytes ≡ true → EachRecords setup n (Some frame) old old
+  pending_records pending = each_same _ old (λ i own at. records_none own _ (pending_none setup (i + 1) n frame pending))
+
+  pub own_records : (who : ℕ) (own new : Comparison) → responder ≡ Some who → is_pending frame.bytes ≡ false
+      → slice_get old (who - 1) ≡ Some own → Records own new (at_line n frame.bytes ∷ [])
+      → EachRecords setup n (Some frame) old (slice_set old (who - 1) new)
+  own_records who own new is shown here took =
+      let has = subst (λ (r : Option ℕ). IfSome r (λ w. IsWithin (length old) w × ((ids_of setup w).response ≡ frame.id))) is h.has in
+      let place : who ≡ who - 1 + 1 = omega (arith, has.0.0) in
+      each_at _ old (who - 1) own new here
+      (subst (λ t. Records own new (frame_has setup t n (Some frame))) place
+      (subst (λ (fs : List Recorded). Records own new fs) (sym (own_frame setup who n frame has.1 shown)) took))
+      (λ i c apart at. records_none c _ (other_none setup (i + 1) n frame (λ same.
+      let one : who ≡ i + 1 = same_Some _ _ (sym is ∙ h.alone (i + 1) (one_of i c at) same) in
+      apart (omega (arith, one)))))
+
+-- a line without a frame has none of the unit's
+pub no_records : (setup : RawSetup) (n : ℕ) (old : List Comparison) → EachRecords setup n None old old
+no_records setup n old = each_same _ old (λ i own at. records_none own [] refl)
+
+-- ---- a line
+
+-- all testers took it
+took_all : (setup : RawSetup) (old new : Comparisons) (between : List Comparison) (said : BusLine) (drawn : List (List Sent))
+    → new.lines ≡ old.lines + 1 → length drawn ≡ length setup.testers → EachExpects drawn old.testers.items between
+    → EachRecords setup (old.lines + 1) (frame_said said) between new.testers.items
     → TakesLine setup old new said drawn
-took_all setup old new said drawn count each many lines line is drew h = record {
+took_all setup old new between said drawn count many expects records lines line is drew h = record {
   count = count ∙ (ap (λ n. n + 1) h.count ∙ sym (length-append lines (line ∷ [])));
-  many = each.lists ∙ h.many;
+  many = records.many ∙ (expects.many ∙ h.many);
   each = λ i own at.
       let within = slice_get_within new.testers.items i own at in
-      let before = found_at old.testers.items i (omega (arith, within, each.lists)) in
-      let frames = found_at drawn i (omega (arith, within, each.lists, h.many, many)) in
+      let before = found_at old.testers.items i (omega (arith, within, records.many, expects.many)) in
+      let mid = found_at between i (omega (arith, within, records.many)) in
+      let frames = found_at drawn i (omega (arith, within, records.many, expects.many, h.many, many)) in
       let number : old.lines + 1 ≡ 1 + length lines = omega (arith, h.count) in
-      let has : said_has setup (old.lines + 1) said i ≡ line_has setup (i + 1) (1 + length lines) line =
-      ap (λ n. said_has setup n said i) number
+      let has : frame_has setup (i + 1) (old.lines + 1) (frame_said said) ≡ line_has setup (i + 1) (1 + length lines) line =
+      ap (λ n. frame_has setup (i + 1) n (frame_said said)) number
       ∙ ap (λ r. option_to_list (option_map (at_line (1 + length lines)) (reply_said (ids_of setup (i + 1)).response r))) (sym is) in
-      let took = each.done i before.0 own frames.0 (omega (arith, within, each.lists)) before.1 at frames.1 (recorded setup lines (i + 1))
-      (expected setup lines (i + 1)) (h.each i before.0 before.1) in
-      let seen : recorded setup lines (i + 1) ++ said_has setup (old.lines + 1) said i ≡ recorded setup (lines ++ line ∷ []) (i + 1) =
-      ap (λ w. recorded setup lines (i + 1) ++ w) has ∙ sym (recorded_push setup (i + 1) 1 lines line) in
       let due : expected setup lines (i + 1) ++ expected_of frames.0 ≡ expected setup (lines ++ line ∷ []) (i + 1) =
       sym (expected_more (sent_of setup (events_of setup lines) (i + 1)) frames.0) ∙ ap expected_of (sym (drew i frames.0 frames.1)) in
+      let seen : recorded setup lines (i + 1) ++ frame_has setup (i + 1) (old.lines + 1) (frame_said said) ≡ recorded setup (lines ++ line ∷ []) (i + 1) =
+      ap (λ w. recorded setup lines (i + 1) ++ w) has ∙ sym (recorded_push setup (i + 1) 1 lines line) in
+      let expected_too = expects.each i before.0 mid.0 before.1 mid.1 frames.0 frames.1 (recorded setup lines (i + 1)) (expected setup lines (i + 1))
+      (h.each i before.0 before.1) in
+      let took = records.each i mid.0 own mid.1 at (recorded setup lines (i + 1)) (expected setup lines (i + 1) ++ expected_of frames.0) expected_too in
       subst (λ (r : List Recorded). Compares own r (expected setup (lines ++ line ∷ []) (i + 1))) seen
-      (subst (λ (e : List (List ℕ)). Compares own (recorded setup lines (i + 1) ++ said_has setup (old.lines + 1) said i) e) due took);
+      (subst (λ (e : List (List ℕ)). Compares own (recorded setup lines (i + 1) ++ frame_has setup (i + 1) (old.lines + 1) (frame_said said)) e) due took);
 }
+
+-- the line has this frame
+pub took_line : (setup : RawSetup) (old new : Comparisons) (between : List Comparison) (said : BusLine) (drawn : List (List Sent)) (frame : Option Frame)
+    → new.lines ≡ old.lines + 1 → length drawn ≡ length setup.testers → EachExpects drawn old.testers.items between → frame_said said ≡ frame
+    → EachRecords setup new.lines frame between new.testers.items
+    → TakesLine setup old new said drawn
+took_line setup old new between said drawn frame count many expects is records =
+    took_all setup old new between said drawn count many expects
+    (subst (λ (f : Option Frame). EachRecords setup (old.lines + 1) f between new.testers.items) (sym is)
+    (subst (λ n. EachRecords setup n frame between new.testers.items) count records))
 
 -- one more of which this holds
 pub holds_more : {X : Type 0} (P : X → Type 0) (xs : List X) (x : X) → ((i : ℕ) (y : X) → slice_get xs i ≡ Some y → P y) → P x

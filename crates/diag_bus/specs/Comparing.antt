@@ -1,11 +1,14 @@
 -- What is kept of a recording and of the frames that the server sends: those by which the two are apart.
-use Rattle.std.specs.Prelude.{◌≡◌, ◌⊎◌, ℕ, ◌+◌, List, [], ◌∷◌, ◌++◌, length, map, Option, Some, None, Ok, slice_get}
+use Rattle.std.specs.Prelude.{◌≡◌, ◌⊎◌, ℕ, ◌+◌, List, [], ◌∷◌, ◌++◌, length, map, Option, Some, None, Ok, option_map, slice_get}
+use Rattle.std.specs.Option.{option_to_list}
 use Rattle.diag_can.specs.declared.bus.BusLine.{BusLine}
+use Rattle.diag_can.specs.declared.frame.Frame.{Frame}
 use Rattle.diag_tp.specs.declared.sent.Sent.{Sent}
+use Rattle.diag_setup.specs.Setup.{ids_of}
 use Rattle.diag_setup.specs.declared.raw.RawSetup.{RawSetup}
 use Rattle.diag_bus.specs.Events.{events_of, line_said}
 use Rattle.diag_bus.specs.Text.{sent_of}
-use Rattle.diag_bus.specs.Verdict.{bytes_of, difference, earlier, expected, recorded}
+use Rattle.diag_bus.specs.Verdict.{at_line, bytes_of, difference, earlier, expected, expected_of, recorded, reply_bytes}
 use Rattle.diag_bus.specs.declared.comparing.Comparison.{Comparison}
 use Rattle.diag_bus.specs.declared.comparing.Comparisons.{Comparisons}
 use Rattle.diag_bus.specs.declared.verdict.Recorded.{Recorded}
@@ -37,11 +40,17 @@ pub record Compares (kept : Comparison) (recorded : List Recorded) (expected : L
   pub count : kept.count ≡ length recorded
   pub apart : Apart kept.difference kept.ahead.items kept.behind.items recorded expected
 
--- so many frames of either were taken
-abbrev pub Takes : Comparison → Comparison → List Recorded → List (List ℕ) → Type 0
-Takes old new frames others = (recorded : List Recorded) (expected : List (List ℕ))
+-- these frames of the server were taken
+abbrev pub Expects : Comparison → Comparison → List (List ℕ) → Type 0
+Expects old new frames = (recorded : List Recorded) (expected : List (List ℕ))
     → Compares old recorded expected
-    → Compares new (recorded ++ frames) (expected ++ others)
+    → Compares new recorded (expected ++ frames)
+
+-- these frames of the recording were taken
+abbrev pub Records : Comparison → Comparison → List Recorded → Type 0
+Records old new frames = (recorded : List Recorded) (expected : List (List ℕ))
+    → Compares old recorded expected
+    → Compares new (recorded ++ frames) expected
 
 -- two frames were compared that stand at one place, behind which this was kept
 abbrev pub Compared : Comparison → Comparison → Recorded → List ℕ → Type 0
@@ -71,6 +80,28 @@ abbrev pub DrawnBy : RawSetup → List (List ℕ) → List ℕ → List (List Se
 DrawnBy setup lines line drawn = (i : ℕ) (frames : List Sent) → slice_get drawn i ≡ Some frames
     → sent_of setup (events_of setup (lines ++ line ∷ [])) (i + 1)
     ≡ sent_of setup (events_of setup lines) (i + 1) ++ frames
+
+-- of each tester one is kept as before, and this holds of the two
+pub record Each (P : ℕ → Comparison → Comparison → Type 0) (old new : List Comparison) : Type 0 where
+  pub many : length new ≡ length old
+  pub each : (i : ℕ) (before after : Comparison) → slice_get old i ≡ Some before → slice_get new i ≡ Some after
+      → P i before after
+
+-- the frames of the list at this place were taken
+abbrev pub ExpectsAt : List (List Sent) → ℕ → Comparison → Comparison → Type 0
+ExpectsAt drawn i before after = (frames : List Sent) → slice_get drawn i ≡ Some frames → Expects before after (expected_of frames)
+
+-- of each tester those of its list were
+abbrev pub EachExpects : List (List Sent) → List Comparison → List Comparison → Type 0
+EachExpects drawn = Each (ExpectsAt drawn)
+
+-- what a frame of the line of that number is of the unit's frames to a tester
+abbrev pub frame_has : RawSetup → ℕ → ℕ → Option Frame → List Recorded
+frame_has setup t n frame = option_to_list (option_map (at_line n) (reply_bytes (ids_of setup t).response frame))
+
+-- of each tester it was taken, where it is one of the unit's frames to it
+abbrev pub EachRecords : RawSetup → ℕ → Option Frame → List Comparison → List Comparison → Type 0
+EachRecords setup n frame = Each (λ i before after. Records before after (frame_has setup (i + 1) n frame))
 
 -- a line that says this was taken, and so were the frames that it draws
 abbrev pub TakesLine : RawSetup → Comparisons → Comparisons → BusLine → List (List Sent) → Type 0

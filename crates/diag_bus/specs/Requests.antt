@@ -1,5 +1,5 @@
--- Whose the frames of an identifier are, and where the testers' lists have frames.
-use Rattle.std.specs.Prelude.{◌≡◌, ◌≢◌, ◌≤◌, ◌<◌, ◌==◌, if◌then◌else◌, ℕ, ◌+◌, List, [], ◌∷◌, length, Some, slice_get}
+-- Whose the frames of an identifier are, where the testers' lists have frames, and to whom the unit's own frames are.
+use Rattle.std.specs.Prelude.{◌≡◌, ◌≢◌, ◌≤◌, ◌<◌, ◌==◌, if◌then◌else◌, ℕ, ◌+◌, List, [], ◌∷◌, length, Option, Some, IfSome, slice_get}
 use Rattle.std.specs.List.{flat_map}
 use Rattle.diag_can.specs.declared.frame.Event.{Event}
 use Rattle.diag_can.specs.declared.frame.Event.TheVariants as event
@@ -13,6 +13,7 @@ use Rattle.diag_bus.specs.declared.filled.Filled.TheVariants.{Nowhere, At, Anywh
 use Rattle.diag_bus.specs.declared.request_ids.Owner.{Owner}
 use Rattle.diag_bus.specs.declared.request_ids.Owner.TheVariants.{Nobody, Tester, Functional}
 use Rattle.diag_bus.specs.declared.request_ids.RequestIds.{RequestIds}
+use Rattle.diag_bus.specs.declared.response_ids.ResponseIds.{ResponseIds}
 
 -- what a functional frame is to a tester: its own functional identifier decides
 abbrev pub functional_to : RawSetup → ℕ → List ℕ → ℕ → List (ℕ × Event)
@@ -70,3 +71,16 @@ abbrev pub filled_at : Filled → ℕ → Filled
 filled_at Nowhere place = At place
 filled_at (At other) place = if other == place then At other else Anywhere
 filled_at Anywhere place = Anywhere
+
+-- ---- the unit's own frames
+
+-- among so many testers it is the one whose response identifier this is; none of them has it where there is none
+pub record IsResponder (setup : RawSetup) (id n : ℕ) (responder : Option ℕ) : Type 0 where
+  pub has : IfSome responder (λ who. IsWithin n who × ((ids_of setup who).response ≡ id))
+  pub alone : (who : ℕ) → IsWithin n who → (ids_of setup who).response ≡ id → responder ≡ Some who
+
+-- there is an answer for each identifier of 11 bits
+pub record AreResponsesOf (setup : RawSetup) (ids : ResponseIds) : Type 0 where
+  pub many : length ids.testers.items ≡ 2048
+  pub each : (id : ℕ) (responder : Option ℕ) → slice_get ids.testers.items id ≡ Some responder
+      → IsResponder setup id (length setup.testers) responder

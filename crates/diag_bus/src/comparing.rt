@@ -1,18 +1,21 @@
 //! What is kept of a recording and of the frames that the server sends, to compare the two.
 
-ghost use Rattle.std.specs.Prelude.{◌≡◌, ◌≤◌, ℕ, List, [], ◌∷◌, ◌++◌, ◌+◌, ◌≤◌, length, map, option_map, slice_get, Ok, OnOk, IfOk};
-ghost use Rattle.std.specs.Option.{option_to_list};
-ghost use Rattle.diag_bus.specs.Comparing.{Compared, Compares, ComparesLines, Takes, TakesLine};
-ghost use Rattle.diag_bus.specs.Verdict.{at_line, difference, expected_of, first_difference, is_pending, recorded, reply_said, verdict};
+ghost use Rattle.std.specs.Prelude.{◌≡◌, ◌≤◌, ℕ, List, [], ◌∷◌, ◌+◌, length, map, slice_get, Some, IfSome, OnOk, IfOk};
+ghost use Rattle.diag_bus.specs.Batch.{lists_of};
+ghost use Rattle.diag_bus.specs.Comparing.{Compared, Compares, ComparesLines, EachExpects, EachRecords, Expects, Records, TakesLine};
+ghost use Rattle.diag_bus.specs.Requests.{AreFilled, AreResponsesOf, IsResponder, IsWithin};
+ghost use Rattle.diag_bus.specs.Verdict.{difference, expected_of, first_difference, is_pending, recorded, verdict};
 ghost use Rattle.diag_bus.specs.declared.comparing.Comparison.{Comparison as AComparison};
 ghost use Rattle.diag_bus.specs.declared.verdict.Recorded.{Recorded as ARecorded};
 ghost use Rattle.diag_setup.specs.declared.raw.RawSetup.{RawSetup};
 
 use crate::clock::Clock;
+use crate::filled::Filled;
 use crate::line_frames::LineFrames;
+use crate::response_ids::ResponseIds;
 use crate::sink::Sink;
 use crate::verdict::{Difference, Recorded, Verdict, earlier, same_difference};
-use diag_can::{BusLine, CanId, FrameBytes, TickCount};
+use diag_can::{BusLine, FrameBytes, FrameText, TickCount};
 use diag_ecu::Ecu;
 use diag_pdu::{Message, Request};
 use diag_setup::{Setup, TesterId};
@@ -66,9 +69,7 @@ impl Comparison {
 
     /// Takes a frame that the server sends.
     fn expect(&mut self, bytes: FrameBytes) -> Result<(), AllocError>
-        ensures { OnOk result ((recorded : List ARecorded) (expected : List (List ℕ))
-            → Compares self.old recorded expected
-            → Compares self.new recorded (expected ++ bytes ∷ [])) }
+        ensures { OnOk result (Expects self.old self.new (bytes ∷ [])) }
     {
         if self.difference.is_some() {
             return Ok(());
@@ -82,9 +83,7 @@ impl Comparison {
 
     /// Takes a frame of the recording.
     fn record(&mut self, frame: Recorded) -> Result<(), AllocError>
-        ensures { OnOk result ((recorded : List ARecorded) (expected : List (List ℕ))
-            → Compares self.old recorded expected
-            → Compares self.new (recorded ++ frame ∷ []) expected) }
+        ensures { OnOk result (Records self.old self.new (frame ∷ [])) }
     {
         self.count = next(self.count)?;
         if self.difference.is_some() {
@@ -97,21 +96,16 @@ impl Comparison {
         Ok(())
     }
 
-    /// Takes the frames that the server sends with a line, those left out that say response pending, and then the line's
-    /// own, where it has one.
-    fn take(&mut self, sent: &[Sent], frame: Option<Recorded>) -> Result<(), AllocError>
-        ensures { OnOk result
-            (Takes self.old self.new (option_to_list frame) (expected_of sent.now)) }
+    /// Takes the frames that the server sends with a line, those left out that say response pending.
+    fn expect_each(&mut self, sent: &[Sent]) -> Result<(), AllocError>
+        ensures { OnOk result (Expects self.old self.new (expected_of sent.now)) }
     {
         for next in sent {
             if !is_pending(next.frame.bytes.as_slice()) {
                 self.expect(next.frame.bytes.copy())?;
             }
         }
-        match frame {
-            Some(frame) => self.record(frame),
-            None => Ok(()),
-        }
+        Ok(())
     }
 
     /// The first difference, where the recording ends here.
@@ -154,6 +148,8 @@ pub struct Comparisons {
     pub lines: u64,
     /// Of each tester, in order.
     pub testers: Vec<Comparison>,
+    /// To which tester a frame of the unit's is.
+    pub responses: ResponseIds,
 }
 
 impl Comparisons {
@@ -162,21 +158,27 @@ impl Comparisons {
         Comparisons {
             lines: 0,
             testers: Vec::new(alloc),
+            responses: ResponseIds {
+                testers: Vec::new(alloc),
+            },
         }
     }
 
-    /// Of so many testers nothing was recorded, and nothing sent.
-    fn of(alloc: Global, count: usize) -> Result<Comparisons, AllocError>
+    /// Of a setup's testers nothing was recorded, and nothing sent.
+    fn of(alloc: Global, setup: &Setup) -> Result<Comparisons, AllocError>
         ensures lines { IfOk result (λ kept. kept.lines ≡ 0) }
-        ensures many { IfOk result (λ kept. length kept.testers.items ≡ count) }
+        ensures many { IfOk result (λ kept. length kept.testers.items ≡ length setup.now.testers) }
         ensures each { IfOk result (λ kept. (i : ℕ) (own : AComparison)
             → slice_get kept.testers.items i ≡ Some own → Compares own [] []) }
+        ensures responses { IfOk result (λ kept. AreResponsesOf setup.now kept.responses) }
     {
-        let mut testers = Vec::with_capacity(alloc, count)?;
-        for made in 0..count {
-            testers.push(Comparison::new(alloc))?;
-        }
-        Ok(Comparisons { lines: 0, testers })
+        let testers = no_frames(alloc, setup.testers())?;
+        let responses = ResponseIds::new(alloc, setup)?;
+        Ok(Comparisons {
+            lines: 0,
+            testers,
+            responses,
+        })
     }
 
     /// How many frames of a tester were recorded.
@@ -191,29 +193,36 @@ impl Comparisons {
         }
     }
 
-    /// Takes a line that says this and draws these frames.
+    /// Takes a line that says this and draws these frames. It looks at the testers alone that these are for, and at the one
+    /// that the line's frame is to where it is one of the unit's.
+    #[inline(always)]
     pub fn take_line(
         &mut self,
         setup: &Setup,
         said: &BusLine,
-        drawn: &[Vec<Sent>],
+        drawn: &LineFrames,
     ) -> Result<(), AllocError>
-        requires in_setup { length self.old.testers.items ≤ length setup.now.testers }
-        requires lists { length drawn.now ≡ length setup.now.testers }
-        ensures ok { OnOk result (TakesLine setup.now self.old self.new said.now
-            (map (λ frames. frames.items) drawn.now)) }
+        requires in_setup { length self.old.testers.items ≡ length setup.now.testers }
+        requires responses { AreResponsesOf setup.now self.old.responses }
+        requires lists { length drawn.now.lists.items ≡ length setup.now.testers }
+        requires filled { AreFilled drawn.now.filled (lists_of drawn.now) }
+        ensures ok { OnOk result (TakesLine setup.now self.old self.new said.now (lists_of drawn.now)) }
         ensures shape { length self.new.testers.items ≡ length self.old.testers.items }
+        ensures responses { self.new.responses ≡ self.old.responses }
     {
         let line = next(self.lines)?;
-        for index in 0..self.testers.len() {
-            let Some(who) = setup.who(index) else {
-                unreachable!()
-            };
-            let frame = reply_in(setup.ids(who).response, line, said);
-            self.testers[index].take(drawn[index].as_slice(), frame)?;
-        }
         self.lines = line;
-        Ok(())
+        expect(&mut self.testers, drawn)?;
+        match said {
+            BusLine::Empty | BusLine::Ticks(_) => Ok(()),
+            BusLine::Stamped { moment: _, frame } => match frame {
+                Some(frame) => {
+                    let responder = self.responses.responder(setup, frame.id());
+                    record(&mut self.testers, responder, line, frame)
+                }
+                None => Ok(()),
+            },
+        }
     }
 
     /// The first difference in the order of the lines, and its tester.
@@ -268,8 +277,10 @@ impl Comparisons {
 impl Sink for Comparisons {
     ghost use Rattle.std.specs.Prelude.{◌≡◌, [], false, length};
     ghost use Rattle.diag_bus.specs.Comparing.{ComparesLines};
+    ghost use Rattle.diag_bus.specs.Requests.{AreResponsesOf};
 
-    ghost is_for = { λ kept setup. length kept.testers.items ≡ length setup.testers };
+    ghost is_for = { λ kept setup. (length kept.testers.items ≡ length setup.testers)
+        × AreResponsesOf setup kept.responses };
 
     ghost took = { λ kept setup lines _. ComparesLines setup kept lines };
 
@@ -282,7 +293,7 @@ impl Sink for Comparisons {
     ghost wants_ticks = { false };
 
     fn begin(&mut self, alloc: Global, setup: &Setup) -> Result<(), AllocError> {
-        *self = Comparisons::of(alloc, setup.testers())?;
+        *self = Comparisons::of(alloc, setup)?;
         Ok(())
     }
 
@@ -328,10 +339,75 @@ impl Sink for Comparisons {
         drawn: &LineFrames,
         _: &mut Vec<u8>,
     ) -> Result<(), AllocError> {
-        self.take_line(setup, said, drawn.lists.as_slice())
+        self.take_line(setup, said, drawn)
     }
 
     ghost skips_ticks = { λ _ _ _ _ _ _ _ took. took };
+}
+
+/// Of so many testers nothing was recorded, and nothing sent.
+fn no_frames(alloc: Global, count: usize) -> Result<Vec<Comparison>, AllocError>
+    ensures many { IfOk result (λ testers. length testers.items ≡ count) }
+    ensures each { IfOk result (λ testers. (i : ℕ) (own : AComparison)
+        → slice_get testers.items i ≡ Some own → Compares own [] []) }
+{
+    let mut testers = Vec::with_capacity(alloc, count)?;
+    for made in 0..count {
+        testers.push(Comparison::new(alloc))?;
+    }
+    Ok(testers)
+}
+
+/// Takes the frames that the server sends with a line, of the testers who are sent some.
+#[inline(always)]
+fn expect(testers: &mut Vec<Comparison>, drawn: &LineFrames) -> Result<(), AllocError>
+    requires lists { length drawn.now.lists.items ≡ length testers.old.items }
+    requires filled { AreFilled drawn.now.filled (lists_of drawn.now) }
+    ensures ok { OnOk result (EachExpects (lists_of drawn.now) testers.old.items testers.new.items) }
+    ensures shape { length testers.new.items ≡ length testers.old.items }
+{
+    match drawn.filled {
+        Filled::Nowhere => Ok(()),
+        Filled::At(place) => testers[place].expect_each(drawn.lists[place].as_slice()),
+        Filled::Anywhere => expect_all(testers, drawn.lists.as_slice()),
+    }
+}
+
+/// The same of all testers.
+#[inline(never)]
+fn expect_all(testers: &mut Vec<Comparison>, drawn: &[Vec<Sent>]) -> Result<(), AllocError>
+    requires { length drawn.now ≡ length testers.old.items }
+    ensures ok { OnOk result (EachExpects (map (λ frames. frames.items) drawn.now) testers.old.items testers.new.items) }
+    ensures shape { length testers.new.items ≡ length testers.old.items }
+{
+    for place in 0..testers.len() {
+        testers[place].expect_each(drawn[place].as_slice())?;
+    }
+    Ok(())
+}
+
+/// Takes the frame of the line of that number: where this tester has its identifier as the response identifier, it is one of
+/// the unit's, unless it says response pending.
+#[inline(always)]
+fn record(
+    testers: &mut Vec<Comparison>,
+    responder: Option<TesterId>,
+    line: u64,
+    frame: &FrameText,
+) -> Result<(), AllocError>
+    requires { IfSome responder (IsWithin (length testers.old.items)) }
+    ensures ok { OnOk result ((setup : RawSetup) → IsResponder setup frame.now.id (length testers.old.items) responder
+        → EachRecords setup line (Some frame.now) testers.old.items testers.new.items) }
+    ensures shape { length testers.new.items ≡ length testers.old.items }
+{
+    let Some(who) = responder else {
+        return Ok(());
+    };
+    let bytes = frame.bytes();
+    if is_pending(bytes.as_slice()) {
+        return Ok(());
+    }
+    testers[who.index()].record(Recorded { line, bytes })
 }
 
 /// Whether a frame says response pending.
@@ -339,27 +415,6 @@ fn is_pending(bytes: &[u8]) -> bool
     ensures { result ≡ is_pending bytes.now }
 {
     matches!(bytes, [0x03, 0x7F, _, 0x78, ..])
-}
-
-/// A line's frame, where it is one of the unit's with this identifier and doesn't say response pending.
-fn reply_in(response: CanId, line: u64, said: &BusLine) -> Option<Recorded>
-    ensures { result ≡ option_map (at_line line) (reply_said response (Ok said.now)) }
-{
-    let BusLine::Stamped {
-        frame: Some(frame),
-        ..
-    } = said
-    else {
-        return None;
-    };
-    if frame.id() != response {
-        return None;
-    }
-    let bytes = frame.bytes();
-    if is_pending(bytes.as_slice()) {
-        return None;
-    }
-    Some(Recorded { line, bytes })
 }
 
 /// The number behind this one.

@@ -14,6 +14,7 @@ mod no_text;
 mod node;
 mod replies;
 mod request_ids;
+mod response_ids;
 mod sink;
 mod verdict;
 mod writing;

@@ -1,57 +1,51 @@
-use Rattle.std.proofs.Common.{◌≡◌, ◌<◌, ◌+◌, Some, Vec, Global, List, length, map, ap, refl, subst, ◌∙◌, arith}
+use Rattle.std.proofs.Common.{◌≡◌, ◌⊎◌, ℕ, Some, None, Vec, Global, inl, inr, length, ap, subst, sym, ◌∙◌}
 use Rattle.std.proofs.lemmas.List.{length-map}
-use Rattle.std.proofs.lemmas.Option.{slice_get_read, slice_get-map}
-use Rattle.std.specs.Prelude.{Ok, option_map, slice_get}
-use Rattle.std.specs.Option.{option_to_list}
-use Rattle.diag_can.specs.declared.frame.Ids.{Ids}
+use Rattle.std.proofs.lemmas.Result.{on_ok_weaker}
+use Rattle.diag_can.specs.declared.bus.BusLine.{BusLine}
+use Rattle.diag_can.specs.declared.bus.BusLine.TheVariants.{Empty, Ticks}
 use Rattle.diag_tp.specs.declared.sent.Sent.{Sent}
-use Rattle.diag_setup.specs.Setup.{ids_of}
-use Rattle.diag_world.proofs.Worlds.{who_found}
-use Rattle.diag_bus.specs.Comparing.{Takes}
-use Rattle.diag_bus.specs.Verdict.{at_line, expected_of, reply_said}
-use Rattle.diag_bus.specs.declared.comparing.Comparison.{Comparison}
-use Rattle.diag_bus.specs.declared.verdict.Recorded.{Recorded}
-use Rattle.diag_bus.proofs.Recordings.{TookEach, said_has, took_all, took_one}
+use Rattle.diag_bus.specs.Batch.{lists_of}
+use Rattle.diag_bus.specs.Events.{frame_said}
+use Rattle.diag_bus.specs.Requests.{IsResponder}
+use Rattle.diag_bus.proofs.Recordings.{no_records, took_line}
 use Rattle.diag_bus.proofs.comparing.Comparisons.take_line.Goals as goal
 
-pub loop-index-preserved : goal.loop-index-preserved
-loop-index-preserved c =
-    let i = c.loop-index.index in
+pub returns-in-Some-clause-ok : goal.returns-in-Some-clause-ok
+returns-in-Some-clause-ok c =
     let setup = c.args.setup.now in
-    let drawn = c.args.drawn.now in
-    let now = c.loop-index.self.testers.items in
-    let own : Comparison = c.index_mut.result.now in
-    let within : i < length now = omega (arith, c.loop-index-test.true, c.loop-index.invariant.lists, c.len-index-end.ensures) in
-    let here : slice_get now i ≡ Some own = slice_get_read now (length now) i own refl within c.index_mut.ensures.value in
-    let list = c.index-drawn-index.result in
-    let drew : slice_get drawn i ≡ Some list =
-    slice_get_read drawn (length drawn) i list refl
-    (omega (arith, c.loop-index-test.true, c.len-index-end.ensures, c.requires.in_setup, c.requires.lists)) c.index-drawn-index.is in
-    let frames : slice_get (map (λ (f : Vec Sent Global). f.items) drawn) i ≡ Some list.items =
-    slice_get-map (λ (f : Vec Sent Global). f.items) drawn i ∙ ap (option_map (λ (f : Vec Sent Global). f.items)) drew in
-    let who = who_found setup i c.in-Some.who c.in-Some.ensures in
-    let n = c.in_ok-line.line in
-    let said = c.args.said.now in
-    let has : option_to_list c.reply_in-frame.result ≡ said_has setup n said i =
-    ap option_to_list (c.reply_in-frame.ensures
-    ∙ (ap (λ (ids : Ids). option_map (at_line n) (reply_said ids.response (Ok said))) (c.ids.ensures ∙ ap (ids_of setup) who))) in
-    let takes : Takes own c.take.new.self (said_has setup n said i) (expected_of list.items) =
-    subst (λ (r : List Recorded). Takes own c.take.new.self r (expected_of list.items)) has
-    (subst (λ (f : List Sent). Takes own c.take.new.self (option_to_list c.reply_in-frame.result) (expected_of f)) c.as_slice.ensures.value
-    c.in_ok-take.ensures) in
-    took_one setup n said (map (λ (f : Vec Sent Global). f.items) drawn) c.args.self.now.testers.items now i c.loop-index.invariant own
-    c.take.new.self list.items here frames takes
+    let between = c.expect.new.testers.items in
+    let lists = length-map c.args.drawn.now.lists.items (λ (f : Vec Sent Global). f.items) ∙ c.requires.lists in
+    let many : length between ≡ length setup.testers = c.in_ok-expect.ensures.shape ∙ c.requires.in_setup in
+    let is : frame_said c.args.said.now ≡ Some c.in-Some.frame = ap frame_said c.in-Stamped.is ∙ c.in-Some.is in
+    let found : IsResponder setup c.in-Some.frame.id (length between) c.responder-responder.result =
+    subst (λ n. IsResponder setup c.in-Some.frame.id n c.responder-responder.result) (sym many)
+    (subst (λ i. IsResponder setup i (length setup.testers) c.responder-responder.result) c.id.ensures c.responder-responder.ensures) in
+    on_ok_weaker c.record.result (λ records. took_line setup c.args.self.now _ between c.args.said.now (lists_of c.args.drawn.now) (Some c.in-Some.frame)
+    c.in_ok-line.ensures lists c.in_ok-expect.ensures.ok is (records setup found))
+    c.record.ensures.ok
 
-pub returns-clause-ok : goal.returns-clause-ok
-returns-clause-ok c =
-    let all : c.loop-index.index ≡ length c.args.self.now.testers.items =
-    omega (arith, c.loop-index-test.false, c.len-index-end.ensures, c.loop-index.auto.index-end) in
-    let setup = c.args.setup.now in
-    let old = c.args.self.now in
-    let n = c.in_ok-line.line in
-    let said = c.args.said.now in
-    let lists = map (λ (f : Vec Sent Global). f.items) c.args.drawn.now in
-    let each : TookEach setup (old.lines + 1) said lists old.testers.items c.loop-index.self.testers.items (length old.testers.items) =
-    subst (λ m. TookEach setup m said lists old.testers.items c.loop-index.self.testers.items (length old.testers.items)) c.in_ok-line.ensures
-    (subst (λ k. TookEach setup n said lists old.testers.items c.loop-index.self.testers.items k) all c.loop-index.invariant) in
-    took_all setup old _ said lists c.in_ok-line.ensures each (length-map c.args.drawn.now (λ (f : Vec Sent Global). f.items) ∙ c.requires.lists)
+pub returns-in-None-clause-ok : goal.returns-in-None-clause-ok
+returns-in-None-clause-ok c =
+    let lists = length-map c.args.drawn.now.lists.items (λ (f : Vec Sent Global). f.items) ∙ c.requires.lists in
+    took_line c.args.setup.now c.args.self.now _ c.expect.new.testers.items c.args.said.now (lists_of c.args.drawn.now) None
+    c.in_ok-line.ensures lists c.in_ok-expect.ensures.ok (ap frame_said c.in-Stamped.is ∙ c.in-None.is)
+    (no_records c.args.setup.now c.in_ok-line.line c.expect.new.testers.items)
+
+-- a line without a stamp has no frame
+unstamped : (said : BusLine) → (said ≡ Empty) ⊎ ((count : ℕ) × (said ≡ Ticks count)) → frame_said said ≡ None
+unstamped said (inl empty) = ap frame_said empty
+unstamped said (inr ticks) = ap frame_said ticks.1
+
+pub returns-in-Empty-clause-ok : goal.returns-in-Empty-clause-ok
+returns-in-Empty-clause-ok c =
+    let lists = length-map c.args.drawn.now.lists.items (λ (f : Vec Sent Global). f.items) ∙ c.requires.lists in
+    took_line c.args.setup.now c.args.self.now _ c.expect.new.testers.items c.args.said.now (lists_of c.args.drawn.now) None
+    c.in_ok-line.ensures lists c.in_ok-expect.ensures.ok (unstamped c.args.said.now c.in-Empty.is)
+    (no_records c.args.setup.now c.in_ok-line.line c.expect.new.testers.items)
+
+pub returns-in-Empty-2-clause-ok : goal.returns-in-Empty-2-clause-ok
+returns-in-Empty-2-clause-ok c =
+    let lists = length-map c.args.drawn.now.lists.items (λ (f : Vec Sent Global). f.items) ∙ c.requires.lists in
+    took_line c.args.setup.now c.args.self.now _ c.expect.new.testers.items c.args.said.now (lists_of c.args.drawn.now) None
+    c.in_ok-line.ensures lists c.in_ok-expect.ensures.ok (unstamped c.args.said.now c.in-Empty.is)
+    (no_records c.args.setup.now c.in_ok-line.line c.expect.new.testers.items)

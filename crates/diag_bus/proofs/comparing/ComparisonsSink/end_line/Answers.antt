@@ -1,7 +1,7 @@
-use Rattle.std.proofs.Common.{List, Vec, Global, [], append-nil, map, subst, sym, refl, ◌∙◌}
+use Rattle.std.proofs.Common.{[], append-nil, subst, sym, refl, ◌∙◌}
 use Rattle.std.proofs.lemmas.Result.{on_ok_weaker}
-use Rattle.diag_tp.specs.declared.sent.Sent.{Sent}
-use Rattle.diag_bus.specs.Comparing.{TakesLine}
+use Rattle.diag_bus.specs.Requests.{AreResponsesOf}
+use Rattle.diag_bus.specs.declared.response_ids.ResponseIds.{ResponseIds}
 use Rattle.diag_bus.proofs.comparing.ComparisonsSink.end_line.Goals as goal
 
 pub returns-clause-ended : goal.returns-clause-ended
@@ -9,13 +9,12 @@ returns-clause-ended c =
     on_ok_weaker c.take_line.result (λ takes. record {
       more = [];
       grown = sym (append-nil c.args.arg7.now.items);
-      holds = λ lines line K ends taken. (
-        subst (λ (ls : List (Vec Sent Global)). TakesLine c.args.setup.now c.args.self.now c.take_line.new.self c.args.said.now (map (λ f. f.items) ls))
-            c.as_slice.ensures.value takes lines line ends.says ends.taken.frames taken,
-        refl,
-      );
+      holds = λ lines line K ends taken. (takes lines line ends.says ends.taken.frames taken, refl);
     })
     c.take_line.ensures.ok
 
 pub returns-clause-stays : goal.returns-clause-stays
-returns-clause-stays c = (λ setup many. c.take_line.ensures.shape ∙ many, refl)
+returns-clause-stays c = (λ setup kept. (
+  c.take_line.ensures.shape ∙ kept.0,
+  subst (λ (ids : ResponseIds). AreResponsesOf setup ids) (sym c.take_line.ensures.responses) kept.1,
+), refl)

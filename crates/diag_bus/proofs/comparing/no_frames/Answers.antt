@@ -4,7 +4,7 @@ use Rattle.std.specs.Prelude.{slice_get}
 use Rattle.diag_bus.specs.Comparing.{Compares}
 use Rattle.diag_bus.specs.declared.comparing.Comparison.{Comparison}
 use Rattle.diag_bus.proofs.Recordings.{holds_more}
-use Rattle.diag_bus.proofs.comparing.Comparisons.of.Goals as goal
+use Rattle.diag_bus.proofs.comparing.no_frames.Goals as goal
 
 pub loop-made-preserved : goal.loop-made-preserved
 loop-made-preserved c =

@@ -1,0 +1,7 @@
+use Rattle.std.proofs.Common.{take}
+use Rattle.diag_bus.specs.Comparing.{Expects}
+use Rattle.diag_bus.specs.Verdict.{expected_of}
+use Rattle.diag_bus.proofs.comparing.Comparison.expect_each.Given as goal
+
+abbrev pub invariant-loop-next : goal.invariant-loop-next
+invariant-loop-next l = Expects l.initial.self l.self (expected_of (take l.next-index l.sent))

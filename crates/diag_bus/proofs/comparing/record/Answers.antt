@@ -1,0 +1,36 @@
+use Rattle.std.proofs.Common.{◌≡◌, ◌<◌, ◌-◌, ℕ, List, Option, Some, false, length, ap, refl, subst, sym, ◌∙◌, arith}
+use Rattle.std.proofs.lemmas.Option.{slice_get_read}
+use Rattle.std.proofs.lemmas.Result.{on_ok_weaker}
+use Rattle.std.specs.Prelude.{◌∷◌, [], IfSome, slice_get, slice_set}
+use Rattle.diag_port.proofs.Within.{none_of}
+use Rattle.diag_bus.specs.Comparing.{EachRecords, Records}
+use Rattle.diag_bus.specs.Requests.{IsWithin}
+use Rattle.diag_bus.specs.Verdict.{at_line, is_pending}
+use Rattle.diag_bus.specs.declared.comparing.Comparison.{Comparison}
+use Rattle.diag_bus.proofs.Recordings.{nobody_records, own_records}
+use Rattle.diag_bus.proofs.comparing.record.Goals as goal
+
+pub returns-in_default-clause-ok : goal.returns-in_default-clause-ok
+returns-in_default-clause-ok c = λ setup h.
+    nobody_records setup c.args.line c.args.frame.now c.args.responder c.args.testers.now.items h (none_of c.args.responder c.in_default.not-Some)
+
+pub returns-clause-ok : goal.returns-clause-ok
+returns-clause-ok c =
+    let testers = c.args.testers.now.items in
+    let who = c.in-Some.who in
+    let place = c.index.result in
+    let own : Comparison = c.index_mut.result.now in
+    let new : Comparison = c.record.new.self in
+    let frame = c.args.frame.now in
+    let one : IsWithin (length testers) who = subst (λ (r : Option ℕ). IfSome r (IsWithin (length testers))) c.in-Some.is c.requires in
+    let within : place < length testers = omega (arith, one.0, one.1, c.index.ensures.from_one) in
+    let here : slice_get testers place ≡ Some own = slice_get_read testers (length testers) place own refl within c.index_mut.ensures.value in
+    let bytes = c.bytes-bytes.ensures in
+    let shown : is_pending frame.bytes ≡ false =
+    ap is_pending (sym (c.as_slice.ensures.bytes ∙ bytes)) ∙ (sym c.is_pending.ensures ∙ c.if-is_pending.false) in
+    on_ok_weaker c.record.result (λ took setup h.
+    subst (λ k. EachRecords setup c.args.line (Some frame) testers (slice_set testers k new)) (sym c.index.ensures.same)
+    (own_records setup c.args.line frame c.args.responder testers h who own new c.in-Some.is shown
+    (subst (λ k. slice_get testers k ≡ Some own) c.index.ensures.same here)
+    (subst (λ (b : List ℕ). Records own new (at_line c.args.line b ∷ [])) bytes took)))
+    c.record.ensures
