@@ -23,6 +23,7 @@ STATUS = (
     ("5", "the journal is full"),
     ("7", "a file can't be read, or the output can't be written"),
     ("8", "the unit answered otherwise than the server, or an entry differs"),
+    ("9", "nothing was compared"),
 )
 # what a word of the command line may be completed to
 TRIED = (

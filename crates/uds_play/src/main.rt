@@ -361,7 +361,7 @@ fn serve<B: Bench, W: Write, F: Write>(
     record: &mut F,
 ) -> Outcome {
     match live(alloc, setup, bench, out, record) {
-        Ok(()) => Outcome::Done,
+        Ok(()) => Outcome::Done { status: 0 },
         Err(fault) => Outcome::of(alloc, &fault),
     }
 }
@@ -462,7 +462,7 @@ fn print_text(rt: &(impl Print + AllocGlobal), text: Result<Vec<Vec<u8>>, Outcom
         Err(outcome) => return outcome,
     };
     match write_whole(&mut io::writer(rt), parts.as_slice()) {
-        Ok(()) => Outcome::Done,
+        Ok(()) => Outcome::Done { status: 0 },
         Err(_) => Outcome::of(rt.alloc(), &RunFault::Write),
     }
 }
@@ -470,7 +470,7 @@ fn print_text(rt: &(impl Print + AllocGlobal), text: Result<Vec<Vec<u8>>, Outcom
 /// Prints the line of a fault, and says the status.
 fn tell(rt: &impl Eprint, outcome: &Outcome) -> ExitCode {
     match outcome {
-        Outcome::Done => ExitCode::SUCCESS,
+        Outcome::Done { status } => ExitCode::from(*status),
         Outcome::Fault { told, status } => {
             if let Some(told) = told {
                 if let Ok(line) = str::from_utf8(told.as_slice()) {

@@ -7,7 +7,7 @@ use Rattle.diag_setup.specs.Setup.{name_of}
 use Rattle.diag_world.proofs.Worlds.{who_found}
 use Rattle.diag_bus.specs.Verdict.{agreed_line, recorded}
 use Rattle.diag_world.proofs.Waiting.{counted_more}
-use Rattle.diag_text.proofs.told.agreement_text.Goals as goal
+use Rattle.diag_text.proofs.told.tester_lines.Goals as goal
 
 line_more : (f : ℕ → List ℕ) (n : ℕ) → flat_map f (counted_from 1 (n + 1)) ≡ flat_map f (counted_from 1 n) ++ f (n + 1)
 line_more f n =
