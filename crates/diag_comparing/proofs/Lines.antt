@@ -5,21 +5,22 @@ use Rattle.std.proofs.lemmas.Bool.Decides.{nat_tests}
 use Rattle.std.proofs.lemmas.Option.{none-some, same_Some}
 use Rattle.std.specs.List.{filter, flat_map}
 use Rattle.std.specs.Prelude.{◌&&◌, ◌||◌, if◌then◌else◌, nat_le, nat_lt, not, Ok, Err, Result, IfSome, slice_get}
-use Rattle.diag_can.specs.Bus.{bus_line}
 use Rattle.diag_can.specs.declared.bus.BusLine.{BusLine}
 use Rattle.diag_can.specs.declared.bus.BusLine.TheVariants as said
 use Rattle.diag_can.specs.declared.fault.LineFault.{LineFault}
 use Rattle.diag_setup.specs.Rows.{in_order, insert_in_order}
 use Rattle.diag_setup.specs.Setup.{name_of}
 use Rattle.diag_setup.specs.declared.raw.RawSetup.{RawSetup}
+use Rattle.diag_bus.specs.Events.{line_said}
 use Rattle.diag_bus.specs.Text.{bus_moment, start_after, start_said}
 use Rattle.diag_bus.specs.declared.clock.Start.{Start}
+use Rattle.diag_exchange.specs.Agreeing.{agrees}
 use Rattle.diag_exchange.specs.declared.happening.Over.{Over}
 use Rattle.diag_judge.specs.declared.tester.Told.{Told}
 use Rattle.diag_told.specs.Told.{place_told, told_text}
 use Rattle.diag_compare.specs.Compare.{compared_after, compared_by, is_told, lines_of}
 use Rattle.diag_compare.specs.Expects.{expects}
-use Rattle.diag_comparing.specs.Keeping.{HasStamps, line_at, lines_at, stamped_by, start_from, told_number, told_pair}
+use Rattle.diag_comparing.specs.Keeping.{HasStamps, line_at, lines_at, stamped_by, start_from, told_number, told_pair, written_at}
 use Rattle.diag_compare.specs.Told.{line_number, told_line}
 use Rattle.diag_comparing.specs.declared.stamps.FirstStamp.{FirstStamp}
 use Rattle.diag_comparing.specs.declared.stamps.Stamps.{Stamps}
@@ -41,18 +42,6 @@ order_pairs [] = refl
 order_pairs (x ∷ xs) = ap (insert_in_order told_number (told_pair x)) (order_pairs xs) ∙ put_pairs x (in_order line_number xs)
 
 -- ---- where the bus's time begins
-
-said_stays : (before : ℕ) (r : Result BusLine LineFault) (xs ys : List (List ℕ)) (s : Start)
-    → ((sum : ℕ) → start_after sum xs ≡ Some s → start_after sum (xs ++ ys) ≡ Some s)
-    → start_said before r (λ sum. start_after sum xs) ≡ Some s → start_said before r (λ sum. start_after sum (xs ++ ys)) ≡ Some s
-said_stays before (Ok (said.Stamped moment frame)) xs ys s later e = e
-said_stays before (Ok (said.Ticks count)) xs ys s later e = later (before + count) e
-said_stays before (Ok said.Empty) xs ys s later e = later before e
-said_stays before (Err fault) xs ys s later e = later before e
-
-start_stays : (before : ℕ) (xs ys : List (List ℕ)) (s : Start) → start_after before xs ≡ Some s → start_after before (xs ++ ys) ≡ Some s
-start_stays before [] ys s e = cc
-start_stays before (x ∷ xs) ys s e = said_stays before (bus_line x) xs ys s (λ sum given. start_stays sum xs ys s given) e
 
 take_front : (n : ℕ) (xs ys : List (List ℕ)) → n ≤ length xs → take n (xs ++ ys) ≡ take n xs
 take_front zero xs ys le = refl
@@ -82,33 +71,46 @@ split (suc n) (suc m) = elim (split n m) [
   | inr less ↦ inr (omega (arith, less))
 ]
 
--- it is known so far
-abbrev Known : Option FirstStamp → List (List ℕ) → Type 0
-Known f lines = IfSome f (λ first. first.line ≤ length lines) × ((n : ℕ) → start_after 0 (take n lines) ≡ start_from f n)
+module _ (setup : RawSetup) where
+  said_stays : (before : ℕ) (r : Result BusLine LineFault) (xs ys : List (List ℕ)) (s : Start)
+      → ((sum : ℕ) → start_after setup sum xs ≡ Some s → start_after setup sum (xs ++ ys) ≡ Some s)
+      → start_said before r (λ sum. start_after setup sum xs) ≡ Some s → start_said before r (λ sum. start_after setup sum (xs ++ ys)) ≡ Some s
+  said_stays before (Ok (said.Stamped moment frame)) xs ys s later e = e
+  said_stays before (Ok (said.Ticks count)) xs ys s later e = later (before + count) e
+  said_stays before (Ok said.Empty) xs ys s later e = later before e
+  said_stays before (Err fault) xs ys s later e = later before e
 
-module _ (lines : List (List ℕ)) (line : List ℕ) where
+  start_stays : (before : ℕ) (xs ys : List (List ℕ)) (s : Start) → start_after setup before xs ≡ Some s → start_after setup before (xs ++ ys) ≡ Some s
+  start_stays before [] ys s e = cc
+  start_stays before (x ∷ xs) ys s e = said_stays before (line_said setup x) xs ys s (λ sum given. start_stays sum xs ys s given) e
+
+  -- it is known so far
+  abbrev Known : Option FirstStamp → List (List ℕ) → Type 0
+  Known f lines = IfSome f (λ first. first.line ≤ length lines) × ((n : ℕ) → start_after setup 0 (take n lines) ≡ start_from f n)
+
+module _ (setup : RawSetup) (lines : List (List ℕ)) (line : List ℕ) where
   abbrev all : List (List ℕ)
   all = lines ++ line ∷ []
 
   longer : length all ≡ length lines + 1
   longer = length-append lines (line ∷ [])
 
-  before_it : (n : ℕ) → n ≤ length lines → start_after 0 (take n all) ≡ start_after 0 (take n lines)
-  before_it n le = ap (start_after 0) (take_front n lines (line ∷ []) le)
+  before_it : (n : ℕ) → n ≤ length lines → start_after setup 0 (take n all) ≡ start_after setup 0 (take n lines)
+  before_it n le = ap (start_after setup 0) (take_front n lines (line ∷ []) le)
 
-  from_it : (n : ℕ) → length lines < n → start_after 0 (take n all) ≡ start_after 0 all
-  from_it n less = ap (start_after 0) (take_whole n all (omega (arith, less, longer)))
+  from_it : (n : ℕ) → length lines < n → start_after setup 0 (take n all) ≡ start_after setup 0 all
+  from_it n less = ap (start_after setup 0) (take_whole n all (omega (arith, less, longer)))
 
-  known_more : (f : Option FirstStamp) (start : Option Start) → start ≡ start_after 0 all → Known f lines
-      → Known (stamped_by f (length lines + 1) start) all
+  known_more : (f : Option FirstStamp) (start : Option Start) → start ≡ start_after setup 0 all → Known setup f lines
+      → Known setup (stamped_by f (length lines + 1) start) all
   known_more (Some first) start e h = (
     omega (arith, h.0, longer),
     λ n. elim (split n (length lines)) [
       | inl le ↦ before_it n le ∙ h.1 n
       | inr less ↦ (
-          let here : start_after 0 lines ≡ Some first.start =
-          sym (ap (start_after 0) (take_whole (length lines) lines (omega arith))) ∙ (h.1 (length lines) ∙ late first (length lines) h.0) in
-          from_it n less ∙ (start_stays 0 lines (line ∷ []) first.start here ∙ sym (late first n (omega (arith, less, h.0)))))
+          let here : start_after setup 0 lines ≡ Some first.start =
+          sym (ap (start_after setup 0) (take_whole (length lines) lines (omega arith))) ∙ (h.1 (length lines) ∙ late first (length lines) h.0) in
+          from_it n less ∙ (start_stays setup 0 lines (line ∷ []) first.start here ∙ sym (late first n (omega (arith, less, h.0)))))
     ],
   )
   known_more None None e h = (
@@ -126,16 +128,16 @@ module _ (lines : List (List ℕ)) (line : List ℕ) where
     ],
   )
 
-  pub stamps_more : (old new : Stamps) (number : ℕ) (start : Option Start) → number ≡ length lines + 1 → start ≡ start_after 0 all
-      → new.first ≡ stamped_by old.first number start → HasStamps old lines → HasStamps new all
+  pub stamps_more : (old new : Stamps) (number : ℕ) (start : Option Start) → number ≡ length lines + 1 → start ≡ start_after setup 0 all
+      → new.first ≡ stamped_by old.first number start → HasStamps setup old lines → HasStamps setup new all
   stamps_more old new number start is e taken h =
       let now = taken ∙ ap (λ n. stamped_by old.first n start) is in
-      let both = subst (λ (f : Option FirstStamp). Known f all) (sym now) (known_more old.first start e (h.within, h.start)) in
+      let both = subst (λ (f : Option FirstStamp). Known setup f all) (sym now) (known_more old.first start e (h.within, h.start)) in
       record { within = both.0; start = both.1 }
 
-pub no_stamps : (stamps : Stamps) → stamps.first ≡ None → HasStamps stamps []
-no_stamps stamps e =
-    let both : Known stamps.first [] = subst (λ (f : Option FirstStamp). Known f []) (sym e) (tt, λ n. ap (start_after 0) (none_of n)) in
+pub no_stamps : (setup : RawSetup) (stamps : Stamps) → stamps.first ≡ None → HasStamps setup stamps []
+no_stamps setup stamps e =
+    let both : Known setup stamps.first [] = subst (λ (f : Option FirstStamp). Known setup f []) (sym e) (tt, λ n. ap (start_after setup 0) (none_of n)) in
     record { within = both.0; start = both.1 }
   where
     none_of : (n : ℕ) → take n [] ≡ []
@@ -144,42 +146,39 @@ no_stamps stamps e =
 
 -- ---- lines
 
-flat_map_same : {X Y : Type 0} (f g : X → List Y) → ((x : X) → f x ≡ g x) → (xs : List X) → flat_map f xs ≡ flat_map g xs
-flat_map_same f g same [] = refl
-flat_map_same {Y = Y} f g same (x ∷ xs) = ap₂ (λ (u v : List Y). u ++ v) (same x) (flat_map_same f g same xs)
+module _ (setup : RawSetup) (stamps : Stamps) (lines : List (List ℕ)) (differences : Bool) (h : HasStamps setup stamps lines) where
+  -- an exchange's line is the one by where the bus's time begins
+  same_line : (pair : ℕ × Over) → line_at setup stamps (told_pair pair) ≡ told_line setup lines pair
+  same_line pair =
+      ap (λ s. told_text (name_of setup pair.0) (bus_moment s (place_told pair.1).moment) (agrees pair.1) pair.1)
+      (sym (h.start (place_told pair.1).line))
 
-pub lines_same : (setup : RawSetup) (stamps : Stamps) (lines : List (List ℕ)) (differences : Bool) (pairs : List (ℕ × Over)) → HasStamps stamps lines
-    → lines_at setup stamps differences pairs ≡ lines_of (expects setup) setup differences lines pairs
-lines_same setup stamps lines differences pairs h =
-    flat_map_same (line_at setup stamps) (told_line setup lines)
-    (λ pair. ap (λ s. told_text (name_of setup pair.0) (bus_moment s (place_told pair.1).moment) pair.1) (sym (h.start (place_told pair.1).line)))
-    (filter (is_told differences) (in_order line_number pairs))
+  same_written : (pair : ℕ × Over) (d a : Bool) → d ≡ differences → a ≡ agrees pair.1 → (rest rest' : List ℕ) → rest ≡ rest'
+      → (if d && a then [] else line_at setup stamps (told_pair pair)) ++ rest
+      ≡ (if not d || not a then told_line setup lines pair ++ rest' else rest')
+  same_written pair true true d a rest rest' e = e
+  same_written pair true false d a rest rest' e = ap₂ (λ (x y : List ℕ). x ++ y) (same_line pair) e
+  same_written pair false true d a rest rest' e = ap₂ (λ (x y : List ℕ). x ++ y) (same_line pair) e
+  same_written pair false false d a rest rest' e = ap₂ (λ (x y : List ℕ). x ++ y) (same_line pair) e
 
--- one more
-pub write_more : {X : Type 0} (p : X → Bool) (f : X → List ℕ) (xs : List X) (i : ℕ) (x : X) (b : Bool) → slice_get xs i ≡ Some x → p x ≡ b
-    → flat_map f (filter p (take (suc i) xs)) ≡ flat_map f (filter p (take i xs)) ++ (if b then f x else [])
-write_more p f [] i x b at e = absurd (none-some x at)
-write_more p f (y ∷ ys) zero x b at e = let same : y ≡ x = same_Some y x at in first (p y) b (ap p same ∙ e) same
-  where
-    first : (a b : Bool) → a ≡ b → y ≡ x → flat_map f (if a then y ∷ [] else []) ≡ (if b then f x else [])
-    first true true e same = append-nil (f y) ∙ ap f same
-    first false false e same = refl
-    first true false e same = cc
-    first false true e same = cc
-write_more p f (y ∷ ys) (suc i) x b at e = later (p y) (write_more p f ys i x b at e)
-  where
-    later : (a : Bool) → flat_map f (filter p (take (suc i) ys)) ≡ flat_map f (filter p (take i ys)) ++ (if b then f x else [])
-        → flat_map f (if a then y ∷ filter p (take (suc i) ys) else filter p (take (suc i) ys))
-        ≡ flat_map f (if a then y ∷ filter p (take i ys) else filter p (take i ys)) ++ (if b then f x else [])
-    later true rest = ap (λ w. f y ++ w) rest ∙ sym (append_assoc (f y) (flat_map f (filter p (take i ys))) (if b then f x else []))
-    later false rest = rest
+  told_if : (pair : ℕ × Over) (pairs : List (ℕ × Over)) (b : Bool)
+      → flat_map (told_line setup lines) (if b then pair ∷ pairs else pairs)
+      ≡ (if b then told_line setup lines pair ++ flat_map (told_line setup lines) pairs else flat_map (told_line setup lines) pairs)
+  told_if pair pairs true = refl
+  told_if pair pairs false = refl
 
--- the pair of an exchange that is told
-pub pair_at : (pairs : List (ℕ × Over)) (i : ℕ) (told : Told) → slice_get (map told_pair pairs) i ≡ Some told
-    → (pair : ℕ × Over) × (slice_get pairs i ≡ Some pair) × (told ≡ told_pair pair)
-pair_at [] i told at = absurd (none-some told at)
-pair_at (pair ∷ pairs) zero told at = (pair, refl, sym (same_Some (told_pair pair) told at))
-pair_at (pair ∷ pairs) (suc i) told at = pair_at pairs i told at
+  same_lines : (pairs : List (ℕ × Over)) → flat_map (written_at setup stamps differences) (map told_pair pairs)
+      ≡ flat_map (told_line setup lines) (filter (is_told differences) pairs)
+  same_lines [] = refl
+  same_lines (pair ∷ pairs) =
+      same_written pair differences (agrees pair.1) refl refl (flat_map (written_at setup stamps differences) (map told_pair pairs))
+      (flat_map (told_line setup lines) (filter (is_told differences) pairs)) (same_lines pairs)
+      ∙ sym (told_if pair (filter (is_told differences) pairs) (is_told differences pair))
+
+  -- what is written of a batch is what the definition tells of its exchanges
+  pub lines_same : (pairs : List (ℕ × Over)) → lines_at setup stamps differences (map told_pair pairs)
+      ≡ lines_of (expects setup) setup differences lines pairs
+  lines_same pairs = ap (flat_map (written_at setup stamps differences)) (order_pairs pairs) ∙ same_lines (in_order line_number pairs)
 
 -- ---- one line behind the other
 

@@ -5,7 +5,6 @@ use Rattle.std.proofs.lemmas.List.Elements.{filter-append}
 use Rattle.std.proofs.lemmas.Option.{slice_get_within}
 use Rattle.std.specs.List.{filter, flat_map}
 use Rattle.std.specs.Prelude.{◌==◌, if◌then◌else◌, nat_lt, slice_get, slice_set, Ok, Result}
-use Rattle.diag_can.specs.Bus.{bus_line}
 use Rattle.diag_can.specs.Log.{waited}
 use Rattle.diag_can.specs.declared.bus.BusLine.{BusLine}
 use Rattle.diag_can.specs.declared.frame.Event.{Event}
@@ -21,7 +20,7 @@ use Rattle.diag_ecu.specs.State.{State}
 use Rattle.diag_desk.specs.declared.entry.Entry.{Entry}
 use Rattle.diag_world.proofs.Waiting.{get_set_other}
 use Rattle.diag_world.proofs.Worlds.{set_cases}
-use Rattle.diag_bus.specs.Events.{frame_said, reference, time_said}
+use Rattle.diag_bus.specs.Events.{frame_said, line_said, reference, time_said}
 use Rattle.diag_bus.specs.Text.{ecu_after}
 use Rattle.diag_exchange.specs.Exchanges.{over, over_after}
 use Rattle.diag_exchange.specs.declared.happening.Happening.{Happening}
@@ -94,10 +93,10 @@ module _ (setup : RawSetup) (lines : List (List ℕ)) (line : List ℕ) (K : Lis
   abbrev before : List Event
   before = unit_events setup t lines
 
-  time_is : waited span ≡ time_of_line lines (bus_line line)
-  time_is = h.waits ∙ sym (ap (time_of_line lines) h.says)
+  time_is : waited span ≡ time_of_line setup lines (line_said setup line)
+  time_is = h.waits ∙ sym (ap (time_of_line setup lines) h.says)
 
-  frame_of : frame_events bytes ≡ unit_frame setup t (bus_line line)
+  frame_of : frame_events bytes ≡ unit_frame setup t (line_said setup line)
   frame_of = ap frame_events frame ∙ (frame_is (ids_of setup t).response (frame_said said) ∙ sym (ap (unit_frame setup t) h.says))
 
   events_are : (before ++ waited span) ++ frame_events bytes ≡ unit_events setup t (lines ++ line ∷ [])
@@ -107,14 +106,14 @@ module _ (setup : RawSetup) (lines : List (List ℕ)) (line : List ℕ) (K : Lis
   happen_is : line_happens setup (unit_side setup t) at before span (entered_by setup lines K t) bytes
       ≡ hearing.line_happens (expects setup) setup t lines line
   happen_is =
-      let entries = ap (λ es. flat_map (entry_happens (expects setup) setup t (place_of lines line)) (filter (is_of t) es)) (sym h.entries) in
-      let asked = sym (asked_entered setup (place_of lines line) t (filter (is_of t) (in_states (ecu_after setup lines) K))) ∙ entries in
+      let entries = ap (λ es. flat_map (entry_happens (expects setup) setup t (place_of setup lines line)) (filter (is_of t) es)) (sym h.entries) in
+      let asked = sym (asked_entered setup (place_of setup lines line) t (filter (is_of t) (in_states (ecu_after setup lines) K))) ∙ entries in
       ap (λ p. line_happens setup (unit_side setup t) p before span (entered_by setup lines K t) bytes) h.place
-      ∙ ap₂ (λ (x y : List Event). all_happen (unit_side setup t) (place_of lines line) before x
-      ++ requests_happen setup (place_of lines line) (entered_by setup lines K t)
-      ++ all_happen (unit_side setup t) (place_of lines line) (before ++ x) y) time_is frame_of
-      ∙ ap (λ w. all_happen (unit_side setup t) (place_of lines line) before (time_of_line lines (bus_line line)) ++ w
-      ++ all_happen (unit_side setup t) (place_of lines line) (before ++ time_of_line lines (bus_line line)) (unit_frame setup t (bus_line line))) asked
+      ∙ ap₂ (λ (x y : List Event). all_happen (unit_side setup t) (place_of setup lines line) before x
+      ++ requests_happen setup (place_of setup lines line) (entered_by setup lines K t)
+      ++ all_happen (unit_side setup t) (place_of setup lines line) (before ++ x) y) time_is frame_of
+      ∙ ap (λ w. all_happen (unit_side setup t) (place_of setup lines line) before (time_of_line setup lines (line_said setup line)) ++ w
+      ++ all_happen (unit_side setup t) (place_of setup lines line) (before ++ time_of_line setup lines (line_said setup line)) (unit_frame setup t (line_said setup line))) asked
 
   abbrev so_far : List Happening
   so_far = happenings (expects setup) setup t lines

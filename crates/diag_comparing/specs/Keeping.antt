@@ -2,7 +2,6 @@
 use Rattle.std.specs.Prelude.{◌≡◌, ◌≤◌, ℕ, suc, ◌+◌, ◌==◌, ◌&&◌, nat_lt, not, codes, Bool, if◌then◌else◌, List, [], ◌∷◌, ◌++◌, length, map, take, slice_get, Option, Some, None, IfSome, Ok}
 use Rattle.std.specs.Fmt.{decimal}
 use Rattle.std.specs.List.{filter, flat_map, list_any}
-use Rattle.diag_can.specs.Bus.{bus_line}
 use Rattle.diag_can.specs.Log.{waited}
 use Rattle.diag_can.specs.declared.bus.BusLine.{BusLine}
 use Rattle.diag_can.specs.declared.frame.Frame.{Frame}
@@ -13,7 +12,7 @@ use Rattle.diag_setup.specs.Setup.{name_of}
 use Rattle.diag_setup.specs.declared.raw.RawSetup.{RawSetup}
 use Rattle.diag_ecu.specs.State.{State}
 use Rattle.diag_desk.specs.declared.entry.Entry.{Entry}
-use Rattle.diag_bus.specs.Events.{clock_of, frame_said, reference, time_said}
+use Rattle.diag_bus.specs.Events.{clock_of, frame_said, line_said, reference, time_said}
 use Rattle.diag_bus.specs.Text.{bus_moment, ecu_after, start_after}
 use Rattle.diag_bus.specs.Verdict.{places}
 use Rattle.diag_bus.specs.declared.clock.Clock.{Clock}
@@ -27,10 +26,9 @@ use Rattle.diag_judge.specs.declared.tester.Counts.{Counts}
 use Rattle.diag_judge.specs.declared.tester.Tester.{Tester}
 use Rattle.diag_judge.specs.declared.tester.Told.{Told}
 use Rattle.diag_told.specs.Told.{place_told, told_text}
-use Rattle.diag_compare.specs.Compare.{compared_by, exchanges, is_told, open_for, over_by}
+use Rattle.diag_compare.specs.Compare.{compared_by, exchanges, open_for, over_by}
 use Rattle.diag_compare.specs.Expects.{expects}
 use Rattle.diag_compare.specs.Hearing.{entries_by, happenings, in_states, is_of, place_of, unit_events, unit_side}
-use Rattle.diag_compare.specs.Told.{line_number}
 use Rattle.diag_comparing.specs.declared.exchange_lines.ExchangeLines.{ExchangeLines}
 use Rattle.diag_comparing.specs.declared.stamps.FirstStamp.{FirstStamp}
 use Rattle.diag_comparing.specs.declared.stamps.Stamps.{Stamps}
@@ -49,9 +47,9 @@ stamped_by None line None = None
 stamped_by None line (Some start) = Some (record { line = line; start = start })
 
 -- it is known as the lines tell it
-pub record HasStamps (stamps : Stamps) (lines : List (List ℕ)) : Type 0 where
+pub record HasStamps (setup : RawSetup) (stamps : Stamps) (lines : List (List ℕ)) : Type 0 where
   pub within : IfSome stamps.first (λ first. first.line ≤ length lines)
-  pub start : (n : ℕ) → start_after 0 (take n lines) ≡ start_from stamps.first n
+  pub start : (n : ℕ) → start_after setup 0 (take n lines) ≡ start_from stamps.first n
 
 -- ---- the line of an exchange
 
@@ -64,13 +62,16 @@ told_number told = (place_told told.over).line
 abbrev pub stamped_at : Stamps → Over → ℕ
 stamped_at stamps o = bus_moment (start_from stamps.first (place_told o).line) (place_told o).moment
 
-abbrev pub line_at : RawSetup → Stamps → ℕ × Over → List ℕ
-line_at setup stamps pair = told_text (name_of setup pair.0) (stamped_at stamps pair.1) pair.1
+abbrev pub line_at : RawSetup → Stamps → Told → List ℕ
+line_at setup stamps told = told_text (name_of setup told.who) (stamped_at stamps told.over) told.agrees told.over
 
--- those that are told, by their lines
-abbrev pub lines_at : RawSetup → Stamps → Bool → List (ℕ × Over) → List ℕ
-lines_at setup stamps differences pairs =
-    flat_map (line_at setup stamps) (filter (is_told differences) (in_order line_number pairs))
+-- with `--differences` those that agree are left out
+abbrev pub written_at : RawSetup → Stamps → Bool → Told → List ℕ
+written_at setup stamps differences told = if differences && told.agrees then [] else line_at setup stamps told
+
+-- of a batch, by their lines
+abbrev pub lines_at : RawSetup → Stamps → Bool → List Told → List ℕ
+lines_at setup stamps differences batch = flat_map (written_at setup stamps differences) (in_order told_number batch)
 
 -- ---- a tester
 
@@ -100,7 +101,7 @@ AreTesters setup lines K testers = (i : ℕ) (tester : Tester) → slice_get tes
 
 pub record HasTaken (own : ExchangeLines) (setup : RawSetup) (lines : List (List ℕ)) (K : List Entry) : Type 0 where
   pub count : own.lines ≡ length lines
-  pub stamps : HasStamps own.stamps lines
+  pub stamps : HasStamps setup own.stamps lines
   pub many : length own.testers.items ≡ length setup.testers
   pub each : AreTesters setup lines K own.testers.items
 
@@ -113,18 +114,18 @@ bytes_with id (Some frame) = if frame.id == id then Some frame.bytes else None
 -- clock is this behind it.
 pub record Ends (setup : RawSetup) (lines : List (List ℕ)) (line : List ℕ) (said : BusLine) (span : ℕ) (clock : Clock)
     (K : List Entry) : Type 0 where
-  pub says : bus_line line ≡ Ok said
-  pub waits : waited span ≡ time_said (reference lines) said
-  pub time : clock.time ≡ clock_of (lines ++ line ∷ [])
-  pub start : clock.start ≡ start_after 0 (lines ++ line ∷ [])
+  pub says : line_said setup line ≡ Ok said
+  pub waits : waited span ≡ time_said (reference setup lines) said
+  pub time : clock.time ≡ clock_of setup (lines ++ line ∷ [])
+  pub start : clock.start ≡ start_after setup 0 (lines ++ line ∷ [])
   pub entries : entries_by setup lines line ≡ in_states (ecu_after setup lines) K
 
 -- the same of a line of this place
 pub record IsLine (setup : RawSetup) (lines : List (List ℕ)) (line : List ℕ) (said : BusLine) (span : ℕ) (at : Place)
     (K : List Entry) : Type 0 where
-  pub says : bus_line line ≡ Ok said
-  pub waits : waited span ≡ time_said (reference lines) said
-  pub place : at ≡ place_of lines line
+  pub says : line_said setup line ≡ Ok said
+  pub waits : waited span ≡ time_said (reference setup lines) said
+  pub place : at ≡ place_of setup lines line
   pub entries : entries_by setup lines line ≡ in_states (ecu_after setup lines) K
 
 -- each tester took the end of a line, and what was over with it was told

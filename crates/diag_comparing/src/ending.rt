@@ -15,6 +15,12 @@ use diag_setup::Setup;
 use itoa::Buffer;
 use std::alloc::{AllocError, Global};
 
+/// The status where an exchange differs.
+const DIFFERS: u8 = 8;
+
+/// The status where nothing was compared.
+const NOTHING_COMPARED: u8 = 9;
+
 /// What is counted of each tester's exchanges, in order; those that aren't over are put behind `told`, one tester behind the
 /// other.
 fn end_each(
@@ -94,8 +100,23 @@ fn add_last(text: &mut Vec<u8>, nothing: bool) -> Result<(), AllocError>
     Ok(())
 }
 
+/// The status that the program ends with.
+fn status(counts: &[Counts]) -> u8
+    ensures { result ≡ status_in counts.now }
+{
+    if any_differs(counts) {
+        return DIFFERS;
+    }
+    if is_nothing(counts) {
+        return NOTHING_COMPARED;
+    }
+    0
+}
+
 impl ExchangeLines {
-    /// Where the recording ends here: adds the lines of the exchanges that aren't over, and those of the testers.
+    /// Where the recording ends here: adds the lines of the exchanges that aren't over, those of the testers, and where
+    /// nothing was compared a line that says so. The status is 0 where all exchanges agree, 8 where one differs, and 9 where
+    /// nothing was compared.
     ///
     /// # Errors
     /// `AllocError` where memory is refused: the text is as it was.
@@ -104,11 +125,13 @@ impl ExchangeLines {
         alloc: Global,
         setup: &Setup,
         text: &mut Vec<u8>,
-    ) -> Result<(), AllocError>
+    ) -> Result<u8, AllocError>
         requires { length self.now.testers.items ≡ length setup.now.testers }
         ensures ok { OnOk result (Grew text.old.items text.new.items (λ more.
             (lines : List (List ℕ)) → HasTaken self.now setup.now lines []
             → more ≡ closing (expects setup.now) setup.now self.now.differences lines)) }
+        ensures status { IfOk result (λ number. (lines : List (List ℕ)) → HasTaken self.now setup.now lines []
+            → number ≡ status (expects setup.now) setup.now lines) }
         ensures err { OnErr result (text.new.items ≡ text.old.items) }
     {
         let mut told = Vec::new(alloc);
@@ -117,26 +140,7 @@ impl ExchangeLines {
         write_batch(setup, &self.stamps, self.differences, &mut told, &mut end)?;
         add_counts(&mut end, setup, counts.as_slice())?;
         add_last(&mut end, is_nothing(counts.as_slice()))?;
-        text.extend_from_slice(end.as_slice())
-    }
-
-    /// The status that the program ends with, where the recording ends here.
-    ///
-    /// # Errors
-    /// `AllocError` where memory is refused.
-    pub fn status(&self, alloc: Global, setup: &Setup) -> Result<u8, AllocError>
-        requires { length self.now.testers.items ≡ length setup.now.testers }
-        ensures { IfOk result (λ number. (lines : List (List ℕ)) → HasTaken self.now setup.now lines []
-            → number ≡ status (expects setup.now) setup.now lines) }
-    {
-        let mut told = Vec::new(alloc);
-        let counts = end_each(self.testers.as_slice(), alloc, setup, &mut told)?;
-        if any_differs(counts.as_slice()) {
-            return Ok(8);
-        }
-        if is_nothing(counts.as_slice()) {
-            return Ok(9);
-        }
-        Ok(0)
+        text.extend_from_slice(end.as_slice())?;
+        Ok(status(counts.as_slice()))
     }
 }

@@ -158,13 +158,13 @@ impl ExchangeLines {
         ensures many { length self.new.testers.items ≡ length self.old.testers.items }
         ensures differences { self.new.differences ≡ self.old.differences }
     {
-        let alloc = *self.testers.allocator();
         let index = who.index();
-        if index < self.testers.len() {
-            let entered = Entered::of(alloc, ecu, who, request, reply)?;
-            self.testers[index].enter(entered)?;
+        if index >= self.testers.len() {
+            return Ok(());
         }
-        Ok(())
+        let alloc = *self.testers.allocator();
+        let entered = Entered::of(alloc, ecu, who, request, reply)?;
+        self.testers[index].enter(entered)
     }
 
     /// Takes the end of a line that says this, by which so many milliseconds passed and behind which the clock is this; adds

@@ -1,13 +1,10 @@
 //! The lines of exchanges, written.
 
-ghost use Rattle.std.specs.Prelude.{◌≡◌, ◌++◌, ℕ, List, map, OnOk};
-ghost use Rattle.std.specs.List.{filter, flat_map};
-ghost use Rattle.diag_exchange.specs.declared.happening.Over.{Over as AnOver};
+ghost use Rattle.std.specs.Prelude.{◌≡◌, ◌++◌, OnOk};
+ghost use Rattle.std.specs.List.{flat_map};
 ghost use Rattle.diag_setup.specs.Rows.{in_order};
 ghost use Rattle.diag_setup.specs.Setup.{name_of};
-ghost use Rattle.diag_compare.specs.Compare.{is_told};
-ghost use Rattle.diag_comparing.specs.Keeping.{line_at, lines_at, told_number, told_pair};
-ghost use Rattle.diag_judge.specs.Judging.{told_for};
+ghost use Rattle.diag_comparing.specs.Keeping.{line_at, lines_at, told_number, written_at};
 
 use crate::stamps::Stamps;
 use diag_judge::Told;
@@ -35,41 +32,40 @@ fn sort(batch: &mut Vec<Told>) -> Result<(), AllocError>
 }
 
 /// Adds the line of an exchange.
-fn write_one(
+fn add_line(
     setup: &Setup,
     stamps: &Stamps,
     told: &Told,
     text: &mut Vec<u8>,
 ) -> Result<(), AllocError>
-    requires { told.now ≡ told_for told.now.who told.now.over }
-    ensures { OnOk result (text.new.items
-        ≡ text.old.items ++ line_at setup.now stamps.now (told.now.who, told.now.over)) }
+    ensures { OnOk result (text.new.items ≡ text.old.items ++ line_at setup.now stamps.now told.now) }
 {
     let at = place(&told.over);
     let moment = stamps.moment(at.line, at.moment)?;
-    tell(text, name_of(setup, told.who), moment, &told.over, told.agrees)
+    tell(
+        text,
+        name_of(setup, told.who),
+        moment,
+        &told.over,
+        told.agrees,
+    )
 }
 
-/// Adds the lines of exchanges as they stand; with `differences` those that agree are left out.
-fn write_each(
+/// Adds the line of an exchange, unless it is left out.
+fn write_one(
     setup: &Setup,
     stamps: &Stamps,
     differences: bool,
-    batch: &[Told],
+    told: &Told,
     text: &mut Vec<u8>,
 ) -> Result<(), AllocError>
-    requires { (pairs : List (ℕ × AnOver)) × (batch.now ≡ map told_pair pairs) }
-    ensures { OnOk result ((pairs : List (ℕ × AnOver)) → batch.now ≡ map told_pair pairs
-        → text.new.items ≡ text.old.items
-        ++ flat_map (line_at setup.now stamps.now) (filter (is_told differences) pairs)) }
+    ensures { OnOk result (text.new.items
+        ≡ text.old.items ++ written_at setup.now stamps.now differences told.now) }
 {
-    for told in batch {
-        if differences && told.agrees {
-            continue;
-        }
-        write_one(setup, stamps, told, text)?;
+    if differences && told.agrees {
+        return Ok(());
     }
-    Ok(())
+    add_line(setup, stamps, told, text)
 }
 
 /// Adds the lines of exchanges, in the order of their lines; with `differences` those that agree are left out.
@@ -83,10 +79,12 @@ pub(crate) fn write_batch(
     batch: &mut Vec<Told>,
     text: &mut Vec<u8>,
 ) -> Result<(), AllocError>
-    requires { (pairs : List (ℕ × AnOver)) × (batch.old.items ≡ map told_pair pairs) }
-    ensures { OnOk result ((pairs : List (ℕ × AnOver)) → batch.old.items ≡ map told_pair pairs
-        → text.new.items ≡ text.old.items ++ lines_at setup.now stamps.now differences pairs) }
+    ensures { OnOk result (text.new.items
+        ≡ text.old.items ++ lines_at setup.now stamps.now differences batch.old.items) }
 {
     sort(batch)?;
-    write_each(setup, stamps, differences, batch.as_slice(), text)
+    for told in batch.as_slice() {
+        write_one(setup, stamps, differences, told, text)?;
+    }
+    Ok(())
 }

@@ -1,9 +1,9 @@
 -- How an exchange is told.
-use Rattle.std.specs.Prelude.{ℕ, ◌/◌, ◌%◌, ◌==◌, codes, if◌then◌else◌, List, [], ◌∷◌, ◌++◌, Option, Some, None}
+use Rattle.std.specs.Prelude.{ℕ, ◌/◌, ◌%◌, ◌==◌, codes, Bool, if◌then◌else◌, List, [], ◌∷◌, ◌++◌, Option, Some, None}
 use Rattle.std.specs.Fmt.{decimal}
 use Rattle.hex.specs.Hex.{encode_upper}
 use Rattle.diag_can.specs.Reply.{zero_filled}
-use Rattle.diag_exchange.specs.Agreeing.{agrees, marks, waited}
+use Rattle.diag_exchange.specs.Agreeing.{marks, waited}
 use Rattle.diag_exchange.specs.declared.happening.Over.{Over}
 use Rattle.diag_exchange.specs.declared.happening.Over.TheVariants.{Exchange, Unasked}
 use Rattle.diag_exchange.specs.declared.happening.Place.{Place}
@@ -46,12 +46,13 @@ abbrev pub reply_text : List ℕ → Option (List ℕ) → List ℕ
 reply_text marks None = dash
 reply_text marks (Some reply) = bytes_text marks reply
 
-abbrev pub expected_text : Over → List ℕ
-expected_text (Exchange request pendings answer) =
+-- what was expected, where an exchange agrees or doesn't
+abbrev pub expected_text : Bool → Over → List ℕ
+expected_text same (Exchange request pendings answer) =
     if request.expected.ignored then codes "~"
-    else if agrees (Exchange request pendings answer) then codes "="
+    else if same then codes "="
     else reply_text (marks request.expected.varies) request.expected.reply
-expected_text (Unasked heard) = dash
+expected_text same (Unasked heard) = dash
 
 abbrev pub time_text : Option ℕ → List ℕ
 time_text None = dash
@@ -67,16 +68,16 @@ parted [] = []
 parted (word ∷ []) = word
 parted (word ∷ next ∷ words) = word ++ codes " " ++ parted (next ∷ words)
 
--- the line of an exchange of a tester of this name, by the bus's time of its line
-abbrev pub told_text : List ℕ → ℕ → Over → List ℕ
-told_text name moment o = parted (
+-- the line of an exchange of a tester of this name, by the bus's time of its line, where it agrees or doesn't
+abbrev pub told_text : List ℕ → ℕ → Bool → Over → List ℕ
+told_text name moment same o = parted (
     decimal (place_told o).line
     ∷ stamp_text moment
     ∷ name
     ∷ kind_text o
     ∷ request_text o
     ∷ sent_text o
-    ∷ expected_text o
+    ∷ expected_text same o
     ∷ time_text (waited o)
     ∷ decimal (pendings_told o)
     ∷ []) ++ codes "\n"

@@ -3,7 +3,7 @@
 ghost use Rattle.std.specs.Prelude.{◌≡◌, ◌/◌, ◌%◌, ◌++◌, codes, decimal, length, drop, option_copied, OnOk};
 ghost use Rattle.hex.specs.Hex.{encode_upper};
 ghost use Rattle.diag_can.specs.Reply.{zero_filled};
-ghost use Rattle.diag_exchange.specs.Agreeing.{agrees, marks, waited};
+ghost use Rattle.diag_exchange.specs.Agreeing.{marks, waited};
 ghost use Rattle.diag_told.specs.Told.{byte_text, bytes_text, expected_text, kind_text, pendings_told, place_told, reply_text, request_text, sent_text, stamp_text, time_text, told_text};
 
 use diag_can::write_hex;
@@ -11,7 +11,8 @@ use diag_exchange::{Expected, Over, Place};
 use itoa::Buffer;
 use std::alloc::AllocError;
 
-/// Adds the line of an exchange of a tester of this name, by the bus's time of its line, in milliseconds.
+/// Adds the line of an exchange of a tester of this name, by the bus's time of its line, in milliseconds; `same` says whether
+/// it agrees.
 ///
 /// # Errors
 /// `AllocError` where memory is refused.
@@ -22,8 +23,7 @@ pub fn tell(
     over: &Over,
     same: bool,
 ) -> Result<(), AllocError>
-    requires { same ≡ agrees over.now }
-    ensures { OnOk result (text.new.items ≡ text.old.items ++ told_text name.now moment over.now) }
+    ensures { OnOk result (text.new.items ≡ text.old.items ++ told_text name.now moment same over.now) }
 {
     add_head(text, name, moment, over)?;
     add_messages(text, over, same)?;
@@ -46,9 +46,8 @@ fn add_head(text: &mut Vec<u8>, name: &[u8], moment: u64, over: &Over) -> Result
 
 /// Adds the request, what the unit sent, and what was expected, each behind a space.
 fn add_messages(text: &mut Vec<u8>, over: &Over, same: bool) -> Result<(), AllocError>
-    requires { same ≡ agrees over.now }
     ensures { OnOk result (text.new.items ≡ text.old.items
-        ++ (codes " " ++ request_text over.now ++ codes " " ++ sent_text over.now ++ codes " " ++ expected_text over.now)) }
+        ++ (codes " " ++ request_text over.now ++ codes " " ++ sent_text over.now ++ codes " " ++ expected_text same over.now)) }
 {
     add_word(text, b" ")?;
     add_request(text, over)?;
@@ -130,8 +129,7 @@ fn add_sent(text: &mut Vec<u8>, over: &Over) -> Result<(), AllocError>
 }
 
 fn add_expected(text: &mut Vec<u8>, over: &Over, same: bool) -> Result<(), AllocError>
-    requires { same ≡ agrees over.now }
-    ensures { OnOk result (text.new.items ≡ text.old.items ++ expected_text over.now) }
+    ensures { OnOk result (text.new.items ≡ text.old.items ++ expected_text same over.now) }
 {
     match over {
         Over::Exchange { request, .. } => {
