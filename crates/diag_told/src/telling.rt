@@ -86,13 +86,7 @@ fn kind(over: &Over) -> &'static [u8]
     ensures { result.now ≡ kind_text over.now }
 {
     match over {
-        Over::Exchange { request, .. } => {
-            if request.functional {
-                b"F"
-            } else {
-                b"P"
-            }
-        }
+        Over::Exchange { request, .. } => { if request.functional { b"F" } else { b"P" } }
         Over::Unasked(_) => b"U",
     }
 }

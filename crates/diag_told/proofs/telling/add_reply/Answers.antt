@@ -1,5 +1,4 @@
-use Rattle.std.proofs.Common.{◌≡◌, ◌++◌, [], ap, sym, ◌∙◌}
-use Rattle.diag_told.specs.Told.{bytes_text}
+use Rattle.std.proofs.Common.{◌++◌, ap, sym, ◌∙◌}
 use Rattle.diag_told.proofs.Marked.{then_ok, unmarked}
 use Rattle.diag_told.proofs.telling.add_reply.Goals as goal
 

@@ -1,4 +1,4 @@
-use Rattle.std.proofs.Common.{◌≡◌, ◌++◌, List, ℕ, codes, decimal, ap, append_assoc, ◌∙◌}
+use Rattle.std.proofs.Common.{◌++◌, List, ℕ, codes, decimal, ap, append_assoc, ◌∙◌}
 use Rattle.diag_exchange.specs.Agreeing.{waited}
 use Rattle.diag_told.specs.Told.{expected_text, pendings_told, request_text, sent_text, time_text}
 use Rattle.diag_told.proofs.Marked.{then_ok}
