@@ -63,13 +63,17 @@ fn unit_side(setup: &Setup, who: TesterId) -> LinkSetup
 fn frame_with(response: CanId, said: &BusLine) -> Option<FrameBytes>
     ensures { result ≡ bytes_with response (frame_said said.now) }
 {
-    match said {
-        BusLine::Stamped {
-            frame: Some(frame),
-            ..
-        } if frame.id() == response => Some(frame.bytes()),
-        _ => None,
+    let BusLine::Stamped {
+        frame: Some(frame),
+        ..
+    } = said
+    else {
+        return None;
+    };
+    if frame.id() != response {
+        return None;
     }
+    Some(frame.bytes())
 }
 
 /// The number behind this one.
