@@ -1,6 +1,6 @@
 -- The lines of exchanges that are over with a line.
 use Rattle.std.proofs.Common.{◌≡◌, ◌≤◌, ◌<◌, ◌⊎◌, inl, inr, ℕ, zero, suc, ◌+◌, Bool, true, false, Option, Some, None, List, [], ◌∷◌, ◌++◌, length, map, take, refl, ap, ap₂, subst, sym, ◌∙◌, append_assoc, arith}
-use Rattle.std.proofs.lemmas.List.{append-nil, length-append}
+use Rattle.std.proofs.lemmas.List.{append-nil, length-append, take_all, take-append-le}
 use Rattle.std.proofs.lemmas.Bool.Decides.{nat_tests}
 use Rattle.std.proofs.lemmas.Option.{none-some, same_Some}
 use Rattle.std.specs.List.{filter, flat_map}
@@ -42,17 +42,6 @@ order_pairs [] = refl
 order_pairs (x ∷ xs) = ap (insert_in_order told_number (told_pair x)) (order_pairs xs) ∙ put_pairs x (in_order line_number xs)
 
 -- ---- where the bus's time begins
-
-take_front : (n : ℕ) (xs ys : List (List ℕ)) → n ≤ length xs → take n (xs ++ ys) ≡ take n xs
-take_front zero xs ys le = refl
-take_front (suc n) [] ys le = absurd (omega (arith, le))
-take_front (suc n) (x ∷ xs) ys le = ap (λ w. x ∷ w) (take_front n xs ys (omega (arith, le)))
-
-take_whole : (n : ℕ) (xs : List (List ℕ)) → length xs ≤ n → take n xs ≡ xs
-take_whole zero [] le = refl
-take_whole zero (x ∷ xs) le = absurd (omega (arith, le))
-take_whole (suc n) [] le = refl
-take_whole (suc n) (x ∷ xs) le = ap (λ w. x ∷ w) (take_whole n xs (omega (arith, le)))
 
 abbrev known : FirstStamp → ℕ → Option Start
 known first n = if nat_lt n first.line then None else Some first.start
@@ -96,10 +85,10 @@ module _ (setup : RawSetup) (lines : List (List ℕ)) (line : List ℕ) where
   longer = length-append lines (line ∷ [])
 
   before_it : (n : ℕ) → n ≤ length lines → start_after setup 0 (take n all) ≡ start_after setup 0 (take n lines)
-  before_it n le = ap (start_after setup 0) (take_front n lines (line ∷ []) le)
+  before_it n le = ap (start_after setup 0) (take-append-le n lines (line ∷ []) le)
 
   from_it : (n : ℕ) → length lines < n → start_after setup 0 (take n all) ≡ start_after setup 0 all
-  from_it n less = ap (start_after setup 0) (take_whole n all (omega (arith, less, longer)))
+  from_it n less = ap (start_after setup 0) (take_all n all (omega (arith, less, longer)))
 
   known_more : (f : Option FirstStamp) (start : Option Start) → start ≡ start_after setup 0 all → Known setup f lines
       → Known setup (stamped_by f (length lines + 1) start) all
@@ -109,7 +98,7 @@ module _ (setup : RawSetup) (lines : List (List ℕ)) (line : List ℕ) where
       | inl le ↦ before_it n le ∙ h.1 n
       | inr less ↦ (
           let here : start_after setup 0 lines ≡ Some first.start =
-          sym (ap (start_after setup 0) (take_whole (length lines) lines (omega arith))) ∙ (h.1 (length lines) ∙ late first (length lines) h.0) in
+          sym (ap (start_after setup 0) (take_all (length lines) lines (omega arith))) ∙ (h.1 (length lines) ∙ late first (length lines) h.0) in
           from_it n less ∙ (start_stays setup 0 lines (line ∷ []) first.start here ∙ sym (late first n (omega (arith, less, h.0)))))
     ],
   )

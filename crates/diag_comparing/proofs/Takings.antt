@@ -141,6 +141,11 @@ module _ (setup : RawSetup) (lines : List (List ℕ)) (line : List ℕ) (K : Lis
         ∙ (ap (λ w. told ++ map (told_for t) (over_after so_far w)) happened_is
         ∙ ap (λ w. told ++ w) (pairs_of t (with_line (expects setup) setup t lines line) ∙ ap (map told_pair) (sym (by_line (expects setup) setup t lines line))))
 
+-- one that heard nothing
+pub new_tester : (setup : RawSetup) (t : ℕ) (own : Tester) → Judges own [] [] → own.entered.items ≡ [] → own.listener.side ≡ unit_side setup t
+    → IsTester setup [] [] t own
+new_tester setup t own judges entered side = record { judges = judges; side = side; entered = entered }
+
 -- ---- all testers
 
 -- those before an index took the line
