@@ -1,5 +1,5 @@
 -- What is expected of a request, computed.
-use Rattle.std.proofs.Common.{◌≡◌, ℕ, true, false, Option, Some, None, List, [], ◌∷◌, ◌++◌, codes, replicate, refl}
+use Rattle.std.proofs.Common.{◌≡◌, ℕ, true, false, Option, Some, None, List, [], ◌∷◌, codes, replicate, refl}
 use Rattle.diag_setup.specs.ExampleSetup.{answer, did, level, pattern_bytes, two_testers}
 use Rattle.diag_setup.specs.declared.raw.PatternItem.TheVariants as pattern
 use Rattle.diag_setup.specs.declared.raw.RawSetup.{RawSetup}

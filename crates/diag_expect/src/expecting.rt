@@ -157,7 +157,7 @@ fn add_record(marks: &mut Vec<u8>, did: &RawDid) -> Result<(), AllocError>
 fn add_many(marks: &mut Vec<u8>, count: usize, mark: u8) -> Result<(), AllocError>
     ensures { OnOk result (marks.new.items ≡ marks.old.items ++ replicate count mark) }
 {
-    for made in 0..count {
+    for _made in 0..count {
         marks.push(mark)?;
     }
     Ok(())
