@@ -12,6 +12,7 @@ use diag_listen::Listener;
 use diag_pdu::LinkSetup;
 use diag_setup::{Setup, TesterId};
 use std::alloc::{AllocError, Global};
+use std::mem;
 
 /// An exchange of a tester that is over.
 #[derive(Drop)]
@@ -52,15 +53,14 @@ fn hear_requests(
     alloc: Global,
     setup: &Setup,
     at: Place,
-    entered: &mut Vec<Entered>,
+    entered: Vec<Entered>,
     over: &mut Vec<Over>,
 ) -> Result<(), AllocError>
     ensures heard { OnOk result (HearsRequests setup.now at listener.old listener.new over.old.items over.new.items
-        entered.old.items) }
-    ensures none { OnOk result (entered.new.items ≡ []) }
+        entered.items) }
     ensures side { listener.new.side ≡ listener.old.side }
 {
-    for one in entered.drain(..) {
+    for one in entered {
         let request = one.into_request(alloc, setup, at)?;
         listener.ask(request, over)?;
     }
@@ -143,7 +143,8 @@ impl Tester {
         ensures counts { self.new.counts ≡ self.old.counts }
     {
         self.listener.wait(at, span, over)?;
-        hear_requests(&mut self.listener, alloc, setup, at, &mut self.entered, over)?;
+        let entered = mem::replace(&mut self.entered, Vec::new(alloc));
+        hear_requests(&mut self.listener, alloc, setup, at, entered, over)?;
         match frame {
             Some(frame) => self.listener.take(at, frame, over),
             None => Ok(()),
