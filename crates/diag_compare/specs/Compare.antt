@@ -23,6 +23,10 @@ is_told differences told = not differences || differs told.1
 abbrev pub beside : ℕ → Over → ℕ × Over
 beside t o = (t, o)
 
+-- the last line, where nothing was compared
+abbrev pub last_line : Bool → List ℕ
+last_line nothing = if nothing then codes "nothing compared\n" else []
+
 module _ (expects : State → Entry → Expected) (setup : RawSetup) where
   -- all exchanges of a tester, and the messages that no request of it asked
   abbrev pub exchanges : List (List ℕ) → ℕ → List Over
@@ -72,9 +76,6 @@ module _ (expects : State → Entry → Expected) (setup : RawSetup) where
   abbrev pub count_line : List (List ℕ) → ℕ → List ℕ
   count_line lines t = name_of setup t ++ codes " " ++ decimal (length (exchanges lines t)) ++ codes " exchanges, "
       ++ decimal (length (filter differs (exchanges lines t))) ++ codes " differ\n"
-
-  abbrev pub last_line : Bool → List ℕ
-  last_line nothing = if nothing then codes "nothing compared\n" else []
 
   -- what the end of a capture adds
   abbrev pub closing : Bool → List (List ℕ) → List ℕ

@@ -1,6 +1,7 @@
 -- The end of a recording.
-use Rattle.std.proofs.Common.{◌≡◌, ◌<◌, ℕ, zero, suc, ◌+◌, Bool, true, false, Some, List, [], ◌∷◌, ◌++◌, codes, length, map, take, refl, ap, ap₂, subst, sym, ◌∙◌, append_assoc, arith}
+use Rattle.std.proofs.Common.{◌≡◌, ℕ, zero, suc, ◌+◌, Bool, true, false, Some, List, [], ◌∷◌, ◌++◌, length, map, take, refl, ap, ap₂, sym, ◌∙◌, append_assoc, arith}
 use Rattle.std.proofs.lemmas.List.{append-nil, map-append}
+use Rattle.std.proofs.lemmas.Bool.Decides.{nat_tests}
 use Rattle.std.proofs.lemmas.List.Folds.{list_any-append}
 use Rattle.std.proofs.lemmas.Option.{none-some, same_Some}
 use Rattle.std.specs.List.{filter, flat_map, list_any}
@@ -11,7 +12,7 @@ use Rattle.diag_setup.specs.declared.raw.RawSetup.{RawSetup}
 use Rattle.diag_bus.specs.Verdict.{places}
 use Rattle.diag_exchange.specs.Agreeing.{is_compared}
 use Rattle.diag_exchange.specs.declared.happening.Over.{Over}
-use Rattle.diag_judge.specs.Judging.{EndsCounted, EndsTold, counts_of, differs}
+use Rattle.diag_judge.specs.Judging.{EndsCounted, EndsTold, differs}
 use Rattle.diag_judge.specs.declared.tester.Counts.{Counts}
 use Rattle.diag_judge.specs.declared.tester.Tester.{Tester}
 use Rattle.diag_judge.specs.declared.tester.Told.{Told}
@@ -23,13 +24,16 @@ use Rattle.diag_comparing.proofs.Takings.{counted_next, flat_append, pairs_of}
 
 -- ---- counts
 
+above : (n : ℕ) → nat_lt 0 (suc n) ≡ true
+above n = grind (arith, nat_tests)
+
 some_differ_in : (os : List Over) → nat_lt 0 (length (filter differs os)) ≡ list_any differs os
 some_differ_in [] = refl
 some_differ_in (o ∷ os) = pick (differs o) (some_differ_in os)
   where
     pick : (b : Bool) → nat_lt 0 (length (filter differs os)) ≡ list_any differs os
         → nat_lt 0 (length (if b then o ∷ filter differs os else filter differs os)) ≡ (b || list_any differs os)
-    pick true rest = refl
+    pick true rest = above (length (filter differs os))
     pick false rest = rest
 
 module _ (setup : RawSetup) (lines : List (List ℕ)) where

@@ -1,33 +1,27 @@
 -- An entry more of the line that is under way.
-use Rattle.std.proofs.Common.{◌≡◌, ◌≢◌, ◌≤◌, ◌<◌, inl, inr, ℕ, ◌+◌, Bool, true, false, Option, Some, None, List, [], ◌∷◌, ◌++◌, length, refl, ap, subst, sym, ◌∙◌, arith}
+use Rattle.std.proofs.Common.{◌≡◌, ◌≢◌, ◌≤◌, inl, inr, ℕ, ◌+◌, Bool, Option, List, [], ◌∷◌, ◌++◌, length, refl, ap, subst, sym, ◌∙◌, arith}
 use Rattle.std.proofs.lemmas.Bool.{eq-eqb, ne_eqb}
 use Rattle.std.proofs.lemmas.List.{append-nil}
 use Rattle.std.proofs.lemmas.List.Elements.{filter-append}
 use Rattle.std.proofs.lemmas.Option.{slice_get_within}
 use Rattle.std.specs.List.{filter, flat_map}
-use Rattle.std.specs.Prelude.{◌==◌, if◌then◌else◌, slice_get, slice_set}
-use Rattle.diag_can.specs.declared.frame.Event.{Event}
+use Rattle.std.specs.Prelude.{◌==◌, if◌then◌else◌, slice_set}
 use Rattle.diag_pdu.specs.declared.step.Request.{Request}
 use Rattle.diag_setup.specs.declared.raw.RawSetup.{RawSetup}
 use Rattle.diag_ecu.specs.State.{State}
 use Rattle.diag_desk.specs.Entries.{asks}
 use Rattle.diag_desk.specs.Legal.{after}
 use Rattle.diag_desk.specs.declared.entry.Entry.{Entry}
-use Rattle.diag_port.specs.Standing.{entry_of_ticks}
 use Rattle.diag_world.proofs.Worlds.{set_cases}
 use Rattle.diag_bus.specs.Text.{ecu_after}
-use Rattle.diag_exchange.specs.declared.happening.Happening.{Happening}
 use Rattle.diag_expect.specs.Expecting.{entered_of}
 use Rattle.diag_expect.specs.declared.entered.Entered.{Entered}
 use Rattle.diag_listen.specs.Listening.{Listens}
 use Rattle.diag_listen.specs.declared.listener.Listener.{Listener}
-use Rattle.diag_judge.specs.Judging.{Judges}
-use Rattle.diag_judge.specs.declared.tester.Counts.{Counts}
 use Rattle.diag_judge.specs.declared.tester.Tester.{Tester}
 use Rattle.diag_compare.specs.Expects.{expects}
 use Rattle.diag_compare.specs.Hearing.{happenings, in_states, is_of, unit_events}
-use Rattle.diag_comparing.specs.Keeping.{AreTesters, HasTaken, IsTester, entered_by, entry_entered}
-use Rattle.diag_comparing.specs.declared.exchange_lines.ExchangeLines.{ExchangeLines}
+use Rattle.diag_comparing.specs.Keeping.{AreTesters, IsTester, entered_by, entry_entered}
 use Rattle.diag_compare.proofs.Questions.{states_append}
 use Rattle.diag_comparing.proofs.Takings.{flat_append}
 
@@ -56,32 +50,6 @@ module _ (setup : RawSetup) (lines : List (List ℕ)) (K : List Entry) (k : Entr
 
   pub other_tester : (t : ℕ) (own : Tester) → k.who ≢ t → IsTester setup lines K t own → IsTester setup lines (K ++ k ∷ []) t own
   other_tester t own apart h = record { judges = h.judges; side = h.side; entered = h.entered ∙ sym (entered_other t apart) }
-
--- ticks make no difference
-pub ticks_testers : (setup : RawSetup) (lines : List (List ℕ)) (K : List Entry) (who count : ℕ) (testers : List Tester) → AreTesters setup lines K testers
-    → AreTesters setup lines (K ++ entry_of_ticks who count ∷ []) testers
-ticks_testers setup lines K who count testers h = λ i own at.
-    let is = h i own at in
-    let k = entry_of_ticks who count in
-    record {
-      judges = is.judges;
-      side = is.side;
-      entered = is.entered ∙ (sym (append-nil (entered_by setup lines K (i + 1))) ∙ (ap (λ w. entered_by setup lines K (i + 1) ++ w)
-          (sym (none_of setup lines K who count (k.who == i + 1))) ∙ sym (entered_more setup lines K k (i + 1))));
-    }
-  where
-    none_of : (setup : RawSetup) (lines : List (List ℕ)) (K : List Entry) (who count : ℕ) (b : Bool) → own_of setup lines K (entry_of_ticks who count) b ≡ []
-    none_of setup lines K who count true = refl
-    none_of setup lines K who count false = refl
-
-pub ticks_taken : (own : ExchangeLines) (setup : RawSetup) (lines : List (List ℕ)) (K : List Entry) (who count : ℕ) → HasTaken own setup lines K
-    → HasTaken own setup lines (K ++ entry_of_ticks who count ∷ [])
-ticks_taken own setup lines K who count h = record {
-  count = h.count;
-  stamps = h.stamps;
-  many = h.many;
-  each = ticks_testers setup lines K who count own.testers.items h.each;
-}
 
 -- ---- a request
 

@@ -10,7 +10,6 @@ use Rattle.diag_bus.specs.Sink.{LineEnds, journal_of}
 use Rattle.diag_bus.specs.Text.{ecu_after, start_after}
 use Rattle.diag_bus.specs.declared.clock.Clock.{Clock}
 use Rattle.diag_bus.specs.declared.clock.Start.{Start}
-use Rattle.diag_exchange.specs.declared.happening.Place.{Place}
 use Rattle.diag_compare.specs.Hearing.{in_states}
 use Rattle.diag_compare.proofs.Questions.{drop_front}
 use Rattle.diag_comparing.specs.Keeping.{Ends, IsLine}

@@ -2,9 +2,8 @@
 use Rattle.std.proofs.Common.{◌≡◌, ◌≤◌, ◌<◌, ◌⊎◌, inl, inr, ℕ, zero, suc, ◌+◌, Bool, true, false, Option, Some, None, List, [], ◌∷◌, ◌++◌, length, map, take, refl, ap, ap₂, subst, sym, ◌∙◌, append_assoc, arith}
 use Rattle.std.proofs.lemmas.List.{append-nil, length-append, take_all, take-append-le}
 use Rattle.std.proofs.lemmas.Bool.Decides.{nat_tests}
-use Rattle.std.proofs.lemmas.Option.{none-some, same_Some}
 use Rattle.std.specs.List.{filter, flat_map}
-use Rattle.std.specs.Prelude.{◌&&◌, ◌||◌, if◌then◌else◌, nat_le, nat_lt, not, Ok, Err, Result, IfSome, slice_get}
+use Rattle.std.specs.Prelude.{◌&&◌, ◌||◌, if◌then◌else◌, nat_le, nat_lt, not, Ok, Err, Result, IfSome}
 use Rattle.diag_can.specs.declared.bus.BusLine.{BusLine}
 use Rattle.diag_can.specs.declared.bus.BusLine.TheVariants as said
 use Rattle.diag_can.specs.declared.fault.LineFault.{LineFault}
@@ -16,7 +15,6 @@ use Rattle.diag_bus.specs.Text.{bus_moment, start_after, start_said}
 use Rattle.diag_bus.specs.declared.clock.Start.{Start}
 use Rattle.diag_exchange.specs.Agreeing.{agrees}
 use Rattle.diag_exchange.specs.declared.happening.Over.{Over}
-use Rattle.diag_judge.specs.declared.tester.Told.{Told}
 use Rattle.diag_told.specs.Told.{place_told, told_text}
 use Rattle.diag_compare.specs.Compare.{compared_after, compared_by, is_told, lines_of}
 use Rattle.diag_compare.specs.Expects.{expects}
@@ -129,7 +127,7 @@ no_stamps setup stamps e =
     let both : Known setup stamps.first [] = subst (λ (f : Option FirstStamp). Known setup f []) (sym e) (tt, λ n. ap (start_after setup 0) (none_of n)) in
     record { within = both.0; start = both.1 }
   where
-    none_of : (n : ℕ) → take n [] ≡ []
+    none_of : (n : ℕ) → take {A = List ℕ} n [] ≡ []
     none_of zero = refl
     none_of (suc n) = refl
 

@@ -1,10 +1,9 @@
 -- A line taken by each tester.
-use Rattle.std.proofs.Common.{◌≡◌, ◌≤◌, ◌<◌, ◌≢◌, inl, inr, ℕ, zero, suc, ◌+◌, Bool, true, false, Option, Some, None, List, [], ◌∷◌, ◌++◌, length, map, drop, take, refl, ap, ap₂, subst, sym, ◌∙◌, append_assoc, arith}
-use Rattle.std.proofs.lemmas.List.{append-nil, length-append, map-append}
-use Rattle.std.proofs.lemmas.List.Elements.{filter-append}
+use Rattle.std.proofs.Common.{◌≡◌, ◌≤◌, ◌<◌, inl, inr, ℕ, zero, suc, ◌+◌, Bool, true, false, Option, Some, None, List, [], ◌∷◌, ◌++◌, length, map, refl, ap, ap₂, subst, sym, ◌∙◌, append_assoc, arith}
+use Rattle.std.proofs.lemmas.List.{append-nil, map-append}
 use Rattle.std.proofs.lemmas.Option.{slice_get_within}
 use Rattle.std.specs.List.{filter, flat_map}
-use Rattle.std.specs.Prelude.{◌==◌, if◌then◌else◌, nat_lt, slice_get, slice_set, Ok, Result}
+use Rattle.std.specs.Prelude.{◌==◌, if◌then◌else◌, slice_get, slice_set}
 use Rattle.diag_can.specs.Log.{waited}
 use Rattle.diag_can.specs.declared.bus.BusLine.{BusLine}
 use Rattle.diag_can.specs.declared.frame.Event.{Event}
@@ -18,11 +17,10 @@ use Rattle.diag_setup.specs.Setup.{ids_of}
 use Rattle.diag_setup.specs.declared.raw.RawSetup.{RawSetup}
 use Rattle.diag_ecu.specs.State.{State}
 use Rattle.diag_desk.specs.declared.entry.Entry.{Entry}
-use Rattle.diag_world.proofs.Waiting.{get_set_other}
 use Rattle.diag_world.proofs.Worlds.{set_cases}
-use Rattle.diag_bus.specs.Events.{frame_said, line_said, reference, time_said}
+use Rattle.diag_bus.specs.Events.{frame_said, line_said}
 use Rattle.diag_bus.specs.Text.{ecu_after}
-use Rattle.diag_exchange.specs.Exchanges.{over, over_after}
+use Rattle.diag_exchange.specs.Exchanges.{over_after}
 use Rattle.diag_exchange.specs.declared.happening.Happening.{Happening}
 use Rattle.diag_exchange.specs.declared.happening.Over.{Over}
 use Rattle.diag_exchange.specs.declared.happening.Place.{Place}
@@ -35,9 +33,9 @@ use Rattle.diag_compare.specs.Compare.{beside, over_by}
 use Rattle.diag_compare.specs.Expects.{expects, step_expects}
 use Rattle.diag_compare.specs.Hearing.{asks, entries_by, entry_happens, frame_with, happenings, in_states, is_of, place_of, time_of_line, unit_after, unit_events, unit_frame, unit_side}
 use Rattle.diag_compare.specs.Hearing as hearing
-use Rattle.diag_comparing.specs.Keeping.{AreTesters, IsLine, IsTester, TakesEach, bytes_with, entered_by, entry_entered, step_entered, told_pair}
+use Rattle.diag_comparing.specs.Keeping.{AreTesters, IsLine, IsTester, bytes_with, entered_by, entry_entered, step_entered, told_pair}
 use Rattle.diag_compare.proofs.Messages.{unit_push}
-use Rattle.diag_compare.proofs.Telling.{by_line, happen_push, over_push, with_line}
+use Rattle.diag_compare.proofs.Telling.{by_line, happen_push, with_line}
 
 -- ---- requests
 
@@ -101,7 +99,7 @@ module _ (setup : RawSetup) (lines : List (List ℕ)) (line : List ℕ) (K : Lis
 
   events_are : (before ++ waited span) ++ frame_events bytes ≡ unit_events setup t (lines ++ line ∷ [])
   events_are = append_assoc before (waited span) (frame_events bytes)
-      ∙ (ap₂ (λ (x y : List Event). before ++ (x ++ y)) time_is frame_of ∙ sym (unit_push setup t [] lines line))
+      ∙ (ap₂ (λ (x y : List Event). before ++ (x ++ y)) time_is frame_of ∙ sym (unit_push (expects setup) setup t [] lines line))
 
   happen_is : line_happens setup (unit_side setup t) at before span (entered_by setup lines K t) bytes
       ≡ hearing.line_happens (expects setup) setup t lines line

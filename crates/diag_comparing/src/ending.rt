@@ -32,6 +32,7 @@ fn end_each(
     requires { length testers.now ≡ length setup.now.testers }
     ensures told { OnOk result (EndsEach setup.now testers.now told.old.items told.new.items) }
     ensures counts { IfOk result (λ counts. CountsEach setup.now testers.now counts.items) }
+    ensures many { IfOk result (λ counts. length counts.items ≡ length testers.now) }
 {
     let mut counts = Vec::new(alloc);
     for index in 0..testers.len() {
@@ -44,23 +45,29 @@ fn end_each(
     Ok(counts)
 }
 
+fn add_word(text: &mut Vec<u8>, word: &[u8]) -> Result<(), AllocError>
+    ensures { OnOk result (text.new.items ≡ text.old.items ++ word.now) }
+{
+    text.extend_from_slice(word)
+}
+
 fn add_number(text: &mut Vec<u8>, number: u64) -> Result<(), AllocError>
     ensures { OnOk result (text.new.items ≡ text.old.items ++ decimal number) }
 {
     let mut buffer = Buffer::new();
-    text.extend_from_slice(buffer.format(number).as_bytes())
+    add_word(text, buffer.format(number).as_bytes())
 }
 
 /// Adds the line of a tester of this name.
 fn add_count(text: &mut Vec<u8>, name: &[u8], counts: Counts) -> Result<(), AllocError>
     ensures { OnOk result (text.new.items ≡ text.old.items ++ count_text name.now counts) }
 {
-    text.extend_from_slice(name)?;
-    text.extend_from_slice(b" ")?;
+    add_word(text, name)?;
+    add_word(text, b" ")?;
     add_number(text, counts.count)?;
-    text.extend_from_slice(b" exchanges, ")?;
+    add_word(text, b" exchanges, ")?;
     add_number(text, counts.differ)?;
-    text.extend_from_slice(b" differ\n")
+    add_word(text, b" differ\n")
 }
 
 /// Adds the lines of the testers.
@@ -83,11 +90,17 @@ fn any_differs(counts: &[Counts]) -> bool
     counts.iter().any(|own| own.differ > 0)
 }
 
+fn any_compared(counts: &[Counts]) -> bool
+    ensures { result ≡ list_any some_compared counts.now }
+{
+    counts.iter().any(|own| own.compared)
+}
+
 /// Whether nothing differs, and there is no message of the unit to compare.
 fn is_nothing(counts: &[Counts]) -> bool
     ensures { result ≡ nothing_in counts.now }
 {
-    !any_differs(counts) && !counts.iter().any(|own| own.compared)
+    !any_differs(counts) && !any_compared(counts)
 }
 
 /// Says so, where it is so.

@@ -1,6 +1,6 @@
 //! What is kept of a recording, and the lines of exchanges that are over.
 
-ghost use Rattle.std.specs.Prelude.{◌≡◌, ◌≤◌, ◌∷◌, [], ◌++◌, ℕ, List, length, option_copied, IfOk, OnOk, OnErr, Ok};
+ghost use Rattle.std.specs.Prelude.{◌≡◌, ◌≤◌, ◌+◌, ◌∷◌, [], ◌++◌, ℕ, List, length, option_copied, IfOk, OnOk, OnErr, Ok};
 ghost use Rattle.diag_can.specs.declared.bus.BusLine.{BusLine as ABusLine};
 ghost use Rattle.diag_desk.specs.Entries.{asks};
 ghost use Rattle.diag_desk.specs.declared.entry.Entry.{Entry};
@@ -208,6 +208,7 @@ impl ExchangeLines {
             &mut self.batch,
             &mut self.text,
         )?;
-        text.extend_from_slice(self.text.as_slice())
+        text.extend_from_slice(self.text.as_slice())?;
+        Ok(())
     }
 }

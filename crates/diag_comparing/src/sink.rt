@@ -13,7 +13,7 @@ impl Sink for ExchangeLines {
     ghost use Rattle.diag_compare.specs.Compare.{compared};
     ghost use Rattle.diag_compare.specs.Expects.{expects};
     ghost use Rattle.diag_comparing.specs.Keeping.{HasTaken};
-    ghost use Rattle.diag_comparing.proofs.Entering.{ticks_taken};
+    ghost use Rattle.diag_comparing.specs.Ticks.{ticks_taken};
 
     ghost is_for = { λ own setup. length own.testers.items ≡ length setup.testers };
 

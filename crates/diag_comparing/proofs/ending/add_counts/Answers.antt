@@ -1,5 +1,5 @@
-use Rattle.std.proofs.Common.{◌≡◌, ◌<◌, ◌+◌, ◌++◌, Some, List, ℕ, suc, length, take, refl, ap, sym, ◌∙◌, append_assoc, arith}
-use Rattle.std.proofs.lemmas.Option.{slice_get_read}
+use Rattle.std.proofs.Common.{◌≡◌, ◌<◌, ◌+◌, ◌++◌, Some, List, ℕ, suc, false, get_or, length, take, ap, sym, ◌∙◌, append_assoc, arith}
+use Rattle.std.proofs.lemmas.Option.{slice_get-get_or}
 use Rattle.std.specs.Prelude.{slice_get}
 use Rattle.diag_setup.specs.Setup.{name_of}
 use Rattle.diag_world.proofs.Worlds.{who_found}
@@ -14,9 +14,10 @@ loop-index-preserved c =
     let setup = c.args.setup.now in
     let counts = c.args.counts.now in
     let old = c.args.text.now.items in
-    let own : Counts = c.index-counts-index.result in
+    let none : Counts = record { count = 0; differ = 0; compared = false } in
+    let own : Counts = get_or counts i none in
     let within : i < length counts = omega (arith, c.loop-index-test.true) in
-    let here : slice_get counts i ≡ Some own = slice_get_read counts (length counts) i own refl within c.index-counts-index.is in
+    let here : slice_get counts i ≡ Some own = slice_get-get_or counts i none within in
     let who = who_found setup i c.in-Some.who c.in-Some.ensures in
     let place : c.in-Some.who ≡ 1 + i = omega (arith, who) in
     let next : suc i ≡ i + 1 = omega arith in

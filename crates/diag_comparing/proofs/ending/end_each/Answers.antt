@@ -1,5 +1,5 @@
-use Rattle.std.proofs.Common.{◌≡◌, ◌<◌, ◌+◌, ◌++◌, ℕ, Some, List, length, map, refl, ap, subst, sym, ◌∙◌, arith}
-use Rattle.std.proofs.lemmas.List.{append-nil}
+use Rattle.std.proofs.Common.{◌≡◌, ◌<◌, ◌+◌, ◌++◌, ◌∷◌, [], ℕ, Some, length, map, refl, ap, subst, sym, ◌∙◌, arith}
+use Rattle.std.proofs.lemmas.List.{append-nil, length-append}
 use Rattle.std.proofs.lemmas.Option.{slice_get_read}
 use Rattle.std.specs.List.{flat_map}
 use Rattle.std.specs.Prelude.{slice_get}
@@ -17,6 +17,7 @@ pub loop-index-init : goal.loop-index-init
 loop-index-init c = record {
   told = λ lines h. sym (append-nil c.args.told.now.items);
   counts = λ lines h. c.new-counts.ensures.items;
+  many = ap length c.new-counts.ensures.items;
 }
 
 pub loop-index-preserved : goal.loop-index-preserved
@@ -34,10 +35,12 @@ loop-index-preserved c =
           (c.loop-index.invariant.told lines h) told;
       counts = λ lines h. end_counted setup lines own i c.in_ok-own.own c.loop-index.counts.items c.push.new.self.items (h i own here)
           (c.loop-index.invariant.counts lines h) c.in_ok-own.ensures.counts c.in_ok-push.ensures.items;
+      many = ap length c.in_ok-push.ensures.items ∙ (length-append c.loop-index.counts.items (c.in_ok-own.own ∷ [])
+          ∙ ap (λ n. n + 1) c.loop-index.invariant.many);
     }
 
 all : (c : goal.After-loop-index) → c.loop-index.index ≡ length c.args.setup.now.testers
-all c = omega (arith, c.loop-index-test.false, c.loop-index.auto.index-end, c.len-index-end.ensures, c.requires)
+all c = omega (arith, c.loop-index-test.false, c.loop-index.auto.index-end, c.requires)
 
 pub returns-clause-told : goal.returns-clause-told
 returns-clause-told c = λ lines h.

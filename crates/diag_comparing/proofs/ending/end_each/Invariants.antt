@@ -1,4 +1,4 @@
-use Rattle.std.proofs.Common.{◌≡◌, ℕ, List, [], ◌++◌, map}
+use Rattle.std.proofs.Common.{◌≡◌, ℕ, List, [], ◌++◌, length, map}
 use Rattle.std.specs.List.{flat_map}
 use Rattle.diag_pdu.specs.Cut.{counted_from}
 use Rattle.diag_compare.specs.Compare.{open_for}
@@ -13,4 +13,5 @@ invariant-loop-index l = record {
       → l.told.items ≡ l.fn.told.items ++ map told_pair (flat_map (open_for (expects l.setup) l.setup lines) (counted_from 1 l.index));
   counts : (lines : List (List ℕ)) → AreTesters l.setup lines [] l.testers
       → l.counts.items ≡ map (tester_counts l.setup lines) (counted_from 1 l.index);
+  many : length l.counts.items ≡ l.index;
 }

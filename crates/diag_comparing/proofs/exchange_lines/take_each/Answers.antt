@@ -1,4 +1,4 @@
-use Rattle.std.proofs.Common.{◌≡◌, ◌<◌, ◌≤◌, ◌+◌, Option, Some, List, ℕ, length, refl, ap, subst, sym, ◌∙◌, arith}
+use Rattle.std.proofs.Common.{◌≡◌, ◌<◌, ◌+◌, Option, Some, List, ℕ, length, refl, ap, subst, sym, ◌∙◌, arith}
 use Rattle.std.proofs.Math.ListN.{length-set}
 use Rattle.std.proofs.lemmas.List.{append-nil}
 use Rattle.std.proofs.lemmas.Option.{slice_get_read}
@@ -34,7 +34,7 @@ loop-index-preserved c =
     let within : i < length now = omega (arith, c.loop-index-test.true, c.loop-index.invariant.many, c.len-index-end.ensures) in
     let here : slice_get now i ≡ Some own = slice_get_read now (length now) i own refl within c.index_mut.ensures.value in
     let who = who_found setup i c.in-Some.who c.in-Some.ensures in
-    let bytes : Option (List ℕ) = option_copied c.as_ref.result.entry in
+    let bytes : Option (List ℕ) = option_copied c.as_ref.result in
     let frame : bytes ≡ bytes_with (ids_of setup (i + 1)).response (frame_said said) =
     c.as_ref.ensures.value ∙ (c.frame_with-frame.ensures ∙ ap (λ (ids : Ids). bytes_with ids.response (frame_said said)) (c.ids.ensures ∙ ap (ids_of setup) who)) in
     let took : JudgesLine setup c.args.at (i + 1) own new c.loop-index.told.items c.take_line.new.told.items c.args.span bytes =

@@ -1,4 +1,4 @@
-use Rattle.std.proofs.Common.{◌≡◌, ℕ, List, [], ◌∷◌, ◌++◌, length, map}
+use Rattle.std.proofs.Common.{◌≡◌, ℕ, List, ◌++◌, length, map}
 use Rattle.std.specs.List.{flat_map}
 use Rattle.diag_pdu.specs.Cut.{counted_from}
 use Rattle.diag_desk.specs.declared.entry.Entry.{Entry}

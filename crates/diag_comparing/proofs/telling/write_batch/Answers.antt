@@ -1,7 +1,4 @@
-use Rattle.std.proofs.Common.{◌≡◌, ◌++◌, List, ap, ◌∙◌, take, arith}
-use Rattle.std.specs.List.{flat_map}
 use Rattle.diag_bus.proofs.Texts.{lines_more}
-use Rattle.diag_judge.specs.declared.tester.Told.{Told}
 use Rattle.diag_comparing.specs.Keeping.{written_at}
 use Rattle.diag_comparing.proofs.telling.write_batch.Goals as goal
 

@@ -1,5 +1,6 @@
-use Rattle.std.proofs.Common.{◌≡◌, ◌+◌, ◌++◌, ◌∷◌, [], inl, inr, length, length-append, ap, subst, sym, ◌∙◌, arith}
+use Rattle.std.proofs.Common.{◌≡◌, ◌+◌, ◌++◌, ◌∷◌, [], inl, inr, length, length-append, refl, ap, subst, sym, ◌∙◌, arith}
 use Rattle.diag_world.proofs.Worlds.{push_cases, who_found}
+use Rattle.diag_compare.specs.Hearing.{unit_side}
 use Rattle.diag_judge.specs.declared.tester.Tester.{Tester}
 use Rattle.diag_comparing.specs.Keeping.{IsTester}
 use Rattle.diag_comparing.proofs.Lines.{no_stamps}
@@ -20,15 +21,15 @@ loop-index-preserved c =
         | inl p ↦ (
             let place : c.in-Some.who ≡ i + 1 = omega (arith, p.0, inv.many, who) in
             subst (λ (x : Tester). IsTester setup [] [] (i + 1) x) (sym p.1)
-            (new_tester setup (i + 1) own c.new.ensures.judges c.new.ensures.entered (c.new.ensures.side ∙ c.unit_side.ensures ∙ ?)))
+            (new_tester setup (i + 1) own c.new.ensures.judges c.new.ensures.entered (c.new.ensures.side ∙ c.unit_side.ensures ∙ ap (unit_side setup) place)))
         | inr p ↦ inv.each i tester p
       ];
     }
 
 pub returns-clause-taken : goal.returns-clause-taken
 returns-clause-taken c = record {
-  count = ?;
-  stamps = no_stamps c.args.setup.now _ ?;
+  count = refl;
+  stamps = no_stamps c.args.setup.now c.new-self.result c.new-self.ensures;
   many = omega (arith, c.loop-index.invariant.many, c.loop-index-test.false, c.loop-index.auto.index-end, c.testers-index-end.ensures.same);
   each = c.loop-index.invariant.each;
 }

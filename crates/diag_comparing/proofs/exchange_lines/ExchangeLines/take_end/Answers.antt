@@ -1,5 +1,5 @@
-use Rattle.std.proofs.Common.{◌≡◌, ◌++◌, ◌∷◌, [], List, ap, sym, ◌∙◌}
-use Rattle.std.proofs.lemmas.Result.{on_ok_weaker}
+use Rattle.std.proofs.Common.{◌≡◌, ◌+◌, ◌++◌, ◌∷◌, [], List, ap, sym, ◌∙◌}
+use Rattle.std.proofs.lemmas.List.{length-append}
 use Rattle.std.specs.List.{flat_map}
 use Rattle.std.specs.Prelude.{map}
 use Rattle.diag_bus.specs.Verdict.{places}
@@ -24,9 +24,9 @@ returns-clause-taken c =
     let batch = c.take_each.new.told.items in
     let more = lines_at setup stamps d batch in
     let own : c.write_batch.new.text.items ≡ more = c.in_ok-write_batch.ensures ∙ ap (λ w. w ++ more) c.clear-2.ensures.items in
-    on_ok_weaker c.extend_from_slice.result (λ wrote. record {
+    record {
       more = more;
-      grown = wrote ∙ ap (λ w. c.args.text.now.items ++ w) (c.as_slice.ensures.value ∙ own);
+      grown = c.in_ok-extend_from_slice.ensures.items ∙ ap (λ w. c.args.text.now.items ++ w) (c.as_slice.ensures.value ∙ own);
       holds = λ lines line K ends taken.
           let count = c.in_ok-line.ensures ∙ ap (λ k. k + 1) taken.count in
           let one = c.in_ok-take_each.ensures.each lines line K (is_line setup lines line said span clock K n count ends) taken.each in
@@ -34,10 +34,10 @@ returns-clause-taken c =
           let are : batch ≡ map told_pair pairs = one.1 ∙ ap (λ (w : List Told). w ++ map told_pair pairs) c.clear.ensures.items in
           let stamped = stamps_more setup lines line old.stamps stamps n clock.start count ends.start c.take.ensures taken.stamps in
           (record {
-            count = ?;
+            count = count ∙ sym (length-append lines (line ∷ []));
             stamps = stamped;
-            many = ?;
+            many = c.in_ok-take_each.ensures.many ∙ taken.many;
             each = one.0;
           },
           ap (lines_at setup stamps d) are ∙ lines_same setup stamps (lines ++ line ∷ []) d stamped pairs);
-    }) c.extend_from_slice.ensures.items
+    }
