@@ -1,0 +1,4 @@
+pub mod Ends
+pub mod Entering
+pub mod Lines
+pub mod Takings

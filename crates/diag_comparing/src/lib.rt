@@ -1,0 +1,10 @@
+//! The lines of exchanges of a recording, written as the capture goes by.
+#![tactic(auto)]
+
+mod ending;
+mod exchange_lines;
+mod sink;
+mod stamps;
+mod telling;
+
+pub use exchange_lines::ExchangeLines;

@@ -1,0 +1,7 @@
+//! What the server makes of a request of a recording, and how a message of the unit is compared with it.
+#![tactic(auto)]
+
+mod entered;
+mod expecting;
+
+pub use entered::{Entered, Source};
