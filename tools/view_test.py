@@ -18,7 +18,6 @@ import tempfile
 import browser
 import bus
 import examples
-import uds_exchanges
 import uds_names
 import uds_run
 import view
@@ -366,10 +365,8 @@ def spoilt():
 
 
 def comparison(room, recording):
-    """What `compare` writes of a recording of the demo, by the slow reading."""
-    config = f"{TOP}/demo/setup.toml"
-    journal = run("bus", "--journal", config, put(f"{room}/capture", recording))
-    return uds_exchanges.compared(uds_exchanges.read_setup(whole(config)), recording.splitlines(), journal)[1]
+    """What `compare` writes of a recording of the demo."""
+    return run("compare", f"{TOP}/demo/setup.toml", put(f"{room}/capture", recording))
 
 
 BESIDE = """\

@@ -3,8 +3,11 @@
 
 mod ending;
 mod exchange_lines;
+mod laws;
+mod run_end;
 mod sink;
 mod stamps;
 mod telling;
 
 pub use exchange_lines::ExchangeLines;
+pub use laws::compared_law;

@@ -23,6 +23,7 @@ use crossbeam_channel::{Receiver, bounded};
 use diag_bus::{Comparisons, Journal, NoText, Replies};
 use diag_can::Timing;
 use diag_check::check;
+use diag_comparing::ExchangeLines;
 use diag_live::{Bench, Heard, live};
 use diag_run::{Ending, Job, Outcome, read_config, run_bus_and_tell, run_text};
 use diag_setup::Setup;
@@ -289,6 +290,9 @@ fn run_bus<R: Print + Eprint + Files + Input + AllocGlobal>(
         Output::Journal => run_capture(rt, Journal::new(alloc), capture, notes),
         Output::End => run_capture(rt, NoText, capture, notes),
         Output::Verdict => run_capture(rt, Comparisons::new(alloc), capture, notes),
+        Output::Exchanges { differences } => {
+            run_capture(rt, ExchangeLines::new(alloc, differences), capture, notes)
+        }
     }
 }
 
