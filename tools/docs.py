@@ -43,12 +43,13 @@ QUOTING = ["docs/EMBED.md"]
 CHANGES = "CHANGELOG.md"
 # names in the documents that are no names of the repository's
 OF_OTHERS = {"can_logger", "can_logconvert"}
-RUN = ("./uds_play", "tools/", "LC_ALL=C sort ", "sed ", "diff ", "grep ", "rt lemma ")
+RUN = ("./uds_play", "tools/", "LC_ALL=C sort ", "sed ", "diff ", "grep ", "for ", "rt lemma ")
 STAND_INS = {"candump": "sed -n 1,10p demo/bus.log", "canplayer": "cat"}
 # programs that a machine may not have, with Debian's packages of them
 OTHERS = {"asc2log": "can-utils", "log2asc": "can-utils", "can_logconvert": "python3-can"}
 NOT_RUN = {
     "mergecap ": "it wants Wireshark, which is much to install",
+    "tshark ": "it wants Wireshark, which is much to install",
     "bench/": "it wants the executables of two states of the repository",
 }
 # files and folders that the commands need
