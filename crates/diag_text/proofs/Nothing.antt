@@ -1,5 +1,5 @@
 -- A recording of no frames: by each tester's place.
-use Rattle.std.proofs.Common.{◌≡◌, ◌≢◌, ◌≤◌, ◌<◌, ◌⊎◌, ℕ, zero, suc, ◌+◌, Bool, true, false, List, [], length, inl, inr, refl, sym, ap, subst, ◌∙◌, arith}
+use Rattle.std.proofs.Common.{◌≡◌, ◌≢◌, ◌≤◌, ◌<◌, ◌⊎◌, ℕ, zero, suc, ◌+◌, Bool, true, false, List, [], ◌∷◌, length, inl, inr, refl, sym, ap, subst, ◌∙◌, arith}
 use Rattle.std.proofs.lemmas.Bool.{true≢false}
 use Rattle.std.proofs.lemmas.Bool.Decides.{nat_tests}
 use Rattle.std.proofs.lemmas.List.{nil_from_length}
@@ -43,10 +43,10 @@ module _ (test : ℕ → Bool) where
 
   -- one that doesn't is enough
   pub not_all : (a n t : ℕ) → a ≤ t → t < a + n → test t ≡ false → list_all test (counted_from a n) ≡ false
-  not_all a zero t above below no = absurd (omega (arith, above, below))
-  not_all a (suc n) t above below no = elim (here_or_later a t above) [
-    | inl here ↦ ap (λ b. b && list_all test (counted_from (suc a) n)) (ap test (sym here) ∙ no)
-    | inr later ↦ ap (λ b. test a && b) (not_all (suc a) n t later (omega (arith, below)) no) ∙ and_false (test a)
+  not_all a zero t above below fails = absurd (omega (arith, above, below))
+  not_all a (suc n) t above below fails = elim (here_or_later a t above) [
+    | inl here ↦ ap (λ b. b && list_all test (counted_from (suc a) n)) (ap test (sym here) ∙ fails)
+    | inr later ↦ ap (λ b. test a && b) (not_all (suc a) n t later (omega (arith, below)) fails) ∙ and_false (test a)
   ]
 
   -- where all pass, each does
@@ -61,12 +61,14 @@ module _ (test : ℕ → Bool) where
   some_fails : (a n : ℕ) → list_all test (counted_from a n) ≡ false → (t : ℕ) × (a ≤ t) × (t < a + n) × (test t ≡ false)
   some_fails a zero none = absurd (true≢false none)
   some_fails a (suc n) none = pick (test a) refl
+      (λ passes. some_fails (suc a) n (sym (ap (λ b. b && list_all test (counted_from (suc a) n)) passes) ∙ none))
     where
-      pick : (b : Bool) → test a ≡ b → (t : ℕ) × (a ≤ t) × (t < a + suc n) × (test t ≡ false)
-      pick false no = (a, omega arith, omega arith, no)
-      pick true yes =
-          let later = some_fails (suc a) n (sym (ap (λ b. b && list_all test (counted_from (suc a) n)) yes) ∙ none) in
-          (later.0, omega (arith, later.1), omega (arith, later.2), later.3)
+      pick : (b : Bool) → test a ≡ b → (test a ≡ true → (t : ℕ) × (suc a ≤ t) × (t < suc a + n) × (test t ≡ false))
+          → (t : ℕ) × (a ≤ t) × (t < a + suc n) × (test t ≡ false)
+      pick false fails later = (a, omega arith, omega arith, fails)
+      pick true passes later =
+          let one = later passes in
+          (one.0, omega (arith, one.1), omega (arith, one.2), one.3)
 
 module _ (setup : RawSetup) (lines : List (List ℕ)) where
   -- nothing is compared, so no tester has a frame
