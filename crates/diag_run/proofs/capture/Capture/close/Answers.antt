@@ -23,7 +23,7 @@ returns-in_ok-write_out-in-Ok-clause-ok g c =
 
 pub returns-in_err-write_out-in-Ok-clause-err : goal.returns-in_err-write_out-in-Ok-clause-err
 returns-in_err-write_out-in-Ok-clause-err g c =
-    let p = err_from_is_err_and c.from_residual-in-Ok.result c.from_residual-in-Ok.ensures.1 in
+    let p = err_from_is_err_and c.from_residual.result c.from_residual.ensures.1 in
     let added = c.in-Ok.ensures.ok in
     let failed = c.in_err-write_out-in-Ok.ensures.err in
     rw (p.1, p.2) (
