@@ -9,7 +9,7 @@ use std::alloc::Global;
 /// The lines of the exchanges that aren't over, and those of the testers; the status says whether an exchange differs, and
 /// whether one was compared.
 impl Ending for ExchangeLines {
-    ghost use Rattle.std.specs.Prelude.{ap};
+    ghost use Rattle.std.proofs.Common.{ap};
     ghost use Rattle.diag_comparing.specs.Compared.{compared_end};
 
     ghost ends = { λ own. compared_end own.differences };
