@@ -90,7 +90,7 @@ module _ (setup : RawSetup) (lines : List (List ℕ)) where
   end_told own i told now now' h first ends =
       let f = open_for (expects setup) setup lines in
       let more = ends (unit_events setup (i + 1) lines) (happenings (expects setup) setup (i + 1) lines) h.judges
-          ∙ ap (λ w. now ++ w) (pairs_of (i + 1) _) in
+      ∙ ap (λ w. now ++ w) (pairs_of (i + 1) _) in
       more ∙ (ap (λ w. w ++ map told_pair (f (i + 1))) first
       ∙ (append_assoc told (map told_pair (flat_map f (counted_from 1 i))) (map told_pair (f (i + 1)))
       ∙ ap (λ w. told ++ w) (sym (map-append told_pair (flat_map f (counted_from 1 i)) (f (i + 1)))

@@ -85,9 +85,8 @@ counted_next i =
 -- ---- a line to a tester
 
 module _ (setup : RawSetup) (lines : List (List ℕ)) (line : List ℕ) (K : List Entry) (said : BusLine) (span : ℕ) (at : Place)
-  (h : IsLine setup lines line said span at K) (t : ℕ) (bytes : Option (List ℕ))
-  (frame : bytes ≡ bytes_with (ids_of setup t).response (frame_said said)) where
-
+    (h : IsLine setup lines line said span at K) (t : ℕ) (bytes : Option (List ℕ))
+    (frame : bytes ≡ bytes_with (ids_of setup t).response (frame_said said)) where
   abbrev before : List Event
   before = unit_events setup t lines
 
@@ -117,7 +116,7 @@ module _ (setup : RawSetup) (lines : List (List ℕ)) (line : List ℕ) (K : Lis
   so_far = happenings (expects setup) setup t lines
 
   module _ (own new : Tester) (told told' : List Told) (own_is : IsTester setup lines K t own)
-    (took : JudgesLine setup at t own new told told' span bytes) (side : new.listener.side ≡ own.listener.side) (none : new.entered.items ≡ []) where
+      (took : JudgesLine setup at t own new told told' span bytes) (side : new.listener.side ≡ own.listener.side) (none : new.entered.items ≡ []) where
     happened_is : line_happens setup own.listener.side at before span own.entered.items bytes ≡ hearing.line_happens (expects setup) setup t lines line
     happened_is = ap₂ (λ (s : LinkSetup) (e : List Entered). line_happens setup s at before span e bytes) own_is.side own_is.entered ∙ happen_is
 
@@ -159,12 +158,14 @@ module _ (setup : RawSetup) (lines : List (List ℕ)) (line : List ℕ) (K : Lis
       → IsTester setup (lines ++ line ∷ []) [] (i + 1) new → AreTakenTo setup lines line K (slice_set testers i new) (i + 1)
   taken_one testers i new h own = λ k tester is. elim (set_cases testers i k new tester is) [
     | inl p ↦ (
-        λ less. subst (λ (j : ℕ). IsTester setup (lines ++ line ∷ []) [] (j + 1) tester) (sym p.0)
-            (subst (λ (x : Tester). IsTester setup (lines ++ line ∷ []) [] (i + 1) x) (sym p.1) own),
-        λ above. absurd (omega (arith, above, p.0)))
+      λ less. subst (λ (j : ℕ). IsTester setup (lines ++ line ∷ []) [] (j + 1) tester) (sym p.0)
+          (subst (λ (x : Tester). IsTester setup (lines ++ line ∷ []) [] (i + 1) x) (sym p.1) own),
+      λ above. absurd (omega (arith, above, p.0)),
+    )
     | inr p ↦ (
-        λ less. (h k tester p.1).0 (omega (arith, less, p.0)),
-        λ above. (h k tester p.1).1 (omega (arith, above)))
+      λ less. (h k tester p.1).0 (omega (arith, less, p.0)),
+      λ above. (h k tester p.1).1 (omega (arith, above)),
+    )
   ]
 
   pub taken_all : (testers : List Tester) (index : ℕ) → length testers ≤ index → AreTakenTo setup lines line K testers index

@@ -133,12 +133,7 @@ impl ExchangeLines {
     ///
     /// # Errors
     /// `AllocError` where memory is refused: the text is as it was.
-    pub fn end(
-        &self,
-        alloc: Global,
-        setup: &Setup,
-        text: &mut Vec<u8>,
-    ) -> Result<u8, AllocError>
+    pub fn end(&self, alloc: Global, setup: &Setup, text: &mut Vec<u8>) -> Result<u8, AllocError>
         requires { length self.now.testers.items ≡ length setup.now.testers }
         ensures ok { OnOk result (Grew text.old.items text.new.items (λ more.
             (lines : List (List ℕ)) → HasTaken self.now setup.now lines []

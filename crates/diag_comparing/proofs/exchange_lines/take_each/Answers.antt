@@ -43,13 +43,14 @@ loop-index-preserved c =
       many = length-set now i new ∙ c.loop-index.invariant.many;
       taken = λ lines line K is old.
           let before = c.loop-index.invariant.taken lines line K is old in
-          let at_one = (before.0 i own here).1 (omega arith) in
-          (taken_one setup lines line K now i new before.0
-          (tester_is setup lines line K said c.args.span c.args.at is (i + 1) bytes frame own new c.loop-index.told.items c.take_line.new.told.items at_one took
-          c.in_ok-take_line.ensures.side c.in_ok-take_line.ensures.entered),
-          told_more setup lines line K c.args.told.now.items c.loop-index.told.items c.take_line.new.told.items i before.1
-          (told_is setup lines line K said c.args.span c.args.at is (i + 1) bytes frame own new c.loop-index.told.items c.take_line.new.told.items at_one took
-          c.in_ok-take_line.ensures.side c.in_ok-take_line.ensures.entered));
+          let at_one = (before.0 i own here).1 (omega arith) in (
+            taken_one setup lines line K now i new before.0
+                (tester_is setup lines line K said c.args.span c.args.at is (i + 1) bytes frame own new c.loop-index.told.items c.take_line.new.told.items at_one took
+                c.in_ok-take_line.ensures.side c.in_ok-take_line.ensures.entered),
+            told_more setup lines line K c.args.told.now.items c.loop-index.told.items c.take_line.new.told.items i before.1
+                (told_is setup lines line K said c.args.span c.args.at is (i + 1) bytes frame own new c.loop-index.told.items c.take_line.new.told.items at_one took
+                c.in_ok-take_line.ensures.side c.in_ok-take_line.ensures.entered),
+          );
     }
 
 pub returns-clause-each : goal.returns-clause-each
@@ -59,6 +60,7 @@ returns-clause-each c = λ lines line K is old.
     let i = c.loop-index.index in
     let all : i ≡ length setup.testers =
     omega (arith, c.loop-index-test.false, c.loop-index.auto.index-end, c.len-index-end.ensures, c.requires) in
-    let end = c.loop-index.invariant.taken lines line K is old in
-    (taken_all setup lines line K c.loop-index.testers.items i (omega (arith, c.loop-index.invariant.many, all, c.requires)) end.0,
-    end.1 ∙ ap (λ (n : ℕ). c.args.told.now.items ++ map told_pair (flat_map f (counted_from 1 n))) all)
+    let end = c.loop-index.invariant.taken lines line K is old in (
+      taken_all setup lines line K c.loop-index.testers.items i (omega (arith, c.loop-index.invariant.many, all, c.requires)) end.0,
+      end.1 ∙ ap (λ (n : ℕ). c.args.told.now.items ++ map told_pair (flat_map f (counted_from 1 n))) all,
+    )

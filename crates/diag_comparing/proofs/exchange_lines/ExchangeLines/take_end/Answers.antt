@@ -32,12 +32,13 @@ returns-clause-taken c =
           let one = c.in_ok-take_each.ensures.each lines line K (is_line setup lines line said span clock K n count ends) taken.each in
           let pairs = flat_map (over_by (expects setup) setup lines line) (places setup) in
           let are : batch ≡ map told_pair pairs = one.1 ∙ ap (λ (w : List Told). w ++ map told_pair pairs) c.clear.ensures.items in
-          let stamped = stamps_more setup lines line old.stamps stamps n clock.start count ends.start c.take.ensures taken.stamps in
-          (record {
-            count = count ∙ sym (length-append lines (line ∷ []));
-            stamps = stamped;
-            many = c.in_ok-take_each.ensures.many ∙ taken.many;
-            each = one.0;
-          },
-          ap (lines_at setup stamps d) are ∙ lines_same setup stamps (lines ++ line ∷ []) d stamped pairs);
+          let stamped = stamps_more setup lines line old.stamps stamps n clock.start count ends.start c.take.ensures taken.stamps in (
+            record {
+              count = count ∙ sym (length-append lines (line ∷ []));
+              stamps = stamped;
+              many = c.in_ok-take_each.ensures.many ∙ taken.many;
+              each = one.0;
+            },
+            ap (lines_at setup stamps d) are ∙ lines_same setup stamps (lines ++ line ∷ []) d stamped pairs,
+          );
     }
