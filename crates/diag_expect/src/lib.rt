@@ -3,5 +3,7 @@
 
 mod entered;
 mod expecting;
+mod laws;
 
 pub use entered::{Entered, Source};
+pub use laws::{lengths_law, values_law};
