@@ -1,5 +1,5 @@
 -- What the server makes of the requests of a journal.
-use Rattle.std.specs.Prelude.{ℕ, false, [], List, Option, None}
+use Rattle.std.specs.Prelude.{ℕ, false, List, Option, None}
 use Rattle.diag_pdu.specs.declared.step.Step.{Step}
 use Rattle.diag_pdu.specs.declared.step.Step.TheVariants as step
 use Rattle.diag_setup.specs.declared.raw.RawSetup.{RawSetup}
