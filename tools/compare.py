@@ -281,6 +281,12 @@ request = "3E80"
 reply = ["7E80", ""]
 session = 3
 """
+# what a unit may send unasked, and frames that begin or continue a message, or do nothing
+UNASKED = ["027E00", "037F2231", "017F", "027F10", "100862F190AABBCC", "0163", "065003003201F4", "037F7F78", "037F2278"]
+ODD = [
+    "21DDEEFF", "22", "2F0102", "300000", "31", "10", "1007AABBCCDDEEFF", "100862F190AABB", "1000000000080102", "100000000FFF0102",
+    "10000000100062F1", "1000FFFFFFFF62F1", "08AABBCCDDEEFF11", "00", "0711223344", "40", "",
+]
 IGNORES = ['["3E*"]', '["22F190", "10.."]', '["19*", "27..*"]', "[]"]
 
 
@@ -339,7 +345,7 @@ class Recording:
         """Does so many odd things to the lines."""
         ways = [
             self.drop, self.repeat, self.delay, self.spoil_byte, self.spoil_rest, self.exchange, self.wait, self.between,
-            self.unasked, self.other, self.shuffle,
+            self.unasked, self.other, self.shuffle, self.lower,
         ]
         for _ in range(times):
             places = self.answers()
@@ -392,13 +398,17 @@ class Recording:
 
     def unasked(self, at: int) -> None:
         own = self.chance.choice(list(TESTERS.values()))[1]
-        frame = self.chance.choice(["027E00", "037F2231", "017F", "027F10", "100862F190AABBCC", "21DDEEFF", "300000", "0163", "065003003201F4", "037F7F78", "10"])
+        frame = self.chance.choice([*UNASKED, *ODD])
         self.lines.insert(at, f"{self.stamp(at)} can0 {own}#{frame}")
 
     def other(self, at: int) -> None:
         """Others' traffic, or time."""
         frame = self.chance.choice(["123#0011", "18DA11F1#021003", "000007E8#027E00", "000007E0#023E00", "7E0#R8", "7E8##1021001"])
         self.lines.insert(at, self.chance.choice(["tick 3", "", f"{self.stamp(at)} can0 {frame}", f"{self.stamp(at)} can0 {frame}"]))
+
+    def lower(self, at: int) -> None:
+        """The frame's digits are written small."""
+        self.lines[at] = self.lines[at].lower()
 
     def shuffle(self, _: int) -> None:
         """The records of a list of trouble codes, in another order."""
