@@ -165,6 +165,33 @@ EXAMPLES = [
         "1 0000000100.000000 A P 1902FF 5902FF0123462F0123452F = 1 0",
         "5 0000000100.004000 A P 190A 590AFF0123452F0123452F 590AFF0123452F0123462F 1 0",
     ], [(2, 1), (0, 0)], 8),
+    Example("a trouble code twice", CODES, [
+        (0, "7E0#031902FF"), (1000, "7E8#100F5902FF012346"), (2000, "7E0#300000"), (3000, "7E8#212F0123452F0123"), (4000, "7E8#22462F"),
+    ], [
+        "1 0000000100.000000 A P 1902FF 5902FF0123462F0123452F0123462F 5902FF0123452F0123462F 1 0",
+    ], [(1, 1), (0, 0)], 8),
+    Example("a message of four bytes isn't response pending", SETUP, [(0, "7E0#023E00"), (1000, "7E8#047F3E7800"), (2000, "7E8#027E00")], [
+        "3 0000000100.002000 A U - 7E00 - - 0",
+        "1 0000000100.000000 A P 3E00 7F3E7800 7E00 1 0",
+    ], [(2, 2), (0, 0)], 8),
+    Example("7F isn't the positive response of 3F", SETUP, [(0, "7E0#023F00"), (1000, "7E8#037F2231")], [
+        "2 0000000100.001000 A U - 7F2231 - - 0",
+        "1 0000000100.000000 A P 3F00 - 7F3F11 - 0",
+    ], [(2, 2), (0, 0)], 8),
+    Example("two testers' exchanges that one line ends", SETUP, [(0, "7E1#023E00"), (1000, "7E0#023E00"), (2000, "7DF#023E00")], [
+        "1 0000000100.000000 B P 3E00 - 7E00 - 0",
+        "2 0000000100.001000 A P 3E00 - 7E00 - 0",
+        "3 0000000100.002000 A F 3E00 - 7E00 - 0",
+        "3 0000000100.002000 B F 3E00 - 7E00 - 0",
+    ], [(2, 2), (2, 2)], 8),
+    Example("exchanges that a line ends by its time and by its request", SETUP, [
+        (0, "7E0#023E00"), (1000, "7E0#0322F190"), (2000, "7E8#101462F190544553"), (3000, "7E0#0322F190"), (60_002_000, "7E0#023E00"),
+    ], [
+        "1 0000000100.000000 A P 3E00 - 7E00 - 0",
+        f"2 0000000100.001000 A P 22F190 - {READ} - 0",
+        f"4 0000000100.003000 A P 22F190 - {READ} - 0",
+        "5 0000000160.002000 A P 3E00 - 7E00 - 0",
+    ], [(4, 4), (0, 0)], 8),
     Example("requests that are ignored", SEED_READ, [(0, "7E0#0322F190"), (1000, "7E8#037F2231"), (2000, "7E0#023E00"), (3000, "7E8#027E00")], [
         "1 0000000100.000000 A P 22F190 7F2231 ~ 1 0",
         "3 0000000100.002000 A P 3E00 7E00 = 1 0",
@@ -254,6 +281,12 @@ request = "3E80"
 reply = ["7E80", ""]
 session = 3
 """
+# what a unit may send unasked, and frames that begin or continue a message, or do nothing
+UNASKED = ["027E00", "037F2231", "017F", "027F10", "100862F190AABBCC", "0163", "065003003201F4", "037F7F78", "037F2278"]
+ODD = [
+    "21DDEEFF", "22", "2F0102", "300000", "31", "10", "1007AABBCCDDEEFF", "100862F190AABB", "1000000000080102", "100000000FFF0102",
+    "10000000100062F1", "1000FFFFFFFF62F1", "08AABBCCDDEEFF11", "00", "0711223344", "40", "",
+]
 IGNORES = ['["3E*"]', '["22F190", "10.."]', '["19*", "27..*"]', "[]"]
 
 
@@ -312,7 +345,7 @@ class Recording:
         """Does so many odd things to the lines."""
         ways = [
             self.drop, self.repeat, self.delay, self.spoil_byte, self.spoil_rest, self.exchange, self.wait, self.between,
-            self.unasked, self.other, self.shuffle,
+            self.unasked, self.other, self.shuffle, self.lower,
         ]
         for _ in range(times):
             places = self.answers()
@@ -365,13 +398,17 @@ class Recording:
 
     def unasked(self, at: int) -> None:
         own = self.chance.choice(list(TESTERS.values()))[1]
-        frame = self.chance.choice(["027E00", "037F2231", "017F", "027F10", "100862F190AABBCC", "21DDEEFF", "300000", "0163", "065003003201F4", "037F7F78", "10"])
+        frame = self.chance.choice([*UNASKED, *ODD])
         self.lines.insert(at, f"{self.stamp(at)} can0 {own}#{frame}")
 
     def other(self, at: int) -> None:
         """Others' traffic, or time."""
         frame = self.chance.choice(["123#0011", "18DA11F1#021003", "000007E8#027E00", "000007E0#023E00", "7E0#R8", "7E8##1021001"])
         self.lines.insert(at, self.chance.choice(["tick 3", "", f"{self.stamp(at)} can0 {frame}", f"{self.stamp(at)} can0 {frame}"]))
+
+    def lower(self, at: int) -> None:
+        """The frame's digits are written small."""
+        self.lines[at] = self.lines[at].lower()
 
     def shuffle(self, _: int) -> None:
         """The records of a list of trouble codes, in another order."""
@@ -503,7 +540,7 @@ def faults(room: str) -> None:
         told(run(words)[:2] == (1, b""), f"usage: {len(words)}", run(words))
     told(run(["compare", config], input=b"") == (9, b"A 0 exchanges, 0 differ\nB 0 exchanges, 0 differ\nnothing compared\n", b""), "an empty capture")
     with open("/dev/full", "wb") as full:
-        ran = subprocess.run([PROGRAM, "compare", config, path], stdout=full, stderr=subprocess.PIPE, timeout=120)
+        ran = subprocess.run([PROGRAM, "--quiet", "compare", config, path], stdout=full, stderr=subprocess.PIPE, timeout=120)
     told((ran.returncode, ran.stderr) == (7, b"uds_play: cannot write\n"), "a full device", f"{ran}")
 
 
@@ -541,14 +578,14 @@ def long_recording(room: str, count: int) -> None:
     with open(f"{room}/capture", "w", encoding="ascii") as it:
         it.writelines(line for line in long_lines(count) if " 7E8#" not in line)
     with open(f"{room}/out", "wb") as out:
-        subprocess.run([PROGRAM, "bus", config, f"{room}/capture"], stdout=out, check=True, timeout=3600)
+        subprocess.run([PROGRAM, "--quiet", "bus", config, f"{room}/capture"], stdout=out, check=True, timeout=3600)
     with open(f"{room}/capture", encoding="ascii") as one, open(f"{room}/out", encoding="ascii") as other, open(f"{room}/whole", "w", encoding="ascii") as it:
         it.writelines(heapq.merge(one, other, key=millisecond))
     with open(f"{room}/differs", "w", encoding="ascii") as it, open(f"{room}/whole", encoding="ascii") as whole:
         it.writelines(line for line in whole if not re.match(r"\S+ [AB] ", line))
     for name, status, words in (("whole", 0, []), ("differs", 8, []), ("whole", 0, ["--differences"])):
         with open(f"{room}/said", "wb") as out:
-            ended, peak = peak_of(subprocess.Popen([PROGRAM, "compare", *words, config, f"{room}/{name}"], stdout=out))
+            ended, peak = peak_of(subprocess.Popen([PROGRAM, "--quiet", "compare", *words, config, f"{room}/{name}"], stdout=out))
         told(ended == status and 0 < peak < MOST_MEMORY, f"{count} lines, {peak} KiB: {name} {' '.join(words)}", f"status {ended}")
 
 
