@@ -11,7 +11,7 @@ use Rattle.hex.specs.Hex.{is_hex_digit, decode_of}
 use Rattle.hex.proofs.HexLemmas.{decode_of-digits}
 use Rattle.diag_can.specs.Stamp.{is_digit, is_space, is_no_space, behind, behind_run, digits_of, moment_of}
 use Rattle.diag_can.specs.declared.bus.BusLine.TheVariants.{Stamped}
-use Rattle.diag_can.specs.Line.{line_says, stamped_frame, is_time, is_passed_over, is_well_ended, data_frame, frame_data, frame_of, text_frame, id_of}
+use Rattle.diag_can.specs.Line.{line_says, stamped, stamped_frame, is_time, is_passed_over, is_well_ended, data_frame, frame_data, frame_of, text_frame, id_of}
 use Rattle.diag_can.specs.Bus.{bus_line}
 use Rattle.diag_can.specs.Lanes.{IsRunIn}
 use Rattle.diag_can.specs.Log.{without_return}
@@ -133,11 +133,16 @@ module _ (known text rest : List ℕ) (id : ℕ) (run : prefix_len is_hex_digit 
 is_ok-from : (rest bytes : List ℕ) → decode_of rest ≡ Ok bytes → IsOk (decode_of rest)
 is_ok-from rest bytes is = rw is refl
 
--- what a line says whose stamp and frame were read
-pub stamped_says : (known line text : List ℕ) (moment : ℕ) (frame : Option Frame) → 0 < length line → is_time line ≡ false → stamped_frame line ≡ Some (moment, text)
+-- what a line says whose stamp and name were read
+pub framed_line : (known line text : List ℕ) (moment : ℕ) → 0 < length line → is_time line ≡ false → stamped_frame line ≡ Some (moment, text)
+    → line_says known line ≡ stamped moment (text_frame known text)
+framed_line known [] text moment long plain stamp = absurd (omega arith)
+framed_line known (c ∷ line) text moment long plain stamp = rw (plain, stamp) refl
+
+-- and its frame
+stamped_says : (known line text : List ℕ) (moment : ℕ) (frame : Option Frame) → 0 < length line → is_time line ≡ false → stamped_frame line ≡ Some (moment, text)
     → text_frame known text ≡ Ok frame → line_says known line ≡ Ok (Stamped moment frame)
-stamped_says known [] text moment frame long plain stamp is = absurd (omega arith)
-stamped_says known (c ∷ line) text moment frame long plain stamp is = rw (plain, stamp, is) refl
+stamped_says known line text moment frame long plain stamp is = framed_line known line text moment long plain stamp ∙ ap (stamped moment) is
 
 module _ (line : List ℕ) (place id : ℕ) (u : IsUsual line place id) where
   abbrev rest : List ℕ

@@ -3,7 +3,7 @@
 ghost use Rattle.std.specs.Prelude.{◌≡◌, option_map};
 ghost use Rattle.std.specs.List.{list_all};
 ghost use Rattle.diag_can.specs.Stamp.{is_digit};
-ghost use Rattle.diag_can.specs.Line.{is_decimal, ticks_of, tick_count, stamped_frame, line_says, frame_for, event_for, line_event};
+ghost use Rattle.diag_can.specs.Line.{is_decimal, ticks_of, tick_count, stamped, stamped_frame, text_frame, line_says, frame_for, event_for, line_event};
 
 use crate::bus::BusLine;
 use crate::fault::LineFault;
@@ -12,7 +12,7 @@ use crate::frame_text::FrameText;
 use crate::line::text_frame;
 use crate::moment_text::MomentText;
 use crate::stamp::{behind_name, decimal_value, is_digit, stamp_of};
-use crate::usual::usual_says;
+use crate::usual::{text_place, usual_says};
 
 /// Whether each byte is a decimal digit.
 fn is_all_digits(text: &[u8]) -> bool
@@ -64,9 +64,32 @@ fn stamped_frame(line: &[u8]) -> Option<(u64, &[u8])>
     Some((moment, text))
 }
 
-/// What a line without its end says, whatever its form is, where these are the 29-bit identifiers that are read.
+/// What a line says whose frame was seen at this moment and has this text.
+fn framed_says<'a>(
+    known: &[CanId],
+    moment: MomentText<'a>,
+    text: &'a [u8],
+) -> Result<BusLine<'a>, LineFault>
+    ensures { result ≡ stamped moment.entry (text_frame known.now text.now) }
+{
+    let frame = text_frame(known, text)?;
+    Ok(BusLine::Stamped { moment, frame })
+}
+
+/// What a line without its end says, whatever its form is, where these are the 29-bit identifiers that are read. Most stamps
+/// and names are of the usual form.
 #[inline(never)]
 pub fn line_says<'a>(known: &[CanId], line: &'a [u8]) -> Result<BusLine<'a>, LineFault>
+    ensures { result ≡ line_says known.now line.now }
+{
+    match text_place(line) {
+        Some(place) => framed_says(known, MomentText::usual(line), &line[place..]),
+        None => other_says(known, line),
+    }
+}
+
+/// The same part by part.
+fn other_says<'a>(known: &[CanId], line: &'a [u8]) -> Result<BusLine<'a>, LineFault>
     ensures { result ≡ line_says known.now line.now }
 {
     if line.is_empty() {
@@ -80,13 +103,7 @@ pub fn line_says<'a>(known: &[CanId], line: &'a [u8]) -> Result<BusLine<'a>, Lin
     }
     match stamped_frame(line) {
         None => Err(LineFault::BadLine),
-        Some((moment, text)) => {
-            let frame = text_frame(known, text)?;
-            Ok(BusLine::Stamped {
-                moment: MomentText::read(moment),
-                frame,
-            })
-        }
+        Some((moment, text)) => framed_says(known, MomentText::read(moment), text),
     }
 }
 

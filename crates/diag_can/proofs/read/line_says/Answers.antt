@@ -1,18 +1,19 @@
-use Rattle.std.proofs.Common.{◌≡◌, ◌<◌, ℕ, Bool, false, List, length, Some, Ok, sym, arith, rules}
-use Rattle.std.specs.Prelude.{◌==◌}
-use Rattle.std.proofs.lemmas.Bool.Decides.{nat_tests}
-use Rattle.diag_can.specs.Line.{is_time, stamped_frame, text_frame}
-use Rattle.diag_can.proofs.UsualLines.{stamped_says}
+use Rattle.std.proofs.Common.{◌≡◌, ◌-◌, length, take, drop, length-drop, subst, sym, ap, ◌∙◌, arith}
+use Rattle.std.proofs.lemmas.List.{take_all}
+use Rattle.diag_can.specs.Line.{stamped, text_frame}
+use Rattle.diag_can.specs.MomentText.{usual_moment}
+use Rattle.diag_can.specs.Usual.{IsFramed}
+use Rattle.diag_can.proofs.UsualLines.{framed_line}
 use Rattle.diag_can.proofs.read.line_says.Goals as goal
 
-not_empty : {empty : Bool} (line : List ℕ) → empty ≡ (length line == 0) → empty ≡ false → 0 < length line
-not_empty line is tested = grind (arith, nat_tests)
-
-pub returns-in_ok-frame-in-Some-stamped_frame : goal.returns-in_ok-frame-in-Some-stamped_frame
-returns-in_ok-frame-in-Some-stamped_frame c =
+pub returns-in-Some : goal.returns-in-Some
+returns-in-Some c =
     let line = c.args.line.now in
-    let some : 0 < length line = not_empty line c.is_empty.ensures c.if-is_empty.false in
-    let plain : is_time line ≡ false = search rules in
-    let stamp : stamped_frame line ≡ Some (c.in-Some-stamped_frame.moment, c.in-Some-stamped_frame.text.now) = search rules in
-    let read : text_frame c.args.known.now c.in-Some-stamped_frame.text.now ≡ Ok c.in_ok-frame-in-Some-stamped_frame.frame = search rules in
-    rw c.read.ensures (sym (stamped_says c.args.known.now line _ _ _ some plain stamp read))
+    let place = c.in-Some.place in
+    let begins = c.in-Some.ensures in
+    let framed = subst (λ l. IsFramed l place) (take_all (length line) line (omega arith)) (begins.framed (length line) begins.long (omega arith)) in
+    let whole : take (length line - place) (drop place line) ≡ drop place line =
+    take_all (length line - place) (drop place line) (omega (arith, length-drop place line)) in
+    let says : c.framed_says.result ≡ stamped c.usual.result (text_frame c.args.known.now (take (length line - place) (drop place line))) = c.framed_says.ensures in
+    (rw (c.usual.ensures, whole) at says)
+    ∙ sym (framed_line c.args.known.now line (drop place line) (usual_moment line) (omega (arith, framed.long)) framed.is_frame framed.stamped)
