@@ -1,6 +1,7 @@
 //! Notes for people, on standard error, behind the line of a fault and beside a run. They change neither standard output
 //! nor the status, and where there is no memory or no file for one, it is left out.
 
+use crate::answer::{Answer, answer_at};
 use diag_check::{Report, check, look_at};
 use diag_config::read_setup;
 use diag_notes::{Place, Recording, ShownLine, Side, expected, is_recording, line_at, looks};
@@ -16,6 +17,9 @@ const MOST_SETUP: usize = 1_048_576;
 
 /// How many bytes of a recording are looked at when a run is over.
 const MOST_LOOK: usize = 1_048_576;
+
+/// The most bytes of a journal.
+const MOST_JOURNAL: usize = 67_108_864;
 
 /// The most faults of a setup that are noted.
 const MOST_FAULTS: usize = 10;
@@ -230,8 +234,8 @@ impl Notes<'_> {
         Ok(())
     }
 
-    /// An entry that differs.
-    fn other_entry<R: Eprint + AllocGlobal>(
+    /// An entry that differs, and what the server answers.
+    fn other_entry<R: Eprint + Files + AllocGlobal>(
         &self,
         rt: &R,
         number: u64,
@@ -240,7 +244,19 @@ impl Notes<'_> {
         let shown = ShownLine(line);
         let line = format!(in rt.alloc(); "entry {number} is: {shown}")?;
         note(rt, line.as_str());
+        if let Some(answer) = self.answer(rt, number) {
+            let line = format!(in rt.alloc(); "{answer}")?;
+            note(rt, line.as_str());
+        }
         Ok(())
+    }
+
+    /// What the server answers at an entry of the journal, where that can be read again.
+    fn answer<R: Files + AllocGlobal>(&self, rt: &R, number: u64) -> Option<Answer> {
+        let config = read_regular(rt, self.config, MOST_SETUP)?;
+        let setup = read_setup(rt.alloc(), config.as_slice()).ok()?;
+        let journal = read_regular(rt, self.path(1), MOST_JOURNAL)?;
+        answer_at(rt.alloc(), &setup, journal.as_slice(), number).ok()?
     }
 
     /// Why there can be no record.
