@@ -304,18 +304,13 @@ def a_million_events():
 
 
 def log_faults():
+    # (tools/addressing.py has each identifier with each rest)
     for line, fault in [
         ("7E0#023", "bad line"),
         ("7E0#021003000000000000", "too many bytes"),
         ("tick 0", "bad tick"),
         ("tick 60001", "bad tick"),
         ("tick 01", "bad tick"),
-        ("800#00", "bad line"),
-        ("7E0#023E0", "bad line"),
-        ("7E0#02G", "bad line"),
-        ("07E0#00", "bad line"),
-        ("7E0#021003_9", "bad line"),
-        ("7E0#023E00AAAAAAAAAA_", "bad line"),
         ("tick  5", "bad tick"),
         ("tickle", "bad tick"),
         ("tick 5 ", "bad tick"),

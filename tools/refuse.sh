@@ -4,19 +4,20 @@
 # Usage: tools/refuse.sh [tests | suite FILE]
 # The program must answer want of memory (status 4, nothing on standard output, and of `bus`, `compare` and `live`, which
 # write as they go, a front of the text) or, where it had no more need of the memory, what it answers without a refusal; where there was no
-# memory for its line on standard error, that is empty.
+# memory for its line on standard error, that is empty. Notes read the setup once more, and so ask as often again: most runs
+# leave them out (--quiet), and each kind of them has a run.
 # A test must end with the error of a refused allocation, or pass where it had no more need of the memory. NotMet is such
 # an error, too: a thread that found no memory at its start left its work to its caller's thread.
 # A request may fall in any thread; how many there are may then be another from run to run.
 # A test that makes more than 2,500 requests has as many of them refused, evenly chosen, as fit in REFUSE_TEST_SECONDS
-# (default 3). REFUSE_SECONDS (default 1800) bounds the runs of the program, and each suite anew; what
+# (default 3). REFUSE_SECONDS (default 600) bounds the runs of the program, and each suite anew; what
 # was not reached has failed. The last line is 'N passed, M failed'.
 set -uo pipefail
 cd "$(dirname "$0")/.." || exit 2
 room=$(mktemp -d)
 trap 'rm -rf "$room"' EXIT
 cc -O2 -shared -fPIC -o "$room/refuse.so" tools/refuse.c -ldl || { echo "refuse: no C compiler"; echo "0 passed, 1 failed"; exit 1; }
-end=$(($(date +%s) + ${REFUSE_SECONDS:-1800}))
+end=$(($(date +%s) + ${REFUSE_SECONDS:-600}))
 passed=0
 failed=0
 
@@ -31,11 +32,12 @@ refused() {
   status=0
   : > "$room/count"
   timeout 60 env REFUSE_AT="$n" REFUSE_COUNT="$room/count" LD_PRELOAD="$room/refuse.so" "$@" < "${input:-/dev/null}" > "$room/out" 2> "$room/err" || status=$?
-  # A note is for people, and is left out where there is no memory for it.
-  grep -v '^uds_play: note: ' "$room/err" > "$room/rest"
-  mv "$room/rest" "$room/err"
-  asked=$(od -An -t d8 "$room/count" | tr -d ' ')
-  asked=${asked:-0}
+  if [ -s "$room/err" ]; then
+    # A note is for people, and is left out where there is no memory for it.
+    grep -v '^uds_play: note: ' "$room/err" > "$room/rest"
+    mv "$room/rest" "$room/err"
+  fi
+  asked=$(($(od -An -t d8 "$room/count")))
 }
 
 good() { passed=$((passed + 1)); echo "refused: $*"; }
@@ -105,7 +107,7 @@ sweep_test() {
 sweep_example() {
   mkdir -p "$room/example"
   if tools/examples.py --files "$2" "$room/example" 2> "$room/err"; then
-    sweep_run "$2" 0 "$room/example/prints" '' "$1" serial "$room/example/setup" "$room/example/a" "$room/example/b"
+    sweep_run "$2" 0 "$room/example/prints" '' "$1" --quiet serial "$room/example/setup" "$room/example/a" "$room/example/b"
   else
     bad "$2: there is no such example"
   fi
@@ -130,39 +132,39 @@ sweep_program() {
     printf 'x' > "$room/bad"
     usage=$(cat runs/usage/stderr)
     sweep_run "the stored run" 0 crates/uds_play/stdout '' "$program"
-    sweep_run "serial" 0 "$room/played" '' "$program" serial --stamps "$room/config" "$room/log"
-    sweep_run "play" 0 "$room/played" '' "$program" play --stamps "$room/config" "$room/log"
+    sweep_run "serial" 0 "$room/played" '' "$program" --quiet serial --stamps "$room/config" "$room/log"
+    sweep_run "play" 0 "$room/played" '' "$program" --quiet play --stamps "$room/config" "$room/log"
     any_order=1 sweep_run "play of two testers" 0 runs/threaded_play/lines '' \
-      "$program" play runs/setup.toml runs/threaded_play/a.log runs/threaded_play/b.log
+      "$program" --quiet play runs/setup.toml runs/threaded_play/a.log runs/threaded_play/b.log
     sweep_example "$program" suppressed-reply
     sweep_example "$program" long-reply
     sweep_example "$program" trouble-codes
     sweep_example "$program" routine-and-setting
     sweep_example "$program" "many-identifiers, one of them unknown"
     sweep_example "$program" rule-pending-many
-    sweep_run "replay" 0 "$room/replayed" '' "$program" replay "$room/config" "$room/journal"
-    writes_as_it_goes=1 sweep_run "bus" 0 runs/bus_merge/stdout '' "$program" bus runs/setup.toml runs/bus_merge/capture.log
+    sweep_run "replay" 0 "$room/replayed" '' "$program" --quiet replay "$room/config" "$room/journal"
+    writes_as_it_goes=1 sweep_run "bus" 0 runs/bus_merge/stdout '' "$program" --quiet bus runs/setup.toml runs/bus_merge/capture.log
     writes_as_it_goes=1 sweep_run "bus with later answers" 0 runs/bus_rule_slow_twice/stdout '' \
-      "$program" bus runs/bus_rule_slow_twice/setup.toml runs/bus_rule_slow_twice/capture.log
+      "$program" --quiet bus runs/bus_rule_slow_twice/setup.toml runs/bus_rule_slow_twice/capture.log
     writes_as_it_goes=1 sweep_run "the journal of a bus" 0 runs/bus_functional_journal/stdout '' \
-      "$program" bus --journal runs/setup.toml runs/bus_functional/capture.log
+      "$program" --quiet bus --journal runs/setup.toml runs/bus_functional/capture.log
     writes_as_it_goes=1 sweep_run "the end of a bus" 0 runs/bus_order_end/stdout '' \
-      "$program" bus --end runs/setup.toml runs/bus_order/capture.log
+      "$program" --quiet bus --end runs/setup.toml runs/bus_order/capture.log
     writes_as_it_goes=1 sweep_run "a capture at fault" 3 runs/bus_fault/stdout 'uds_play: capture line 5: bad tick' \
-      "$program" bus runs/setup.toml runs/bus_fault/capture.log
-    input=runs/live_at_once/bus.log writes_as_it_goes=1 sweep_run "live" 0 runs/live_at_once/stdout '' "$program" live runs/setup.toml
-    sweep_run "a verdict" 0 runs/verify_agrees/stdout '' "$program" verify runs/setup.toml runs/verify_agrees/capture.log
+      "$program" --quiet bus runs/setup.toml runs/bus_fault/capture.log
+    input=runs/live_at_once/bus.log writes_as_it_goes=1 sweep_run "live" 0 runs/live_at_once/stdout '' "$program" --quiet live runs/setup.toml
+    sweep_run "a verdict" 0 runs/verify_agrees/stdout '' "$program" --quiet verify runs/setup.toml runs/verify_agrees/capture.log
     sweep_run "a verdict on a frame" 8 "$room/nothing" 'uds_play: line 3: B sent 037F1022CCCCCCCC, expected 037F1021CCCCCCCC' \
-      "$program" verify runs/setup.toml runs/verify_second_first/capture.log
+      "$program" --quiet verify runs/setup.toml runs/verify_second_first/capture.log
     sweep_run "a verdict on what is missing" 8 "$room/nothing" 'uds_play: A sent 1 frames, expected 065001003201F4CC next' \
-      "$program" verify runs/setup.toml runs/bus_order/capture.log
+      "$program" --quiet verify runs/setup.toml runs/bus_order/capture.log
     writes_as_it_goes=1 sweep_run "exchanges" 8 runs/compare_order/stdout '' \
       "$program" --quiet compare runs/setup.toml runs/bus_order/capture.log
     writes_as_it_goes=1 sweep_run "exchanges by rules" 8 runs/compare_varies/stdout '' \
       "$program" --quiet compare runs/compare_varies/lax.toml runs/compare_varies/capture.log
     writes_as_it_goes=1 sweep_run "exchanges before a fault" 3 runs/compare_fault/stdout 'uds_play: capture line 6: bad tick' \
       "$program" --quiet compare runs/setup.toml runs/compare_fault/capture.log
-    sweep_run "a capture that is not there" 7 "$room/nothing" 'uds_play: cannot read file 1' "$program" bus "$room/config" "$room/none"
+    sweep_run "a capture that is not there" 7 "$room/nothing" 'uds_play: cannot read file 1' "$program" --quiet bus "$room/config" "$room/none"
     printf 's3_m = 1\n[[tester]]\nname = "A"\nrequest = 710\n' > "$room/slips"
     {
       echo 'missing tester.response: response of [[tester]] 1'
@@ -171,11 +173,20 @@ sweep_program() {
     } > "$room/looked"
     sweep_run "a look at a setup" 2 "$room/looked" '' "$program" check "$room/slips"
     sweep_run "a usage fault" 1 "$room/nothing" "$usage" "$program" replay --journal "$room/config" "$room/journal"
-    sweep_run "a config at fault" 2 "$room/nothing" 'uds_play: config: syntax' "$program" serial "$room/bad" "$room/log"
-    sweep_run "a log at fault" 3 "$room/nothing" 'uds_play: log 1 line 1: bad line' "$program" serial "$room/config" "$room/bad"
-    sweep_run "a log at fault, by play" 3 "$room/nothing" 'uds_play: log 1 line 1: bad line' "$program" play "$room/config" "$room/bad"
-    sweep_run "a file that is not there" 7 "$room/nothing" 'uds_play: cannot read file 1' "$program" serial "$room/config" "$room/none"
-    sweep_run "a replay that differs" 8 "$room/nothing" 'uds_play: entry 1 differs' "$program" replay "$room/config" "$room/other"
+    sweep_run "a config at fault" 2 "$room/nothing" 'uds_play: config: syntax' "$program" --quiet serial "$room/bad" "$room/log"
+    sweep_run "a config at fault, with notes" 2 "$room/nothing" 'uds_play: config: missing tester.response' "$program" bus "$room/slips" "$room/log"
+    sweep_run "a log at fault, with notes" 3 "$room/nothing" 'uds_play: log 1 line 1: bad line' "$program" serial "$room/config" "$room/bad"
+    sweep_run "a log at fault, by play" 3 "$room/nothing" 'uds_play: log 1 line 1: bad line' "$program" --quiet play "$room/config" "$room/bad"
+    sweep_run "a file that is not there" 7 "$room/nothing" 'uds_play: cannot read file 1' "$program" --quiet serial "$room/config" "$room/none"
+    sweep_run "a config that is not there, with notes" 7 "$room/nothing" 'uds_play: cannot read file 0' "$program" serial "$room/none" "$room/log"
+    sweep_run "a replay that differs, with notes" 8 "$room/nothing" 'uds_play: entry 1 differs' "$program" replay "$room/config" "$room/other"
+    {
+      printf 's3_m = 1\n[[tester]]\nname = "A"\nrequest = 0x7E0\nresponse = 0x7E8\n'
+      printf '[[tester]]\nname = "B"\nrequest = 710\nresponse = 0x7E9\n'
+    } > "$room/odd"
+    printf '(1.000000) can0 7E0#023E00\n(1.100000) can1 7E0##1023E00\n(1.200000) can1 7E8#02 7E 00\n' > "$room/mixed"
+    echo '(0000000001.000000) A 7E8#027E00CCCCCCCCCC' > "$room/one"
+    writes_as_it_goes=1 sweep_run "what a run didn't see, with notes" 0 "$room/one" '' "$program" bus "$room/odd" "$room/mixed"
   else
     bad "$program isn't built"
   fi

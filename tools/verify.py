@@ -76,12 +76,14 @@ def both(config, path, lines):
 
 
 def checked(config, path, lines, name, status=None, number=None):
-    """Compares the program with the model; the status and the number of the line that is told may be wanted, too."""
+    """Compares the program with the model; the status and the number of the line that is told may be wanted, too. Returns
+    what the program says."""
     found, want = both(config, path, lines)
     good = found == want and (status is None or found[0] == status)
     if number is not None:
         good = good and found[2].startswith(f"uds_play: line {number}: ".encode())
     told(good, name, f"{found} in place of {want}, {status}, {number}")
+    return found
 
 
 # ---- recordings
@@ -150,9 +152,9 @@ def agrees(room):
             pending.append(line)
         checked(config, path, pending, f"response pending, {seed}", 0)
         again = [it if it in set(lines) or chance.random() < 0.5 else it[:19] + it[19:].partition("#")[0] + "#" + it.partition("#")[2].lower() for it in whole]
-        checked(config, path, again, f"lower-case digits, {seed}", 0)
-        ways = [run(["verify", config, path]), run(["verify", config, "-"], input=open(path, "rb").read())]
-        told(ways[0] == ways[1] and ways[0][0] == 0, f"from standard input, {seed}", f"{ways}")
+        found = checked(config, path, again, f"lower-case digits, {seed}", 0)
+        given = run(["verify", config, "-"], input="".join(f"{it}\n" for it in again).encode())
+        told(given == found, f"from standard input, {seed}", f"{given} in place of {found}")
 
 
 def early(room):

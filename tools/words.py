@@ -46,8 +46,9 @@ def told(good, name, more=""):
 
 
 def help_of(*words):
-    done = subprocess.run([PROGRAM, *words, "--help"], capture_output=True, text=True, timeout=60, check=True)
-    return re.sub(r"Usage: \S+", "Usage: uds_play", done.stdout, count=1)
+    texts = [subprocess.run([PROGRAM, *words, it], capture_output=True, text=True, timeout=60, check=True).stdout for it in ("--help", "-h")]
+    told(texts[0] == texts[1], f"help by -h: {' '.join(words)}", f": {texts[1]}")
+    return re.sub(r"Usage: \S+", "Usage: uds_play", texts[0], count=1)
 
 
 def parts_of(text):

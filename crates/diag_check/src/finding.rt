@@ -86,22 +86,74 @@ impl fmt::Display for Shown<'_> {
     }
 }
 
-/// The bytes of a text that stands where its bytes in hex belong; nothing else, and nothing of a long one.
+/// How a value of another kind may be meant; nothing where there is no guess.
 #[derive(Drop)]
-pub struct Letters<'a>(pub Kind, pub &'a Value);
+pub struct Meant<'a>(pub Kind, pub &'a Value);
 
-impl fmt::Display for Letters<'_> {
+impl fmt::Display for Meant<'_> {
     fn fmt<W: fmt::Write>(&self, f: &mut fmt::Formatter<W>) -> fmt::Result {
-        let (Kind::Bytes(..), Value::String(text)) = (self.0, self.1) else {
-            return Ok(());
-        };
-        if text.is_empty() || text.len() > MOST_SHOWN {
-            return Ok(());
+        match (self.0, self.1) {
+            (Kind::Rows(table, _), Value::Table(_)) => {
+                let path = table.path();
+                write!(f, "; [[{path}]] begins each of them")
+            }
+            (kind, Value::String(text)) => write_meant(f, kind, text.as_str()),
+            _ => Ok(()),
         }
-        write!(f, "; the letters of this text are ")?;
-        for byte in text.as_bytes() {
-            write!(f, "{byte:02X}")?;
+    }
+}
+
+/// How a text may be meant that stands where a value of this kind belongs.
+fn write_meant<W: fmt::Write>(f: &mut fmt::Formatter<W>, kind: Kind, text: &str) -> fmt::Result {
+    if text.is_empty() || text.len() > MOST_SHOWN {
+        return Ok(());
+    }
+    match kind {
+        Kind::Bytes(..) | Kind::Seed if is_spaced_hex(text) => {
+            write!(f, "; ")?;
+            write_without_spaces(f, text)?;
+            write!(f, "?")
         }
+        Kind::Bytes(..) => write_letters(f, text),
+        Kind::Number(..) | Kind::Identifier(_) | Kind::SubFunction | Kind::Reference => {
+            write_number(f, text)
+        }
+        Kind::Templates | Kind::Patterns => write!(f, "; a list stands between [ and ]"),
+        _ => Ok(()),
+    }
+}
+
+/// Whether a text is pairs of hex digits with a space between each two.
+fn is_spaced_hex(text: &str) -> bool {
+    text.split(' ').all(|pair| pair.len() == 2 && is_hex(pair))
+}
+
+fn is_hex(text: &str) -> bool {
+    text.bytes().all(|c| c.is_ascii_hexdigit())
+}
+
+fn write_without_spaces<W: fmt::Write>(f: &mut fmt::Formatter<W>, text: &str) -> fmt::Result {
+    for pair in text.split(' ') {
+        f.write_str(pair)?;
+    }
+    Ok(())
+}
+
+/// The bytes of a text in hex.
+fn write_letters<W: fmt::Write>(f: &mut fmt::Formatter<W>, text: &str) -> fmt::Result {
+    write!(f, "; the letters of this text are ")?;
+    for byte in text.as_bytes() {
+        write!(f, "{byte:02X}")?;
+    }
+    Ok(())
+}
+
+/// A number that stands in quotes.
+fn write_number<W: fmt::Write>(f: &mut fmt::Formatter<W>, text: &str) -> fmt::Result {
+    let digits = text.strip_prefix("0x").unwrap_or(text);
+    if !digits.is_empty() && digits.len() <= 8 && is_hex(digits) {
+        write!(f, "; 0x{digits}, without quotes?")
+    } else {
         Ok(())
     }
 }

@@ -93,6 +93,16 @@ pub fn check(alloc: Global, bytes: &[u8]) -> Result<Report, AllocError>
     Ok(report)
 }
 
+/// What the bytes are that are no text.
+fn no_text(bytes: &[u8]) -> &'static str {
+    match bytes {
+        [0xFF, 0xFE, ..] | [0xFE, 0xFF, ..] | [_, 0, ..] | [0, _, ..] => {
+            "the bytes are UTF-16: save the setup as UTF-8"
+        }
+        _ => "the bytes are no UTF-8",
+    }
+}
+
 /// All that the look at a setup file's bytes finds by itself.
 pub fn look_at(alloc: Global, bytes: &[u8]) -> Result<Report, AllocError> {
     let text = std::str::from_utf8(bytes).unwrap_or("");
@@ -100,7 +110,7 @@ pub fn look_at(alloc: Global, bytes: &[u8]) -> Result<Report, AllocError> {
     if text.len() == bytes.len() {
         look.text()?;
     } else {
-        let place = String::from_str(alloc, "the bytes are no UTF-8")?;
+        let place = String::from_str(alloc, no_text(bytes))?;
         look.tell(ConfigFault::Syntax, place)?;
     }
     Ok(Report {

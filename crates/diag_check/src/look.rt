@@ -1,7 +1,7 @@
 //! The look at a setup: its faults, the keys that are passed over, and what is odd.
 
 use crate::across::latest_answer_ms;
-use crate::finding::{Finding, Letters, Row, Shown, ShownKey};
+use crate::finding::{Finding, Meant, Row, Shown, ShownKey};
 use crate::keys::{KEYS, Key, Kind, Need, Table};
 use crate::near::nearest;
 use crate::value::{is_allowed, is_of_kind, is_pattern, is_template, items};
@@ -97,8 +97,8 @@ impl<'a> Look<'a> {
             }
             None => {
                 let shown = Shown(value);
-                let letters = Letters(kind, value);
-                format!(in self.alloc; "{name}{row} is {shown}: {what}{letters}")?
+                let meant = Meant(kind, value);
+                format!(in self.alloc; "{name}{row} is {shown}: {what}{meant}")?
             }
         };
         self.tell(ConfigFault::BadValue(key.path), place)
@@ -219,9 +219,19 @@ impl<'a> Look<'a> {
         let (line, rest) = told.as_str().split_once('\n').unwrap_or(("", ""));
         let line = line.strip_prefix("TOML parse error at ").unwrap_or(line);
         let message = rest.trim_end();
-        let place = format!(in self.alloc; "{line}: {message}")?;
+        let hint = if is_recording(self.text) {
+            "; this is a recording, and no setup"
+        } else {
+            ""
+        };
+        let place = format!(in self.alloc; "{line}: {message}{hint}")?;
         self.tell(ConfigFault::Syntax, place)
     }
+}
+
+/// Whether a text begins as a recording of `candump -L` does.
+fn is_recording(text: &str) -> bool {
+    text.starts_with('(') || text.starts_with("tick")
 }
 
 /// When a run looks for a fault.

@@ -13,6 +13,8 @@ pub enum Place {
     JournalLine(u64),
     /// In an entry of a journal, from 1.
     Entry(u64),
+    /// In how many files were given.
+    Files,
     /// Nowhere in a file.
     Nowhere,
 }
@@ -23,6 +25,9 @@ impl Place {
         let text = told.strip_prefix("uds_play: ").unwrap_or(told);
         if text.starts_with("config: ") {
             return Place::Setup;
+        }
+        if text.contains(" files wanted, ") {
+            return Place::Files;
         }
         in_file(text)
             .or(in_line(text))

@@ -18,6 +18,11 @@ impl Side<'_> {
     fn has(&self, number: u32) -> bool {
         number == self.request || number == self.response || number == self.functional
     }
+
+    /// How many hex digits its identifiers have.
+    fn digits(&self) -> usize {
+        if self.extended { 8 } else { 3 }
+    }
 }
 
 /// A frame's line.
@@ -27,6 +32,69 @@ struct Line<'a> {
     id: u32,
     is_extended: bool,
     is_flexible: bool,
+    /// What stands behind the identifier and `#`.
+    rest: &'a str,
+}
+
+impl Line<'_> {
+    /// Whether the frame may be the first of a message (ISO 15765-2:2016, 9.6): a SingleFrame, or a FirstFrame, which has
+    /// eight bytes.
+    fn begins(&self) -> bool {
+        match self.rest.as_bytes() {
+            [b'0', b'1'..=b'7', ..] => true,
+            [b'1', ..] => self.rest.len() >= 16,
+            _ => false,
+        }
+    }
+
+    /// Whether more bytes stand behind a space, where they aren't read.
+    fn is_spaced(&self) -> bool {
+        let behind = match self.rest.split_once(' ') {
+            Some((_, behind)) => behind.as_bytes(),
+            None => b"",
+        };
+        match behind {
+            [first, second] | [first, second, b' ' | b'\r', ..] => {
+                first.is_ascii_hexdigit() && second.is_ascii_hexdigit()
+            }
+            _ => false,
+        }
+    }
+}
+
+/// How many frames of a tester were seen.
+#[derive(Clone, Copy)]
+struct Frames {
+    /// All of them, the unit's own to it among them.
+    all: u64,
+    /// With the identifier of its requests.
+    requests: u64,
+    /// Of these the first ones of messages.
+    begins: u64,
+    /// With the identifier of the unit's answers.
+    responses: u64,
+}
+
+impl Frames {
+    const NONE: Frames = Frames {
+        all: 0,
+        requests: 0,
+        begins: 0,
+        responses: 0,
+    };
+
+    fn count(&mut self, side: &Side<'_>, line: &Line<'_>) {
+        self.all = self.all.saturating_add(1);
+        if line.id == side.response {
+            self.responses = self.responses.saturating_add(1);
+        }
+        if line.id == side.request {
+            self.requests = self.requests.saturating_add(1);
+            if line.begins() {
+                self.begins = self.begins.saturating_add(1);
+            }
+        }
+    }
 }
 
 /// How many frames an interface has.
@@ -41,10 +109,12 @@ struct Interface<'a> {
 pub struct Recording<'a> {
     alloc: Global,
     /// The testers, and how many frames of each were seen.
-    sides: Vec<(Side<'a>, u64)>,
+    sides: Vec<(Side<'a>, Frames)>,
     standard: u64,
     extended: u64,
     flexible: u64,
+    /// How many of the testers' frames have more bytes behind a space.
+    spaced: u64,
     interfaces: Vec<Interface<'a>>,
 }
 
@@ -60,13 +130,14 @@ impl<'a> Recording<'a> {
             standard: 0,
             extended: 0,
             flexible: 0,
+            spaced: 0,
             interfaces: Vec::new(alloc),
         }
     }
 
     /// One tester more.
     pub fn side(&mut self, side: Side<'a>) -> Result<(), AllocError> {
-        self.sides.push((side, 0))?;
+        self.sides.push((side, Frames::NONE))?;
         Ok(())
     }
 
@@ -89,12 +160,15 @@ impl<'a> Recording<'a> {
                 is_named = true;
                 if side.extended == line.is_extended && !line.is_flexible {
                     is_heard = true;
-                    *frames = frames.saturating_add(1);
+                    frames.count(side, line);
                 }
             }
         }
         if is_named && !is_heard {
             self.pass(line);
+        }
+        if is_heard && line.is_spaced() {
+            self.spaced = self.spaced.saturating_add(1);
         }
         self.interface(line.interface)
     }
@@ -123,22 +197,57 @@ impl<'a> Recording<'a> {
         Ok(())
     }
 
-    /// A line for each thing that a reader should know. `part` is what stands behind where not all was looked at.
-    pub fn notes(&self, part: &str) -> Result<Vec<String>, AllocError> {
+    /// Whether there is a tester of whom no frame with the identifier of its requests was seen.
+    pub fn is_one_silent(&self) -> bool {
+        self.sides.iter().any(|(_, frames)| frames.requests == 0)
+    }
+
+    /// A line for each thing that a reader should know. `part` is what stands behind where not all was looked at; with
+    /// `is_judged` the unit's own frames should be there.
+    pub fn notes(&self, part: &str, is_judged: bool) -> Result<Vec<String>, AllocError> {
         let mut notes = Vec::new(self.alloc);
         for (side, frames) in self.sides.iter() {
-            if *frames == 0 {
+            let told = self.unseen(side, *frames, part)?;
+            if let Some(told) = told {
+                notes.push(told)?;
+            }
+            if is_judged && frames.all > 0 && frames.responses == 0 {
                 let name = side.name;
-                let request = side.request;
-                let digits = if side.extended { 8 } else { 3 };
+                let response = side.response;
+                let digits = side.digits();
                 notes.push(format!(in self.alloc;
-                    "no frame of {name} was seen{part}: its requests have the identifier {request:0digits$X}"
+                    "no frame of the unit to {name} was seen{part}: its answers have the identifier {response:0digits$X}"
                 )?)?;
             }
         }
         self.passed(&mut notes, part)?;
         self.names(&mut notes, part)?;
         Ok(notes)
+    }
+
+    /// What wasn't seen of a tester's own frames.
+    fn unseen(
+        &self,
+        side: &Side<'_>,
+        frames: Frames,
+        part: &str,
+    ) -> Result<Option<String>, AllocError> {
+        let name = side.name;
+        let request = side.request;
+        let digits = side.digits();
+        if frames.all == 0 {
+            let told = format!(in self.alloc;
+                "no frame of {name} was seen{part}: its requests have the identifier {request:0digits$X}"
+            )?;
+            return Ok(Some(told));
+        }
+        if frames.requests > 0 && frames.begins == 0 {
+            let told = format!(in self.alloc;
+                "no frame of {name} begins a message of ISO-TP{part}: the length stands first, as in {request:0digits$X}#021003"
+            )?;
+            return Ok(Some(told));
+        }
+        Ok(None)
     }
 
     fn passed(&self, notes: &mut Vec<String>, part: &str) -> Result<(), AllocError> {
@@ -153,6 +262,12 @@ impl<'a> Recording<'a> {
                     "frames with a tester's number that were passed over, being of {what}{part}: {count}"
                 )?)?;
             }
+        }
+        if self.spaced > 0 {
+            let count = self.spaced;
+            notes.push(format!(in self.alloc;
+                "frames of which only the bytes before a space are read, for bytes stand together{part}: {count}"
+            )?)?;
         }
         Ok(())
     }
@@ -184,5 +299,6 @@ fn read_line(line: &str) -> Option<Line<'_>> {
         id: u32::from_str_radix(id, 16).ok()?,
         is_extended: id.len() == 8,
         is_flexible: rest.starts_with('#'),
+        rest,
     })
 }

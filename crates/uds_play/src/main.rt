@@ -11,6 +11,7 @@ ghost use Rattle.diag_stored.specs.declared.TheConstants.{
 ghost use Rattle.diag_run.specs.Files.{AreKnown};
 ghost use Rattle.diag_run.specs.Run.{GivesRun, read_of};
 
+mod answer;
 mod command;
 mod flow_lines;
 mod notes;

@@ -1,6 +1,7 @@
 //! Notes for people, on standard error, behind the line of a fault and beside a run. They change neither standard output
 //! nor the status, and where there is no memory or no file for one, it is left out.
 
+use crate::answer::{Answer, answer_at};
 use diag_check::{Report, check, look_at};
 use diag_config::read_setup;
 use diag_notes::{Place, Recording, ShownLine, Side, expected, is_recording, line_at, looks};
@@ -16,6 +17,9 @@ const MOST_SETUP: usize = 1_048_576;
 
 /// How many bytes of a recording are looked at when a run is over.
 const MOST_LOOK: usize = 1_048_576;
+
+/// The most bytes of a journal.
+const MOST_JOURNAL: usize = 67_108_864;
 
 /// The most faults of a setup that are noted.
 const MOST_FAULTS: usize = 10;
@@ -85,14 +89,14 @@ impl Notes<'_> {
         }
         // Where there is no memory, no note tells of it.
         let _ = match outcome {
-            Outcome::Done { .. } => self.unseen(rt),
+            Outcome::Done { .. } => self.unseen(rt, false),
             Outcome::Fault {
                 told: Some(told),
                 status,
             } => {
                 let told = str::from_utf8(told.as_slice()).unwrap_or("");
                 match Place::of(told) {
-                    Place::Nowhere if *status == 8 => self.unseen(rt),
+                    Place::Nowhere if *status == 8 => self.unseen(rt, true),
                     place => self.at_place(rt, place, first),
                 }
             }
@@ -121,7 +125,22 @@ impl Notes<'_> {
                 Some(line) => self.other_entry(rt, number, line.as_slice()),
                 None => Ok(()),
             },
+            Place::Files => {
+                note(rt, self.files_wanted());
+                Ok(())
+            }
             Place::Nowhere => Ok(()),
+        }
+    }
+
+    /// Which files are wanted behind the setup.
+    fn files_wanted(&self) -> &'static str {
+        match self.kind {
+            FileKind::Logs => {
+                "serial and play take the log of each [[tester]], in their order; bus takes the recording of the whole bus"
+            }
+            FileKind::Journal => "replay takes one journal",
+            FileKind::Capture | FileKind::Record => "it takes one file",
         }
     }
 
@@ -215,8 +234,8 @@ impl Notes<'_> {
         Ok(())
     }
 
-    /// An entry that differs.
-    fn other_entry<R: Eprint + AllocGlobal>(
+    /// An entry that differs, and what the server answers.
+    fn other_entry<R: Eprint + Files + AllocGlobal>(
         &self,
         rt: &R,
         number: u64,
@@ -225,7 +244,19 @@ impl Notes<'_> {
         let shown = ShownLine(line);
         let line = format!(in rt.alloc(); "entry {number} is: {shown}")?;
         note(rt, line.as_str());
+        if let Some(answer) = self.answer(rt, number) {
+            let line = format!(in rt.alloc(); "{answer}")?;
+            note(rt, line.as_str());
+        }
         Ok(())
+    }
+
+    /// What the server answers at an entry of the journal, where that can be read again.
+    fn answer<R: Files + AllocGlobal>(&self, rt: &R, number: u64) -> Option<Answer> {
+        let config = read_regular(rt, self.config, MOST_SETUP)?;
+        let setup = read_setup(rt.alloc(), config.as_slice()).ok()?;
+        let journal = read_regular(rt, self.path(1), MOST_JOURNAL)?;
+        answer_at(rt.alloc(), &setup, journal.as_slice(), number).ok()?
     }
 
     /// Why there can be no record.
@@ -254,8 +285,13 @@ impl Notes<'_> {
         Ok(())
     }
 
-    /// What a run didn't see in the recordings that can be looked at again.
-    fn unseen<R: Eprint + Files + AllocGlobal>(&self, rt: &R) -> Result<(), AllocError> {
+    /// What a run didn't see in the recordings that can be looked at again. With `is_judged` the unit's own frames should
+    /// be in them.
+    fn unseen<R: Eprint + Files + AllocGlobal>(
+        &self,
+        rt: &R,
+        is_judged: bool,
+    ) -> Result<(), AllocError> {
         if self.kind == FileKind::Journal {
             return Ok(());
         }
@@ -265,17 +301,31 @@ impl Notes<'_> {
         let Ok(setup) = read_setup(rt.alloc(), config.as_slice()) else {
             return Ok(());
         };
+        let mut is_one_silent = false;
         for (index, path) in self.files.iter().enumerate() {
             let only = match self.kind {
                 FileKind::Logs => Some(index),
                 FileKind::Capture | FileKind::Journal | FileKind::Record => None,
             };
             if let Some(text) = read_regular(rt, path, MOST_LOOK) {
-                note_unseen(rt, setup.raw(), only, text.as_slice())?;
+                let is_silent = note_unseen(rt, setup.raw(), only, is_judged, text.as_slice())?;
+                is_one_silent = is_one_silent || is_silent;
             }
+        }
+        if is_one_silent {
+            note_odd(rt, config.as_slice())?;
         }
         Ok(())
     }
+}
+
+/// What is odd about the text of a setup.
+fn note_odd<R: Eprint + AllocGlobal>(rt: &R, config: &[u8]) -> Result<(), AllocError> {
+    let report = look_at(rt.alloc(), config)?;
+    for line in &report.odd {
+        note(rt, line.as_str());
+    }
+    Ok(())
 }
 
 fn note_faults<R: Eprint + AllocGlobal>(rt: &R, report: &Report) -> Result<(), AllocError> {
@@ -291,13 +341,15 @@ fn note_faults<R: Eprint + AllocGlobal>(rt: &R, report: &Report) -> Result<(), A
     Ok(())
 }
 
-/// Tells what wasn't seen in the text of a recording: of all testers, or of the one whose log it is.
+/// Tells what wasn't seen in the text of a recording: of all testers, or of the one whose log it is. Answers whether one of
+/// them asks nothing in it.
 fn note_unseen<R: Eprint + AllocGlobal>(
     rt: &R,
     setup: &RawSetup,
     only: Option<usize>,
+    is_judged: bool,
     text: &[u8],
-) -> Result<(), AllocError> {
+) -> Result<bool, AllocError> {
     let mut recording = Recording::new(rt.alloc());
     for (index, tester) in setup.testers.as_slice().iter().enumerate() {
         if only.is_none_or(|only| only == index) {
@@ -316,10 +368,10 @@ fn note_unseen<R: Eprint + AllocGlobal>(
     } else {
         " in the first 1048576 bytes"
     };
-    for line in &recording.notes(part)? {
+    for line in &recording.notes(part, is_judged)? {
         note(rt, line.as_str());
     }
-    Ok(())
+    Ok(recording.is_one_silent())
 }
 
 /// The number of a tester's functional identifier.
