@@ -11,7 +11,8 @@ It prints a table in Markdown, a row for each workload: lines a second (the quic
 executables take turns), the instructions of the program for a line more, by valgrind's callgrind where that is installed
 (they are the same in each run, and don't feel what else the machine does), and the most memory of the process in KiB
 (of five runs, each looked at five times a millisecond). Where two executables are given it is also checked that they
-write the same bytes. The program is built first where none is given.
+write the same bytes. Notes are left out (`--quiet`), for behind a run they look at the first MiB of a file again. The
+program is built first where none is given.
 """
 import argparse
 import os
@@ -142,7 +143,7 @@ def workloads(seed):
 
 def add_replies(program, config, capture):
     """Puts the frames that the unit sends into a capture, some lines behind those that draw them."""
-    replies = subprocess.run([program, "bus", config, capture], stdout=subprocess.PIPE, check=True).stdout.decode("ascii").splitlines()
+    replies = subprocess.run([program, "bus", "--quiet", config, capture], stdout=subprocess.PIPE, check=True).stdout.decode("ascii").splitlines()
     with open(capture, encoding="ascii") as it:
         lines = it.read().splitlines()
     done, mixed = 0, []
@@ -161,12 +162,13 @@ def words_of(room, program, work, lines):
     logs = [written(f"{room}/{NAMES[it]}.log", lines_of(own, lines // len(texts), apart)) for it, own in enumerate(texts)]
     if command == ["verify"]:
         add_replies(program, config, logs[0])
-    if command != ["replay"]:
-        return [*command, config, *logs]
+    kind, *flags = command
+    if kind != "replay":
+        return [kind, "--quiet", *flags, config, *logs]
     journal = f"{room}/journal"
     with open(journal, "wb") as it:
-        subprocess.run([program, "serial", "--journal", config, *logs], stdout=it, check=True)
-    return ["replay", config, journal]
+        subprocess.run([program, "serial", "--quiet", "--journal", config, *logs], stdout=it, check=True)
+    return [kind, "--quiet", config, journal]
 
 
 # ---- measures

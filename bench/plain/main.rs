@@ -13,7 +13,8 @@
 //!
 //! Files are read by pieces, and each line is looked at once, where its event is used. What `serial` prints is kept
 //! until all logs have ended well, for a fault leaves nothing written; what `bus` prints leaves as it comes. Left out
-//! are `play`, `live`, `--help` and `--version`, and of the setup's TOML what no setup uses.
+//! are `play`, `live`, `--help`, `--version` and notes, with or without `--quiet`, and of the setup's TOML what no setup
+//! uses.
 
 mod bus;
 mod ecu;
@@ -141,10 +142,10 @@ fn run() -> Result<(), Fault> {
     let words: Option<Vec<String>> = std::env::args_os().skip(1).map(|it| it.into_string().ok()).collect();
     let mut words = words.ok_or(Fault::Usage)?.into_iter();
     let (known, job): (&[&str], Job) = match words.next().as_deref() {
-        Some("serial") => (&["--journal", "--stamps"], run_serial),
-        Some("bus") => (&["--journal", "--end"], run_bus),
-        Some("verify") => (&[], run_verify),
-        Some("replay") => (&[], run_replay),
+        Some("serial") => (&["--journal", "--stamps", "--quiet"], run_serial),
+        Some("bus") => (&["--journal", "--end", "--quiet"], run_bus),
+        Some("verify") => (&["--quiet"], run_verify),
+        Some("replay") => (&["--quiet"], run_replay),
         _ => return Err(Fault::Usage),
     };
     job(Words::read(words, known).ok_or(Fault::Usage)?)

@@ -1,15 +1,13 @@
 -- From the mask of one look at many bytes to the bytes that pass a test.
-use Rattle.std.proofs.Common.{◌≡◌, ℕ, ◌+◌, ◌-◌, ◌*◌, ◌/◌, ◌%◌, ◌^◌, ◌<◌, ◌≤◌, Bool, true, false, not, cond, List, [], ◌∷◌, map, length, get_or, Some, Fits, w8, refl, sym, ap, ap₂, ◌∙◌, subst, arith, inl, inr}
+use Rattle.std.proofs.Common.{◌≡◌, ℕ, ◌+◌, ◌-◌, ◌%◌, ◌^◌, ◌<◌, ◌≤◌, Bool, true, false, not, List, [], ◌∷◌, map, length, get_or, Some, Fits, w8, refl, sym, ap, ap₂, ◌∙◌, subst, arith, inl, inr}
 use Rattle.std.proofs.lemmas.Bool.{false≢true, agree_below, agree_below_at, not-true, not-false, cases_eq, eq-eqb, ne_eqb, cond-true, cond-false}
-use Rattle.std.proofs.lemmas.Simd.{map-map, mask_l-mod, length-chunk, get_or-chunk, bit_mask_l, leading_from_mask_l, trailing_mask_l}
-use Rattle.std.proofs.lemmas.List.{length-map, get_or-map}
+use Rattle.std.proofs.lemmas.Simd.{map-map, mask_l-mod, length-chunk, get_or-chunk, leading_from_mask_l, trailing_mask_l}
+use Rattle.std.proofs.lemmas.List.{length-map}
 use Rattle.std.proofs.lemmas.List.Sums.{prefix_len-le-length, prefix_len_passes, prefix_len_stops}
 use Rattle.std.specs.List.{prefix_len}
 use lib.Lanes.{chunk, zip2, mask_l, top}
-use Rattle.std.proofs.Math.Nat.{pow-le-pow_right, div-lt_iff_lt-mul, div-eq_of_lt}
-use Rattle.std.proofs.lemmas.Nat.{pow_pos}
 use Rattle.memchr.specs.Find.{IsFirstByte}
-use Rattle.diag_can.specs.Lanes.{IsMask, IsRunIn, first_set}
+use Rattle.diag_can.specs.Lanes.{IsRunIn, first_set}
 
 zip2-map : (h : ℕ → ℕ → ℕ) (f g : ℕ → ℕ) (xs : List ℕ) → zip2 h (map f xs) (map g xs) ≡ map (λ x. h (f x) (g x)) xs
 zip2-map h f g [] = refl
@@ -59,51 +57,6 @@ module _ (q : ℕ → Bool) (d : List ℕ) (i n r : ℕ) (z : List ℕ) (room : 
         let set = subst (λ x. stopped x ≡ true) at (not-false _ (prefix_len_stops (λ x. not (stopped x)) (chunk i n d) 0 (omega (arith, counted, long)))) in
         not-true _ (sym (agree_below_at stopped (λ x. not (q x)) 256 (get_or d (i + r) 0) all (fits (i + r)).fits) ∙ set);
   }
-
--- no bit from this place on is set
-bit_past : (m s i : ℕ) → m / 2 ^ s ≡ 0 → s ≤ i → m / 2 ^ i ≡ 0
-bit_past m s i none le =
-    let below : m < 1 * 2 ^ s = (div-lt_iff_lt-mul (pow_pos s)).0 (omega (arith, none)) in
-    let more = pow-le-pow_right {n = 2} (omega arith) le in
-    div-eq_of_lt (omega (arith, below, more))
-
-unset : (b : Bool) → cond {A = ℕ} b 1 0 ≡ 0 → b ≡ false
-unset true is = absurd (omega arith)
-unset false is = refl
-
-module _ (q : ℕ → Bool) (d : List ℕ) (i n s : ℕ) (z : List ℕ) (room : i + n ≤ length d) (few : n ≤ 64)
-    (fits : (k : ℕ) → Fits w8 (get_or d k 0)) (found : mask_l (map (top 7) z) % 2 ^ 64 / 2 ^ s ≡ 0)
-    (f : ℕ → ℕ) (lanes : z ≡ map f (chunk i n d)) where
-  abbrev past : ℕ → Bool
-  past x = top 7 (f x)
-
-  mask_is : mask_l (map (top 7) z) % 2 ^ 64 ≡ mask_l (map past (chunk i n d))
-  mask_is =
-      let v = chunk i n d in
-      ap (λ l. mask_l l % 2 ^ 64) (ap (map (top 7)) lanes ∙ map-map (top 7) f v)
-      ∙ mask_l-mod (map past v) 64 (omega (arith, length-map v past, length-chunk i n d room))
-
-  -- where no lane past the first s stops, each byte there passes q
-  pub tail_in : agree_below past (λ x. not (q x)) 256 ≡ true → (k : ℕ) → i + s ≤ k → k < i + n → q (get_or d k 0) ≡ true
-  tail_in all k from to =
-      let v = chunk i n d in
-      let j : ℕ = k - i in
-      let back : i + j ≡ k = omega arith in
-      let none : mask_l (map past v) / 2 ^ s ≡ 0 = ap (λ m. m / 2 ^ s) (sym mask_is) ∙ found in
-      let here : mask_l (map past v) / 2 ^ j ≡ 0 = bit_past (mask_l (map past v)) s j none (omega arith) in
-      let bit : cond {A = ℕ} (get_or (map past v) j false) 1 0 ≡ 0 = sym (bit_mask_l (map past v) j) ∙ ap (λ m. m % 2) here in
-      let lane : get_or (map past v) j false ≡ past (get_or v j 0) = get_or-map past v j 0 false (omega (arith, length-chunk i n d room)) in
-      let at : get_or v j 0 ≡ get_or d k 0 = get_or-chunk i n d j 0 (omega arith) ∙ ap (λ m. get_or d m 0) back in
-      not-false _ (sym (agree_below_at past (λ x. not (q x)) 256 (get_or d k 0) all (fits k).fits) ∙ ap past (sym at) ∙ sym lane ∙ unset _ bit)
-
--- the mask of the bytes that fail q
-pub mask_in : (q : ℕ → Bool) (d : List ℕ) (i n : ℕ) (z : List ℕ) → i + n ≤ length d → n ≤ 64 → ((k : ℕ) → Fits w8 (get_or d k 0))
-    → (f : ℕ → ℕ) → z ≡ map f (chunk i n d) → agree_below (λ x. top 7 (f x)) (λ x. not (q x)) 256 ≡ true
-    → IsMask q d i n (mask_l (map (top 7) z) % 2 ^ 64)
-mask_in q d i n z room few fits f lanes all = record {
-  run = run_in q d i n (first_set (mask_l (map (top 7) z) % 2 ^ 64) n) z room few fits refl f lanes all;
-  tail = λ s none. tail_in q d i n s z room few fits none f lanes all;
-}
 
 -- where the run ends inside, the first byte that ends it stands there
 pub first_byte : (test : ℕ → Bool) (text : List ℕ) (n r : ℕ) → n ≤ length text → r < n → IsRunIn (λ c. not (test c)) text 0 n r → IsFirstByte test text (Some r)

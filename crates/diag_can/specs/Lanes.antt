@@ -1,5 +1,5 @@
 -- What is seen of the bytes of a text by one look at many of them.
-use Rattle.std.specs.Prelude.{◌≡◌, ℕ, ◌+◌, ◌/◌, ◌^◌, ◌<◌, ◌≤◌, ◌==◌, if◌then◌else◌, Bool, true, false, List, slice_index}
+use Rattle.std.specs.Prelude.{◌≡◌, ℕ, ◌+◌, ◌<◌, ◌≤◌, ◌==◌, if◌then◌else◌, Bool, true, false, List, slice_index}
 use Rattle.std.specs.Int.{w64, trailing_zeros}
 
 -- the place of the lowest bit that is set, or n where none is
@@ -11,11 +11,6 @@ pub record IsRunIn (test : ℕ → Bool) (text : List ℕ) (at n run : ℕ) : Ty
   pub in_range : run ≤ n
   pub pass : (k : ℕ) → at ≤ k → k < at + run → test (slice_index text k) ≡ true
   pub stops : run < n → test (slice_index text (at + run)) ≡ false
-
--- a bit is set where the byte at its place fails the test, of the n bytes from this place on: the first of them, and none behind it
-pub record IsMask (test : ℕ → Bool) (text : List ℕ) (at n mask : ℕ) : Type 0 where
-  pub run : IsRunIn test text at n (first_set mask n)
-  pub tail : (s : ℕ) → mask / 2 ^ s ≡ 0 → (k : ℕ) → at + s ≤ k → k < at + n → test (slice_index text k) ≡ true
 
 -- each of the sixteen bytes from this place on is between those of two lists
 abbrev pub IsWithin : List ℕ → ℕ → List ℕ → List ℕ → Type 0

@@ -8,7 +8,7 @@ use crate::frame::{CanId, TickCount};
 use crate::frame_text::FrameText;
 use crate::log::without_return;
 use crate::moment_text::MomentText;
-use crate::read::said_by;
+use crate::read::line_says;
 
 /// What a line of a log or of a capture says, whoever it is meant for.
 #[derive(Drop)]
@@ -35,5 +35,5 @@ pub fn read_bus_line<'a>(known: &[CanId], piece: &'a [u8]) -> Result<BusLine<'a>
     if piece.len() > LONGEST_LINE {
         return Err(LineFault::BadLine);
     }
-    said_by(known, without_return(piece))
+    line_says(known, without_return(piece))
 }

@@ -1,8 +1,8 @@
 //! Looks at many bytes of a text at once.
 
-ghost use Rattle.std.specs.Prelude.{◌≡◌, ℕ, ◌+◌, ◌-◌, ◌*◌, ◌<◌, ◌≤◌, not, true, length, drop, slice_index, IsTrue, IsOk, Ok};
+ghost use Rattle.std.specs.Prelude.{◌≡◌, ℕ, ◌+◌, ◌-◌, ◌*◌, ◌≤◌, not, length, drop, IsTrue, IsOk, Ok};
 ghost use Rattle.hex.specs.Hex.{is_hex_digit, decode_of};
-ghost use Rattle.diag_can.specs.Lanes.{IsMask, IsRunIn, IsWithin, first_set};
+ghost use Rattle.diag_can.specs.Lanes.{IsRunIn, IsWithin, first_set};
 ghost use Rattle.diag_can.specs.Log.{is_feed};
 ghost use Rattle.diag_can.specs.Stamp.{is_mark};
 
@@ -52,36 +52,16 @@ pub fn line_run(text: &[u8]) -> usize
     first_set(stops.to_bitmask(), 64)
 }
 
-/// Which of the sixteen bytes from a place on are no hex digits of either case, the first in the lowest bit.
-#[inline(always)]
-fn no_hex(text: &[u8], at: usize) -> u64
-    requires { at + 16 ≤ length text.now }
-    ensures { IsMask is_hex_digit text.now at 16 result }
-{
-    let v = u8x16::from_slice(&text[at..]);
-    let is_no_decimal = (v - u8x16::splat(b'0')).simd_ge(u8x16::splat(10));
-    let is_no_letter = ((v | u8x16::splat(0x20)) - u8x16::splat(b'a')).simd_ge(u8x16::splat(6));
-    (is_no_decimal & is_no_letter).to_bitmask()
-}
-
 /// How many of the sixteen bytes from a place on are hex digits of either case, from the first.
 #[inline(always)]
 pub fn hex_of_sixteen(text: &[u8], at: usize) -> usize
     requires { at + 16 ≤ length text.now }
     ensures { IsRunIn is_hex_digit text.now at 16 result }
 {
-    first_set(no_hex(text, at), 16)
-}
-
-/// Whether the last bytes of a text, so many, are hex digits of either case.
-#[inline(always)]
-pub fn ends_in_hex(text: &[u8], count: usize) -> bool
-    requires long { 16 ≤ length text.now }
-    requires few { count ≤ 16 }
-    ensures { IsTrue result → (k : ℕ) → length text.now - count ≤ k → k < length text.now
-        → is_hex_digit (slice_index text.now k) ≡ true }
-{
-    no_hex(text, text.len() - 16) >> (16 - count) == 0
+    let v = u8x16::from_slice(&text[at..]);
+    let is_no_decimal = (v - u8x16::splat(b'0')).simd_ge(u8x16::splat(10));
+    let is_no_letter = ((v | u8x16::splat(0x20)) - u8x16::splat(b'a')).simd_ge(u8x16::splat(6));
+    first_set((is_no_decimal & is_no_letter).to_bitmask(), 16)
 }
 
 /// The bytes that sixteen hex digits of either case write, looked at together; as far as these are digits from the end. Of

@@ -9,7 +9,7 @@ use crate::bus::BusLine;
 use crate::fault::LogFault;
 use crate::frame::{Event, Ids, TickCount};
 use crate::moment_text::MomentText;
-use crate::read::{frame_for, said_by};
+use crate::read::{frame_for, line_says};
 
 /// Whether the stamps of a log carry time.
 #[derive(Clone, Copy, Debug, PartialEq, Eq)]
@@ -154,7 +154,7 @@ impl Reading {
             → fault_with timing ids.now self.old.events.items self.old.reference number line.now
             ≡ Some fault) }
     {
-        match said_by(&ids.all(), line) {
+        match line_says(&ids.all(), line) {
             Ok(said) => self.take(timing, ids, &said),
             Err(fault) => Err(LogFault::Line(number, fault)),
         }

@@ -12,7 +12,7 @@ use crate::frame_text::FrameText;
 use crate::line::text_frame;
 use crate::moment_text::MomentText;
 use crate::stamp::{behind_name, decimal_value, is_digit, stamp_of};
-use crate::usual::{text_place, usual_says};
+use crate::usual::text_place;
 
 /// Whether each byte is a decimal digit.
 fn is_all_digits(text: &[u8]) -> bool
@@ -78,7 +78,6 @@ fn framed_says<'a>(
 
 /// What a line without its end says, whatever its form is, where these are the 29-bit identifiers that are read. Most stamps
 /// and names are of the usual form.
-#[inline(never)]
 pub fn line_says<'a>(known: &[CanId], line: &'a [u8]) -> Result<BusLine<'a>, LineFault>
     ensures { result ≡ line_says known.now line.now }
 {
@@ -89,6 +88,7 @@ pub fn line_says<'a>(known: &[CanId], line: &'a [u8]) -> Result<BusLine<'a>, Lin
 }
 
 /// The same part by part.
+#[inline(never)]
 fn other_says<'a>(known: &[CanId], line: &'a [u8]) -> Result<BusLine<'a>, LineFault>
     ensures { result ≡ line_says known.now line.now }
 {
@@ -104,17 +104,6 @@ fn other_says<'a>(known: &[CanId], line: &'a [u8]) -> Result<BusLine<'a>, LineFa
     match stamped_frame(line) {
         None => Err(LineFault::BadLine),
         Some((moment, text)) => framed_says(known, MomentText::read(moment), text),
-    }
-}
-
-/// The same; most lines are of the usual form.
-#[inline(always)]
-pub fn said_by<'a>(known: &[CanId], line: &'a [u8]) -> Result<BusLine<'a>, LineFault>
-    ensures { result ≡ line_says known.now line.now }
-{
-    match usual_says(line) {
-        Some(said) => Ok(said),
-        None => line_says(known, line),
     }
 }
 
@@ -158,6 +147,6 @@ fn event_for(said: &BusLine, ids: &Ids) -> Option<Event>
 pub fn read_line(line: &[u8], ids: &Ids) -> Result<Option<Event>, LineFault>
     ensures { result ≡ line_event line.now ids.now }
 {
-    let said = said_by(&ids.all(), line)?;
+    let said = line_says(&ids.all(), line)?;
     Ok(event_for(&said, ids))
 }

@@ -11,8 +11,7 @@ ghost use Rattle.diag_can.specs.MomentText.{usual_moment};
 use crate::bus::BusLine;
 use crate::frame::CanId;
 use crate::frame_text::FrameText;
-use crate::lanes::{eight_of_word, ends_in_hex, is_within};
-use crate::line::short_id;
+use crate::lanes::{eight_of_word, is_within};
 use crate::moment_text::MomentText;
 use std::simd::prelude::*;
 
@@ -47,20 +46,6 @@ pub fn said_from(line: &[u8], place: usize, id: CanId) -> BusLine<'_>
         moment: MomentText::usual(line),
         frame: Some(FrameText::new(id, line, (line.len() - (place + 4)) / 2)),
     }
-}
-
-/// What a line of the usual form says; None of another line.
-#[inline(always)]
-pub fn usual_says(line: &[u8]) -> Option<BusLine<'_>>
-    ensures { IfSome result (λ said. (known : List ℕ) → line_says known line.now ≡ Ok said) }
-{
-    let place = text_place(line)?;
-    let id = short_id(&line[place..])?;
-    let count = line.len() - (place + 4);
-    if count > 16 || count % 2 != 0 || !ends_in_hex(line, count) {
-        return None;
-    }
-    Some(said_from(line, place, id))
 }
 
 /// Four times three bytes of the stamp, weighed as digits are: nine of the seconds, without the first, and the milliseconds.

@@ -1,5 +1,6 @@
 //! Whose frames are in a recording, as far as it is looked at.
 
+use memchr::{memchr, memchr_iter};
 use std::alloc::{AllocError, Global};
 use std::str;
 
@@ -33,14 +34,14 @@ struct Line<'a> {
     is_extended: bool,
     is_flexible: bool,
     /// What stands behind the identifier and `#`.
-    rest: &'a str,
+    rest: &'a [u8],
 }
 
 impl Line<'_> {
     /// Whether the frame may be the first of a message (ISO 15765-2:2016, 9.6): a SingleFrame, or a FirstFrame, which has
     /// eight bytes.
     fn begins(&self) -> bool {
-        match self.rest.as_bytes() {
+        match self.rest {
             [b'0', b'1'..=b'7', ..] => true,
             [b'1', ..] => self.rest.len() >= 16,
             _ => false,
@@ -49,12 +50,8 @@ impl Line<'_> {
 
     /// Whether more bytes stand behind a space, where they aren't read.
     fn is_spaced(&self) -> bool {
-        let behind = match self.rest.split_once(' ') {
-            Some((_, behind)) => behind.as_bytes(),
-            None => b"",
-        };
-        match behind {
-            [first, second] | [first, second, b' ' | b'\r', ..] => {
+        match parted(self.rest, b' ') {
+            Some((_, [first, second] | [first, second, b' ' | b'\r', ..])) => {
                 first.is_ascii_hexdigit() && second.is_ascii_hexdigit()
             }
             _ => false,
@@ -143,13 +140,20 @@ impl<'a> Recording<'a> {
 
     /// Looks at a text.
     pub fn look(&mut self, text: &'a [u8]) -> Result<(), AllocError> {
-        for line in text.split(|c| *c == b'\n') {
-            let line = str::from_utf8(line).unwrap_or("");
-            if let Some(line) = read_line(line) {
-                self.count(&line)?;
-            }
+        let mut start = 0;
+        for end in memchr_iter(b'\n', text) {
+            self.look_at(text.get(start..end))?;
+            start = end.saturating_add(1);
         }
-        Ok(())
+        self.look_at(text.get(start..))
+    }
+
+    /// Looks at a line, if there is one.
+    fn look_at(&mut self, line: Option<&'a [u8]>) -> Result<(), AllocError> {
+        match read_line(line.unwrap_or(b"")) {
+            Some(line) => self.count(&line),
+            None => Ok(()),
+        }
     }
 
     fn count(&mut self, line: &Line<'a>) -> Result<(), AllocError> {
@@ -290,15 +294,42 @@ impl<'a> Recording<'a> {
 }
 
 /// A line that is a frame, whatever it has behind its identifier.
-fn read_line(line: &str) -> Option<Line<'_>> {
-    let (_, rest) = line.strip_prefix('(')?.split_once(')')?;
-    let (interface, rest) = rest.trim_start().split_once(' ')?;
-    let (id, rest) = rest.trim_start().split_once('#')?;
+fn read_line(line: &[u8]) -> Option<Line<'_>> {
+    let [b'(', stamp @ ..] = line else {
+        return None;
+    };
+    let (_, rest) = parted(stamp, b')')?;
+    let (interface, rest) = parted(behind_spaces(rest), b' ')?;
+    let (id, rest) = parted(behind_spaces(rest), b'#')?;
     Some(Line {
-        interface,
-        id: u32::from_str_radix(id, 16).ok()?,
+        interface: str::from_utf8(interface).ok()?,
+        id: hex_number(id)?,
         is_extended: id.len() == 8,
-        is_flexible: rest.starts_with('#'),
+        is_flexible: rest.starts_with(b"#"),
         rest,
     })
+}
+
+/// What stands before the first such byte, and what behind it.
+fn parted(text: &[u8], mark: u8) -> Option<(&[u8], &[u8])> {
+    let at = memchr(mark, text)?;
+    Some((text.get(..at)?, text.get(at.saturating_add(1)..)?))
+}
+
+fn behind_spaces(text: &[u8]) -> &[u8] {
+    let spaces = text.iter().take_while(|c| **c == b' ').count();
+    text.get(spaces..).unwrap_or(b"")
+}
+
+/// The number of hex digits of either case; none where there is no digit, or the number is too great.
+fn hex_number(digits: &[u8]) -> Option<u32> {
+    if digits.is_empty() {
+        return None;
+    }
+    let mut number: u32 = 0;
+    for c in digits {
+        let digit = char::from(*c).to_digit(16)?;
+        number = number.checked_mul(16)?.checked_add(digit)?;
+    }
+    Some(number)
 }
