@@ -116,7 +116,10 @@ fn write_meant<W: fmt::Write>(f: &mut fmt::Formatter<W>, kind: Kind, text: &str)
         }
         Kind::Bytes(..) => write_letters(f, text),
         Kind::Number(..) | Kind::Identifier(_) | Kind::SubFunction | Kind::Reference => {
-            write_number(f, text)
+            match code_of(kind, text) {
+                Some(code) => write!(f, "; 0x{code:06X}, without quotes?"),
+                None => write_number(f, text),
+            }
         }
         Kind::Templates | Kind::Patterns => write!(f, "; a list stands between [ and ]"),
         _ => Ok(()),
@@ -146,6 +149,27 @@ fn write_letters<W: fmt::Write>(f: &mut fmt::Formatter<W>, text: &str) -> fmt::R
         write!(f, "{byte:02X}")?;
     }
     Ok(())
+}
+
+/// The number of a trouble code that stands by its name (ISO 15031-6), with the failure type 00.
+fn code_of(kind: Kind, text: &str) -> Option<u32> {
+    let can_be_code = match kind {
+        Kind::Identifier(most) => most > 0xFFFF,
+        Kind::Reference => true,
+        _ => false,
+    };
+    let (group, digits) = match text.split_at_checked(1) {
+        Some(("P", digits)) => (0, digits),
+        Some(("C", digits)) => (1, digits),
+        Some(("B", digits)) => (2, digits),
+        Some(("U", digits)) => (3, digits),
+        _ => return None,
+    };
+    if !can_be_code || digits.len() != 4 || !is_hex(digits) {
+        return None;
+    }
+    let number = u32::from_str_radix(digits, 16).ok()?;
+    (number <= 0x3FFF).then_some((group << 22) | (number << 8))
 }
 
 /// A number that stands in quotes.

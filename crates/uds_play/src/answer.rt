@@ -51,29 +51,39 @@ pub fn answer_at(
     let mut answer = None;
     for _ in 0..number {
         let line = lines.next().unwrap_or(b"");
-        let Some((who, kind, body)) = parts_of(str::from_utf8(line).unwrap_or(""), is_stamped)
-        else {
+        let line = str::from_utf8(line).unwrap_or("");
+        let Some((who, step)) = entry_of(alloc, line, is_stamped)? else {
             return Ok(None);
         };
         if usize::from(who.place()) > setup.testers() {
             return Ok(Some(Answer::NoTester));
         }
-        let Some(step) = step_of(alloc, kind, body)? else {
-            return Ok(None);
-        };
         answer = Some(Answer::Reply(desk.step(who, &step)?));
     }
     Ok(answer)
 }
 
-/// The tester, the kind and the request or the count of an entry's line.
-fn parts_of(line: &str, is_stamped: bool) -> Option<(TesterId, &str, &str)> {
+/// The tester and the step of an entry's line.
+fn entry_of(
+    alloc: Global,
+    line: &str,
+    is_stamped: bool,
+) -> Result<Option<(TesterId, Step)>, AllocError> {
     let mut parts = line.split(' ');
     if is_stamped {
-        parts.next()?;
+        let _stamp = parts.next();
     }
-    let who = TesterId::new(u8::from_str_radix(parts.next()?, 10).ok()?)?;
-    Some((who, parts.next()?, parts.next()?))
+    let (Some(place), Some(kind), Some(body)) = (parts.next(), parts.next(), parts.next()) else {
+        return Ok(None);
+    };
+    let (Some(who), Some(step)) = (tester_of(place), step_of(alloc, kind, body)?) else {
+        return Ok(None);
+    };
+    Ok(Some((who, step)))
+}
+
+fn tester_of(place: &str) -> Option<TesterId> {
+    TesterId::new(u8::from_str_radix(place, 10).ok()?)
 }
 
 /// The step that an entry's line tells.
