@@ -1,5 +1,5 @@
 -- What a call at a tester's port says of the server.
-use Rattle.std.proofs.Common.{◌≡◌, ◌<◌, ◌≤◌, ℕ, ◌+◌, ◌-◌, Option, Some, None, List, get_or, length, refl, ap, ap₂, subst, sym, ◌∙◌, arith}
+use Rattle.std.proofs.Common.{◌≡◌, ◌<◌, ◌≤◌, ℕ, ◌+◌, ◌-◌, Option, Some, None, List, [], get_or, length, refl, ap, ap₂, subst, sym, ◌∙◌, arith}
 use Rattle.std.proofs.lemmas.List.{length-map}
 use Rattle.std.proofs.Math.Seq.{map-set_same}
 use Rattle.std.proofs.lemmas.Option.{get_or_from_slice_get, slice_get_read, slice_get-map}
@@ -109,7 +109,7 @@ module _ {ecu : State} {ports : List Port} {now : ServerView} {who i : ℕ} {por
   -- and stands for the tester's part of each run
   pub port_here : EachRun (server_of now) (λ setup M K.
       PortStands (link_of setup who) (pace_of setup) (port_of port) (items_of M who) (own_timed (timed (opening setup) K) who))
-  port_here = λ setup M K h. port_at setup now M K who i port h here.is seen_at
+  port_here = λ setup M K h. port_at (opening setup) [] setup now M K who i port h here.is seen_at
 
   -- and so does its state
   state_there : slice_get (server_of now).ports (who - 1) ≡ Some (port_of port)

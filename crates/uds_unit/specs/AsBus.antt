@@ -1,0 +1,31 @@
+-- The library and a capture's run are of the same definitions.
+use Rattle.std.specs.Prelude.{◌≡◌, ℕ, List, map, Option, Result, Ok}
+use Rattle.std.specs.List.{flat_map}
+use Rattle.diag_can.specs.declared.bus.BusLine.{BusLine}
+use Rattle.diag_can.specs.declared.bus.BusLine.TheVariants.{Stamped}
+use Rattle.diag_can.specs.declared.fault.LineFault.{LineFault}
+use Rattle.diag_can.specs.declared.frame.Frame.{Frame}
+use Rattle.diag_setup.specs.declared.raw.RawSetup.{RawSetup}
+use Rattle.diag_bus.specs.Events.{events_of, line_said}
+use Rattle.diag_bus.specs.Text.{line_of, run_of, start_after, text_of}
+use Rattle.uds_unit.specs.History.{Call, At, History, history, journal_of}
+
+-- moments, each with the frame then, if any, as calls
+abbrev pub calls_of : List (ℕ × Option Frame) → List Call
+calls_of given = map (λ g. At g.0 g.1) given
+
+-- what stamped lines of a capture say that have them
+abbrev pub said_by : List (ℕ × Option Frame) → List (Result BusLine LineFault)
+said_by given = map (λ g. Ok (Stamped g.0 g.1)) given
+
+-- what a unit makes of moments and frames is what `bus` makes of lines that say them
+pub record AsBus (setup : RawSetup) (lines : List (List ℕ)) (h : History) : Type 0 where
+  pub events : h.events ≡ events_of setup lines
+  pub journal : journal_of setup h ≡ run_of setup (events_of setup lines)
+  pub text : flat_map (line_of setup (start_after setup 0 lines)) h.sent ≡ text_of setup lines
+
+-- so whatever the lines and the calls are
+abbrev pub AsBusLaw : Type 0
+AsBusLaw = (setup : RawSetup) (lines : List (List ℕ)) (given : List (ℕ × Option Frame))
+    → map (line_said setup) lines ≡ said_by given
+    → AsBus setup lines (history setup (calls_of given))
