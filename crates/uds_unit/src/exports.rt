@@ -14,9 +14,7 @@ ghost use Rattle.uds_unit.specs.History.{At, SetStatus, SetValue};
 use crate::clock::moment_us;
 use crate::device::Device;
 use crate::handle::Handle;
-use crate::status::{
-    CLOSED, DONE, LENGTH, MEMORY, NO_FRAME, NONE, ROOM, UNKNOWN, fault_status,
-};
+use crate::status::{CLOSED, DONE, LENGTH, MEMORY, NO_FRAME, NONE, ROOM, UNKNOWN, fault_status};
 use diag_bus::Drawn;
 use diag_can::{CanId, Frame, FrameBytes};
 use diag_config::{ConfigFault, read_setup};
