@@ -1,19 +1,26 @@
 -- What the calls that give events answer, one behind the other.
-use Rattle.std.proofs.Common.{◌≡◌, ◌≤◌, ℕ, ◌+◌, ◌-◌, List, [], ◌∷◌, ◌++◌, length, Option, None, Result, Ok, Err, refl, ap, subst, sym, ◌∙◌, append_assoc, arith}
-use Rattle.std.proofs.lemmas.List.{append-nil}
+use Rattle.std.proofs.Common.{◌≡◌, ◌≤◌, ℕ, ◌+◌, ◌-◌, Bool, true, false, List, [], ◌∷◌, ◌++◌, length, Option, None, Result, Ok, Err, refl, ap, subst, sym, ◌∙◌, append_assoc, arith}
+use Rattle.std.proofs.lemmas.Bool.{true≢false}
+use Rattle.std.proofs.lemmas.List.{append-nil, length-map}
 use Rattle.std.proofs.lemmas.Result.{on_ok_weaker}
 use Rattle.std.specs.List.{flat_map}
 use Rattle.std.specs.Prelude.{OnOk}
 use Rattle.std.specs.declared.alloc.AllocError.{AllocError}
 use Rattle.diag_can.specs.declared.frame.Event.{Event}
+use Rattle.diag_can.specs.declared.frame.Event.TheVariants.{Ticks}
 use Rattle.diag_can.specs.declared.frame.Frame.{Frame}
 use Rattle.diag_pdu.specs.Cut.{counted_from}
 use Rattle.diag_setup.specs.declared.raw.RawSetup.{RawSetup}
+use Rattle.diag_desk.specs.declared.entry.Entry.{Entry}
+use Rattle.diag_desk.specs.Timed.{entries_of}
+use Rattle.diag_port.specs.Port.{port_of}
+use Rattle.diag_world.specs.Server.{ServerView, Waited, each_of, entries_of_each, server_of}
 use Rattle.diag_bus.specs.Batch.{Lasts, OneWentOn}
 use Rattle.diag_bus.specs.Events.{frame_to}
 use Rattle.diag_bus.proofs.Lines.{frames_none}
 use Rattle.diag_bus.proofs.Paces.{took_more, took_none, took_one}
 use Rattle.uds_unit.specs.Going.{Drew, Gave, Passed, SameShape}
+use Rattle.uds_unit.specs.Journal.{entered}
 use Rattle.uds_unit.specs.declared.going.Going.{Going}
 
 -- events and further events
@@ -52,6 +59,35 @@ passed_then {r} {a} {b} {c} {n} {m} {L} {M} all fits first second = record {
   ok = on_ok_weaker r (λ gave. gave_more a b c L M first.ok gave) second.ok;
   shape = same_more a b c first.shape second.shape;
   pace = took_more a.server b.server c.server n m all fits first.pace second.pace;
+}
+
+unwritten : (K L : List Entry) (wanted : Bool) → wanted ≡ false → entered wanted K ≡ entered wanted L
+unwritten K L false is = refl
+unwritten K L true is = absurd (true≢false is)
+
+-- ticks of each tester, in which no port does anything, where no journal is wanted
+pub passed_quietly : {E : Type 0} (old : Going) (server : ServerView) (n count : ℕ) → old.wanted ≡ false
+    → Waited (server_of old.server) (server_of server) n count
+    → Passed {A = Unit {0}} {E = E} old (record { server = server; wanted = old.wanted; drawn = old.drawn; text = old.text }) count (each_of n (Ticks count)) (Ok tt)
+passed_quietly old server n count unwanted waited = record {
+  ok = λ opened T setup base told M d.
+      let served = waited.stretched opened T setup M d.journal d.serves in
+      let more = entries_of_each n count in
+      record {
+        journal = d.journal ++ more;
+        serves = served.0;
+        lists = d.lists;
+        frames = λ i frames at. served.1 (i + 1) ∙ d.frames i frames at;
+        text = unwritten (entries_of T ++ (d.journal ++ more)) (entries_of T ++ d.journal) old.wanted unwanted ∙ d.text;
+      };
+  shape = record {
+    ports = sym (length-map server.ports port_of) ∙ (waited.many ∙ length-map old.server.ports port_of);
+    lists = refl;
+    wanted = refl;
+  };
+  pace = λ time by i port at.
+      let went = waited.time i port at in
+      omega (arith, went.2, by i went.0 went.1);
 }
 
 -- where memory was refused, nothing is said of the events

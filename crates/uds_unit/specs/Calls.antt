@@ -105,8 +105,9 @@ pub record Refused (config old new : List ℕ) (status : ℕ) : Type 0 where
 -- ---- calls
 
 -- the unit took this call more, which sets something
-abbrev pub Sets : DeviceState → DeviceState → Call → Type 0
-Sets old new call = TookCall old new call × SameUnit old new
+pub record Sets (old new : DeviceState) (call : Call) : Type 0 where
+  pub took : TookCall old new call
+  pub same : SameUnit old new
 
 -- the unit took this call more, or memory was refused
 pub record Took (old new : DeviceState) (call : Call) (status : ℕ) : Type 0 where

@@ -109,7 +109,7 @@ fn ended_line(alloc: Global, fault: &ConfigFault) -> Result<Vec<u8>, AllocError>
 
 /// Tells a fault of a setup as the program does, and want of memory where there is none for that.
 fn tell(alloc: Global, fault: ConfigFault, text: &mut [u8]) -> u32
-    ensures { TellsFault fault.entry text.old text.new result }
+    ensures { TellsFault fault text.old text.new result }
 {
     match ended_line(alloc, &fault) {
         Ok(line) => {
