@@ -121,7 +121,7 @@ class ProgramTests(unittest.TestCase):
             it.write("s3_ms = 1")
             it.flush()
             ran = self.run_program("--interface", "virtual", "--channel", "x", it.name)
-            self.assertEqual((ran.returncode, ran.stderr), (2, "uds_unit: config: missing tester\n"))
+            self.assertEqual((ran.returncode, ran.stderr), (2, "uds_unit: config: empty\n"))
         ran = self.run_program("--interface", "no_such", "--channel", "x", str(SETUP))
         self.assertEqual(ran.returncode, 1)
 

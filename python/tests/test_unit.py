@@ -132,7 +132,7 @@ class UnitTests(unittest.TestCase):
 
 class SetupTests(unittest.TestCase):
     def test_faults_are_told(self) -> None:
-        for setup, text in ((b"s3_ms = 1", "config: missing tester"), (b"=", "config: syntax"), (b"\xff", "config: syntax")):
+        for setup, text in ((b"s3_ms = 1", "config: empty"), (b"=", "config: syntax"), (b"\xff", "config: syntax")):
             with self.assertRaises(SetupFault) as told:
                 Unit(setup)
             self.assertEqual(str(told.exception), text)

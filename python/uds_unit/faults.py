@@ -6,7 +6,7 @@ class UnitFault(Exception):
 
 
 class SetupFault(UnitFault, ValueError):
-    """The setup is at fault: the line that the program tells, as `config: missing tester`."""
+    """The setup is at fault: the line that the program tells, as `config: empty`."""
 
 
 class ClosedFault(UnitFault):

@@ -37,11 +37,12 @@ static bool is_drained(struct uds_unit *unit) {
 
 static void test_faults(void) {
     static const struct { const char *config, *line; } faults[] = {
-        {"s3_ms = 1", "uds_play: config: missing tester\n"},
+        {"s3_ms = 1", "uds_play: config: empty\n"},
+        {"[[did]]\nid = 1\n", "uds_play: config: missing did.value\n"},
         {"s3_ms = ", "uds_play: config: syntax\n"},
         {"s3_ms = true\ntester = []", "uds_play: config: bad value s3_ms\n"},
         {"\xFF", "uds_play: config: syntax\n"},
-        {"", "uds_play: config: missing tester\n"},
+        {"", "uds_play: config: empty\n"},
     };
     for (size_t i = 0; i < sizeof faults / sizeof *faults; i++) {
         struct uds_unit unit = UDS_UNIT_INIT;
@@ -116,10 +117,22 @@ static void test_frames(const uint8_t *config, size_t len) {
     told(uds_unit_state(&unit, &state) == UDS_DONE && state.session == 3 && state.holder == 1, "the session holds");
     told(uds_unit_pass(&unit, 6200000) == UDS_DONE, "five seconds");
     told(uds_unit_state(&unit, &state) == UDS_DONE && state.session == 1 && state.holder == 0, "the session is over");
-    told(uds_unit_pass(&unit, UINT64_MAX) == UDS_DONE, "the greatest moment");
+    told(uds_unit_pass(&unit, UINT64_C(315360000000000)) == UDS_DONE, "ten years pass");
     told(uds_unit_due(&unit, &at) == UDS_DONE && at == UINT64_MAX, "nothing is waited for");
     told(uds_unit_close(&unit) == UDS_DONE, "close");
     told(uds_unit_close(&unit) == UDS_CLOSED, "close again");
+}
+
+/* the greatest moment there is: a reply then has it, taken down to its millisecond, and later ones have no greater one */
+static void test_greatest(const uint8_t *config, size_t len) {
+    struct uds_unit unit = opened(config, len, false);
+    uint64_t at;
+    told(uds_unit_frame(&unit, UINT64_MAX, 0x7E0, bytes_of("\x02\x3E\x00"), 3) == UDS_DONE, "a frame at the greatest moment");
+    told(is_next(&unit, UINT64_MAX - UINT64_MAX % 1000, 0x7E8, 1, "\x02\x7E\x00\xCC\xCC\xCC\xCC\xCC", 8), "its reply");
+    told(uds_unit_frame(&unit, UINT64_MAX, 0x7E0, bytes_of("\x10\x14\x22\xF1\x90\xF1\x90\xF1"), 8) == UDS_DONE, "a First then");
+    told(is_next(&unit, UINT64_MAX - UINT64_MAX % 1000, 0x7E8, 1, "\x30\x00\x00\xCC\xCC\xCC\xCC\xCC", 8), "flow control");
+    told(uds_unit_due(&unit, &at) == UDS_DONE && at == UINT64_MAX, "what is waited for then is at no greater moment");
+    uds_unit_close(&unit);
 }
 
 /* a reply of several frames: the First, and once there is flow control the others, a separation time apart */
@@ -233,6 +246,7 @@ int main(int argc, char **argv) {
     test_faults();
     test_closed();
     test_frames(config, len);
+    test_greatest(config, len);
     test_due(config, len);
     test_values(config, len);
     test_journal(config, len);

@@ -1,5 +1,5 @@
 -- A unit that takes a call more.
-use Rattle.std.proofs.Common.{◌≡◌, ◌≤◌, ℕ, ◌+◌, ◌-◌, max, Bool, Vec, Global, List, [], ◌∷◌, ◌++◌, length, map, Option, Some, None, refl, ap, ap₂, subst, sym, ◌∙◌, append_assoc, arith}
+use Rattle.std.proofs.Common.{◌≡◌, ◌≤◌, ℕ, ◌+◌, ◌-◌, Vec, Global, List, [], ◌++◌, length, Option, Some, None, ap, ap₂, subst, sym, ◌∙◌, append_assoc, arith}
 use Rattle.std.proofs.lemmas.List.{append-nil, length-map, map-append}
 use Rattle.std.specs.List.{flat_map}
 use Rattle.std.specs.Prelude.{slice_get}
@@ -12,18 +12,17 @@ use Rattle.diag_tp.specs.declared.sent.Sent.{Sent}
 use Rattle.diag_setup.specs.declared.raw.RawSetup.{RawSetup}
 use Rattle.diag_setup.specs.Rows.{in_order}
 use Rattle.diag_ecu.specs.State.{State}
-use Rattle.diag_desk.specs.declared.entry.Entry.{Entry}
 use Rattle.diag_desk.specs.Legal.{after}
 use Rattle.diag_desk.specs.Timed.{Timed, entries_of, timed}
 use Rattle.diag_world.proofs.Serving.{entries_timed}
-use Rattle.diag_world.specs.Server.{ServerState, ServerView, ServesFrom, WasSet, closing_time, each_of, sent_by, server_of}
-use Rattle.diag_bus.specs.Batch.{HasTime, IsBy, TookTime}
+use Rattle.diag_world.specs.Server.{ServerView, ServesFrom, WasSet, each_of, sent_by, server_of}
+use Rattle.diag_bus.specs.Batch.{IsBy, TookTime}
 use Rattle.diag_bus.specs.Events.{frame_to, said_gives}
 use Rattle.diag_bus.specs.Text.{gathered, time_of}
 use Rattle.diag_bus.specs.declared.writing.Drawn.{Drawn}
-use Rattle.uds_unit.specs.Device.{AreSound, DeviceState, IsClock, Ran, Stands, TookCall, latest_ms}
+use Rattle.uds_unit.specs.Device.{AreSound, DeviceState, IsClock, Stands, TookCall, latest_ms}
 use Rattle.uds_unit.specs.Going.{Drew, Gave, IsReady, SameShape, lists_of}
-use Rattle.uds_unit.specs.History.{Call, At, History, all_more, beginning, ecu_of, entries_in, frames_more, gone_on, history, journal_of, next_of, sent_in, set_to, taken, timed_of}
+use Rattle.uds_unit.specs.History.{Call, At, History, all_more, beginning, entries_in, frames_more, gone_on, history, journal_of, next_of, sent_in, set_to, taken, timed_of}
 use Rattle.uds_unit.specs.Journal.{entered}
 use Rattle.uds_unit.specs.Moments.{clock_at, reference_of, span_at, time_of_clock}
 use Rattle.uds_unit.specs.declared.clock.Clock.{Clock}

@@ -1,7 +1,6 @@
 -- A call in which the server was given an event of one tester.
 use Rattle.std.proofs.Common.{◌≡◌, ◌<◌, ◌≤◌, ℕ, min, ◌+◌, ◌-◌, Option, Some, None, Vec, Global, List, [], ◌∷◌, ◌++◌, get_or, length, map, refl, ap, subst, sym, ◌∙◌, append_assoc, arith, inl, inr}
-use Rattle.std.proofs.Math.Seq.{map-set_same}
-use Rattle.std.proofs.lemmas.List.{append-nil, length-map, length-set, map-set}
+use Rattle.std.proofs.lemmas.List.{length-map, length-set, map-set}
 use Rattle.std.proofs.lemmas.Option.{slice_get_read, slice_get-map}
 use Rattle.std.specs.Prelude.{IfSome, slice_get, slice_set}
 use Rattle.std.specs.Option.{option_map, option_to_list}
@@ -21,7 +20,7 @@ use Rattle.diag_world.specs.Weaving.{items_of}
 use Rattle.diag_world.proofs.Times.{ticks_stretched}
 use Rattle.diag_world.proofs.Worlds.{set_cases, other_place}
 use Rattle.diag_bus.specs.Batch.{IsEarly}
-use Rattle.uds_unit.specs.Going.{Drew, Gave, SameShape, lists_of}
+use Rattle.uds_unit.specs.Going.{Gave, SameShape, lists_of}
 use Rattle.uds_unit.specs.Journal.{entered, entry_added}
 use Rattle.uds_unit.specs.declared.going.Going.{Going}
 use Rattle.uds_unit.proofs.Entered.{entered_more}

@@ -1,17 +1,17 @@
 -- The machine values of a `Handle`, and what it owns by its flag. Assumes `Logic`.
-use Rattle.std.proofs.Common.{◌≡◌, ℕ, List, [], ◌∷◌, ◌++◌, refl, subst, ◌∙◌, Bool, true, false, Option, Some, None}
-use mathlib.Core.Bool.{◌&&◌, not}
+use Rattle.std.proofs.Common.{◌≡◌, List, [], ◌∷◌, ◌++◌, refl, ◌∙◌, Bool, true, false, Option, Some, None}
+use mathlib.Core.Bool.{not}
 use lib.Dec.{T}
 use seplogic.Ra.Ura.{Ura}
 use mir.Syntax.{impl, tnil, dnil, ty_ptr}
-use mir.Val.{Val, vbool, vstruct, vcons, vnil, of_list, has_ty, WT}
-use base.Logic.{never_e, via}
-use base.Fml.{Fml, ftrue, ffalse}
-use types.Logic.{Logic, sem}
+use mir.Val.{Val, vbool, vstruct, vcons, vnil, of_list, has_ty}
+use base.Logic.{never_e}
+use base.Fml.{ftrue}
+use types.Logic.{Logic}
 use types.Kit.{Item, Goal, Seq, Step, step, ‵, ◌$◌, given, learn, use1, move, drop, fsplit, fjoin, fpack, fpick, feq_i, feq_l}
 use denote.RattleType.{RattleType, Valss}
-use denote.Builtin.{bool, RawPtr}
-use denote.RawPtr.{Ptr, ptr_val, rawptr_Lawful, block_ptr, null_ptr}
+use denote.Builtin.{RawPtr}
+use denote.RawPtr.{Ptr, ptr_val, block_ptr, null_ptr}
 use denote.Steps.{nothing}
 use denote.Param.{layout}
 use denote.Struct.Struct.{within}
@@ -19,8 +19,6 @@ use denote.Struct.Owning.{shape, to}
 use Rattle.core.proofs.alloc.Calls.{Al, handle_tells}
 use Rattle.core.proofs.cell.Inside.{Good}
 use Rattle.std_alloc.specs.Box.Ownership.{box_owns}
-use Rattle.std_alloc.proofs.ResultValues.{and_tt}
-use Rattle.std.specs.declared.alloc.Global.{Global}
 use Rattle.std.specs.contracts.alloc.Global as global
 use Rattle.std.proofs.alloc.Global.TheLaws as global_laws
 use Rattle.std.specs.contracts.impls.GlobalAllocator.TheImpl.{ghosts}

@@ -1,6 +1,5 @@
 -- The moments that a unit is given, and those of its frames.
 use Rattle.std.specs.Prelude.{ℕ, ◌+◌, ◌-◌, ◌*◌, ◌^◌, max, min, Option, Some, None}
-use Rattle.std.specs.Option.{option_map}
 use Rattle.uds_unit.specs.declared.clock.Clock.{Clock}
 
 -- the clock at a moment

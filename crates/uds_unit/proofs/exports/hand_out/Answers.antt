@@ -1,4 +1,4 @@
-use Rattle.std.proofs.Common.{◌≡◌, ap, ◌∙◌}
+use Rattle.std.proofs.Common.{ap, ◌∙◌}
 use Rattle.uds_unit.specs.Moments.{moment_us}
 use Rattle.uds_unit.proofs.exports.hand_out.Goals as goal
 

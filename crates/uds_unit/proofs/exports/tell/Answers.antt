@@ -1,4 +1,4 @@
-use Rattle.std.proofs.Common.{◌≡◌, ℕ, List, refl, inl, inr, subst, ◌∙◌}
+use Rattle.std.proofs.Common.{ℕ, List, refl, inl, inr, subst, ◌∙◌}
 use Rattle.diag_config.specs.declared.fault.ConfigFault.TheVariants.{Memory}
 use Rattle.uds_unit.specs.Calls.{CopiedInto}
 use Rattle.uds_unit.proofs.exports.tell.Goals as goal

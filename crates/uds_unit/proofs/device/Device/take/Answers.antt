@@ -1,4 +1,4 @@
-use Rattle.std.proofs.Common.{◌≡◌, ◌++◌, ℕ, Some, length, map, ap, subst, sym, ◌∙◌}
+use Rattle.std.proofs.Common.{◌++◌, Some, length, subst, sym, ◌∙◌}
 use Rattle.std.proofs.lemmas.Result.{on_ok_weaker}
 use Rattle.std.specs.List.{flat_map}
 use Rattle.diag_can.specs.Log.{waited}

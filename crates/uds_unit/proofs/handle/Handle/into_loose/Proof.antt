@@ -1,12 +1,10 @@
 -- `into_loose` tests the flag, and hands on what the handle owns.
-use Rattle.std.proofs.Common.{◌≡◌, List, [], ◌∷◌, ◌++◌, refl, sym, subst, true, false, Some, None}
+use Rattle.std.proofs.Common.{List, [], ◌∷◌, ◌++◌, refl, sym, subst, Some, None}
 use lib.Dec.{lit<}
 use mir.Val.{Val, of_list, has_ty}
 use base.Logic.{SProp, ent, id⊢}
-use base.Fml.{ftrue}
 use prog.Wp.{WpFn}
-use types.Logic.{sem}
-use types.Kit.{‵, raw, ◌⊛◌, at_ret, ◌$◌, ◌∵◌, !, qed, move, keep, drop, split, fsplit, fjoin, suffices, frame, use0, use1, done}
+use types.Kit.{‵, raw, ◌⊛◌, at_ret, ◌$◌, ◌∵◌, !, qed, move, keep, split, fsplit, fjoin, suffices, frame, use0, use1, done}
 use types.Match.{live}
 use types.Run.{stop, fld, of_opd, lit, no_more, and_then, first, branches, skips, exec, returns, returns_within, enter}
 use types.ByLocal.{alloc_all, pass_all, free_all, look_at, get, get_in, sets, env}

@@ -1,11 +1,9 @@
 -- `of` sets the flag beside the pointer.
-use Rattle.std.proofs.Common.{◌≡◌, List, [], ◌∷◌, ◌++◌, refl, sym, subst, true, Some}
+use Rattle.std.proofs.Common.{List, [], ◌∷◌, ◌++◌, refl, sym, subst, true, Some}
 use mir.Val.{Val, vptr}
 use base.Logic.{SProp, ent, id⊢}
-use base.Fml.{ftrue}
 use prog.Wp.{WpFn}
-use types.Logic.{sem}
-use types.Kit.{‵, raw, ◌⊛◌, ◌$◌, ◌∵◌, !, qed, move, keep, drop, split, fsplit, fjoin, suffices, frame, use1, done}
+use types.Kit.{‵, raw, ◌⊛◌, ◌$◌, ◌∵◌, !, qed, move, keep, split, fsplit, fjoin, suffices, frame, done}
 use types.Run.{stop, fld, of_opd, true_lit, no_more, and_then, returns, enter}
 use types.ByLocal.{alloc_all, pass_all, free_all, look_at, get, get_in, sets}
 use types.Part.{sub, whole, agg}
@@ -21,7 +19,6 @@ use Rattle.core.proofs.alloc.Calls.{Goes-blank}
 use Rattle.std.proofs.raw_atomic.Walks.{proved_at}
 use Rattle.std.proofs.alloc.Global.TheLaws as global_laws
 use Rattle.std.specs.contracts.impls.GlobalAllocator.TheImpl.{ghosts}
-use Rattle.uds_unit.specs.Handle.{handle_owns}
 use Rattle.uds_unit.proofs.Values.{both, loose_out}
 use Rattle.uds_unit.proofs.Handles.{R, Z, L, three, three_good, two_good, handle_in}
 use Rattle.uds_unit.specs.contracts.handle.Handle.of as f
