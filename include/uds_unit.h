@@ -2,6 +2,7 @@
  * eight testers, written and proved in Rattle. A unit takes frames with their moments, and hands out those that it sends.
  *
  * No call starts a thread, waits or reads a clock: time is what the caller says. Each call returns, and answers a status.
+ * The more time a call lets pass the longer it takes: some milliseconds for a year.
  *
  * Caller's duty, which nothing checks:
  * - no pointer is null, also where a length or a room is 0, and each points to as many bytes as its length says;
