@@ -1,8 +1,8 @@
 #!/usr/bin/env python3
 """Builds the library for C and Python, which is proved by the gate's own steps, and runs it from both.
 
-- `rt lib` makes out/libuds_unit.a of crates/uds_unit, and the C compiler out/libuds_unit.so of it, with the kit's C code for
-  memory: what it gives to others, and what it takes, is looked at.
+- `rt lib` makes out/libuds_unit.a of crates/uds_unit, and the kit's linker out/libuds_unit.so of it, with the kit's C code
+  for memory: what it gives to others, and what it takes, is looked at.
 - tools/library/calls.c, compiled as C and as C++ with all warnings as errors, against both libraries; under valgrind, where
   that is installed. The line of a setup's fault is the program's.
 - Random captures (200, the same each time) by the library from C and from Python, beside `uds_play bus`: the same frames.
@@ -35,7 +35,7 @@ WARNINGS = ["-O2", "-Wall", "-Wextra", "-Werror", "-pedantic", f"-I{TOP}/include
 C = ["cc", "-std=c11", *WARNINGS]
 CPP = ["c++", "-std=c++17", *WARNINGS, "-x", "c++"]
 # what the shared library may take from others: of the C library
-TAKES = {"malloc", "realloc", "free", "memcpy", "memmove", "memset", "memcmp", "__cxa_finalize"}
+TAKES = {"malloc", "realloc", "free", "memcpy", "memmove", "memset", "memcmp"}
 BUS_LINE = re.compile(r"\((\d+)\.(\d{6})\) (\S+) ([0-9A-F]+)#([0-9A-F]*)")
 FRAME_LINE = re.compile(r"\((\d+)\.(\d{6})\) \S+ ([0-9A-F]{3}|[01][0-9A-F]{7})#((?:[0-9A-F]{2})*)(?: .*)?")
 # how many digits an identifier of 11 bits has, and the bit of one of 29
@@ -67,14 +67,15 @@ def kit():
 
 
 def build():
-    """Builds both; what went wrong, if anything. The same sources make the same bytes, wherever they lie."""
+    """Builds both, by the kit alone; what went wrong, if anything."""
     made = run(["rt", "lib"], cwd=CRATE, stdin=subprocess.DEVNULL)
     if made.returncode != 0:
         return made.stdout + made.stderr
-    whole = ["-Wl,--whole-archive", STATIC, "-Wl,--no-whole-archive", f"{kit()}/c/liblibc_c.a"]
-    limits = [f"-Wl,--version-script={TOP}/include/uds_unit.map", "-Wl,--gc-sections", "-Wl,-z,defs,-z,relro,-z,now"]
-    name = ["-Wl,-soname,libuds_unit.so.1", "-Wl,--build-id=none", "-Wl,--strip-all"]
-    made = run(["cc", "-shared", "-o", SHARED, *whole, *limits, *name])
+    tools = f"{kit()}/toolchain"
+    inputs = ["--whole-archive", STATIC, "--no-whole-archive", f"{kit()}/c/liblibc_c.a", f"{tools}/lib/libc.so.6"]
+    limits = [f"--version-script={TOP}/include/uds_unit.map", "--gc-sections", "-z", "defs", "-z", "relro", "-z", "now"]
+    name = ["-soname", "libuds_unit.so.1", "--build-id=none", "--strip-all"]
+    made = run([f"{tools}/bin/ld.lld", "-shared", "-o", SHARED, *inputs, *limits, *name])
     return None if made.returncode == 0 else made.stderr
 
 
@@ -92,7 +93,7 @@ def look():
     told(declared == calls and {it.split("@@")[0] for it in given if "uds_unit_" in it} == calls, "it gives the header's calls", given)
     told(all(it.endswith("@@UDS_UNIT_1") or it == "UDS_UNIT_1" for it in given), "each in a version", given)
     taken = {it.split("@")[0] for it in symbols("--undefined-only")}
-    told(taken - {"_ITM_deregisterTMCloneTable", "_ITM_registerTMCloneTable", "__gmon_start__"} <= TAKES, "it takes the C library's alone", taken)
+    told(taken <= TAKES, "it takes the C library's alone", taken)
     needed = re.findall(r"NEEDED\s+(\S+)", run(["objdump", "-p", SHARED]).stdout)
     told(set(needed) <= {"libc.so.6"}, "it needs libc alone", needed)
 
