@@ -35,6 +35,7 @@ import pictures
 
 TOP = os.path.dirname(os.path.dirname(os.path.abspath(__file__)))
 PROGRAM = "crates/uds_play/out/uds_play"
+LIBRARY = "crates/uds_unit/out/libuds_unit.so"
 # those whose commands are run
 DOCUMENTS = ["README.md", "docs/USE.md", "docs/VIEW.md", "demo/README.md", "CONTRIBUTING.md"]
 # those that show code alone
@@ -102,7 +103,7 @@ class Block:
 
     def source(self):
         """The path of the source in which these lines stand."""
-        found = re.search(r"`(crates/[\w/]+\.rt)`:$", self.before)
+        found = re.search(r"`((?:crates|tools)/[\w/]+\.(?:rt|c))`:$", self.before)
         return found and found[1]
 
     def is_added(self):
@@ -182,7 +183,7 @@ def run(room, command, language=""):
     """Runs a line of a block, or a program, in the folder; returns all that it prints, and its status."""
     words = [sys.executable, "-c"] if language else ["bash", "-o", "pipefail", "-c"]
     folder = f"{TOP}/crates/diag_can" if command.startswith("rt ") else room
-    paths = {**os.environ, "PATH": f"{room}/stand_ins:{os.environ['PATH']}"}
+    paths = {**os.environ, "PATH": f"{room}/stand_ins:{os.environ['PATH']}", "PYTHONPATH": f"{TOP}/python"}
     it = subprocess.run([*words, command], cwd=folder, env=paths, stdin=subprocess.DEVNULL, stdout=subprocess.PIPE,
                         stderr=subprocess.STDOUT, timeout=SECONDS)
     return it.stdout.decode(), it.returncode
@@ -224,6 +225,8 @@ def play_command(place, room, block, shown):
     """Runs the commands of a block; the last one has the status and the output that the next block says.
     Returns what the last one prints."""
     missing = lacks(block)
+    if "uds_unit import" in block.text() and not os.path.exists(f"{TOP}/{LIBRARY}"):
+        missing = [LIBRARY]
     if missing:
         print(f"docs: {place}: not run, for {', '.join(missing)} isn't here", flush=True)
         return ""
@@ -249,9 +252,9 @@ def words_of(text):
 def known_names():
     """All words of the sources, the proofs, the edits and the tools, and of the names of their files."""
     found = set()
-    for part in (*(f"crates/*/{it}" for it in ("src", "specs", "proofs", "must-fail", "edits")), "tools", "runs", "bench", "demo"):
+    for part in (*(f"crates/*/{it}" for it in ("src", "specs", "proofs", "must-fail", "edits")), "tools", "runs", "bench", "demo", "include", "python"):
         for path in glob.glob(f"{TOP}/{part}/**/*", recursive=True):
-            if path.endswith((".rt", ".antt", ".py", ".sh")):
+            if path.endswith((".rt", ".antt", ".py", ".sh", ".c", ".h", ".toml")):
                 found |= words_of(whole(path))
             found |= words_of(path.removeprefix(TOP))
     return found | words_of(whole(f"{TOP}/crates.txt"))
@@ -259,7 +262,7 @@ def known_names():
 
 def missing_files(text):
     """The paths that a text tells of and that are not there; CRATE and NAME stand for any word."""
-    paths = re.findall(r"(?<![\w/.])((?:crates|docs|tools|runs|bench|demo)/[\w./*-]*[\w*/])", text)
+    paths = re.findall(r"(?<![\w/.])((?:crates|docs|tools|runs|bench|demo|include|python)/[\w./*-]*[\w*/])", text)
     return sorted({it for it in paths if not glob.glob(f"{TOP}/{re.sub('NAME|CRATE', '*', it)}")})
 
 

@@ -1,0 +1,35 @@
+# Installs what was built: the program, the library with its header, the man page, the completion and the Python package.
+# Usage: make install [PREFIX=/usr/local] [DESTDIR=..]     and make uninstall with the same words
+# What is installed is in out/ where it was built of these sources, else in release/ (tools/release.sh --files).
+PREFIX ?= /usr/local
+PYTHON ?= python3
+# where Python looks for packages under PREFIX
+PYTHONDIR ?= $(shell $(PYTHON) -c 'import sysconfig; print(sysconfig.get_path("purelib", "posix_prefix", {"base": "$(PREFIX)"}))')
+ROOT = $(DESTDIR)$(PREFIX)
+PACKAGE = $(DESTDIR)$(PYTHONDIR)/uds_unit
+
+all:
+	@echo 'make install [PREFIX=/usr/local] installs; ./uds_play proves and builds; ./check proves and tests all'
+
+install:
+	@set -e; files=$$(tools/release.sh --files); set -- $$files; \
+	version=$$("$$1" --version | awk '{ print $$NF }'); \
+	install -D -m 755 "$$1" '$(ROOT)/bin/uds_play'; \
+	install -D -m 644 "$$2" '$(ROOT)/lib/libuds_unit.so.1'; \
+	ln -sf libuds_unit.so.1 '$(ROOT)/lib/libuds_unit.so'; \
+	install -D -m 644 include/uds_unit.h '$(ROOT)/include/uds_unit.h'; \
+	install -d '$(ROOT)/lib/pkgconfig'; \
+	sed -e 's|@PREFIX@|$(PREFIX)|' -e "s|@VERSION@|$$version|" include/uds_unit.pc.in > '$(ROOT)/lib/pkgconfig/uds_unit.pc'; \
+	install -D -m 644 man/uds_play.1 '$(ROOT)/share/man/man1/uds_play.1'; \
+	install -D -m 644 completion/uds_play.bash '$(ROOT)/share/bash-completion/completions/uds_play'; \
+	install -d '$(PACKAGE)'; \
+	install -m 644 python/uds_unit/*.py python/uds_unit/py.typed '$(PACKAGE)'; \
+	install -m 644 "$$2" '$(PACKAGE)/libuds_unit.so'
+	@echo 'installed under $(ROOT)'
+
+uninstall:
+	rm -f '$(ROOT)/bin/uds_play' '$(ROOT)/lib/libuds_unit.so.1' '$(ROOT)/lib/libuds_unit.so' '$(ROOT)/include/uds_unit.h'
+	rm -f '$(ROOT)/lib/pkgconfig/uds_unit.pc' '$(ROOT)/share/man/man1/uds_play.1' '$(ROOT)/share/bash-completion/completions/uds_play'
+	rm -rf '$(PACKAGE)'
+
+.PHONY: all install uninstall

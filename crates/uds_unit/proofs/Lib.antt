@@ -1,0 +1,10 @@
+mod Values
+mod Handles
+mod Entered
+mod Giving
+mod Passing
+mod Run
+mod Queued
+mod Calling
+mod Captured
+mod Faults

@@ -1,0 +1,9 @@
+pub mod Handle
+pub mod Moments
+pub mod Journal
+pub mod Entering
+pub mod Going
+pub mod History
+pub mod Device
+pub mod Calls
+pub mod AsBus

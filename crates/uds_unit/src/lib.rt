@@ -1,0 +1,13 @@
+//! A unit on a CAN bus, for C and for what calls C.
+#![tactic(auto)]
+
+mod clock;
+mod device;
+mod entries;
+mod exports;
+mod frames;
+mod going;
+mod handle;
+mod laws;
+mod loose;
+mod status;

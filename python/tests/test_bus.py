@@ -1,0 +1,159 @@
+"""Tests of `uds_unit.bus` on a virtual bus, of the program, and of the fixtures. They want python-can, one of them scapy, and
+those of the fixtures pytest; a test that wants what isn't there is passed over."""
+import importlib.util
+import subprocess
+import sys
+import tempfile
+import time
+import unittest
+from pathlib import Path
+
+SETUP = Path(__file__).resolve().parent.parent.parent / "demo/setup.toml"
+PACKAGE = str(Path(__file__).resolve().parent.parent)
+
+
+def has(*names: str) -> bool:
+    return all(importlib.util.find_spec(name) is not None for name in names)
+
+
+@unittest.skipUnless(has("can"), "python-can isn't installed")
+class BusTests(unittest.TestCase):
+    def setUp(self) -> None:
+        import can
+
+        from uds_unit.bus import UnitBus
+
+        self.Message = can.Message
+        channel = f"test_{self.id()}"
+        self.far = can.Bus(interface="virtual", channel=channel)
+        self.near = can.Bus(interface="virtual", channel=channel)
+        self.addCleanup(self.near.shutdown)
+        self.addCleanup(self.far.shutdown)
+        self.unit = UnitBus(self.far, SETUP, journal=True).start()
+        self.addCleanup(self.unit.stop)
+
+    def ask(self, data: str, id: int = 0x7E0, **more: bool) -> None:
+        self.near.send(self.Message(arbitration_id=id, data=bytes.fromhex(data), is_extended_id=False, **more))
+
+    def hear(self) -> str | None:
+        heard = self.near.recv(2)
+        return None if heard is None else f"{heard.arbitration_id:03X}#{heard.data.hex().upper()}"
+
+    def test_requests(self) -> None:
+        self.ask("021003")
+        self.assertEqual(self.hear(), "7E8#065003003201F4CC")
+        self.assertEqual((self.unit.session, self.unit.holder), ("extended", "workshop"))
+        self.ask("021003", 0x7E1)
+        self.assertEqual(self.hear(), "7E9#037F1021CCCCCCCC")
+        self.unit.set_value(0xF195, b"\x04\x05")
+        self.unit.set_code(0xC10000, 0x2F)
+        self.ask("0322F195")
+        self.assertEqual(self.hear(), "7E8#0562F1950405CCCC")
+        self.assertEqual((self.unit.values[0xF195], self.unit.codes[0xC10000]), (b"\x04\x05", 0x2F))
+        self.unit.stop()
+        self.assertIn(" 1 P 22F195 62F1950405\n", self.unit.journal())
+
+    def test_separation_time(self) -> None:
+        self.ask("0322F190")
+        self.assertEqual(self.hear(), "7E8#101462F190303030")
+        self.ask("300014")
+        first = self.near.recv(2)
+        second = self.near.recv(2)
+        self.assertEqual([it.data[0] for it in (first, second)], [0x21, 0x22])
+        self.assertGreaterEqual(second.timestamp - first.timestamp, 0.0199)
+
+    def test_session_ends(self) -> None:
+        from uds_unit.bus import UnitBus
+
+        self.unit.stop()
+        short = SETUP.read_bytes().replace(b"s3_ms = 5000", b"s3_ms = 100")
+        with UnitBus(self.far, short) as unit:
+            self.ask("021003")
+            self.assertEqual(self.hear(), "7E8#065003003201F4CC")
+            self.assertEqual(unit.session, "extended")
+            time.sleep(0.5)
+            self.assertEqual(unit.session, "default")
+
+    def test_29_bits(self) -> None:
+        from uds_unit.bus import UnitBus
+
+        self.unit.stop()
+        with UnitBus(self.far, b'tester = [{ name = "A", request = 0x18DA10F1, response = 0x18DAF110, extended = true }]'):
+            self.near.send(self.Message(arbitration_id=0x18DA10F1, data=bytes.fromhex("021003"), is_extended_id=True))
+            heard = self.near.recv(2)
+        self.assertEqual((heard.arbitration_id, heard.is_extended_id), (0x18DAF110, True))
+
+    def test_others_frames(self) -> None:
+        self.near.send(self.Message(arbitration_id=0x18DA00F1, data=b"\x02\x10\x03", is_extended_id=True))
+        self.near.send(self.Message(arbitration_id=0x7E0, is_extended_id=False, is_remote_frame=True, dlc=3))
+        self.ask("023E00", 0x7E1)
+        self.assertEqual(self.hear(), "7E9#027E00CCCCCCCCCC")
+
+    @unittest.skipUnless(has("scapy"), "scapy isn't installed")
+    def test_scapy_reads(self) -> None:
+        from scapy.config import conf
+
+        conf.contribs["CANSocket"] = {"use-python-can": True}
+        conf.contribs["ISOTP"] = {"use-can-isotp-kernel-module": False}
+        from scapy.contrib.cansocket_python_can import CANSocket
+        from scapy.contrib.isotp import ISOTPSocket
+        from scapy.contrib.automotive.uds import UDS, UDS_RDBI
+
+        with CANSocket(bustype="virtual", channel=f"test_{self.id()}") as raw:
+            with ISOTPSocket(raw, tx_id=0x7E0, rx_id=0x7E8, basecls=UDS) as tester:
+                reply = tester.sr1(UDS() / UDS_RDBI(identifiers=[0xF190]), timeout=3, verbose=False)
+        self.assertEqual(bytes(reply), b"\x62\xF1\x90" + b"0" * 17)
+
+
+@unittest.skipUnless(has("can"), "python-can isn't installed")
+class ProgramTests(unittest.TestCase):
+    def run_program(self, *words: str) -> subprocess.CompletedProcess[str]:
+        return subprocess.run([sys.executable, "-m", "uds_unit", *words], cwd=PACKAGE, capture_output=True, text=True, timeout=60)
+
+    def test_it_runs(self) -> None:
+        with tempfile.TemporaryDirectory() as room:
+            ran = self.run_program("--interface", "virtual", "--channel", "x", "--seconds", "0.3", "--journal", f"{room}/j", str(SETUP))
+            self.assertEqual((ran.returncode, ran.stdout, ran.stderr), (0, "", ""))
+            self.assertTrue(Path(f"{room}/j").read_text().startswith("diag-journal 2\n"))
+
+    def test_faults(self) -> None:
+        with tempfile.NamedTemporaryFile("w", suffix=".toml") as it:
+            it.write("s3_ms = 1")
+            it.flush()
+            ran = self.run_program("--interface", "virtual", "--channel", "x", it.name)
+            self.assertEqual((ran.returncode, ran.stderr), (2, "uds_unit: config: empty\n"))
+        ran = self.run_program("--interface", "no_such", "--channel", "x", str(SETUP))
+        self.assertEqual(ran.returncode, 1)
+
+
+TESTS = '''
+import can
+
+def ask(bus, data):
+    bus.send(can.Message(arbitration_id=0x7E0, data=bytes.fromhex(data), is_extended_id=False))
+    return bus.recv(2).data.hex()
+
+def test_good(uds_unit):
+    assert ask(uds_unit.bus, "021003") == "065003003201f4cc"
+    assert uds_unit.unit.holder == "workshop"
+
+def test_bad(uds_unit):
+    assert ask(uds_unit.bus, "021003") == "nothing of the kind"
+'''
+
+
+@unittest.skipUnless(has("can", "pytest"), "python-can and pytest aren't both installed")
+class FixtureTests(unittest.TestCase):
+    def test_fixture(self) -> None:
+        with tempfile.TemporaryDirectory() as room:
+            Path(f"{room}/test_it.py").write_text(TESTS)
+            Path(f"{room}/pytest.ini").write_text(f"[pytest]\nuds_setup = {SETUP}\n")
+            words = [sys.executable, "-m", "pytest", "-q", "-p", "uds_unit.pytest_plugin", "-p", "no:cacheprovider", room]
+            ran = subprocess.run(words, cwd=PACKAGE, capture_output=True, text=True, timeout=120)
+            self.assertIn("1 failed, 1 passed", ran.stdout, ran.stdout + ran.stderr)
+            self.assertIn("journal of the unit", ran.stdout)
+            self.assertIn(" 1 P 1003 5003003201F4", ran.stdout)
+
+
+if __name__ == "__main__":
+    unittest.main()

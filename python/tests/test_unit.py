@@ -1,0 +1,150 @@
+"""Tests of `uds_unit.Unit`: what it answers, and each fault. They want nothing but the library."""
+import os
+import unittest
+from pathlib import Path
+
+from uds_unit import ClosedFault, Frame, FrameFault, SetupFault, Unit, UnitFault
+
+SETUP = Path(__file__).resolve().parent.parent.parent / "demo/setup.toml"
+EXTENDED = bytes.fromhex("021003")
+# two testers of 29 bits, and one of 11
+WIDE = b"""tester = [
+    { name = "A", request = 0x18DA10F1, response = 0x18DAF110, extended = true },
+    { name = "B", request = 0x7E0, response = 0x7E8 },
+]"""
+
+
+class UnitTests(unittest.TestCase):
+    def setUp(self) -> None:
+        self.unit = Unit(SETUP, journal=True)
+        self.addCleanup(self.unit.close)
+
+    def test_session_ends(self) -> None:
+        frames = self.unit.frame(0.0, 0x7E0, EXTENDED)
+        self.assertEqual(frames, [Frame(0.0, 0x7E8, bytes.fromhex("065003003201F4CC"), "workshop")])
+        self.assertEqual((self.unit.session, self.unit.holder), ("extended", "workshop"))
+        self.assertEqual(self.unit.advance(4.999), [])
+        self.assertEqual(self.unit.session, "extended")
+        self.unit.advance(5.0)
+        self.assertEqual((self.unit.session, self.unit.holder), ("default", None))
+
+    def test_two_testers(self) -> None:
+        self.unit.frame(0.0, 0x7E0, EXTENDED)
+        busy = self.unit.frame(0.1, 0x7E1, EXTENDED)
+        self.assertEqual(busy, [Frame(0.1, 0x7E9, bytes.fromhex("037F1021CCCCCCCC"), "end_of_line")])
+        # the functional request is each tester's
+        self.assertEqual([it.tester for it in self.unit.frame(0.2, 0x7DF, bytes.fromhex("023E00"))], ["workshop", "end_of_line"])
+
+    def test_long_reply(self) -> None:
+        self.assertIsNone(self.unit.due)
+        first = self.unit.frame(1.0, 0x7E0, bytes.fromhex("0322F190"))
+        self.assertEqual([it.data.hex() for it in first], ["101462f190303030"])
+        self.assertEqual(len(self.unit.frame(1.002, 0x7E0, bytes.fromhex("30000A"))), 1)
+        self.assertEqual(self.unit.due, 1.012)
+        self.assertEqual([it.time for it in self.unit.advance(self.unit.due)], [1.012])
+        self.assertIsNone(self.unit.due)
+
+    def test_time_goes_on(self) -> None:
+        self.unit.advance(1.0)
+        self.assertEqual(self.unit.frame(0.5, 0x7E0, bytes.fromhex("023E00"))[0].time, 1.0)
+        self.assertEqual(self.unit.advance(-1.0), [])
+
+    def test_values(self) -> None:
+        values = self.unit.values
+        self.assertEqual((list(values), len(values), values[0xF195]), ([0xF190, 0xF195], 2, b"\x02\x03"))
+        values[0xF195] = b"\x04\x05"
+        self.assertEqual(self.unit.frame(0.0, 0x7E0, bytes.fromhex("0322F195"))[0].data.hex(), "0562f1950405cccc")
+        self.assertNotIn(0xF191, values)
+        for wrong in (0xF191, -1, 0x1F195):
+            with self.assertRaises(KeyError):
+                values[wrong] = b"\x04\x05"
+            with self.assertRaises(KeyError):
+                values[wrong]
+        with self.assertRaisesRegex(ValueError, "another length"):
+            values[0xF195] = b"\x04"
+        with self.assertRaises(TypeError):
+            del values[0xF195]
+
+    def test_codes(self) -> None:
+        codes = self.unit.codes
+        self.assertEqual(dict(codes), {0x056200: 0x2F, 0xC10000: 0x04})
+        codes[0xC10000] = 0x2F
+        self.assertEqual((codes[0xC10000], len(codes)), (0x2F, 2))
+        self.assertEqual(self.unit.frame(0.0, 0x7E0, bytes.fromhex("03190120"))[0].data.hex(), "065901ff010002cc")
+        with self.assertRaises(KeyError):
+            codes[1] = 0
+        with self.assertRaises(KeyError):
+            codes[1]
+        with self.assertRaises(ValueError):
+            codes[0xC10000] = 256
+        with self.assertRaises(TypeError):
+            del codes[0xC10000]
+
+    def test_journal(self) -> None:
+        self.assertEqual(self.unit.journal(), "diag-journal 2\n")
+        self.unit.frame(0.0, 0x7E0, EXTENDED)
+        self.unit.advance(0.25)
+        self.assertEqual(self.unit.journal(), "0 1 P 1003 5003003201F4\n250 1 T 250\n250 2 T 250\n")
+        self.assertEqual(self.unit.journal(), "")
+        with Unit(SETUP) as other:
+            other.frame(0.0, 0x7E0, EXTENDED)
+            self.assertEqual(other.journal(), "")
+
+    def test_no_frame(self) -> None:
+        wrong = [(0x7E0, bytes(9), False), (0x800, b"", False), (0x20000000, b"", True), (-1, b"", False), (1 << 40, b"", False)]
+        for id, data, extended in wrong:
+            with self.assertRaisesRegex(FrameFault, "no frame of classic CAN"):
+                self.unit.frame(9.0, id, data, extended=extended)
+        self.assertEqual(self.unit.frame(0.0, 0x18DB33F1, EXTENDED, extended=True), [])
+        self.assertEqual(self.unit.frame(0.0, 0x7E0, bytearray(EXTENDED))[0].time, 0.0)
+
+    def test_29_bits(self) -> None:
+        with Unit(WIDE) as unit:
+            reply = bytes.fromhex("065003003201F4CC")
+            self.assertEqual(unit.frame(0.0, 0x18DA10F1, EXTENDED, extended=True), [Frame(0.0, 0x18DAF110, reply, "A", True)])
+            self.assertEqual(unit.holder, "A")
+            # the same number of 11 bits is another identifier
+            self.assertEqual(unit.frame(1.0, 0x7E0, bytes.fromhex("023E00"), extended=True), [])
+            self.assertEqual([it.id for it in unit.frame(1.0, 0x7E0, bytes.fromhex("023E00"))], [0x7E8])
+            # a functional request of 29 bits is each such tester's
+            self.assertEqual([it.tester for it in unit.frame(1.0, 0x18DB33F1, bytes.fromhex("023E00"), extended=True)], ["A"])
+
+    def test_closed(self) -> None:
+        self.unit.close()
+        self.unit.close()
+        calls = [
+            lambda unit: unit.frame(0.0, 0x7E0, EXTENDED),
+            lambda unit: unit.advance(0.0),
+            lambda unit: unit.due,
+            lambda unit: unit.session,
+            lambda unit: unit.holder,
+            lambda unit: unit.journal(),
+            lambda unit: unit.values[0xF195],
+            lambda unit: unit.values.update({0xF195: b"\0\0"}),
+            lambda unit: list(unit.values),
+            lambda unit: dict(unit.codes),
+            lambda unit: unit.codes.update({0xC10000: 1}),
+        ]
+        for call in calls:
+            with self.assertRaisesRegex(ClosedFault, "the unit is closed"):
+                call(self.unit)
+
+
+class SetupTests(unittest.TestCase):
+    def test_faults_are_told(self) -> None:
+        for setup, text in ((b"s3_ms = 1", "config: empty"), (b"=", "config: syntax"), (b"\xff", "config: syntax")):
+            with self.assertRaises(SetupFault) as told:
+                Unit(setup)
+            self.assertEqual(str(told.exception), text)
+            self.assertIsInstance(told.exception, UnitFault)
+        with self.assertRaises(OSError):
+            Unit("no_such_file.toml")
+
+    def test_kinds_of_setup(self) -> None:
+        for setup in (str(SETUP), SETUP, os.fspath(SETUP), SETUP.read_bytes()):
+            with Unit(setup) as unit:
+                self.assertEqual(unit.testers, ("workshop", "end_of_line"))
+
+
+if __name__ == "__main__":
+    unittest.main()

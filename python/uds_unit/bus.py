@@ -1,0 +1,143 @@
+"""A unit on a bus of python-can: virtual, socketcan, PEAK, Vector, Kvaser or any other."""
+import os
+import threading
+import time
+from collections.abc import Mapping
+from typing import Self
+
+import can
+
+from .unit import Frame, Unit
+
+# the most seconds without a look whether to stop
+PATIENCE = 0.05
+
+
+class UnitBus:
+    """A unit of a setup on a bus, in a thread of its own from `start` (or `with`) to `stop`. The bus stays the caller's.
+
+    The unit's time is the machine's monotonic clock. Where a frame goes late, all that is due behind it goes as much later,
+    until nothing is waited for: so two frames are never nearer to each other than their separation time.
+
+    `setup` is the path of a setup in TOML, or the bytes of one; SetupFault and OSError as `Unit` raises them.
+    """
+
+    def __init__(self, bus: can.BusABC, setup: str | os.PathLike[str] | bytes, *, journal: bool = False) -> None:
+        self.bus = bus
+        self._unit = Unit(setup, journal=journal)
+        self._lock = threading.Lock()
+        self._stopped = threading.Event()
+        self._thread: threading.Thread | None = None
+        self._begun = time.monotonic()
+        self._late = 0.0
+        self._told = ""
+        self._closed = False
+        self.fault: BaseException | None = None
+        """What ended the thread, if it ended by itself: a fault of the bus."""
+
+    def start(self) -> Self:
+        """Starts the thread. From then on the unit answers."""
+        if self._thread is not None:
+            raise RuntimeError("it was started before")
+        self._begun = time.monotonic()
+        self._unit.advance(0.0)
+        self._thread = threading.Thread(target=self._run, name="uds_unit", daemon=True)
+        self._thread.start()
+        return self
+
+    def stop(self) -> None:
+        """Ends the thread and frees the unit; what was told of it before stays. Raises what ended the thread by itself."""
+        self._stopped.set()
+        if self._thread is not None:
+            self._thread.join()
+        with self._lock:
+            if not self._closed:
+                self._told += self._unit.journal()
+                self._unit.close()
+                self._closed = True
+        if self.fault is not None:
+            raise self.fault
+
+    def __enter__(self) -> Self:
+        return self.start()
+
+    def __exit__(self, *_: object) -> None:
+        self.stop()
+
+    @property
+    def session(self) -> str:
+        """The session, as `Unit.session`."""
+        with self._lock:
+            return self._unit.session
+
+    @property
+    def holder(self) -> str | None:
+        """The tester in a session other than the default one, as `Unit.holder`."""
+        with self._lock:
+            return self._unit.holder
+
+    @property
+    def codes(self) -> Mapping[int, int]:
+        """The trouble codes with their status, as they are now."""
+        with self._lock:
+            return dict(self._unit.codes)
+
+    @property
+    def values(self) -> Mapping[int, bytes]:
+        """The values of the data identifiers, as they are now."""
+        with self._lock:
+            return dict(self._unit.values)
+
+    def set_value(self, id: int, value: bytes) -> None:
+        """Sets the value of a data identifier, as the ECU's own software does."""
+        with self._lock:
+            self._unit.values[id] = value
+
+    def set_code(self, code: int, status: int) -> None:
+        """Sets the status of a trouble code, as the ECU's own software does."""
+        with self._lock:
+            self._unit.codes[code] = status
+
+    def journal(self) -> str:
+        """The whole journal so far; empty where the unit keeps none."""
+        with self._lock:
+            if not self._closed:
+                self._told += self._unit.journal()
+            return self._told
+
+    # ---- the thread
+
+    def _now(self) -> float:
+        return time.monotonic() - self._begun - self._late
+
+    def _run(self) -> None:
+        try:
+            while not self._stopped.is_set():
+                self._turn()
+        except Exception as fault:  # (told by `stop`)
+            self.fault = fault
+
+    def _turn(self) -> None:
+        """Waits for a frame until the next one of the unit's is due, and sends what is due."""
+        with self._lock:
+            due = self._unit.due
+            if due is None:
+                self._late = 0.0
+        heard = self.bus.recv(PATIENCE if due is None else min(max(due - self._now(), 0.0), PATIENCE))
+        with self._lock:
+            while (due := self._unit.due) is not None and due <= self._now():
+                self._send(self._unit.advance(due))
+            now = self._now()
+            if heard is None or not _is_classic(heard):
+                self._send(self._unit.advance(now))
+            else:
+                self._send(self._unit.frame(now, heard.arbitration_id, heard.data, extended=heard.is_extended_id))
+
+    def _send(self, frames: list[Frame]) -> None:
+        for frame in frames:
+            self.bus.send(can.Message(arbitration_id=frame.id, data=frame.data, is_extended_id=frame.extended))
+            self._late += max(self._now() - frame.time, 0.0)
+
+
+def _is_classic(message: can.Message) -> bool:
+    return not (message.is_error_frame or message.is_remote_frame or message.is_fd) and message.is_rx

@@ -1,0 +1,21 @@
+"""What goes wrong with a unit, each with the text of the fault."""
+
+
+class UnitFault(Exception):
+    """Any fault of a unit."""
+
+
+class SetupFault(UnitFault, ValueError):
+    """The setup is at fault: the line that the program tells, as `config: empty`."""
+
+
+class ClosedFault(UnitFault):
+    """The unit was closed."""
+
+
+class FrameFault(UnitFault, ValueError):
+    """No frame of classic CAN has this identifier, or so many bytes. Nothing was taken."""
+
+
+class MemoryFault(UnitFault, MemoryError):
+    """There is no memory, or 2^40 replies wait. Nothing is said of what the unit took: close it."""

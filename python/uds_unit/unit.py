@@ -1,0 +1,255 @@
+"""The unit: frames and moments go in, frames come out."""
+import os
+import tomllib
+from collections.abc import Iterator, MutableMapping
+from ctypes import byref, c_size_t, c_uint16, c_uint64, create_string_buffer
+from typing import NamedTuple, Self
+
+from . import library
+from .faults import ClosedFault, FrameFault, MemoryFault, SetupFault
+from .library import CLOSED, DONE, LENGTH, MEMORY, NO_FRAME, NONE, ROOM, UNKNOWN, Code, Handle, Reply, State
+
+# the names of the sessions (ISO 14229-1:2013, 9.2); any other is told by its number as two hex digits
+SESSIONS = {1: "default", 2: "programming", 3: "extended", 4: "safety"}
+# bit 31 of an identifier says that it has 29 bits
+EXTENDED = 1 << 31
+LOW_29 = (1 << 29) - 1
+MICRO = 1_000_000
+NEVER = 2**64 - 1
+
+
+class Frame(NamedTuple):
+    """A frame that the unit sends."""
+
+    time: float
+    """When, in seconds."""
+    id: int
+    """Its identifier."""
+    data: bytes
+    """Its bytes, 0 to 8."""
+    tester: str
+    """The name of the tester that it is for."""
+    extended: bool = False
+    """Whether its identifier has 29 bits."""
+
+
+def _microseconds(time: float) -> int:
+    return min(max(round(time * MICRO), 0), NEVER)
+
+
+class Unit:
+    """A unit of a setup, to which nothing has happened yet. It reads no clock: time is what the caller says, in seconds from
+    any zero. The first moment that it is given is where its time begins. One thread at a time may call a unit.
+
+    `setup` is the path of a setup in TOML, or the bytes of one. With `journal` the unit keeps the lines of its journal
+    until `journal()` hands them out.
+
+    Raises SetupFault where the setup is at fault, OSError where it or the library can't be read, MemoryFault.
+    """
+
+    def __init__(self, setup: str | os.PathLike[str] | bytes, *, journal: bool = False) -> None:
+        self._library = library.load()
+        self._handle = Handle()
+        self._at = byref(self._handle)
+        self._reply = Reply()
+        self._reply_at = byref(self._reply)
+        # (looked up once, for they are called for each frame)
+        self._frame, self._next = self._library.uds_unit_frame, self._library.uds_unit_next
+        if isinstance(setup, bytes):
+            config = setup
+        else:
+            with open(setup, "rb") as file:
+                config = file.read()
+        text = create_string_buffer(1024)
+        call = self._library.uds_unit_open_with_journal if journal else self._library.uds_unit_open
+        status = call(self._at, config, len(config), text, len(text))
+        if status == MEMORY:
+            raise MemoryFault("memory")
+        if status != DONE:
+            raise SetupFault(text.value.decode().strip().removeprefix("uds_play: "))
+        tree = tomllib.loads(config.decode().removeprefix("\ufeff"))
+        self.testers: tuple[str, ...] = tuple(tester["name"] for tester in tree["tester"])
+        """The testers' names, in the order of the setup."""
+        self.codes: Codes = Codes(self)
+        """The trouble codes: a mapping from code to status."""
+        self.values: Values = Values(self)
+        """The values of the data identifiers: a mapping from identifier to bytes."""
+
+    def close(self) -> None:
+        """Frees the unit. Every other call of a closed unit raises ClosedFault; this one does nothing again."""
+        self._library.uds_unit_close(self._at)
+
+    def __enter__(self) -> Self:
+        return self
+
+    def __exit__(self, *_: object) -> None:
+        self.close()
+
+    def __del__(self) -> None:
+        if hasattr(self, "_at"):
+            self.close()
+
+    def frame(self, time: float, id: int, data: bytes, *, extended: bool = False) -> list[Frame]:
+        """Takes a frame of the bus at a moment in seconds, and returns the frames that are due up to then, in the bus's order.
+        An earlier moment is taken as the latest so far. `id` has 11 bits, or with `extended` 29 bits.
+
+        Raises FrameFault where it is no frame of classic CAN; then nothing was taken.
+        """
+        if extended:
+            id |= EXTENDED
+        if not 0 <= id <= 0xFFFFFFFF:
+            raise FrameFault("no frame of classic CAN")
+        status = self._frame(self._at, _microseconds(time), id, bytes(data), len(data))
+        if status != DONE:
+            self._raise(status)
+        return self._due()
+
+    def advance(self, time: float) -> list[Frame]:
+        """Lets time pass to a moment in seconds, and returns the frames that are due up to then."""
+        status = self._library.uds_unit_pass(self._at, _microseconds(time))
+        if status != DONE:
+            self._raise(status)
+        return self._due()
+
+    @property
+    def due(self) -> float | None:
+        """The next moment, in seconds, at which a frame may fall due where nothing comes in before; None where nothing is
+        waited for."""
+        at = c_uint64()
+        self._check(self._library.uds_unit_due(self._at, byref(at)))
+        return None if at.value == NEVER else at.value / MICRO
+
+    @property
+    def session(self) -> str:
+        """The session: `default`, `programming`, `extended`, `safety`, or the number of another one as two hex digits."""
+        number = self._state().session
+        return SESSIONS.get(number, f"{number:02X}")
+
+    @property
+    def holder(self) -> str | None:
+        """The name of the tester in a session other than the default one; None in the default session."""
+        place = self._state().holder
+        return self.testers[place - 1] if place else None
+
+    def journal(self) -> str:
+        """The journal's lines since the last such call, and first its header; empty where the unit keeps no journal."""
+        length = c_size_t()
+        text = create_string_buffer(1)
+        status = self._library.uds_unit_journal(self._at, text, 0, byref(length))
+        while status == ROOM:
+            text = create_string_buffer(length.value)
+            status = self._library.uds_unit_journal(self._at, text, length.value, byref(length))
+        self._check(status)
+        return text.raw[: length.value].decode()
+
+    def _state(self) -> State:
+        state = State()
+        self._check(self._library.uds_unit_state(self._at, byref(state)))
+        return state
+
+    def _due(self) -> list[Frame]:
+        frames = []
+        reply, take = self._reply, self._next
+        while take(self._at, self._reply_at) == DONE:
+            data, id = bytes(reply.bytes)[: reply.len], reply.id
+            frames.append(Frame(reply.at_us / MICRO, id & LOW_29, data, self.testers[reply.tester - 1], id >= EXTENDED))
+        return frames
+
+    def _check(self, status: int) -> None:
+        if status != DONE:
+            self._raise(status)
+
+    @staticmethod
+    def _raise(status: int) -> None:
+        if status == CLOSED:
+            raise ClosedFault("the unit is closed")
+        if status == NO_FRAME:
+            raise FrameFault("no frame of classic CAN")
+        raise MemoryFault("memory")
+
+
+class Values(MutableMapping[int, bytes]):
+    """The values of a unit's data identifiers, in rising order. A value can be set, by one of the same length, as the ECU's
+    own software does while it runs; none can be added or removed."""
+
+    def __init__(self, unit: Unit) -> None:
+        self._unit = unit
+
+    def __getitem__(self, id: int) -> bytes:
+        unit, length, value = self._unit, c_size_t(), create_string_buffer(255)
+        _in_range(id, 0xFFFF)
+        status = unit._library.uds_unit_value(unit._at, id, value, 255, byref(length))
+        if status == UNKNOWN:
+            raise KeyError(id)
+        unit._check(status)
+        return value.raw[: length.value]
+
+    def __setitem__(self, id: int, value: bytes) -> None:
+        unit = self._unit
+        _in_range(id, 0xFFFF)
+        status = unit._library.uds_unit_set_value(unit._at, id, bytes(value), len(value))
+        if status == UNKNOWN:
+            raise KeyError(id)
+        if status == LENGTH:
+            raise ValueError("another length than the value kept")
+        unit._check(status)
+
+    def __delitem__(self, id: int) -> None:
+        raise TypeError("an identifier can't be removed")
+
+    def __iter__(self) -> Iterator[int]:
+        unit, id, place = self._unit, c_uint16(), 0
+        while (status := unit._library.uds_unit_identifier(unit._at, place, byref(id))) == DONE:
+            yield id.value
+            place += 1
+        if status != NONE:
+            unit._raise(status)
+
+    def __len__(self) -> int:
+        return sum(1 for _ in self)
+
+
+class Codes(MutableMapping[int, int]):
+    """The trouble codes of a unit with their status, in rising order. A status can be set, as the ECU's own software does
+    while it runs; no code can be added or removed."""
+
+    def __init__(self, unit: Unit) -> None:
+        self._unit = unit
+
+    def __getitem__(self, code: int) -> int:
+        for number, status in self._rows():
+            if number == code:
+                return status
+        raise KeyError(code)
+
+    def __setitem__(self, code: int, status: int) -> None:
+        unit = self._unit
+        _in_range(code, 0xFFFFFF)
+        if not 0 <= status <= 0xFF:
+            raise ValueError("no status byte")
+        answer = unit._library.uds_unit_set_code(unit._at, code, status)
+        if answer == UNKNOWN:
+            raise KeyError(code)
+        unit._check(answer)
+
+    def __delitem__(self, code: int) -> None:
+        raise TypeError("a code can't be removed")
+
+    def __iter__(self) -> Iterator[int]:
+        return (code for code, _ in self._rows())
+
+    def __len__(self) -> int:
+        return sum(1 for _ in self)
+
+    def _rows(self) -> Iterator[tuple[int, int]]:
+        unit, row, place = self._unit, Code(), 0
+        while (status := unit._library.uds_unit_code(unit._at, place, byref(row))) == DONE:
+            yield row.code, row.status
+            place += 1
+        if status != NONE:
+            unit._raise(status)
+
+
+def _in_range(number: int, most: int) -> None:
+    if not 0 <= number <= most:
+        raise KeyError(number)

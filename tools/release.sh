@@ -1,0 +1,134 @@
+#!/usr/bin/env bash
+# What is published: release/ has the program and the shared library that were proved and built of the sources beside it, and
+# SUMS, with the kit's line, the SHA-256 over all sources, and that of each file.
+# Usage: tools/release.sh               proves and builds both, and puts them into release/; then the tarball
+#        tools/release.sh --check       the gate's part: whether release/ has, byte for byte, what was built here just now, of
+#                                       these sources with this kit; without release/ a line says so. The last line is
+#                                       'N passed, M failed'
+#        tools/release.sh --is-here     whether release/SUMS tells these very sources, and each file has its sum; for the launcher
+#        tools/release.sh --sources     the SHA-256 over all that the build and the proofs read
+#        tools/release.sh --files       the paths of the program and of the shared library: those in out/ where they were built
+#                                       of these sources, else those in release/; for `make install`
+#        tools/release.sh --put         puts what was built into release/, without building it
+#        tools/release.sh --tarball     out/uds_play-VERSION-linux-x86_64.tar.gz: both files, and what is installed with them
+set -uo pipefail
+top=$(cd "$(dirname "${BASH_SOURCE[0]}")/.." && pwd) || exit 2
+cd "$top" || exit 2
+release=release
+program=crates/uds_play/out/uds_play
+library=crates/uds_unit/out/libuds_unit.so
+# all that the proofs and the build read, and how the library is linked
+read_by_build=(crates crates.txt HANDLES include tools/library.py)
+
+say() { echo "release: $*" >&2; }
+
+sum_of() { sha256sum < "$1" | cut -d' ' -f1; }
+
+# The names and sums of all sources, sorted, as one sum.
+sources() {
+  find "${read_by_build[@]}" -name out -prune -o -name __pycache__ -prune -o -type f -print0 | LC_ALL=C sort -z \
+    | xargs -0 sha256sum | sha256sum | cut -d' ' -f1
+}
+
+# The lines of SUMS for these two files.
+sums() {
+  echo "kit $(rt version)"
+  echo "sources $(sources)"
+  echo "uds_play $(sum_of "$1")"
+  echo "libuds_unit.so $(sum_of "$2")"
+}
+
+told() { awk -v key="$1" '$1 == key { sub(/^[^ ]+ /, ""); print }' "$release/SUMS"; }
+
+is_here() {
+  [ -f "$release/SUMS" ] && [ -x "$release/uds_play" ] && [ -f "$release/libuds_unit.so" ] || return 1
+  [ "$(told sources)" = "$(sources)" ] && [ "$(told uds_play)" = "$(sum_of "$release/uds_play")" ] \
+    && [ "$(told libuds_unit.so)" = "$(sum_of "$release/libuds_unit.so")" ]
+}
+
+# Whether both files in out/ are there, and no source is newer than one of them.
+is_built() {
+  [ -x "$program" ] && [ -f "$library" ] || return 1
+  local file
+  for file in "$program" "$library"; do
+    [ -z "$(find crates crates.txt include -newer "$file" -type f -not -path '*/out/*' -print -quit)" ] || return 1
+  done
+}
+
+build() {
+  command -v rt > /dev/null || { say "the command rt (the Rattle kit) is not on the PATH"; return 2; }
+  (cd crates/uds_play && rt run) > /dev/null < /dev/null || { say "the program was not built: (cd crates/uds_play && rt run) tells why"; return 2; }
+  tools/library.py --build > /dev/null || { say "the library was not built: tools/library.py --build tells why"; return 2; }
+}
+
+# Puts what was built into release/, with SUMS.
+put() {
+  mkdir -p "$release" && cp "$program" "$library" "$release/" || return 2
+  chmod 755 "$release/uds_play" && chmod 644 "$release/libuds_unit.so"
+  sums "$release/uds_play" "$release/libuds_unit.so" > "$release/SUMS"
+}
+
+# The paths of both files, a line each.
+files() {
+  if is_built; then printf '%s\n' "$program" "$library"
+  elif is_here; then printf '%s\n' "$release/uds_play" "$release/libuds_unit.so"
+  else say "nothing was built of these sources: ./uds_play proves and builds the program, tools/library.py --build the library"; return 2
+  fi
+}
+
+tarball() {
+  local version folder room paths
+  mapfile -t paths < <(files)
+  [ "${#paths[@]}" = 2 ] || return 2
+  version=$("${paths[0]}" --version | awk '{ print $NF }')
+  folder=uds_play-$version-linux-x86_64
+  room=$(mktemp -d) && mkdir -p out || return 2
+  make -s install DESTDIR="$room" PREFIX="/$folder" PYTHONDIR="/$folder/python" || return 2
+  cp -r README.md CHANGELOG.md demo docs "$room/$folder/"
+  tar -C "$room" --sort=name --owner=0 --group=0 --numeric-owner --mtime=@0 -cf - "$folder" | gzip -9n > "out/$folder.tar.gz"
+  rm -rf "$room"
+  echo "out/$folder.tar.gz"
+}
+
+passed=0
+failed=0
+good() { passed=$((passed + 1)); echo "release: $*"; }
+bad() { failed=$((failed + 1)); echo "RELEASE WRONG: $*"; }
+
+# holds WHAT COMMAND..: counts whether the command succeeds
+holds() {
+  local what=$1
+  shift
+  if "$@"; then good "$what"; else bad "not so: $what"; fi
+}
+
+check() {
+  if [ ! -e "$release" ]; then
+    echo "release: there is no release/ here: nothing to compare, passed over"
+    echo "0 passed, 0 failed"
+    return 0
+  fi
+  holds "SUMS tells this kit" [ "$(told kit)" = "$(rt version)" ]
+  holds "SUMS tells these sources" [ "$(told sources)" = "$(sources)" ]
+  holds "SUMS has four lines and no other" [ "$(wc -l < "$release/SUMS")" = 4 ]
+  holds "uds_play is what was built" cmp -s "$release/uds_play" "$program"
+  holds "libuds_unit.so is what was built" cmp -s "$release/libuds_unit.so" "$library"
+  holds "uds_play has its sum" [ "$(told uds_play)" = "$(sum_of "$release/uds_play")" ]
+  holds "libuds_unit.so has its sum" [ "$(told libuds_unit.so)" = "$(sum_of "$release/libuds_unit.so")" ]
+  holds "release/ has nothing else" [ "$(cd "$release" && echo *)" = "SUMS libuds_unit.so uds_play" ]
+  echo "$passed passed, $failed failed"
+  [ "$failed" = 0 ]
+}
+
+case ${1:-} in
+  --sources) sources ;;
+  --is-here) is_here ;;
+  --files) files ;;
+  --check) check ;;
+  --put) put ;;
+  --tarball) tarball ;;
+  '')
+    build && put && cat "$release/SUMS" && tarball
+    ;;
+  *) sed -n '2,/^set/p' "${BASH_SOURCE[0]}" | sed '$d'; exit 2 ;;
+esac
