@@ -80,23 +80,24 @@ fn told_play(
     Ok(parts)
 }
 
-/// Plays the logs, a thread for each tester, and says what the play writes.
+/// Plays the logs, a thread for each tester, lets their texts go, and says what the play writes.
 #[tactic(auto, using(crate::proofs::Plays::log_ill))]
 pub(crate) fn woven_text<R: Threads + Wait + Sync>(
     rt: &R,
     alloc: Global,
     setup: &Setup,
-    texts: &[Vec<u8>],
+    texts: Vec<Vec<u8>>,
     only_journal: bool,
     timing: Timing,
 ) -> Result<Vec<Vec<u8>>, RunFault>
-    requires { length texts.now ≡ length setup.now.testers }
+    requires { length texts.items ≡ length setup.now.testers }
     ensures gives { GivesWoven only_journal timing setup.now
-        (or_bad_log (logs_of setup.now timing (map (λ text. text.items) texts.now)))
+        (or_bad_log (logs_of setup.now timing (map (λ text. text.items) texts.items)))
         (answered result) }
     ensures device { (n : ℕ) → result ≢ Err (RunFault.Read n) }
 {
-    let played = play(rt, alloc, setup, texts, &NoWatch, timing)?;
+    let played = play(rt, alloc, setup, texts.as_slice(), &NoWatch, timing)?;
+    drop(texts);
     parts_beside(rt, alloc, setup, &played, only_journal, timing)
 }
 

@@ -176,7 +176,8 @@ impl<S: Ending> Capture<S> {
         write_out(&mut self.text, out)
     }
 
-    /// Gives the bus the line that these bytes and an LF end, behind what is kept of it.
+    /// Gives the bus the line that these bytes and an LF end, behind what is kept of it. (What it says decides at once, so
+    /// that the lines of each front go on by themselves.)
     #[inline(always)]
     fn end_line(&mut self, bytes: &[u8], said: Option<BusLine>) -> Result<(), BusFault>
         requires room { self.old.lines + 1 < 2 ^ 64 }
@@ -188,19 +189,18 @@ impl<S: Ending> Capture<S> {
         ensures err { IfErr result (λ fault.
             HaltsIn S.took (wanted S.written S.ends S.aim) self.old (fault_at (self.old.lines + 1) fault) (bytes.now ++ 10 ∷ []) self.new.text.items) }
     {
-        if self.kept.is_empty() {
-            self.take_whole(bytes, said)
-        } else {
-            self.take_kept(bytes)
+        match said {
+            Some(said) if self.kept.is_empty() => self.take_told(bytes, said),
+            _ => self.take_other(bytes),
         }
     }
 
-    /// Gives the bus a line of which nothing is kept.
+    /// Gives the bus a line of which nothing is kept, and which says this.
     #[inline(always)]
-    fn take_whole(&mut self, line: &[u8], said: Option<BusLine>) -> Result<(), BusFault>
+    fn take_told(&mut self, line: &[u8], said: BusLine) -> Result<(), BusFault>
         requires room { self.old.lines + 1 < 2 ^ 64 }
         requires line { HasNoFeed line.now }
-        requires says { IfSome said (λ said. (known : List ℕ) → bus_line known line.now ≡ Ok said) }
+        requires says { (known : List ℕ) → bus_line known line.now ≡ Ok said }
         requires none { self.old.kept.items ≡ [] }
         ensures ok { OnOk result (GoesOn S.took (wanted S.written S.ends S.aim) self.old self.new (line.now ++ 10 ∷ []) []) }
         ensures lines { OnOk result (self.new.lines ≡ self.old.lines + 1) }
@@ -215,8 +215,41 @@ impl<S: Ending> Capture<S> {
         Ok(())
     }
 
-    /// Gives the bus the line that is kept and that these bytes end.
+    /// Gives the bus the line that these bytes end, behind what is kept of it, whatever it says.
     #[inline(never)]
+    fn take_other(&mut self, bytes: &[u8]) -> Result<(), BusFault>
+        requires room { self.old.lines + 1 < 2 ^ 64 }
+        requires line { HasNoFeed bytes.now }
+        ensures ok { OnOk result (GoesOn S.took (wanted S.written S.ends S.aim) self.old self.new (bytes.now ++ 10 ∷ []) []) }
+        ensures lines { OnOk result (self.new.lines ≡ self.old.lines + 1) }
+        ensures kept { OnOk result (self.new.kept.items ≡ []) }
+        ensures err { IfErr result (λ fault.
+            HaltsIn S.took (wanted S.written S.ends S.aim) self.old (fault_at (self.old.lines + 1) fault) (bytes.now ++ 10 ∷ []) self.new.text.items) }
+    {
+        if self.kept.is_empty() {
+            self.take_untold(bytes)
+        } else {
+            self.take_kept(bytes)
+        }
+    }
+
+    /// Gives the bus a line of which nothing is kept.
+    fn take_untold(&mut self, bytes: &[u8]) -> Result<(), BusFault>
+        requires room { self.old.lines + 1 < 2 ^ 64 }
+        requires line { HasNoFeed bytes.now }
+        requires none { self.old.kept.items ≡ [] }
+        ensures ok { OnOk result (GoesOn S.took (wanted S.written S.ends S.aim) self.old self.new (bytes.now ++ 10 ∷ []) []) }
+        ensures lines { OnOk result (self.new.lines ≡ self.old.lines + 1) }
+        ensures kept { OnOk result (self.new.kept.items ≡ []) }
+        ensures err { IfErr result (λ fault.
+            HaltsIn S.took (wanted S.written S.ends S.aim) self.old (fault_at (self.old.lines + 1) fault) (bytes.now ++ 10 ∷ []) self.new.text.items) }
+    {
+        self.bus.take_line(bytes, &mut self.text)?;
+        self.lines += 1;
+        Ok(())
+    }
+
+    /// Gives the bus the line that is kept and that these bytes end.
     fn take_kept(&mut self, bytes: &[u8]) -> Result<(), BusFault>
         requires room { self.old.lines + 1 < 2 ^ 64 }
         requires line { HasNoFeed bytes.now }
@@ -289,21 +322,20 @@ fn add_end<S: Ending>(alloc: Global, bus: &Bus<S>, text: &mut Vec<u8>) -> Result
     bus.sink().add_end(alloc, bus.setup(), bus.ecu(), text)
 }
 
-/// Gives the bus a line, which says this, where that is known.
+/// Gives the bus a line, which says this.
 #[inline(always)]
 fn give<S: Sink>(
     bus: &mut Bus<S>,
     line: &[u8],
-    said: Option<BusLine>,
+    said: BusLine,
     text: &mut Vec<u8>,
 ) -> Result<(), BusFault>
-    requires { IfSome said (λ said. (known : List ℕ) → bus_line known line.now ≡ Ok said) }
+    requires { (known : List ℕ) → bus_line known line.now ≡ Ok said }
     ensures { AnswersLine S.took S.aim S.written bus.old bus.new line.now text.old.items text.new.items result }
 {
-    match said {
-        Some(said) => bus.take(&said, text),
-        None => bus.take_line(line, text),
-    }
+    // (for its contract: it is the line that says this)
+    let _ = line;
+    bus.take(&said, text)
 }
 
 /// Adds bytes to the line that is kept; refuses it where it is longer than a line may be.

@@ -142,7 +142,7 @@ fn text_of<T: Threads + Wait + Sync, R: Read>(
             timing,
         } => {
             let texts = read_texts(alloc, files)?;
-            woven_text(rt, alloc, setup, texts.as_slice(), only_journal, timing)
+            woven_text(rt, alloc, setup, texts, only_journal, timing)
         }
         Job::Replay => text_alone(alloc, Alone::Replay, setup, files),
     }

@@ -5,6 +5,5 @@ use Rattle.diag_run.proofs.file_run.text_of.Goals as goal
 pub returns-in_ok-texts-in-Play : goal.returns-in_ok-texts-in-Play
 returns-in_ok-texts-in-Play g c =
     let woven = c.woven_text.ensures in
-    let gives = rw c.as_slice.ensures.value at woven.gives in
     rw c.in-Play.is (texts_give g.R.Read.remaining (Play c.in-Play.only_journal c.in-Play.timing) c.args.setup.now _ _ c.woven_text.result woven.device _
-    c.in_ok-texts-in-Play.ensures.read gives)
+    c.in_ok-texts-in-Play.ensures.read woven.gives)

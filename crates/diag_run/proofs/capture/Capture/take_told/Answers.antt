@@ -1,6 +1,6 @@
 use Rattle.std.proofs.Common.{◌≡◌, ◌++◌, List, ℕ, sym, ap, refl}
 use Rattle.diag_run.proofs.Pieces.{give_halts, line_goes_on}
-use Rattle.diag_run.proofs.capture.Capture.take_whole.Goals as goal
+use Rattle.diag_run.proofs.capture.Capture.take_told.Goals as goal
 
 pub returns-in-Err-clause-err : goal.returns-in-Err-clause-err
 returns-in-Err-clause-err g c =
