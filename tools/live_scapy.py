@@ -297,7 +297,7 @@ def wide_scan(room, live):
         found = {}
         for response in (0x18DAF110, 0x18DAF210):
             want[response << 8 & 0xFF00 | response >> 8 & 0xFF | 0x18DA0000] = response
-            heard = isotp_scan(wire(run, response), asked, extended_can_id=True, verify_results=False, sniff_time=0.05)
+            heard = isotp_scan(wire(run, response), asked, extended_can_id=True, verify_results=False, sniff_time=0.3)
             found.update({request: identifier for request, (_, identifier) in heard.items()})
         wrong = "" if found == want else f"{found}; "
         wrong += run.ends_well()
