@@ -1,5 +1,5 @@
 -- A line to a tester: its parts one behind the other.
-use Rattle.std.proofs.Common.{◌≡◌, ℕ, ◌+◌, Bool, true, false, Option, List, [], ◌∷◌, ◌++◌, length, map, refl, ap, ap₂, subst, sym, ◌∙◌, append_assoc, arith}
+use Rattle.std.proofs.Common.{◌≡◌, ℕ, ◌+◌, Bool, true, false, Option, None, List, [], ◌∷◌, ◌++◌, length, map, refl, ap, ap₂, subst, sym, ◌∙◌, append_assoc, arith}
 use Rattle.std.proofs.lemmas.List.{append-nil, length-append, map-append}
 use Rattle.std.proofs.lemmas.List.Elements.{filter-append}
 use Rattle.std.proofs.lemmas.List.Folds.{list_any-append}
@@ -19,7 +19,7 @@ use Rattle.diag_expect.specs.Expecting.{asked_at}
 use Rattle.diag_expect.specs.declared.entered.Entered.{Entered}
 use Rattle.diag_listen.specs.Listening.{Hears, HearsRequest, Listens, all_happen}
 use Rattle.diag_listen.specs.declared.listener.Listener.{Listener}
-use Rattle.diag_listen.proofs.Hearing.{over_append}
+use Rattle.diag_listen.proofs.Hearing.{over_append, waits_none}
 use Rattle.diag_judge.specs.Judging.{AreCounts, HearsLine, HearsRequests, JudgesLine, counts_of, differs, frame_events, line_happens, request_happens, requests_happen, told_for}
 use Rattle.diag_judge.specs.declared.tester.Counts.{Counts}
 use Rattle.diag_judge.specs.declared.tester.Tester.{Tester}
@@ -131,3 +131,17 @@ line_judged setup at who old new heard told told' os span frame hears same is co
       },
       is ∙ ap (λ w. told ++ map (told_for who) w) both.1,
     )
+
+-- time alone, where no message is coming in
+pub idle_judged : (setup : RawSetup) (at : Place) (who : ℕ) (own : Tester) (told : List Told) (span : ℕ)
+    → own.listener.exchanges.coming ≡ None
+    → own.entered.items ≡ []
+    → JudgesLine setup at who own own told told span None
+idle_judged setup at who own told span none empty =
+    let requests : HearsRequests setup at own.listener own.listener [] [] own.entered.items =
+    subst (λ (es : List Entered). HearsRequests setup at own.listener own.listener [] [] es) (sym empty)
+    (λ E hs l. (subst (λ (w : List Happening). Listens own.listener E w) (sym (append-nil hs)) l, refl)) in
+    line_judged setup at who own own own.listener told told [] span None
+    (line_heard setup at own.listener own.listener own.listener own.listener [] [] [] [] span own.entered.items None
+    (waits_none own.listener [] at span none) requests refl (nothing_heard own.listener [] at))
+    refl (sym (append-nil told)) (λ before h. subst (λ (w : List Over). AreCounts own.counts w) (sym (append-nil before)) h)

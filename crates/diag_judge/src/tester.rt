@@ -1,6 +1,6 @@
 //! A tester of a recording.
 
-ghost use Rattle.std.specs.Prelude.{◌≡◌, ◌+◌, [], ◌∷◌, ◌++◌, List, map, option_copied, OnOk, IfOk};
+ghost use Rattle.std.specs.Prelude.{◌≡◌, ◌+◌, true, None, [], ◌∷◌, ◌++◌, List, map, option_copied, OnOk, IfOk};
 ghost use Rattle.diag_exchange.specs.Agreeing.{agrees};
 ghost use Rattle.diag_exchange.specs.declared.happening.Over.{Over as AnOver};
 ghost use Rattle.diag_judge.specs.Judging.{AreCounts, EndsCounted, EndsTold, HearsLine, HearsRequests, Judges, JudgesLine, told_for};
@@ -106,7 +106,40 @@ impl Tester {
     ///
     /// # Errors
     /// `AllocError` where memory is refused; of what was taken nothing is said then.
+    #[inline(always)]
     pub fn take_line(
+        &mut self,
+        alloc: Global,
+        setup: &Setup,
+        who: TesterId,
+        at: Place,
+        span: u64,
+        frame: Option<&FrameBytes>,
+        told: &mut Vec<Told>,
+    ) -> Result<(), AllocError>
+        ensures judges { OnOk result (JudgesLine setup.now at who self.old self.new told.old.items told.new.items span
+            (option_copied frame.entry)) }
+        ensures entered { OnOk result (self.new.entered.items ≡ []) }
+        ensures side { self.new.listener.side ≡ self.old.listener.side }
+    {
+        if frame.is_none() && self.is_idle() {
+            return Ok(());
+        }
+        self.take(alloc, setup, who, at, span, frame, told)
+    }
+
+    /// Whether time alone changes nothing: no request was entered, and no message is coming in.
+    #[inline(always)]
+    fn is_idle(&self) -> bool
+        ensures entered { result ≡ true → self.now.entered.items ≡ [] }
+        ensures coming { result ≡ true → self.now.listener.exchanges.coming ≡ None }
+    {
+        self.entered.is_empty() && self.listener.exchanges.coming.is_none()
+    }
+
+    /// Takes the end of a line by which something happens.
+    #[inline(never)]
+    fn take(
         &mut self,
         alloc: Global,
         setup: &Setup,
@@ -123,6 +156,9 @@ impl Tester {
     {
         let mut over = Vec::new(alloc);
         self.hear(alloc, setup, at, span, frame, &mut over)?;
+        if over.is_empty() {
+            return Ok(());
+        }
         self.counts.judge(alloc, who, over, told)
     }
 
