@@ -26,8 +26,10 @@ static struct uds_unit opened(const uint8_t *config, size_t len, bool with_journ
 /* the next frame is this one */
 static bool is_next(struct uds_unit *unit, uint64_t at_us, uint32_t id, uint8_t tester, const char *bytes, uint8_t len) {
     struct uds_reply reply;
+    static const uint8_t zeros[8] = {0};
+    memset(&reply, 0xFF, sizeof reply);
     return uds_unit_next(unit, &reply) == UDS_DONE && reply.at_us == at_us && reply.id == id && reply.tester == tester
-           && reply.len == len && memcmp(reply.bytes, bytes, len) == 0;
+           && reply.len == len && memcmp(reply.bytes, bytes, len) == 0 && memcmp(reply.bytes + len, zeros, 8 - len) == 0;
 }
 
 static bool is_drained(struct uds_unit *unit) {
@@ -212,15 +214,15 @@ static void test_journal(const uint8_t *config, size_t len) {
 
 /* identifiers of 29 bits, in and out */
 static void test_29_bits(void) {
-    static const char config[] = "tester = [{ name = \"A\", request = 0x18DA10F1, response = 0x18DAF110, extended = true },\n"
+    static const char config[] = "pad = false\ntester = [{ name = \"A\", request = 0x18DA10F1, response = 0x18DAF110, extended = true },\n"
                                  "{ name = \"B\", request = 0x7E0, response = 0x7E8 }]\n";
     struct uds_unit unit = opened(bytes_of(config), strlen(config), false);
     told(uds_unit_frame(&unit, 0, UDS_29_BITS | 0x18DA10F1, bytes_of("\x02\x10\x03"), 3) == UDS_DONE, "a request of 29 bits");
-    told(is_next(&unit, 0, UDS_29_BITS | 0x18DAF110, 1, "\x06\x50\x03\x00\x32\x01\xF4\xCC", 8), "its reply of 29 bits");
+    told(is_next(&unit, 0, UDS_29_BITS | 0x18DAF110, 1, "\x06\x50\x03\x00\x32\x01\xF4", 7), "its reply of 29 bits");
     told(uds_unit_frame(&unit, 0, UDS_29_BITS | 0x7E0, bytes_of("\x02\x3E\x00"), 3) == UDS_DONE, "another's number, of 29 bits");
     told(is_drained(&unit), "is nobody's");
     told(uds_unit_frame(&unit, 0, 0x7E0, bytes_of("\x02\x3E\x00"), 3) == UDS_DONE, "of 11 bits");
-    told(is_next(&unit, 0, 0x7E8, 2, "\x02\x7E\x00\xCC\xCC\xCC\xCC\xCC", 8), "it is that tester's");
+    told(is_next(&unit, 0, 0x7E8, 2, "\x02\x7E\x00", 3), "it is that tester's");
     told(uds_unit_frame(&unit, 0, 0x18DA10F1, bytes_of("\x02\x3E\x00"), 3) == UDS_NO_FRAME, "29 bits without bit 31");
     told(uds_unit_frame(&unit, 0, UDS_29_BITS | 0x20000000, bytes_of(""), 0) == UDS_NO_FRAME, "30 bits");
     told(uds_unit_frame(&unit, 0, UDS_29_BITS | 0x1FFFFFFF, bytes_of(""), 0) == UDS_DONE, "the greatest of 29 bits");

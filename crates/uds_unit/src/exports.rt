@@ -129,6 +129,7 @@ fn open(alloc: Global, unit: &mut Handle, config: &[u8], wanted: bool, text: &mu
     ensures is_open { result ≡ 0 → IsSome unit.new.unit }
     ensures refused { 1 ≤ result → unit.new.unit ≡ None }
     ensures fault { 1 ≤ result → Refused config.now text.old text.new result }
+    ensures untouched { result ≡ 0 → text.new ≡ text.old }
 {
     drop(mem::replace(unit, Handle::closed(alloc)).into_box());
     match made(alloc, config, wanted) {
@@ -153,6 +154,7 @@ pub extern "C" fn uds_unit_open(
     ensures is_open { result ≡ 0 → IsSome unit.new.unit }
     ensures refused { 1 ≤ result → unit.new.unit ≡ None }
     ensures fault { 1 ≤ result → Refused config.now text.old text.new result }
+    ensures untouched { result ≡ 0 → text.new ≡ text.old }
 {
     open(alloc, unit, config, false, text)
 }
@@ -169,6 +171,7 @@ pub extern "C" fn uds_unit_open_with_journal(
     ensures is_open { result ≡ 0 → IsSome unit.new.unit }
     ensures refused { 1 ≤ result → unit.new.unit ≡ None }
     ensures fault { 1 ≤ result → Refused config.now text.old text.new result }
+    ensures untouched { result ≡ 0 → text.new ≡ text.old }
 {
     open(alloc, unit, config, true, text)
 }
