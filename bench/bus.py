@@ -5,13 +5,16 @@ benchmark and no test.
     bench/bus.py one        a capture of one tester
     bench/bus.py eight      a capture of eight testers; `serial` is given the whole capture for each of them, and each
                             tester's own lines
-    bench/bus.py verify     `verify` beside `bus` over a recording of each: the capture and what `bus` answers to it
+    bench/bus.py verify     `verify` and `compare` beside `bus` over a recording of each: the capture and what `bus`
+                            answers to it
     bench/bus.py memory     the peak memory of `bus` at 1,000,000 and at 20,000,000 lines of eight testers, for the
-                            reply lines, the journal and the end
+                            reply lines, the journal and the end, and that of `compare`, all exchanges told or those
+                            that differ
 
 For each run of the first three: lines of the capture per second, of three runs the quickest. The time of a line should
-be no more than `serial` takes, and the memory the same for both lengths. The lines are those of bench/runs.py, the
-testers' turns of twelve lines one behind the other. The program is built first where that is needed.
+be no more than `serial` takes, and of `compare` no more than twice that of `verify`; the memory the same for both
+lengths. The lines are those of bench/runs.py, the testers' turns of twelve lines one behind the other. The program is
+built first where that is needed.
 """
 import re
 import subprocess
@@ -50,7 +53,7 @@ def seconds(words):
     runs = []
     for _ in range(3):
         begun = time.monotonic()
-        ran = subprocess.run([PROGRAM, *words], stdout=subprocess.DEVNULL, check=False)
+        ran = subprocess.run([PROGRAM, "--quiet", *words], stdout=subprocess.DEVNULL, check=False)
         runs.append(time.monotonic() - begun)
         if ran.returncode:
             sys.exit(f"bus: {' '.join(words)} ended with status {ran.returncode}")
@@ -95,7 +98,7 @@ def beside_bus(room):
     for testers in (1, 8):
         config = write(f"{room}/setup.toml", setup(testers))
         whole, lines = recording(room, config, testers)
-        for command in ("bus", "verify"):
+        for command in ("bus", "verify", "compare"):
             measure(f"{command}, testers: {testers}", [command, config, whole], lines)
 
 
@@ -107,14 +110,15 @@ def feed(child, lines):
     time.sleep(1)
 
 
-def measure_memory(config, flags, lines):
-    child = subprocess.Popen([PROGRAM, "bus", *flags, config], stdin=subprocess.PIPE, stdout=subprocess.DEVNULL, bufsize=1 << 16)
+def measure_memory(config, words, lines):
+    child = subprocess.Popen([PROGRAM, "--quiet", *words, config], stdin=subprocess.PIPE, stdout=subprocess.DEVNULL, bufsize=1 << 16)
     feed(child, capture(8, lines))
     peak = peak_memory(child)
     child.stdin.close()
-    if child.wait():
-        sys.exit(f"bus: it ended with status {child.returncode}")
-    print(f"{' '.join(['bus', *flags])}, lines: {lines:,}: {peak:,} KiB at most", flush=True)
+    # the unit in the capture answers otherwise
+    if child.wait() != (8 if words[0] == "compare" else 0):
+        sys.exit(f"bus: {' '.join(words)} ended with status {child.returncode}")
+    print(f"{' '.join(words)}, lines: {lines:,}: {peak:,} KiB at most", flush=True)
 
 
 def main():
@@ -125,9 +129,9 @@ def main():
     with tempfile.TemporaryDirectory() as room:
         if wanted == ["memory"]:
             config = write(f"{room}/setup.toml", setup(8))
-            for flags in ([], ["--journal"], ["--end"]):
+            for words in (["bus"], ["bus", "--journal"], ["bus", "--end"], ["compare"], ["compare", "--differences"]):
                 for lines in (1_000_000, 20_000_000):
-                    measure_memory(config, flags, lines)
+                    measure_memory(config, words, lines)
         elif wanted == ["verify"]:
             beside_bus(room)
         else:

@@ -29,6 +29,8 @@ from runs import NAMES, PROGRAM, TOP, setup, stamped, turn, watched
 
 # the lines of the two short runs whose difference tells the instructions of a line
 SHORT = 3_000
+# a request of a tester of 29 bits, by normal fixed addressing
+WIDE = "18DA10F1#03220100"
 
 
 # ---- traffic: a list of texts without stamps, which is gone through again and again
@@ -39,19 +41,16 @@ def reads(tester=0):
     return [f"{own}#023E00", f"{own}#03220100", f"{own}#03220100CCCCCCCC", f"{own}#021003"]
 
 
-def other_traffic(dice, identifier):
+def other_traffic(dice):
     """Nine frames of ten are for nobody."""
-    others = [f"{identifier()}#{dice.randbytes(8).hex().upper()}" for _ in range(90)]
+    others = [f"{dice.randrange(0x100, 0x700):03X}#{dice.randbytes(8).hex().upper()}" for _ in range(90)]
     return [it for at in range(0, 90, 9) for it in [*others[at : at + 9], "7E0#03220100"]]
 
 
-def other_id(dice):
-    return f"{dice.randrange(0x100, 0x700):03X}"
-
-
-def wide_id(dice):
-    """One of 29 bits, as those of SAE J1939 are."""
-    return f"{0x18000000 + dice.randrange(0x1000000):08X}"
+def wide_traffic(dice, asks):
+    """Nine frames of ten are of J1939, which are for nobody: parameter groups of a few senders. The tenth is the tester's."""
+    others = [f"{0x0CF00000 + dice.randrange(0x10000):08X}#{dice.randbytes(8).hex().upper()}" for _ in range(90)]
+    return [it for at in range(0, 90, 9) for it in [*others[at : at + 9], asks]]
 
 
 def message(own, length):
@@ -106,20 +105,23 @@ def written(path, lines):
     return path
 
 
-def config_of(room, testers):
+def config_of(room, testers, texts):
+    """The setup of so many testers; of one with 29 bits where that asks."""
+    if WIDE in texts:
+        text = setup(1).replace("request = 2016\nresponse = 2024", "extended = true\nrequest = 0x18DA10F1\nresponse = 0x18DAF110")
+        return written(f"{room}/wide.toml", [text])
     return written(f"{room}/{testers}.toml", [setup(testers)])
 
 
 def workloads(seed):
     """By name: the words of the command, how many testers, each tester's texts (of `bus` one list), the microseconds."""
     dice = random.Random(seed)
-    other = other_traffic(dice, lambda: other_id(dice))
+    other = other_traffic(dice)
     rough = hostile(dice)
-    wide = other_traffic(dice, lambda: wide_id(dice))
+    narrow, wide = wide_traffic(dice, "7E0#03220100"), wide_traffic(dice, WIDE)
     return {
         "reads": (["serial"], 1, [reads()], 500),
         "other traffic": (["serial"], 1, [other], 500),
-        "others of 29 bits": (["serial"], 1, [wide], 500),
         "long requests": (["serial"], 1, [message("7E0", 4000)], 500),
         "long replies": (["serial"], 1, [long_replies()], 500),
         "ticks": (["serial"], 1, [ticks()], 500),
@@ -130,7 +132,8 @@ def workloads(seed):
         "bus, one tester": (["bus"], 1, [turn(0)], 500),
         "bus, eight testers": (["bus"], 8, [eight()], 500),
         "bus, other traffic": (["bus"], 1, [other], 500),
-        "bus, others of 29 bits": (["bus"], 1, [wide], 500),
+        "bus, J1939 beside a tester of 11 bits": (["bus"], 1, [narrow], 500),
+        "bus, J1939 beside a tester of 29 bits": (["bus"], 1, [wide], 500),
         "verify, one tester": (["verify"], 1, [asked(turn(0))], 500),
         "verify, eight testers": (["verify"], 8, [asked(eight())], 500),
         "replay of reads": (["replay"], 1, [reads()], 500),
@@ -155,7 +158,7 @@ def add_replies(program, config, capture):
 def words_of(room, program, work, lines):
     """Writes the files of a workload, and returns the words of the command."""
     command, testers, texts, apart = work
-    config = config_of(room, testers)
+    config = config_of(room, testers, texts[0])
     logs = [written(f"{room}/{NAMES[it]}.log", lines_of(own, lines // len(texts), apart)) for it, own in enumerate(texts)]
     if command == ["verify"]:
         add_replies(program, config, logs[0])

@@ -8,10 +8,11 @@ _uds_play() {
     esac
   done
   case $command in
-    '') flags="check bus verify live serial play replay --quiet --help --version" ;;
+    '') flags="check bus verify compare live serial play replay --quiet --help --version" ;;
     check) flags="--quiet --help" ;;
     bus) flags="--journal --quiet --end --help" ;;
     verify) flags="--quiet --help" ;;
+    compare) flags="--differences --quiet --help" ;;
     live) flags="--quiet --record --help" ;;
     serial) flags="--journal --quiet --stamps --help" ;;
     play) flags="--journal --quiet --stamps --help" ;;

@@ -20,17 +20,27 @@ from dataclasses import dataclass, field
 
 sys.dont_write_bytecode = True
 from bus import LONG, MOST_MEMORY, PROGRAM, SETUP, THIRD, WRONG, Live, long_lines, peak_of, pieces, put, run, stamped, text_of
-from uds_exchanges import compared, read_setup
+from uds_exchanges import compared, read, read_setup, written_of
 
 # the testers, and the identifiers that they and the unit send with
 TESTERS = {"A": ("7E0", "7E8"), "B": ("7E1", "7E9"), "C": ("7E2", "7EA")}
-FRAME = re.compile(r"\S+ \S+ ([0-9A-F]{3})#([0-9A-F]*)$")
+# the same of 29 bits, by normal fixed addressing
+WIDE_IDS = {"A": ("18DA10F1", "18DAF110"), "B": ("18DA20F1", "18DAF120"), "C": ("18DA30F1", "18DAF130")}
 counts = {True: 0, False: 0}
 
 
 def told(good: bool, name: str, more: object = "") -> None:
     counts[good] += 1
     print(f"compare: {name}" if good else f"COMPARE WRONG: {name}: {more}"[:1500], flush=True)
+
+
+def widened(setup: str, names: list[str]) -> str:
+    """A setup in which these testers have identifiers of 29 bits."""
+    for name in names:
+        (request, response), (wide, own) = TESTERS[name], WIDE_IDS[name]
+        old = f"request = 0x{request}\nresponse = 0x{response}\n"
+        setup = setup.replace(old, f"request = 0x{wide}\nresponse = 0x{own}\nextended = true\n")
+    return setup
 
 
 # ---- the worked examples
@@ -55,7 +65,7 @@ class Example:
     status: int = 0
 
     def lines(self) -> list[str]:
-        return [it if isinstance(it, str) else f"(0000000100.{it[0]:06d}) can0 {it[1]}" for it in self.frames]
+        return [it if isinstance(it, str) else stamped(100_000 + it[0] // 1000, it[1], it[0] % 1000) for it in self.frames]
 
     def text(self) -> str:
         ends = [f"{name} {many} exchanges, {bad} differ" for name, (many, bad) in zip("AB", self.counts)]
@@ -69,6 +79,8 @@ PENDING = [
     (31000, "7E0#300000"), (31500, "7E8#215456494E303132"), (32000, "7E8#2233343536373839"),
 ]
 READ = "62F1905445535456494E30313233343536373839"
+SLOW = [(0, "7E0#0322F190"), (1000, "7E8#101462F190544553"), (60_000_000, "7E8#215456494E303132"), (119_999_000, "7E8#2233343536373839")]
+MANY = bytes(at % 251 for at in range(4096))
 EXAMPLES = [
     Example("bus-order, where the unit answered A only once", SETUP, ORDER, [
         "1 0000000100.000000 A P 1003 5003003201F4 = 0 0",
@@ -153,6 +165,33 @@ EXAMPLES = [
         "1 0000000100.000000 A P 1902FF 5902FF0123462F0123452F = 1 0",
         "5 0000000100.004000 A P 190A 590AFF0123452F0123452F 590AFF0123452F0123462F 1 0",
     ], [(2, 1), (0, 0)], 8),
+    Example("a trouble code twice", CODES, [
+        (0, "7E0#031902FF"), (1000, "7E8#100F5902FF012346"), (2000, "7E0#300000"), (3000, "7E8#212F0123452F0123"), (4000, "7E8#22462F"),
+    ], [
+        "1 0000000100.000000 A P 1902FF 5902FF0123462F0123452F0123462F 5902FF0123452F0123462F 1 0",
+    ], [(1, 1), (0, 0)], 8),
+    Example("a message of four bytes isn't response pending", SETUP, [(0, "7E0#023E00"), (1000, "7E8#047F3E7800"), (2000, "7E8#027E00")], [
+        "3 0000000100.002000 A U - 7E00 - - 0",
+        "1 0000000100.000000 A P 3E00 7F3E7800 7E00 1 0",
+    ], [(2, 2), (0, 0)], 8),
+    Example("7F isn't the positive response of 3F", SETUP, [(0, "7E0#023F00"), (1000, "7E8#037F2231")], [
+        "2 0000000100.001000 A U - 7F2231 - - 0",
+        "1 0000000100.000000 A P 3F00 - 7F3F11 - 0",
+    ], [(2, 2), (0, 0)], 8),
+    Example("two testers' exchanges that one line ends", SETUP, [(0, "7E1#023E00"), (1000, "7E0#023E00"), (2000, "7DF#023E00")], [
+        "1 0000000100.000000 B P 3E00 - 7E00 - 0",
+        "2 0000000100.001000 A P 3E00 - 7E00 - 0",
+        "3 0000000100.002000 A F 3E00 - 7E00 - 0",
+        "3 0000000100.002000 B F 3E00 - 7E00 - 0",
+    ], [(2, 2), (2, 2)], 8),
+    Example("exchanges that a line ends by its time and by its request", SETUP, [
+        (0, "7E0#023E00"), (1000, "7E0#0322F190"), (2000, "7E8#101462F190544553"), (3000, "7E0#0322F190"), (60_002_000, "7E0#023E00"),
+    ], [
+        "1 0000000100.000000 A P 3E00 - 7E00 - 0",
+        f"2 0000000100.001000 A P 22F190 - {READ} - 0",
+        f"4 0000000100.003000 A P 22F190 - {READ} - 0",
+        "5 0000000160.002000 A P 3E00 - 7E00 - 0",
+    ], [(4, 4), (0, 0)], 8),
     Example("requests that are ignored", SEED_READ, [(0, "7E0#0322F190"), (1000, "7E8#037F2231"), (2000, "7E0#023E00"), (3000, "7E8#027E00")], [
         "1 0000000100.000000 A P 22F190 7F2231 ~ 1 0",
         "3 0000000100.002000 A P 3E00 7E00 = 1 0",
@@ -165,6 +204,23 @@ EXAMPLES = [
     Example("ticks before the first stamp and behind it", SETUP, ["tick 700", (0, "7E0#021003"), "tick 2", (1000, "7E8#065003003201F4")], [
         "2 0000000100.000000 A P 1003 5003003201F4 = 3 0",
     ]),
+    Example("59999 ms between two frames of a message", SETUP, SLOW, [f"1 0000000100.000000 A P 22F190 {READ} = 1 0"]),
+    Example("60000 ms between two frames of a message", SETUP, [*SLOW[:3], (120_000_000, SLOW[3][1])], [
+        f"1 0000000100.000000 A P 22F190 - {READ} - 0",
+    ], [(1, 1), (0, 0)], 8),
+    Example("a message of more than max_request", "max_request = 8\n" + SETUP, [
+        (0, "7E0#0322F190"), (1000, f"7E8#100000001000{MANY[:2].hex()}"),
+        *((2000 + at, f"7E8#2{at % 16:X}{MANY[7 * at - 5 : 7 * at + 2].hex()}") for at in range(1, 586)),
+    ], [f"2 0000000100.001000 A U - {MANY.hex().upper()} - - 0", f"1 0000000100.000000 A P 22F190 - {READ} - 0"], [(2, 2), (0, 0)], 8),
+    Example("identifiers of 29 bits", widened(SETUP, ["A"]), [
+        (0, "18DA10F1#021003"), (1000, "7E8#065003003201F4"), (2000, "000007E8#065003003201F4"), (3000, "18DAF110#065003003201F4"),
+        (4000, "18DB33F1#023E80"), (5000, "7DF#023E80"), (6000, "7E1#023E00"), (7000, "7E9#027E00"),
+    ], [
+        "1 0000000100.000000 A P 1003 5003003201F4 = 3 0",
+        "6 0000000100.005000 B F 3E80 - = - 0",
+        "5 0000000100.004000 A F 3E80 - = - 0",
+        "7 0000000100.006000 B P 3E00 7E00 = 1 0",
+    ], [(2, 0), (2, 0)]),
 ]
 
 
@@ -212,6 +268,10 @@ request = "1101"
 after_ms = 30
 
 [[answer]]
+request = "31*"
+after_ms = 75
+
+[[answer]]
 request = "28*"
 reply = ["7F2822", "6801"]
 session = 3
@@ -221,6 +281,12 @@ request = "3E80"
 reply = ["7E80", ""]
 session = 3
 """
+# what a unit may send unasked, and frames that begin or continue a message, or do nothing
+UNASKED = ["027E00", "037F2231", "017F", "027F10", "100862F190AABBCC", "0163", "065003003201F4", "037F7F78", "037F2278"]
+ODD = [
+    "21DDEEFF", "22", "2F0102", "300000", "31", "10", "1007AABBCCDDEEFF", "100862F190AABB", "1000000000080102", "100000000FFF0102",
+    "10000000100062F1", "1000FFFFFFFF62F1", "08AABBCCDDEEFF11", "00", "0711223344", "40", "",
+]
 IGNORES = ['["3E*"]', '["22F190", "10.."]', '["19*", "27..*"]', "[]"]
 
 
@@ -228,9 +294,10 @@ def setup_by(chance: random.Random) -> str:
     """A setup by chance."""
     text = SETUP + THIRD + (MORE_CODES if chance.random() < 0.7 else "") + (ROWS if chance.random() < 0.7 else "")
     text = text.replace("write_level = 1", f"varies = {chance.choice(['true', 'false'])}\nwrite_level = 1")
-    text = text.replace("sub = 1", f"varies = {chance.choice(['true', 'false'])}\nsub = 1")
+    text = text.replace("sub = 1", f"varies = {chance.choice(['true', 'false'])}\nany_key = {chance.choice(['true', 'false'])}\nsub = 1")
     head = f"ignore = {chance.choice(IGNORES)}\n" if chance.random() < 0.4 else ""
-    head += f"pad = {chance.choice(['true', 'false'])}\ns3_ms = {chance.choice([60, 400, 5000])}\n"
+    head += f"pad = {chance.choice(['true', 'false'])}\ns3_ms = {chance.choice([60, 400, 5000])}\np2_star_10ms = 1\n"
+    head += f"max_request = {chance.choice([8, 4095, 4095])}\n"
     return head + f"delay_ms = 30\n{text.removeprefix('delay_ms = 2000')}"
 
 
@@ -276,10 +343,15 @@ class Recording:
 
     def spoil(self, times: int) -> None:
         """Does so many odd things to the lines."""
-        ways = [self.drop, self.repeat, self.delay, self.spoil_byte, self.exchange, self.wait, self.between, self.unasked, self.other, self.shuffle]
+        ways = [
+            self.drop, self.repeat, self.delay, self.spoil_byte, self.spoil_rest, self.exchange, self.wait, self.between,
+            self.unasked, self.other, self.shuffle, self.lower,
+        ]
         for _ in range(times):
             places = self.answers()
             self.chance.choice(ways)(self.chance.choice(places) if places else 0)
+        if times and self.chance.random() < 0.15:
+            self.pause(self.chance.choice([59_999, 60_000, 60_001]))
 
     def drop(self, at: int) -> None:
         del self.lines[at]
@@ -298,6 +370,12 @@ class Recording:
             it = 2 * self.chance.randrange(len(data) // 2)
             data = f"{data[:it]}{int(data[it:it + 2], 16) ^ (1 << self.chance.randrange(8)):02X}{data[it + 2:]}"
         self.lines[at] = f"{head}#{data}"
+
+    def spoil_rest(self, at: int) -> None:
+        """The frame's last bytes are others: of a value or a seed, often."""
+        head, _, data = self.lines[at].partition("#")
+        more = data[: 2 * self.chance.randint(0, 7)]
+        self.lines[at] = f"{head}#{more}{self.chance.randbytes((len(data) - len(more)) // 2).hex().upper()}"
 
     def exchange(self, at: int) -> None:
         """Two answers change their places."""
@@ -320,19 +398,40 @@ class Recording:
 
     def unasked(self, at: int) -> None:
         own = self.chance.choice(list(TESTERS.values()))[1]
-        frame = self.chance.choice(["027E00", "037F2231", "017F", "027F10", "100862F190AABBCC", "21DDEEFF", "300000", "0163", "065003003201F4", "037F7F78", "10"])
+        frame = self.chance.choice([*UNASKED, *ODD])
         self.lines.insert(at, f"{self.stamp(at)} can0 {own}#{frame}")
 
     def other(self, at: int) -> None:
         """Others' traffic, or time."""
-        frame = self.chance.choice(["123#0011", "18DB33F1#021003", "7E0#R8", "7E8##1021001"])
+        frame = self.chance.choice(["123#0011", "18DA11F1#021003", "000007E8#027E00", "000007E0#023E00", "7E0#R8", "7E8##1021001"])
         self.lines.insert(at, self.chance.choice(["tick 3", "", f"{self.stamp(at)} can0 {frame}", f"{self.stamp(at)} can0 {frame}"]))
+
+    def lower(self, at: int) -> None:
+        """The frame's digits are written small."""
+        self.lines[at] = self.lines[at].lower()
 
     def shuffle(self, _: int) -> None:
         """The records of a list of trouble codes, in another order."""
         texts = {"100F5902FF012345": "100F5902FF012346", "100F590AFF012345": "100F590AFF012346", "212F0123462F0123": "212F0123452F0123"}
         for old, new in texts.items():
             self.lines = [it.replace(old, new) for it in self.lines]
+
+    def pause(self, ms: int) -> None:
+        """From some line on all is so much later: within one of the last messages of several frames, where there is one."""
+        parts = [at for at in self.answers() if "#2" in self.lines[at]] or [len(self.lines)]
+        at = self.chance.choice(parts[-3:])
+        self.lines[at:] = [later(it, ms) if it.startswith("(") else it for it in self.lines[at:]]
+
+    def widen(self, names: list[str]) -> None:
+        """These testers have identifiers of 29 bits; what was functional reaches them, or the others, or both."""
+        texts = {f" {old}#": f" {new}#" for name in names for old, new in zip(TESTERS[name], WIDE_IDS[name])}
+        found = []
+        for line in self.lines:
+            for old, new in texts.items():
+                line = line.replace(old, new)
+            ways = [line, line.replace(" 7DF#", " 18DB33F1#")]
+            found += ways if line != ways[1] and self.chance.random() < 0.3 else [self.chance.choice(ways)]
+        self.lines = found
 
     def stamp(self, at: int) -> str:
         near = [it for it in self.lines[max(0, at - 3) : at + 1] if it.startswith("(")]
@@ -344,15 +443,21 @@ def recording(chance: random.Random, room: str, testers: int, count: int, times:
     setup = setup_by(chance)
     it = Recording(chance, put(f"{room}/setup", setup.encode()), room, asked(chance, testers, count))
     it.spoil(times)
-    return setup, it.lines
+    names = [name for name in TESTERS if chance.random() < 0.25]
+    it.widen(names)
+    return widened(setup, names), it.lines
 
 
-def agrees_with(room: str, setup: str, lines: list[str], name: str, differences: bool = False) -> tuple[int, str]:
-    """Compares the program with the slow reading; returns the status."""
+def agrees_with(room: str, setup: str, lines: list[str], name: str) -> tuple[int, str]:
+    """Compares the program with the slow reading, of all exchanges and of those that differ; returns the status and the
+    text of all."""
     config, path, journal = recorded_run(room, setup, lines)
-    found = run(["compare", *["--differences"] * differences, config, path])
-    status, text = compared(read_setup(setup), lines, journal, differences)
-    told(found == (status, text.encode(), b""), name, apart(found, status, text))
+    read_by = read_setup(setup)
+    every = read(read_by, lines, journal)
+    for words in (["--differences"], []):
+        found = run(["compare", *words, config, path])
+        status, text = written_of(read_by, lines, every, bool(words), True)
+        told(found == (status, text.encode(), b""), f"{name} {' '.join(words)}".strip(), apart(found, status, text))
     return status, text
 
 
@@ -364,7 +469,7 @@ def apart(found: tuple[int, bytes, bytes], status: int, text: str) -> str:
 
 
 # what the recordings brought about: a comparison of nothing would show nothing
-had = dict.fromkeys(["exchanges", "that agree", "that differ", "unasked", "ignored", "with response pending", "open bytes"], 0)
+had = dict.fromkeys(["exchanges", "that agree", "that differ", "unasked", "ignored", "with response pending", "open bytes", "of 29 bits"], 0)
 
 
 def count(text: str) -> None:
@@ -386,7 +491,7 @@ def by_chance(room: str, runs: int, first: int) -> None:
         setup, lines = recording(chance, room, chance.choice([1, 1, 2, 3]), chance.choice([20, 60, 100]), chance.choice([0, 1, 3, 10, 25]))
         _, text = agrees_with(room, setup, lines, f"at random, {seed}")
         count(text)
-        agrees_with(room, setup, lines, f"at random, the differences, {seed}", True)
+        had["of 29 bits"] += sum(" 18DAF1" in it for it in lines)
     told(all(it >= runs // 8 for it in had.values()), "the recordings bring enough about", had)
     print(f"compare: {', '.join(f'{it} {name}' for name, it in had.items())}", flush=True)
 
@@ -435,7 +540,7 @@ def faults(room: str) -> None:
         told(run(words)[:2] == (1, b""), f"usage: {len(words)}", run(words))
     told(run(["compare", config], input=b"") == (9, b"A 0 exchanges, 0 differ\nB 0 exchanges, 0 differ\nnothing compared\n", b""), "an empty capture")
     with open("/dev/full", "wb") as full:
-        ran = subprocess.run([PROGRAM, "compare", config, path], stdout=full, stderr=subprocess.PIPE, timeout=120)
+        ran = subprocess.run([PROGRAM, "--quiet", "compare", config, path], stdout=full, stderr=subprocess.PIPE, timeout=120)
     told((ran.returncode, ran.stderr) == (7, b"uds_play: cannot write\n"), "a full device", f"{ran}")
 
 
@@ -473,14 +578,14 @@ def long_recording(room: str, count: int) -> None:
     with open(f"{room}/capture", "w", encoding="ascii") as it:
         it.writelines(line for line in long_lines(count) if " 7E8#" not in line)
     with open(f"{room}/out", "wb") as out:
-        subprocess.run([PROGRAM, "bus", config, f"{room}/capture"], stdout=out, check=True, timeout=3600)
+        subprocess.run([PROGRAM, "--quiet", "bus", config, f"{room}/capture"], stdout=out, check=True, timeout=3600)
     with open(f"{room}/capture", encoding="ascii") as one, open(f"{room}/out", encoding="ascii") as other, open(f"{room}/whole", "w", encoding="ascii") as it:
         it.writelines(heapq.merge(one, other, key=millisecond))
     with open(f"{room}/differs", "w", encoding="ascii") as it, open(f"{room}/whole", encoding="ascii") as whole:
         it.writelines(line for line in whole if not re.match(r"\S+ [AB] ", line))
     for name, status, words in (("whole", 0, []), ("differs", 8, []), ("whole", 0, ["--differences"])):
         with open(f"{room}/said", "wb") as out:
-            ended, peak = peak_of(subprocess.Popen([PROGRAM, "compare", *words, config, f"{room}/{name}"], stdout=out))
+            ended, peak = peak_of(subprocess.Popen([PROGRAM, "--quiet", "compare", *words, config, f"{room}/{name}"], stdout=out))
         told(ended == status and 0 < peak < MOST_MEMORY, f"{count} lines, {peak} KiB: {name} {' '.join(words)}", f"status {ended}")
 
 

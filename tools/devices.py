@@ -91,7 +91,7 @@ MIXED = b"diag-journal 1\n"
 PLAYED = read("threaded_play/lines")
 CAPTURE = read("bus_order/no_last_line_feed.log")
 # how many lines of the text each line of that capture draws, the last at the end
-REPLIES, ENTRIES = (1, 0, 1, 1, 1), (1, 0, 3, 3, 3)
+REPLIES, ENTRIES, COMPARED = (1, 0, 1, 1, 1), (1, 0, 3, 3, 3), (0, 0, 0, 1, 5)
 FILES = [
     Case("serial", ["serial", "setup", "a", "b"], {**SETUP, "a": read("two_testers/a.log"), "b": read("two_testers/b.log")}, read("two_testers/stdout")),
     Case("play", ["play", "setup", "a", "b"], {**SETUP, "a": read("threaded_play/a.log"), "b": read("threaded_play/b.log")}, PLAYED,
@@ -113,7 +113,7 @@ def drawn(text, header, lines):
 
 def captures():
     """The runs over a capture, with what each has written when so many of its bytes were read."""
-    replies, journal = read("bus_order/stdout"), read("bus_order_journal/stdout")
+    replies, journal, compared = read("bus_order/stdout"), read("bus_order_journal/stdout"), read("compare_order/stdout")
     capture, unwritten = {**SETUP, "capture": CAPTURE}, lambda count: b""
     verify = ["verify", "setup", "capture"]
     lacking = read("verify_order/stderr").decode()
@@ -122,6 +122,7 @@ def captures():
         (Case("bus -", ["bus", "setup", "-"], {**SETUP, "-": CAPTURE}, replies), drawn(replies, 0, REPLIES)),
         (Case("bus --journal", ["bus", "--journal", "setup", "capture"], capture, journal), drawn(journal, 1, ENTRIES)),
         (Case("bus --end", ["bus", "--end", "setup", "capture"], capture, read("bus_order_end/stdout")), unwritten),
+        (Case("compare", ["compare", "setup", "capture"], capture, compared, status=8), drawn(compared, 0, COMPARED)),
         (Case("verify", verify, {**SETUP, "capture": read("verify_agrees/capture.log")}, read("verify_agrees/stdout")), unwritten),
         (Case("verify, of which a frame lacks", verify, capture, tells=lacking, status=8), unwritten),
     ]

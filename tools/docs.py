@@ -1,7 +1,7 @@
 #!/usr/bin/env python3
 """Runs the commands that stand in the documents, as they stand there, each document in a folder of its own with a copy
-of what the commands need; and sees that the files and the names that a document tells of are there. The last line is
-'N passed, M failed'.
+of what the commands need; and sees that the files and the names that a document tells of are there, and that the
+pictures are those of their texts. The last line is 'N passed, M failed'.
 
     tools/docs.py               all documents
     tools/docs.py docs/USE.md   this one
@@ -31,6 +31,7 @@ import sys
 import tempfile
 
 import packages
+import pictures
 
 TOP = os.path.dirname(os.path.dirname(os.path.abspath(__file__)))
 PROGRAM = "crates/uds_play/out/uds_play"
@@ -42,12 +43,13 @@ QUOTING = ["docs/EMBED.md"]
 CHANGES = "CHANGELOG.md"
 # names in the documents that are no names of the repository's
 OF_OTHERS = {"can_logger", "can_logconvert"}
-RUN = ("./uds_play", "tools/", "LC_ALL=C sort ", "sed ", "diff ", "grep ", "rt lemma ")
+RUN = ("./uds_play", "tools/", "LC_ALL=C sort ", "sed ", "diff ", "grep ", "for ", "rt lemma ")
 STAND_INS = {"candump": "sed -n 1,10p demo/bus.log", "canplayer": "cat"}
 # programs that a machine may not have, with Debian's packages of them
 OTHERS = {"asc2log": "can-utils", "log2asc": "can-utils", "can_logconvert": "python3-can"}
 NOT_RUN = {
     "mergecap ": "it wants Wireshark, which is much to install",
+    "tshark ": "it wants Wireshark, which is much to install",
     "bench/": "it wants the executables of two states of the repository",
 }
 # files and folders that the commands need
@@ -290,9 +292,20 @@ def compare_code(name, text):
             told(False, f"{place}: the code stands in a source", "the text before it names none")
 
 
+def look_at_pictures(known):
+    """Sees that each picture is that of its text, and that the names in it are there."""
+    for path in sorted(glob.glob(f"{pictures.FOLDER}/*.txt")):
+        name = os.path.relpath(path, TOP)
+        told(pictures.is_drawn(path), f"{name}: its picture", "it is another; run tools/pictures.py")
+        lines = "\n".join(pictures.lines_of(whole(path)))
+        missing = sorted({it for it in words_of(lines) if re.search(r"[a-z]_[a-z]|[a-z][A-Z]", it)} - known)
+        told(not missing, f"{name}: the names that it tells of are there", ", ".join(missing))
+
+
 def look():
     """Sees that what the documents tell of is there."""
     known = known_names()
+    look_at_pictures(known)
     for path in sorted([*glob.glob(f"{TOP}/*.md"), *glob.glob(f"{TOP}/docs/*.md"), f"{TOP}/demo/README.md"]):
         name, text = os.path.relpath(path, TOP), whole(path)
         compare_code(name, text)

@@ -1,6 +1,7 @@
 #!/usr/bin/env python3
 """Tests tools/junit.py: what it makes of texts of `compare`, read back as XML by the rules of JUnit's schema, and by
-junitparser (Debian's python3-junitparser) where that is there; and the statuses. The last line is 'N passed, M failed'."""
+junitparser (Debian's python3-junitparser) where that is there; the statuses; and what the program writes over runs/compare_*.
+The last line is 'N passed, M failed'."""
 import io
 import os
 import subprocess
@@ -13,6 +14,7 @@ import packages
 
 TOP = os.path.dirname(os.path.dirname(os.path.abspath(__file__)))
 TOOL = f"{TOP}/tools/junit.py"
+PROGRAM = f"{TOP}/crates/uds_play/out/uds_play"
 DEBIAN = "/usr/lib/python3/dist-packages"
 # JUnit's schema, as build servers read it: of each element the attributes that it has to have, those that it may have,
 # and what may stand in it
@@ -112,6 +114,19 @@ def words() -> None:
     told(seconds == "0.012", "the time of an exchange", seconds)
 
 
+def of_program() -> None:
+    """What the program writes is taken as it comes, and the report has the program's status."""
+    for name in sorted(it for it in os.listdir(f"{TOP}/runs") if it.startswith("compare_")):
+        with open(f"{TOP}/runs/{name}/commands", encoding="ascii") as it:
+            words, _, path = it.readline().rstrip("\n").partition(" < ")
+        with open(f"{TOP}/runs/{name}/{path}" if path else os.devnull, "rb") as given:
+            ran = subprocess.run([PROGRAM, "--quiet", *words.split(" ")], cwd=f"{TOP}/runs/{name}", stdin=given, capture_output=True, timeout=60)
+        xml, ended, tells = report(ran.stdout.decode())
+        wrong = list(faults_of(ElementTree.fromstring(xml)))
+        # where nothing was written, or not all, the report tells of a fault, whichever it was
+        told(ended == (3 if ran.stderr else ran.returncode) and not wrong and not tells, f"of the program: {name}", f"{ended}, {tells}, {ran}, {wrong}")
+
+
 def by_parser() -> None:
     """The same by junitparser, as a build server's script would read it."""
     if DEBIAN not in sys.path:
@@ -134,7 +149,10 @@ def by_parser() -> None:
 
 
 def main() -> int:
-    for group in (by_schema, words, by_parser):
+    if not os.access(PROGRAM, os.X_OK):
+        print(f"junit: {PROGRAM} isn't built\n0 passed, 1 failed")
+        return 1
+    for group in (by_schema, words, of_program, by_parser):
         group()
     print(f"{counts[True]} passed, {counts[False]} failed")
     return 1 if counts[False] else 0

@@ -4,6 +4,9 @@ stands.
 
     tools/learn.py [--pair REQUEST:RESPONSE[=NAME]].. [--varies] CAPTURE > unit.toml
 
+Example:
+    tools/learn.py --pair 7E0:7E8=workshop --pair 7E1:7E9=end_of_line demo/other_unit.log > unit.toml
+
 CAPTURE is a recording of `candump -L`, or, where python-can is installed, one of ASC, BLF, TRC, CSV or MF4. The testers are
 the pairs that are given, or those that are found. With `--varies` an identifier that was read with different values, and
 seeds that differ, aren't compared; without it their values come one after the other, round and round.
@@ -39,6 +42,7 @@ BLOCK = 1 << 22
 MOST_ROUNDS, MOST_IDLE = 16, 4
 # the most differences that are told one by one
 MOST_TOLD = 1000
+MOST_OF_11_BITS = 0x7FF
 
 
 class Progress:
@@ -51,6 +55,16 @@ class Progress:
         if sys.stderr.isatty() and time.monotonic() - self.begun > 1:
             self.is_shown = True
             print(f"\r\x1b[K{'#' * round(part * 30):<30} {words}", end="", file=sys.stderr, flush=True)
+
+    def through(self, path: str, begin: float, end: float, words: str) -> Iterator[str]:
+        """A recording in blocks of whole lines; reading it is the part from `begin` to `end` of all that is done."""
+        size, done = max(os.path.getsize(path), 1), 0
+        with open(path, encoding="latin-1", newline="\n") as it:
+            while block := it.read(BLOCK):
+                whole = block + it.readline()
+                done += len(whole)
+                yield whole
+                self.at(begin + (end - begin) * min(done / size, 1), words)
 
     def end(self) -> None:
         if self.is_shown:
@@ -67,13 +81,6 @@ def say(text: str) -> None:
 
 
 # ---- the recording
-
-
-def blocks_of(path: str) -> Iterator[str]:
-    """A recording in blocks of whole lines."""
-    with open(path, encoding="latin-1", newline="\n") as it:
-        while block := it.read(BLOCK):
-            yield block + it.readline()
 
 
 def converted(path: str, room: str) -> str:
@@ -112,12 +119,7 @@ def named(pairs: Iterable[Pair]) -> list[Pair]:
 
 def testers_of(given: list[Pair], found: list[Pair]) -> list[Pair]:
     """The pairs that can be learned, of those given or else of those found; tells of the others."""
-    pairs = given or found
-    for it in found:
-        if it.is_extended and not given:
-            say(f"the pair {it.shown()} has identifiers of 29 bits, which a setup can't have: it isn't learned")
-    # a setup has testers of 11 bits and classic CAN alone; pairs of 29 bits would go on from here
-    own = [it for it in pairs if not it.is_extended]
+    own = given or found
     for it in own[MOST_TESTERS:]:
         say(f"the pair {it.shown()} is one too many: a setup has {MOST_TESTERS} testers")
     if len(own) > 1 and not given:
@@ -135,11 +137,13 @@ def count_of(verdict: Verdict) -> int:
 
 def learned(unit: Unit, judge: Judge, source: str, progress: Progress) -> tuple[str, Verdict]:
     """The setup by which the fewest exchanges differ, and what the judge says of it."""
-    first = judge(setup_text(unit, source))
+    exchanges = judge(setup_text(unit, source)).exchanges
     progress.at(0.3, "the model")
-    learn_model(unit, first.exchanges)
+    learn_model(unit, exchanges)
     plan, best = Plan(), None
-    unit.rows = plan.rows(unit, first.exchanges)
+    unit.rows = plan.rows(unit, exchanges)
+    # (of a long recording they are much, and each verdict has its own)
+    del exchanges
     idle = 0
     for number in range(MOST_ROUNDS):
         text = setup_text(unit, source)
@@ -180,15 +184,17 @@ def refuse(program: str, path: str, room: str) -> None:
     raise NoTester
 
 
-def unit_of(path: str, given: list[Pair], functional: Optional[int], varies: bool) -> Unit:
+def unit_of(path: str, given: list[Pair], functional: Optional[int], varies: bool, progress: Progress) -> Unit:
     """What the frames tell of the unit. NoTester where there is none."""
-    sight = look(blocks_of(path))
+    sight = look(progress.through(path, 0, 0.12, "the testers"))
     pairs = testers_of(given, pairs_of(sight))
     if not pairs:
         raise NoTester
-    if functional is None:
-        functional = functional_of(sight, pairs)
-    return Unit(pairs, functional, sending_of(blocks_of(path), pairs), varies=varies)
+    narrow, wide = functional_of(sight, pairs), functional_of(sight, pairs, True)
+    if functional is not None:
+        narrow, wide = (functional, wide) if functional <= MOST_OF_11_BITS else (narrow, functional)
+    sending = sending_of(progress.through(path, 0.12, 0.2, "how they send"), pairs)
+    return Unit(pairs, narrow, sending, varies=varies, functional_29=wide)
 
 
 def arguments(given: Optional[list[str]]) -> argparse.Namespace:
@@ -201,17 +207,6 @@ def arguments(given: Optional[list[str]]) -> argparse.Namespace:
     return words.parse_args(given)
 
 
-def pairs_given(texts: list[str]) -> list[Pair]:
-    """The pairs of the command line. ValueError where one isn't."""
-    found = []
-    for text in texts:
-        it = pair_of(text)
-        if it.is_extended:
-            raise ValueError(f"{text}: identifiers of 29 bits can't be learned yet")
-        found.append(it)
-    return found
-
-
 def main(given: Optional[list[str]] = None) -> int:
     """Runs the tool by these words, or by those of the command line; returns its status."""
     words, progress = arguments(given), Progress()
@@ -219,7 +214,7 @@ def main(given: Optional[list[str]] = None) -> int:
         say(f"{words.program} isn't built: ./uds_play builds it")
         return 2
     try:
-        pairs = pairs_given(words.pair)
+        pairs = [pair_of(it) for it in words.pair]
     except ValueError as fault:
         say(f"--pair {fault}")
         return 1
@@ -227,10 +222,10 @@ def main(given: Optional[list[str]] = None) -> int:
         try:
             path = converted(words.capture, room)
             try:
-                unit = unit_of(path, pairs, words.functional, words.varies)
+                unit = unit_of(path, pairs, words.functional, words.varies, progress)
             except NoTester:
                 refuse(words.program, path, room)
-            progress.at(0.2, "the testers")
+            progress.at(0.2, "the exchanges")
             judge = Program(words.program, path, room, [it.name for it in unit.pairs])
             text, verdict = learned(unit, judge, plain(os.path.basename(words.capture)), progress)
         except NoTester:

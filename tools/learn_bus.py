@@ -21,12 +21,13 @@ REQUESTS = {f"{sid:02X}": f"{sid:02X}" for sid in [*SERVICES, *OTHERS]}
 POSITIVES = {f"{sid + 0x40:02X}": f"{sid:02X}" for sid in [*SERVICES, *OTHERS] if sid < 0xBF}
 # functional identifiers of ISO 15765-4
 FUNCTIONAL, FUNCTIONAL_29 = 0x7DF, 0x18DB33F1
+USUAL_FUNCTIONAL = (f"{FUNCTIONAL:03X}", f"{FUNCTIONAL_29:08X}")
 # services of OBD (ISO 15031-5), which count on the identifiers of ISO 15765-4 alone: other traffic looks like them
 OBD = range(1, 11)
 OBD_REQUESTS = {f"{sid:02X}" for sid in OBD}
 OBD_POSITIVES = {f"{sid + 0x40:02X}": f"{sid:02X}" for sid in OBD}
-USUAL_REQUESTS = {f"{FUNCTIONAL:03X}", *(f"{it:03X}" for it in range(0x7E0, 0x7E8))}
-USUAL_RESPONSES = {f"{it:03X}" for it in range(0x7E8, 0x7F0)}
+USUAL_REQUESTS = {*USUAL_FUNCTIONAL, *(f"{it:03X}" for it in range(0x7E0, 0x7E8)), *(f"18DA{it:02X}F1" for it in range(256))}
+USUAL_RESPONSES = {*(f"{it:03X}" for it in range(0x7E8, 0x7F0)), *(f"18DAF1{it:02X}" for it in range(256))}
 
 
 @dataclass(frozen=True)
@@ -39,9 +40,13 @@ class Pair:
     is_extended: bool = False
     name: str = ""
 
-    def shown(self) -> str:
+    def texts(self) -> tuple[str, str]:
+        """Its identifiers as lines have them."""
         wide = 8 if self.is_extended else 3
-        return f"{self.request:0{wide}X}:{self.response:0{wide}X}"
+        return f"{self.request:0{wide}X}", f"{self.response:0{wide}X}"
+
+    def shown(self) -> str:
+        return ":".join(self.texts())
 
     def is_usual(self) -> bool:
         """Whether it is a pair of ISO 15765-4."""
@@ -57,7 +62,7 @@ def pair_of(text: str) -> Pair:
     CAN FD (REQUEST:RESPONSE:fd), which a setup can't have."""
     found = PAIR.fullmatch(text)
     if not found or len(found["request"]) != len(found["response"]):
-        raise ValueError(f"{text}: it is REQUEST:RESPONSE=NAME, with identifiers of 3 hex digits")
+        raise ValueError(f"{text}: it is REQUEST:RESPONSE=NAME, with identifiers of 3 hex digits, or of 8")
     if found["fd"]:
         raise ValueError(f"{text}: CAN FD can't be learned yet")
     request, response = found["request"], found["response"]
@@ -133,15 +138,23 @@ def pairs_of(sight: Sight) -> list[Pair]:
         if it.is_usual() or (count >= LEAST_ANSWERS and count >= LEAST_PART * sight.asked[request]):
             found.append(it)
             taken |= {request, response}
-    found += [it for it in asked_functionally(sight) if f"{it.response:03X}" not in taken and f"{it.request:03X}" not in taken]
+    found += [it for it in asked_functionally(sight) if not taken & set(it.texts())]
     usual = sorted((it for it in found if it.is_usual()), key=lambda it: (it.is_extended, it.request))
     return usual + [it for it in found if not it.is_usual()]
 
 
 def asked_functionally(sight: Sight) -> list[Pair]:
-    """The usual pairs of those that answered the usual functional identifier."""
-    answers = sorted(response for asking, response in sight.answered if asking == f"{FUNCTIONAL:03X}" and response in USUAL_RESPONSES)
-    return [Pair(int(it, 16) - 8, int(it, 16)) for it in answers]
+    """The usual pairs of those that answered a usual functional identifier."""
+    answers = {asking: sorted(it for other, it in sight.answered if other == asking) for asking in USUAL_FUNCTIONAL}
+    narrow, wide = (answers[it] for it in USUAL_FUNCTIONAL)
+    found = [Pair(int(it, 16) - 8, int(it, 16)) for it in narrow if it in USUAL_RESPONSES]
+    fixed = (int(it, 16) for it in wide if len(it) == 8)
+    return found + [it for it in (Pair(changed_places(response), response, True) for response in fixed) if it.is_usual()]
+
+
+def changed_places(number: int) -> int:
+    """An identifier of normal fixed addressing with its target and its source changed."""
+    return number & 0x1FFF0000 | (number & 0xFF) << 8 | number >> 8 & 0xFF
 
 
 def rank(seen: tuple[tuple[str, str], int]) -> tuple[bool, int, tuple[str, str]]:
@@ -158,18 +171,18 @@ def is_functional(sight: Sight, request: str, taken: set[str]) -> bool:
     return any(it in taken for it, count in answers.items() if count == most) or sum(2 * it > most for it in answers.values()) > 1
 
 
-def functional_of(sight: Sight, pairs: list[Pair]) -> Optional[int]:
-    """The functional identifier of 11 bits: of those that are of no pair the one that says TesterPresent to all, or that
-    the unit answers, most often; the usual one first."""
-    own = {f"{it:03X}" for pair in pairs for it in (pair.request, pair.response)}
-    responses = {f"{pair.response:03X}" for pair in pairs}
-    count = Counter({it: many for it, many in sight.present.items() if it not in own and len(it) == 3})
+def functional_of(sight: Sight, pairs: list[Pair], is_extended: bool = False) -> Optional[int]:
+    """The functional identifier of 11 bits, or of 29: of those that are of no pair the one that says TesterPresent to all,
+    or that the unit answers, most often; the usual one first. None where no tester of this kind has one."""
+    own = {it for pair in pairs for it in pair.texts()}
+    responses = {it.texts()[1] for it in pairs if it.is_extended == is_extended}
+    usual = USUAL_FUNCTIONAL[is_extended]
+    count = Counter({it: many for it, many in sight.present.items() if responses and it not in own and len(it) == len(usual)})
     for (request, response), many in sight.answered.items():
-        if request not in own and response in responses and sight.asked[request] <= 2 * many:
+        if request not in own and response in responses and len(request) == len(usual) and sight.asked[request] <= 2 * many:
             count[request] += many
-    usual = f"{FUNCTIONAL:03X}"
     if usual in count or not count:
-        return FUNCTIONAL if usual in count else None
+        return int(usual, 16) if usual in count else None
     return int(max(count, key=lambda it: (count[it], it)), 16)
 
 
@@ -193,7 +206,7 @@ class Sending:
 def sending_of(blocks: Iterable[str], pairs: list[Pair]) -> Sending:
     """How the frames of these pairs are sent."""
     found, fills, flows = Sending(), Counter(), Counter()
-    requests = {f"{it.request:03X}": f"{it.response:03X}" for it in pairs}
+    requests = dict(it.texts() for it in pairs)
     responses = set(requests.values())
     last, waits = {}, {}
     for now, identifier, data in frames_of(blocks, "|".join([*requests, *responses]), ""):

@@ -1,6 +1,7 @@
 """The judge of what was learned: `compare` of the program, which says of each exchange of the recording whether a setup
 answers it so. For tools/learn.py; no part of what is proved."""
 import subprocess
+from sys import intern
 from dataclasses import dataclass
 from typing import Callable, Iterable, Optional
 
@@ -66,18 +67,19 @@ class Messages(dict):
         return found
 
 
-def read_verdict(text: str, status: int, names: Iterable[str]) -> Verdict:
-    """The verdict of what `compare` wrote."""
+def read_exchanges(lines: Iterable[str], names: Iterable[str]) -> list[Exchange]:
+    """The exchanges of the lines that `compare` wrote, in the order of the recording's lines."""
     places = {name: place for place, name in enumerate(names)}
     found, messages = [], Messages()
-    for text_of_one in text.splitlines():
+    for text_of_one in lines:
         parts = text_of_one.split(" ")
         if len(parts) == 9:
             line, stamp, name, kind, request, sent, expected, wait, pendings = parts
             at = int(stamp[:-7] + stamp[-6:-3])
             asked, waited = messages[request] or b"", 0 if wait == "-" else int(wait)
-            found.append(Exchange(int(line), at, places[name], name, kind, asked, messages[sent], expected, waited, int(pendings)))
-    return Verdict(sorted(found, key=lambda it: (it.line, it.place)), status)
+            found.append(Exchange(int(line), at, places[name], name, kind, asked, messages[sent], intern(expected), waited, int(pendings)))
+    found.sort(key=lambda it: (it.line, it.place))
+    return found
 
 
 class Program:
@@ -90,7 +92,11 @@ class Program:
         path = f"{self.room}/setup.toml"
         with open(path, "w", encoding="utf-8") as it:
             it.write(setup)
-        ran = subprocess.run([self.program, "compare", path, self.capture], capture_output=True, check=False)
-        if ran.returncode not in (AGREES, DIFFERS, NOTHING):
-            raise Refused(ran.returncode, ran.stderr.decode(errors="replace").strip())
-        return read_verdict(ran.stdout.decode(), ran.returncode, self.names)
+        with open(f"{self.room}/told", "w+", encoding="utf-8", errors="replace") as told:
+            words = [self.program, "compare", path, self.capture]
+            with subprocess.Popen(words, stdout=subprocess.PIPE, stderr=told, encoding="utf-8") as child:
+                found = read_exchanges(child.stdout, self.names)
+            told.seek(0)
+            if child.returncode not in (AGREES, DIFFERS, NOTHING):
+                raise Refused(child.returncode, told.read().strip())
+        return Verdict(found, child.returncode)

@@ -4,7 +4,7 @@ import textwrap
 from dataclasses import dataclass, field
 from typing import Iterator, Optional
 
-from learn_bus import FUNCTIONAL, Pair, Sending
+from learn_bus import FUNCTIONAL, FUNCTIONAL_29, Pair, Sending
 from uds_names import IDENTIFIERS, NEGATIVE, service_name, sub_name
 
 # the times of links that a setup has where it says nothing
@@ -108,6 +108,8 @@ class Unit:
     rows: list[Row] = field(default_factory=list)
     # what changes by itself isn't compared
     varies: bool = False
+    # the functional identifier of testers with 29 bits; None for the usual one
+    functional_29: Optional[int] = None
     # the requests of each tester, by its place, and the line that told P2 and P2*
     asked: dict[int, Seen] = field(default_factory=dict)
     told: int = 0
@@ -159,7 +161,7 @@ def unit_keys(unit: Unit) -> Iterator[str]:
         yield f"max_request = {min(sending.longest, 65535)}\n"
     yield "pad = false\n" if sending.pad is None else f"pad_byte = 0x{sending.pad:02X}\n"
     yield f"availability = 0x{unit.availability:02X}\n"
-    if unit.functional is not None or any(FUNCTIONAL in (it.request, it.response) for it in unit.pairs):
+    if unit.functional is not None or any(FUNCTIONAL in (it.request, it.response) for it in unit.pairs if not it.is_extended):
         yield f"functional = 0x{unit.functional if unit.functional is not None else free_identifier(unit):03X}\n"
     if unit.levels:
         yield f"attempts = {unit.attempts}\ndelay_ms = {unit.delay}\n"
@@ -175,14 +177,18 @@ def waits(sending: Sending) -> Iterator[str]:
 
 def free_identifier(unit: Unit) -> int:
     """An identifier that no tester has."""
-    own = {it for pair in unit.pairs for it in (pair.request, pair.response)}
+    own = {it for pair in unit.pairs if not pair.is_extended for it in (pair.request, pair.response)}
     return next(it for it in range(0x7FF, 0, -1) if it not in own)
 
 
 def tester_tables(unit: Unit) -> Iterator[str]:
     for place, it in enumerate(unit.pairs):
         yield f"\n{commented(f'requests: {unit.asked[place].shown()}')}" if place in unit.asked else "\n"
-        yield f'[[tester]]\nname = "{it.name}"\nrequest = 0x{it.request:03X}\nresponse = 0x{it.response:03X}\n'
+        request, response = it.texts()
+        yield f'[[tester]]\nname = "{it.name}"\n{"extended = true" + chr(10) if it.is_extended else ""}'
+        yield f"request = 0x{request}\nresponse = 0x{response}\n"
+        if it.is_extended and unit.functional_29 not in (None, FUNCTIONAL_29):
+            yield f"functional = 0x{unit.functional_29:08X}\n"
 
 
 def did_tables(unit: Unit) -> Iterator[str]:

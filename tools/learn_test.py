@@ -331,12 +331,13 @@ class Bus:
     frames: list = field(default_factory=list)
     ms: int = 1_000_000
     numbers: list = field(default_factory=lambda: [(0x7E0, 0x7E8), (0x7E1, 0x7E9)])
+    everyone: int = 0x7DF
 
     def link(self) -> LinkSetup:
         return LinkSetup([], 0x7DF, 0, 0, 65535, self.pad, 1000, 1000, None)
 
     def put(self, identifier: int, data: bytes) -> None:
-        self.frames.append((self.ms, f"{identifier:03X}#{data.hex().upper()}"))
+        self.frames.append((self.ms, f"{identifier:0{8 if identifier > 0x7FF else 3}X}#{data.hex().upper()}"))
 
     def send(self, identifier: int, back: int, message: bytes, flow: bytes) -> None:
         """A message in frames, with the flow control of the other side."""
@@ -360,7 +361,7 @@ class Bus:
 
     def ask_all(self, unit: UnitModel, testers: int, request: bytes) -> None:
         """A functional request: each tester's connection has it."""
-        self.put(0x7DF, cut(self.link(), request)[0])
+        self.put(self.everyone, cut(self.link(), request)[0])
         at = self.ms
         for tester in range(testers if unit.hears_all else 1):
             self.reply(tester, request, unit.answer(tester, request, True, at))
@@ -416,6 +417,8 @@ def recording(seed: int, scripts: int = 12) -> str:
     bus = Bus(chance, chance.choice([0xCC, 0xAA, 0x00, None]), chance.choice([(0, 0), (8, 5), (2, 0)]))
     if chance.random() < 0.2:
         bus.numbers = [(0x710, 0x77A), (0x711, 0x77B)]
+    if seed % 4 == 2:
+        bus.numbers, bus.everyone = [(0x18DA10F1, 0x18DAF110), (0x18DA10F2, 0x18DAF210)], 0x18DB33F1
     for _ in range(scripts):
         tester = chance.randrange(testers)
         for request in chance.choice(SCRIPTS):
@@ -659,12 +662,21 @@ class OfRecordings(unittest.TestCase):
         self.assertRegex(found.told, "learn: line [0-9]+: tester_7E0 was sent 62020001 to 220200, expected 62020000")
         self.assertEqual({0x0100, 0x0200}, {it["id"] for it in found.tree()["did"]})
 
-    def test_pairs_of_29_bits_are_told(self) -> None:
-        lines = frames((0, "18DA10F1#023E00"), (5, "18DAF110#027E00"))
+    def test_pairs_of_29_bits(self) -> None:
+        lines = frames((0, "18DA10F1#023E00"), (5, "18DAF110#027E00"), (9, "18DBFFF1#023E80"), (20, "7E0#023E00"), (25, "7E8#027E00"))
+        wide = {"name": "shop", "extended": True, "request": 0x18DA10F1, "response": 0x18DAF110, "functional": 0x18DBFFF1}
+        narrow = {"name": "tester_7E0", "request": 0x7E0, "response": 0x7E8}
+        given = learned_of(lines, "--pair", "18DA10F1:18DAF110=shop")
+        self.assertEqual((0, [wide]), (given.status, given.tree()["tester"]))
         found = learned_of(lines)
-        self.assertEqual(9, found.status)
-        self.assertIn("the pair 18DA10F1:18DAF110 has identifiers of 29 bits", found.told)
-        self.assertEqual(1, learned_of(lines, "--pair", "18DA10F1:18DAF110").status)
+        self.assertEqual((0, [narrow, {**wide, "name": "tester_18DA10F1"}]), (found.status, found.tree()["tester"]))
+
+    def test_an_obd_unit_of_29_bits(self) -> None:
+        asks = [(0, "18DB33F1#020100"), (9, "18DAF110#064100BE3EB811"), (20, "18DB33F1#02010C"), (29, "18DAF110#04410C1AF8")]
+        found = learned_of(frames(*asks))
+        self.assertEqual((0, {"0100": ["4100BE3EB811"], "010C": ["410C1AF8"]}), (found.status, rows_of(found)))
+        tester = {"name": "tester_18DA10F1", "extended": True, "request": 0x18DA10F1, "response": 0x18DAF110}
+        self.assertEqual([tester], found.tree()["tester"])
 
     def test_faults(self) -> None:
         self.assertEqual((3, "learn: uds_play: capture line 3: bad line\n"), self.told(frames((0, "7E0#023E00"), (5, "7E8#027E00")) + "x\n"))

@@ -1,8 +1,9 @@
 #!/usr/bin/env python3
-"""Runs `live` of the built program over a pipe, by the clock: sessions by plain lines and by scapy's testers
-(tools/live_scapy.py), separation times (tools/live_gaps.py), outputs that nobody reads or that are closed, bad lines,
-records, and silence. Each session's record is played by `bus`, which has to write the same bytes. How long the silence
-lasts is LIVE_SILENCE, in seconds (10 where it isn't set). The last line is 'N passed, M failed'."""
+"""Runs `live` of the built program over a pipe, by the clock: sessions by plain lines, by scapy's testers
+(tools/live_scapy.py) and by python-can's (tools/live_can.py), with identifiers of 11 and of 29 bits, separation times
+(tools/live_gaps.py), outputs that nobody reads or that are closed, bad lines, records, and silence. Each session's record
+is played by `bus`, which has to write the same bytes. How long the silence lasts is LIVE_SILENCE, in seconds (10 where it
+isn't set). The last line is 'N passed, M failed'."""
 import contextlib
 import itertools
 import os
@@ -15,7 +16,9 @@ import sys
 import tempfile
 import threading
 import time
+import tomllib
 
+import live_can
 import live_gaps
 import live_scapy
 
@@ -60,6 +63,11 @@ def line(identifier, data):
     return f"({time.time():.6f}) can0 {identifier}#{data}\n".encode()
 
 
+def responses_of(setup):
+    """The identifiers by which the unit answers the testers of a setup, as lines have them."""
+    return [f"{it['response']:0{8 if it.get('extended') else 3}X}" for it in tomllib.loads(setup)["tester"]]
+
+
 class Run:
     """The program, live over a pipe, and what it wrote."""
 
@@ -70,7 +78,7 @@ class Run:
         pipes = {"stdin": subprocess.PIPE, "stdout": out, "stderr": subprocess.PIPE}
         self.child = subprocess.Popen(words, bufsize=0, preexec_fn=limits, **pipes)
         self.pieces = []
-        self.came = {it: queue.Queue() for it in ("7E8", "7E9", "7EA")}
+        self.came = {it: queue.Queue() for it in responses_of(setup)}
         self.reader = threading.Thread(target=self.read, daemon=True)
         if reads:
             self.reader.start()
@@ -483,12 +491,13 @@ def main():
         it.start()
     for group in GROUPS:
         play(group)
-    if live_scapy.found():
-        for group in live_scapy.GROUPS:
+    for others, name in ((live_scapy, "scapy"), (live_can, "python-can")):
+        if not others.found():
+            note(f"{name} isn't there, and its testers' runs were skipped")
+            continue
+        for group in others.GROUPS:
             with tempfile.TemporaryDirectory() as room:
                 group(room, live)
-    else:
-        note("scapy isn't there, and its testers' runs were skipped")
     for it in beside:
         it.join()
     print(f"{counts[True]} passed, {counts[False]} failed")

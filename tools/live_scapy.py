@@ -1,5 +1,5 @@
-"""The testers of tools/live.py that scapy plays: its ISO-TP and its UDS layer, and its scanner, over a CAN socket that
-speaks the program's lines. No part of what is proved."""
+"""The testers of tools/live.py that scapy plays: its ISO-TP and its UDS layer, and its scanners, over a CAN socket that
+speaks the program's lines, with identifiers of 11 and of 29 bits. No part of what is proved."""
 import itertools
 import logging
 import os
@@ -40,12 +40,13 @@ def loads():
         # pylint: disable=import-outside-toplevel
         from scapy.contrib.automotive import log_automotive, uds, uds_scan
         from scapy.contrib.isotp import ISOTPSoftSocket
+        from scapy.contrib.isotp.isotp_scanner import scan as isotp_scan
         from scapy.layers.can import CAN
         from scapy.supersocket import SuperSocket
     except ImportError:
         return False
     log_automotive.setLevel(logging.CRITICAL)
-    globals().update(uds=uds, uds_scan=uds_scan, ISOTPSoftSocket=ISOTPSoftSocket, wire=wire_class(SuperSocket, CAN))
+    globals().update(uds=uds, uds_scan=uds_scan, ISOTPSoftSocket=ISOTPSoftSocket, isotp_scan=isotp_scan, wire=wire_class(SuperSocket, CAN))
     return True
 
 
@@ -57,22 +58,26 @@ def wire_class(socket_class, packet_class):
 
         def __init__(self, run, identifier):  # pylint: disable=super-init-not-called
             self.run, self.identifier, self.closed = run, identifier, False
+            self.came = run.came[f"{identifier:0{digits(is_wide(identifier))}X}"]
             self.ins = self.outs = None
 
         def send(self, x):
-            self.run.send(f"{x.identifier:03X}", bytes(x.data).hex().upper())
-            return len(x.data)
+            # (behind a frame's head of eight bytes stands its data, whatever layers of scapy's it is made of)
+            data = bytes(x)[8:]
+            self.run.send(f"{x.identifier:0{digits(x.flags.extended)}X}", data.hex().upper())
+            return len(data)
 
         def recv(self, x=0):
             try:
-                data = self.run.came[f"{self.identifier:03X}"].get_nowait()[1]
+                data = self.came.get_nowait()[1]
             except queue.Empty:
                 return None
-            return packet_class(identifier=self.identifier, data=bytes.fromhex(data))
+            flags = "extended" if is_wide(self.identifier) else 0
+            return packet_class(identifier=self.identifier, flags=flags, data=bytes.fromhex(data))
 
         @staticmethod
         def select(sockets, remain=None):
-            return [it for it in sockets if not it.run.came[f"{it.identifier:03X}"].empty()]
+            return [it for it in sockets if not it.came.empty()]
 
         def close(self):
             self.closed = True
@@ -80,10 +85,24 @@ def wire_class(socket_class, packet_class):
     return Wire
 
 
+def is_wide(identifier):
+    """Whether scapy takes an identifier for one of 29 bits."""
+    return identifier > 0x7FF
+
+
+def digits(is_extended):
+    """How many digits an identifier has in a line."""
+    return 8 if is_extended else 3
+
+
 def tester(run, number, **how):
     """A tester of scapy: requests go as ISO-TP messages, and each has its answer."""
-    there = wire(run, 0x7E8 + number)
-    return ISOTPSoftSocket(there, tx_id=0x7E0 + number, rx_id=0x7E8 + number, basecls=uds.UDS, padding=True, **how)
+    return tester_by(run, 0x7E0 + number, 0x7E8 + number, **how)
+
+
+def tester_by(run, request, response, **how):
+    """The tester that asks and is answered by these identifiers."""
+    return ISOTPSoftSocket(wire(run, response), tx_id=request, rx_id=response, basecls=uds.UDS, padding=True, **how)
 
 
 def asks(socket, request, want):
@@ -234,4 +253,55 @@ def scanned(live, scanner):
     return wrong
 
 
-GROUPS = [whole_session, by_the_clock, separation, two_at_once, scan]
+# ---- identifiers of 29 bits, by normal fixed addressing: two testers of them beside the one of 11 bits
+WIDE = """
+[[tester]]
+name = "F1"
+extended = true
+request = 0x18DA10F1
+response = 0x18DAF110
+
+[[tester]]
+name = "F2"
+extended = true
+request = 0x18DA10F2
+response = 0x18DAF210
+"""
+EVERYONE = 0x18DB33F1
+
+
+def wide_setup(live):
+    return HEAD + live.SETUP + MORE + WIDE
+
+
+def wide_session(room, live):
+    """Testers of both kinds: one's session, with long messages both ways, and functional requests."""
+    with live.running(room, wide_setup(live)) as run:
+        with tester(run, 0) as a, tester_by(run, 0x18DA10F1, 0x18DAF110, stmin=1) as one, tester_by(run, 0x18DA10F2, 0x18DAF210) as other:
+            wrong = asks(one, session(3), "5003003201F4") + asks(other, session(3), "7F1021") + asks(a, session(3), "7F1021")
+            wrong += asks(one, access(1), "670111223344") + asks(one, access(2, "AABBCCDD"), "6702")
+            wrong += asks(one, read(0xF191), f"62F191{LONG}") + asks(one, write(0xF191, OTHER), "6EF191")
+            wrong += asks(a, read(0xF191), f"62F191{OTHER}") + asks(other, read(0xF191), f"62F191{OTHER}")
+        # (asked by all, the unit answers each tester of 29 bits)
+        with tester_by(run, EVERYONE, 0x18DAF110) as everyone:
+            wrong += asks(everyone, uds.UDS() / uds.UDS_TP(), "7E00")
+        wrong += "" if run.next("18DAF210")[1] == live.PRESENT and run.came["7E8"].empty() else "a functional request; "
+        wrong += run.ends_well()
+    live.told(not wrong, "scapy: a session by identifiers of 29 bits, beside a tester of 11", wrong)
+
+
+def wide_scan(room, live):
+    """scapy's scanner of ISO-TP finds whom the unit answers by 29 bits, and by which identifier."""
+    asked, want = range(0x18DA10F0, 0x18DA10F4), {}
+    with live.running(room, wide_setup(live)) as run:
+        found = {}
+        for response in (0x18DAF110, 0x18DAF210):
+            want[response << 8 & 0xFF00 | response >> 8 & 0xFF | 0x18DA0000] = response
+            heard = isotp_scan(wire(run, response), asked, extended_can_id=True, verify_results=False, sniff_time=0.05)
+            found.update({request: identifier for request, (_, identifier) in heard.items()})
+        wrong = "" if found == want else f"{found}; "
+        wrong += run.ends_well()
+    live.told(not wrong, "scapy: its scanner of ISO-TP, by identifiers of 29 bits", wrong)
+
+
+GROUPS = [whole_session, by_the_clock, separation, two_at_once, scan, wide_session, wide_scan]

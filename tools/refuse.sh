@@ -2,8 +2,8 @@
 # Refuses each request for memory in turn, in the executables that `rt ci`, `rt test` or `rt run` left in out/: the
 # program and, with the word `tests`, the executables of the tests, a test at a time; with `suite FILE` that one executable.
 # Usage: tools/refuse.sh [tests | suite FILE]
-# The program must answer want of memory (status 4, nothing on standard output, and of `bus` and `live`, which write as
-# they go, a front of the text) or, where it had no more need of the memory, what it answers without a refusal; where there was no
+# The program must answer want of memory (status 4, nothing on standard output, and of `bus`, `compare` and `live`, which
+# write as they go, a front of the text) or, where it had no more need of the memory, what it answers without a refusal; where there was no
 # memory for its line on standard error, that is empty.
 # A test must end with the error of a refused allocation, or pass where it had no more need of the memory. NotMet is such
 # an error, too: a thread that found no memory at its start left its work to its caller's thread.
@@ -156,6 +156,12 @@ sweep_program() {
       "$program" verify runs/setup.toml runs/verify_second_first/capture.log
     sweep_run "a verdict on what is missing" 8 "$room/nothing" 'uds_play: A sent 1 frames, expected 065001003201F4CC next' \
       "$program" verify runs/setup.toml runs/bus_order/capture.log
+    writes_as_it_goes=1 sweep_run "exchanges" 8 runs/compare_order/stdout '' \
+      "$program" --quiet compare runs/setup.toml runs/bus_order/capture.log
+    writes_as_it_goes=1 sweep_run "exchanges by rules" 8 runs/compare_varies/stdout '' \
+      "$program" --quiet compare runs/compare_varies/lax.toml runs/compare_varies/capture.log
+    writes_as_it_goes=1 sweep_run "exchanges before a fault" 3 runs/compare_fault/stdout 'uds_play: capture line 6: bad tick' \
+      "$program" --quiet compare runs/setup.toml runs/compare_fault/capture.log
     sweep_run "a capture that is not there" 7 "$room/nothing" 'uds_play: cannot read file 1' "$program" bus "$room/config" "$room/none"
     printf 's3_m = 1\n[[tester]]\nname = "A"\nrequest = 710\n' > "$room/slips"
     {

@@ -387,13 +387,8 @@ class Telling:
         )
 
 
-def compared(
-    setup: Setup, lines: list[str], journal: str, differences: bool = False, is_whole: bool = True
-) -> tuple[int, str]:
-    """What `compare` writes of these lines, with `bus --journal`'s text of them, and its status. Where the capture has a
-    fault behind them, it isn't whole: then the status is 3, and what is open isn't told."""
-    entries = uds_run.read_run(setup.link.unit, [("journal", journal)]).entries
-    every = exchanges(setup, lines, entries)
+def written_of(setup: Setup, lines: list[str], every: list[Exchange], differences: bool, is_whole: bool) -> tuple[int, str]:
+    """What `compare` writes of these exchanges, and its status."""
     telling = Telling(setup, lines)
     told = [it for it in every if (is_whole or it.over < math.inf) and not (differences and it.agrees())]
     text = "".join(f"{telling.line(it)}\n" for it in told)
@@ -406,3 +401,16 @@ def compared(
         return 8, text
     is_nothing = not any(it.is_compared() for it in every)
     return (9, text + "nothing compared\n") if is_nothing else (0, text)
+
+
+def read(setup: Setup, lines: list[str], journal: str) -> list[Exchange]:
+    """All exchanges of these lines, with `bus --journal`'s text of them."""
+    return exchanges(setup, lines, uds_run.read_run(setup.link.unit, [("journal", journal)]).entries)
+
+
+def compared(
+    setup: Setup, lines: list[str], journal: str, differences: bool = False, is_whole: bool = True
+) -> tuple[int, str]:
+    """What `compare` writes of these lines, with `bus --journal`'s text of them, and its status. Where the capture has a
+    fault behind them, it isn't whole: then the status is 3, and what is open isn't told."""
+    return written_of(setup, lines, read(setup, lines, journal), differences, is_whole)

@@ -62,7 +62,10 @@ def verdict(lines, text):
     if differs or lacks:
         line = min(differs)[1] if differs else lacks[0]
         return 8, b"", f"uds_play: {line}\n".encode()
-    return 0, "".join(f"{name} {len(has)} frames agree\n" for name, (has, _) in lists.items()).encode(), b""
+    agree = "".join(f"{name} {len(has)} frames agree\n" for name, (has, _) in lists.items())
+    if not any(has for has, _ in lists.values()):
+        return 9, f"{agree}nothing compared\n".encode(), b""
+    return 0, agree.encode(), b""
 
 
 def both(config, path, lines):
@@ -240,7 +243,7 @@ def faults(room):
     for words in (["verify", config, f"{room}/none"], ["verify", f"{room}/none", path], ["verify", f"{room}/none"]):
         want = run(["bus", *words[1:]], input=b"")
         told(run(words, input=b"") == want and want[0] == 7, f"a file that isn't there: {len(words)}")
-    told(run(["verify", config], input=b"") == (0, b"A 0 frames agree\nB 0 frames agree\n", b""), "an empty capture")
+    told(run(["verify", config], input=b"") == (9, b"A 0 frames agree\nB 0 frames agree\nnothing compared\n", b""), "an empty capture")
     for words in (["verify"], ["verify", "--journal", config], ["verify", "--end", config], ["verify", config, path, path]):
         told(run(words)[0] == 1 and run(words)[1] == b"", f"usage: {len(words)}")
     put(path, f"{stamped(5000, '7E0#023E80')}\n".encode())

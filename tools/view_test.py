@@ -3,7 +3,7 @@
 the program, its pages in headless Chromium. The last line is 'N passed, M failed'.
 
     tools/view_test.py --store      stores the texts of the worked examples anew
-    tools/view_test.py --picture    makes docs/view.png anew
+    tools/view_test.py --pictures   makes docs/pictures/view.png and docs/pictures/compare.png anew
 """
 import contextlib
 import hashlib
@@ -18,7 +18,6 @@ import tempfile
 import browser
 import bus
 import examples
-import uds_exchanges
 import uds_names
 import uds_run
 import view
@@ -27,7 +26,7 @@ TOP = os.path.dirname(os.path.dirname(os.path.abspath(__file__)))
 PROGRAM = f"{TOP}/crates/uds_play/out/uds_play"
 VIEW = f"{TOP}/tools/view.py"
 TEXTS = f"{TOP}/tools/view/texts.txt"
-PICTURE = f"{TOP}/docs/view.png"
+PICTURES = f"{TOP}/docs/pictures"
 MOST_PICTURE = 200_000
 # milliseconds; a quiet machine takes 20
 MOST_DRAWING = 500
@@ -366,10 +365,8 @@ def spoilt():
 
 
 def comparison(room, recording):
-    """What `compare` writes of a recording of the demo, by the slow reading."""
-    config = f"{TOP}/demo/setup.toml"
-    journal = run("bus", "--journal", config, put(f"{room}/capture", recording))
-    return uds_exchanges.compared(uds_exchanges.read_setup(whole(config)), recording.splitlines(), journal)[1]
+    """What `compare` writes of a recording of the demo."""
+    return run("compare", f"{TOP}/demo/setup.toml", put(f"{room}/capture", recording))
 
 
 BESIDE = """\
@@ -630,7 +627,7 @@ def long_page(room, page):
     told(str(LONG) in line and end in line and times[-2] == end, "its end", [line, times])
 
 
-def take_picture(room, page):
+def picture_of_run(room, page):
     """The picture of docs/VIEW.md: the page of the demo, with a reply opened and a step marked."""
     page.open(page_of(room, whole(f"{TOP}/demo/setup.toml"), whole(f"{TOP}/demo/output.txt")), 1200, 690)
     page.ask("waits.click(); opened.add(7); show(); light(16); document.querySelector('h1').textContent = 'demo/output.txt'; 0")
@@ -638,10 +635,24 @@ def take_picture(room, page):
     return page.picture()
 
 
-def picture(room, page):
-    size = os.path.getsize(PICTURE)
-    told(size < MOST_PICTURE, f"the picture has {size} bytes")
-    told(take_picture(room, page).startswith(b"\x89PNG"), "a picture can be made")
+def picture_of_comparison(room, page):
+    """The picture of README: the demo's other unit beside the server, with the difference marked."""
+    found = comparison(room, whole(f"{TOP}/demo/other_unit.log"))
+    page.open(page_of(room, whole(f"{TOP}/demo/setup.toml"), found), 1000, 514)
+    page.ask("document.querySelector('h1').textContent = 'demo/other_unit.log'; lit = 10; chart.top = 5 * STEP; 0")
+    page.ask("chart.redraw(); document.getElementById('told').textContent = told(lit); 0")
+    page.ask(AFTER_DRAWING % "0")
+    return page.picture()
+
+
+DRAWN = {"view.png": picture_of_run, "compare.png": picture_of_comparison}
+
+
+def pictures(room, page):
+    for name, take in DRAWN.items():
+        size = os.path.getsize(f"{PICTURES}/{name}")
+        told(size < MOST_PICTURE, f"{name} has {size} bytes")
+        told(take(room, page).startswith(b"\x89PNG"), f"{name} can be made")
 
 
 def pages(room):
@@ -655,24 +666,25 @@ def pages(room):
         print(f"view: Chromium can't be used here ({it}): the pages aren't opened", flush=True)
         return
     try:
-        for group in (whole_pages, frames_page, by_mouse, later, beside_page, not_sent, by_filter, hostile, long_page, picture):
+        for group in (whole_pages, frames_page, by_mouse, later, beside_page, not_sent, by_filter, hostile, long_page, pictures):
             group(room, page)
     finally:
         page.close()
 
 
-def make_picture():
+def make_pictures():
     with tempfile.TemporaryDirectory() as room:
         page = browser.Browser(browser.found())
-        put(PICTURE, take_picture(room, page))
+        for name, take in DRAWN.items():
+            put(f"{PICTURES}/{name}", take(room, page))
         page.close()
 
 
 def main():
     if sys.argv[1:] == ["--store"]:
         return store()
-    if sys.argv[1:] == ["--picture"]:
-        return make_picture()
+    if sys.argv[1:] == ["--pictures"]:
+        return make_pictures()
     if not os.access(PROGRAM, os.X_OK):
         print(f"view: {PROGRAM} isn't built\n0 passed, 1 failed")
         return 1

@@ -23,15 +23,18 @@ STATUS = (
     ("5", "the journal is full"),
     ("7", "a file can't be read, or the output can't be written"),
     ("8", "the unit answered otherwise than the server, or an entry differs"),
+    ("9", "nothing was compared"),
 )
 # what a word of the command line may be completed to
 TRIED = (
     (["uds_play", "b"], ["bus"]),
     (["uds_play", "--q"], ["--quiet"]),
     (["uds_play", "bus", "--j"], ["--journal"]),
+    (["uds_play", "compare", "--d"], ["--differences"]),
     (["uds_play", "--quiet", "live", "--r"], ["--record"]),
     (["uds_play", "check", ""], ["folder", "unit.toml"]),
     (["uds_play", "verify", "unit.toml", ""], ["drive.log", "folder"]),
+    (["uds_play", "compare", "--differences", "unit.toml", ""], ["drive.log", "folder"]),
     (["uds_play", "replay", "unit.toml", ""], ["drive.log", "folder", "journal", "unit.toml"]),
 )
 counts = {True: 0, False: 0}
@@ -136,14 +139,14 @@ def try_page():
 
 
 def try_examples(commands):
-    """The example of each command ends well, or as `verify` does over a unit that answers otherwise."""
+    """The example of each command ends well, or as `verify` and `compare` do over a unit that answers otherwise."""
     with tempfile.TemporaryDirectory() as folder:
         os.symlink(f"{TOP}/demo", f"{folder}/demo")
         os.symlink(PROGRAM, f"{folder}/uds_play")
         for name, parts in commands.items():
             lines = "\n".join(parts["Example"])
             done = subprocess.run(["bash", "-ec", lines], cwd=folder, capture_output=True, text=True, timeout=60, env={**os.environ, "PATH": f"{folder}:{os.environ['PATH']}"})
-            told(parts["Example"] != [] and done.returncode == (8 if name == "verify" else 0) and "note:" not in done.stderr, f"the example of {name}", f": {done}")
+            told(parts["Example"] != [] and done.returncode == (8 if name in ("verify", "compare") else 0) and "note:" not in done.stderr, f"the example of {name}", f": {done}")
 
 
 def main():

@@ -29,6 +29,7 @@ pub use laws::{clocks_law, run_law, verdict_law};
 pub use line_frames::LineFrames;
 pub use no_text::NoText;
 pub use replies::Replies;
+pub use request_ids::{Owner, RequestIds};
 pub use sink::Sink;
 pub use verdict::{Difference, Recorded, Verdict};
 pub use writing::Drawn;

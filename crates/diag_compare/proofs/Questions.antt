@@ -126,7 +126,7 @@ answered_append : (s : State) (xs ys : List (ℕ × Step)) → answered s (xs ++
 answered_append s [] ys = refl
 answered_append s (p ∷ xs) ys = ap (λ w. record { who = p.0; step = p.1; reply = reply_to s p.0 p.1 } ∷ w) (answered_append (after_step s p.0 p.1) xs ys)
 
-states_append : (s : State) (xs ys : List Entry) → in_states s (xs ++ ys) ≡ in_states s xs ++ in_states (after s xs) ys
+pub states_append : (s : State) (xs ys : List Entry) → in_states s (xs ++ ys) ≡ in_states s xs ++ in_states (after s xs) ys
 states_append s [] ys = refl
 states_append s (e ∷ xs) ys = ap (λ w. (s, e) ∷ w) (states_append (after_step s e.who e.step) xs ys)
 

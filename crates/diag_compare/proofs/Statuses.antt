@@ -21,7 +21,8 @@ use Rattle.diag_exchange.specs.declared.happening.Over.TheVariants.{Exchange, Un
 use Rattle.diag_exchange.proofs.Lists.{or_left, or_right}
 use Rattle.diag_exchange.proofs.Meanings.{means}
 use Rattle.diag_exchange.proofs.Once.{told_once}
-use Rattle.diag_compare.specs.Compare.{all_exchanges, any_differs, compares_nothing, differs, exchanges, status}
+use Rattle.diag_judge.specs.Judging.{differs}
+use Rattle.diag_compare.specs.Compare.{all_exchanges, any_differs, compares_nothing, exchanges, status}
 use Rattle.diag_compare.specs.Hearing.{happenings}
 use Rattle.diag_compare.specs.Meaning.{AllAgree}
 

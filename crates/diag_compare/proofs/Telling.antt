@@ -22,7 +22,7 @@ over_append past (x ∷ xs) ys =
     ∙ sym (append_assoc (over_with past x) (exchanges.over_after (past ++ x ∷ []) xs) (exchanges.over_after (past ++ x ∷ xs) ys))
 
 module _ (expects : State → Entry → Expected) (setup : RawSetup) (t : ℕ) where
-  happen_push : (past lines : List (List ℕ)) (line : List ℕ)
+  pub happen_push : (past lines : List (List ℕ)) (line : List ℕ)
       → happen_after expects setup t past (lines ++ line ∷ []) ≡ happen_after expects setup t past lines ++ line_happens expects setup t (past ++ lines) line
   happen_push past [] line = append-nil (line_happens expects setup t past line) ∙ ap (λ w. line_happens expects setup t w line) (sym (append-nil past))
   happen_push past (first ∷ lines) line =
@@ -31,17 +31,17 @@ module _ (expects : State → Entry → Expected) (setup : RawSetup) (t : ℕ) w
       ∙ ap (λ w. happen_after expects setup t (past ++ first ∷ []) lines ++ line_happens expects setup t w line) (append_assoc past (first ∷ []) lines))
       ∙ sym (append_assoc here (happen_after expects setup t (past ++ first ∷ []) lines) (line_happens expects setup t (past ++ first ∷ lines) line))
 
-  abbrev all_over : List (List ℕ) → List Over
+  abbrev pub all_over : List (List ℕ) → List Over
   all_over lines = over (happenings expects setup t lines)
 
   -- what is over with a line
-  abbrev with_line : List (List ℕ) → List ℕ → List Over
+  abbrev pub with_line : List (List ℕ) → List ℕ → List Over
   with_line past line = exchanges.over_after (happenings expects setup t past) (line_happens expects setup t past line)
 
-  over_push : (past : List (List ℕ)) (line : List ℕ) → all_over (past ++ line ∷ []) ≡ all_over past ++ with_line past line
+  pub over_push : (past : List (List ℕ)) (line : List ℕ) → all_over (past ++ line ∷ []) ≡ all_over past ++ with_line past line
   over_push past line = ap over (happen_push [] past line) ∙ over_append [] (happenings expects setup t past) (line_happens expects setup t past line)
 
-  by_line : (past : List (List ℕ)) (line : List ℕ) → over_by expects setup past line t ≡ map (beside t) (with_line past line)
+  pub by_line : (past : List (List ℕ)) (line : List ℕ) → over_by expects setup past line t ≡ map (beside t) (with_line past line)
   by_line past line = ap (map (beside t)) (ap (drop (length (all_over past))) (over_push past line) ∙ drop_front (all_over past) (with_line past line))
 
   told_so_far : (past lines : List (List ℕ)) → map (beside t) (all_over past) ++ over_after expects setup t past lines ≡ map (beside t)

@@ -8,15 +8,13 @@ use Rattle.diag_setup.specs.declared.raw.RawSetup.{RawSetup}
 use Rattle.diag_ecu.specs.State.{State}
 use Rattle.diag_desk.specs.declared.entry.Entry.{Entry}
 use Rattle.diag_bus.specs.Verdict.{places}
-use Rattle.diag_exchange.specs.Agreeing.{agrees, is_compared}
+use Rattle.diag_exchange.specs.Agreeing.{is_compared}
 use Rattle.diag_exchange.specs.Exchanges.{left_open, over, over_at_end}
 use Rattle.diag_exchange.specs.declared.happening.Expected.{Expected}
 use Rattle.diag_exchange.specs.declared.happening.Over.{Over}
+use Rattle.diag_judge.specs.Judging.{differs}
 use Rattle.diag_compare.specs.Hearing.{happenings}
 use Rattle.diag_compare.specs.Told.{line_number, told_line}
-
-abbrev pub differs : Over → Bool
-differs o = not (agrees o)
 
 -- with `--differences` the exchanges that agree aren't told
 abbrev pub is_told : Bool → ℕ × Over → Bool
@@ -24,6 +22,10 @@ is_told differences told = not differences || differs told.1
 
 abbrev pub beside : ℕ → Over → ℕ × Over
 beside t o = (t, o)
+
+-- the last line, where nothing was compared
+abbrev pub last_line : Bool → List ℕ
+last_line nothing = if nothing then codes "nothing compared\n" else []
 
 module _ (expects : State → Entry → Expected) (setup : RawSetup) where
   -- all exchanges of a tester, and the messages that no request of it asked
@@ -75,15 +77,15 @@ module _ (expects : State → Entry → Expected) (setup : RawSetup) where
   count_line lines t = name_of setup t ++ codes " " ++ decimal (length (exchanges lines t)) ++ codes " exchanges, "
       ++ decimal (length (filter differs (exchanges lines t))) ++ codes " differ\n"
 
-  abbrev pub last_line : Bool → List ℕ
-  last_line nothing = if nothing then codes "nothing compared\n" else []
+  -- what the end of a capture adds
+  abbrev pub closing : Bool → List (List ℕ) → List ℕ
+  closing differences lines = lines_of differences lines (flat_map (open_for lines) (places setup))
+      ++ flat_map (count_line lines) (places setup)
+      ++ last_line (compares_nothing lines)
 
   -- all that is written for a capture without a fault
   abbrev pub compare_text : Bool → List (List ℕ) → List ℕ
-  compare_text differences lines = compared differences lines
-      ++ lines_of differences lines (flat_map (open_for lines) (places setup))
-      ++ flat_map (count_line lines) (places setup)
-      ++ last_line (compares_nothing lines)
+  compare_text differences lines = compared differences lines ++ closing differences lines
 
   -- the status that it ends with then
   abbrev pub status : List (List ℕ) → ℕ

@@ -1,5 +1,5 @@
 -- What is compared, and what the status of `compare` says.
-use Rattle.std.specs.Prelude.{◌≡◌, ℕ, Bool, true, List, [], ◌∷◌, ◌++◌, map, slice_get, slice_index, Option, None}
+use Rattle.std.specs.Prelude.{◌≡◌, ◌==◌, ℕ, Bool, true, List, [], ◌∷◌, ◌++◌, map, slice_get, slice_index, Option, None}
 use Rattle.std.specs.List.{All, filter, flat_map, list_any}
 use Rattle.std.specs.Option.{option_to_list}
 use Rattle.diag_pdu.specs.declared.step.Step.{Step}
@@ -22,6 +22,7 @@ use Rattle.diag_exchange.specs.declared.happening.Heard.{Heard}
 use Rattle.diag_exchange.specs.declared.happening.Over.{Over}
 use Rattle.diag_exchange.specs.declared.happening.Start.{Start}
 use Rattle.diag_compare.specs.Compare.{all_exchanges, beside, exchanges, open_for, over_by, status}
+use Rattle.diag_compare.specs.Expects.{expects}
 use Rattle.diag_compare.specs.Hearing.{happenings, in_states, is_of, unit_events, unit_side}
 
 -- a request, apart from where it stands
@@ -57,6 +58,41 @@ abbrev pub StatusLaw : Type 0
 StatusLaw = (expects : State → Entry → Expected) (setup : RawSetup) (lines : List (List ℕ))
     → status expects setup lines ≡ 0
     → AllAgree expects setup lines
+
+-- ---- beside the run
+
+-- a request with the server's reply
+abbrev pub Answer : Type 0
+Answer = Bool × List ℕ × Option (List ℕ)
+
+abbrev pub expected_answer : Course → Answer
+expected_answer c = (c.request.functional, c.request.bytes, c.request.expected.reply)
+
+abbrev pub step_answer : Step → Option (List ℕ) → List Answer
+step_answer (step.Request request) reply = (request.functional, request.message, reply) ∷ []
+step_answer (step.Ticks n) reply = []
+
+abbrev pub entry_answer : Entry → List Answer
+entry_answer e = step_answer e.step e.reply
+
+abbrev pub is_entry_of : ℕ → Entry → Bool
+is_entry_of t e = e.who == t
+
+-- A tester's exchanges are those of its requests in the one run of the lines, in their order and each with the reply that it
+-- has there. That reply is what the unit sent, but where the request is ignored, for response pending, for bytes that vary
+-- and for the order of records; and it sent nothing unasked.
+pub record AgreesWithRun (setup : RawSetup) (lines : List (List ℕ)) (t : ℕ) : Type 0 where
+  pub run : map expected_answer (courses (happenings (expects setup) setup t lines))
+      ≡ flat_map entry_answer (filter (is_entry_of t) (run_of setup (events_of setup lines)))
+  pub answered : All (λ c. Means (exchange c)) (courses (happenings (expects setup) setup t lines))
+  pub asked : All (λ o. is_exchange o ≡ true) (exchanges (expects setup) setup lines t)
+
+-- so a status of 0 says of every tester
+abbrev pub AgreedLaw : Type 0
+AgreedLaw = (setup : RawSetup) (lines : List (List ℕ)) (t : ℕ)
+    → status (expects setup) setup lines ≡ 0
+    → IsPlace setup t
+    → AgreesWithRun setup lines t
 
 -- ---- what was heard
 

@@ -1,77 +1,15 @@
 -- How an exchange is told.
-use Rattle.std.specs.Prelude.{ℕ, ◌/◌, ◌%◌, ◌==◌, codes, if◌then◌else◌, List, [], ◌∷◌, ◌++◌, Option, Some, None, take}
-use Rattle.std.specs.Fmt.{decimal}
-use Rattle.hex.specs.Hex.{encode_upper}
-use Rattle.diag_can.specs.Reply.{zero_filled}
+use Rattle.std.specs.Prelude.{ℕ, List, take}
 use Rattle.diag_setup.specs.Setup.{name_of}
 use Rattle.diag_setup.specs.declared.raw.RawSetup.{RawSetup}
 use Rattle.diag_bus.specs.Text.{bus_moment, start_after}
-use Rattle.diag_exchange.specs.Agreeing.{agrees, marks, waited}
+use Rattle.diag_exchange.specs.Agreeing.{agrees}
 use Rattle.diag_exchange.specs.declared.happening.Over.{Over}
-use Rattle.diag_exchange.specs.declared.happening.Over.TheVariants.{Exchange, Unasked}
 use Rattle.diag_exchange.specs.declared.happening.Place.{Place}
-
-abbrev pub dash : List ℕ
-dash = codes "-"
-
--- the line of a request, or of the first frame of a message that no request asked
-abbrev pub place_told : Over → Place
-place_told (Exchange request pendings answer) = request.at
-place_told (Unasked heard) = heard.start.at
+use Rattle.diag_told.specs.Told.{place_told, told_text}
 
 abbrev pub line_number : ℕ × Over → ℕ
 line_number told = (place_told told.1).line
-
--- seconds with ten digits and microseconds with six, of a moment in milliseconds
-abbrev pub stamp_text : ℕ → List ℕ
-stamp_text at = zero_filled 10 (decimal (at / 1000)) ++ codes "." ++ zero_filled 3 (decimal (at % 1000)) ++ codes "000"
-
-abbrev pub kind_text : Over → List ℕ
-kind_text (Exchange request pendings answer) = if request.functional then codes "F" else codes "P"
-kind_text (Unasked heard) = codes "U"
-
-abbrev pub request_text : Over → List ℕ
-request_text (Exchange request pendings answer) = encode_upper request.bytes
-request_text (Unasked heard) = dash
-
-abbrev pub sent_text : Over → List ℕ
-sent_text (Exchange request pendings None) = dash
-sent_text (Exchange request pendings (Some heard)) = encode_upper heard.bytes
-sent_text (Unasked heard) = encode_upper heard.bytes
-
--- a byte that a template leaves open has the mark 2
-abbrev pub byte_text : ℕ → ℕ → List ℕ
-byte_text mark b = if mark == 2 then codes "??" else encode_upper (b ∷ [])
-
-abbrev pub bytes_text : List ℕ → List ℕ → List ℕ
-bytes_text marks [] = []
-bytes_text [] (b ∷ bytes) = encode_upper (b ∷ bytes)
-bytes_text (m ∷ marks) (b ∷ bytes) = byte_text m b ++ bytes_text marks bytes
-
-abbrev pub reply_text : List ℕ → Option (List ℕ) → List ℕ
-reply_text marks None = dash
-reply_text marks (Some reply) = bytes_text marks reply
-
-abbrev pub expected_text : Over → List ℕ
-expected_text (Exchange request pendings answer) =
-    if request.expected.ignored then codes "~"
-    else if agrees (Exchange request pendings answer) then codes "="
-    else reply_text (marks request.expected.varies) request.expected.reply
-expected_text (Unasked heard) = dash
-
-abbrev pub time_text : Option ℕ → List ℕ
-time_text None = dash
-time_text (Some ms) = decimal ms
-
-abbrev pub pendings_told : Over → ℕ
-pendings_told (Exchange request pendings answer) = pendings
-pendings_told (Unasked heard) = 0
-
--- parted by one space each
-abbrev pub parted : List (List ℕ) → List ℕ
-parted [] = []
-parted (word ∷ []) = word
-parted (word ∷ next ∷ words) = word ++ codes " " ++ parted (next ∷ words)
 
 -- the bus's time of a line of these, as it is known there
 abbrev pub moment_told : RawSetup → List (List ℕ) → Place → ℕ
@@ -79,14 +17,4 @@ moment_told setup lines at = bus_moment (start_after setup 0 (take at.line lines
 
 -- the line of a tester's exchange
 abbrev pub told_line : RawSetup → List (List ℕ) → ℕ × Over → List ℕ
-told_line setup lines told = parted (
-    decimal (line_number told)
-    ∷ stamp_text (moment_told setup lines (place_told told.1))
-    ∷ name_of setup told.0
-    ∷ kind_text told.1
-    ∷ request_text told.1
-    ∷ sent_text told.1
-    ∷ expected_text told.1
-    ∷ time_text (waited told.1)
-    ∷ decimal (pendings_told told.1)
-    ∷ []) ++ codes "\n"
+told_line setup lines told = told_text (name_of setup told.0) (moment_told setup lines (place_told told.1)) (agrees told.1) told.1

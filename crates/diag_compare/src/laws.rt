@@ -1,6 +1,6 @@
 //! What holds of the definitions, as contracts.
 
-ghost use Rattle.diag_compare.specs.Meaning.{AsksLaw, HeadsLaw, HeardLaw, StatusLaw, TellsLaw};
+ghost use Rattle.diag_compare.specs.Meaning.{AgreedLaw, AsksLaw, HeadsLaw, HeardLaw, StatusLaw, TellsLaw};
 
 /// The requests of a tester that are compared are those of the journal of the run.
 pub fn asks_law()
@@ -25,4 +25,9 @@ pub fn tells_law()
 /// Where the status is 0, the unit sent to each request what the server replies, and nothing unasked.
 pub fn status_law()
     ensures { StatusLaw }
+{}
+
+/// Where the status is 0, each tester's exchanges are those of the run of the capture, and the unit sent what it replies there.
+pub fn agreed_law()
+    ensures { AgreedLaw }
 {}

@@ -14,3 +14,4 @@ pub mod UsualLemmas
 pub mod Unlocking
 pub mod Written
 pub mod TimedLemmas
+pub mod Delays

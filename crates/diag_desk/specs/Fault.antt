@@ -17,6 +17,12 @@ pub record Begins (text : List ℕ) (n : ℕ) : Type 0 where
   pub lines : length entries + 1 ≡ n
   pub is : text ≡ text_of version entries ++ rest
 
+-- the first lines of a text, the header and an entry or more, are a journal's
+pub record HasEntries (text : List ℕ) : Type 0 where
+  pub lines : ℕ
+  pub some : 2 ≤ lines
+  pub begins : Begins text lines
+
 -- line n, from 1, is the first at fault: the lines before it are a journal's, with it they are none's, and the text is
 -- none's
 pub record FaultAt (text : List ℕ) (n : ℕ) : Type 0 where

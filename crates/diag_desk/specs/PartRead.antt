@@ -18,6 +18,13 @@ abbrev pub HasNoNext : PartRead → List ℕ → Type 0
 HasNoNext r text =
     (e : Entry) → IsEntry e → length r.entries < most_entries → line_after r.version r.entries e ≢ text
 
+-- an entry that has room has the line that comes next
+pub record HasNext (r : PartRead) (text : List ℕ) : Type 0 where
+  pub entry : Entry
+  pub is_entry : IsEntry entry
+  pub room : length r.entries < most_entries
+  pub line : line_after r.version r.entries entry ≡ text
+
 -- one line more
 pub record Took (r n : PartRead) (text : List ℕ) : Type 0 where
   pub entry : Entry

@@ -12,7 +12,7 @@ ghost use Rattle.diag_desk.specs.Following.{Answered, Followed, FollowedIn, Foll
 ghost use Rattle.diag_desk.specs.Legal.{after_step, reply_to};
 ghost use Rattle.diag_desk.specs.Line.{HasHex, IsHex, IsHexReply, decoded, fronted, kind_code, line_entry, request_kind};
 ghost use Rattle.diag_desk.specs.declared.line.Kind.TheVariants as kind;
-ghost use Rattle.diag_desk.specs.PartRead.{HasNoNext};
+ghost use Rattle.diag_desk.specs.PartRead.{HasNext, HasNoNext};
 ghost use Rattle.diag_can.specs.Pieces.{TakesLines};
 ghost use Rattle.diag_can.specs.Bus.{HasNoFeed};
 
@@ -433,6 +433,10 @@ impl Follower {
             → (past : List Entry)
             → Follows setup.now self.old past
             → HasNoNext (read_so_far self.old.version past) line.now) }
+        ensures memory { IfErr result (λ fault. fault ≡ LineFault.Memory
+            → (past : List Entry)
+            → Follows setup.now self.old past
+            → HasNext (read_so_far self.old.version past) line.now) }
     {
         let Some(entry) = next_line(self.version, &self.clocks, line) else {
             return Err(LineFault::Wrong);

@@ -2,9 +2,9 @@
 ghost use Rattle.std.specs.Prelude.{◌≡◌, ◌≢◌, [], ℕ, IfOk, IfErr, IfSome, IfNone, OnOk, List, MatchResult};
 ghost use Rattle.diag_desk.specs.declared.entry.Entry.{Entry};
 ghost use Rattle.diag_desk.specs.declared.version.JournalVersion.{JournalVersion};
-ghost use Rattle.diag_desk.specs.Fault.{FaultAt, IsTextOf};
+ghost use Rattle.diag_desk.specs.Fault.{FaultAt, HasEntries, IsTextOf};
 ghost use Rattle.diag_desk.specs.Entry.{IsJournal};
-ghost use Rattle.diag_desk.specs.PartRead.{HasNoNext, Took};
+ghost use Rattle.diag_desk.specs.PartRead.{HasNext, HasNoNext, Took};
 ghost use Rattle.diag_desk.specs.Text.{header};
 
 use crate::clocks::Clocks;
@@ -64,6 +64,8 @@ impl Reader {
         ensures ok { OnOk result (Took self.old self.new line.now) }
         ensures wrong { IfErr result (λ fault.
             fault ≡ LineFault.Wrong → HasNoNext self.old line.now) }
+        ensures memory { IfErr result (λ fault.
+            fault ≡ LineFault.Memory → HasNext self.old line.now) }
         ensures journal { IsJournal self.new.entries }
     {
         let Some(entry) = next_line(self.version, &self.clocks, line) else {
@@ -100,12 +102,15 @@ pub(crate) fn version_of(line: &[u8]) -> Option<JournalVersion>
 /// Each journal has one text of a version: digits of hex in upper case, numbers in decimal without leading zeros, parts
 /// parted by one space, lines ended by LF. Any other line is a fault, named by its number (the header is line 1): also
 /// a last line without LF, a stamp that isn't the ticks of its tester so far, and an entry past the 1,000,000th. So
-/// what a journal was written as is read back as that journal, where memory is not refused.
+/// what a journal was written as is read back as that journal, where memory is not refused. Memory is asked for an entry
+/// alone, once its line is found well.
 pub fn read_journal(alloc: Global, text: &[u8]) -> Result<Journal, JournalFault>
     ensures ok { IfOk result (λ journal.
         IsJournal journal.entries × IsTextOf text.now journal.entries) }
     ensures line { IfErr result (λ fault.
         (n : ℕ) → fault ≡ JournalFault.Line n → FaultAt text.now n) }
+    ensures memory { IfErr result (λ fault.
+        fault ≡ JournalFault.Memory → HasEntries text.now) }
     ensures back { (entries : List Entry)
         → IsJournal entries
         → IsTextOf text.now entries
@@ -122,6 +127,8 @@ fn read_lines(alloc: Global, text: &[u8]) -> Result<Journal, JournalFault>
         IsJournal journal.entries × IsTextOf text.now journal.entries) }
     ensures line { IfErr result (λ fault.
         (n : ℕ) → fault ≡ JournalFault.Line n → FaultAt text.now n) }
+    ensures memory { IfErr result (λ fault.
+        fault ≡ JournalFault.Memory → HasEntries text.now) }
 {
     let Some((first, mut rest)) = cut(text, b'\n') else {
         return Err(JournalFault::Line(1));

@@ -15,6 +15,8 @@ use Rattle.diag_store.specs.declared.dtcs.Dtc.{Dtc}
 use Rattle.diag_store.specs.declared.routines.Routine.{Routine}
 use Rattle.diag_store.specs.declared.routines.RoutineState.{RoutineState}
 use Rattle.diag_store.specs.declared.routines.RoutineState.TheVariants.{Idle, Running, Done}
+use Rattle.diag_store.specs.declared.security.SeedAnswer.{SeedAnswer}
+use Rattle.diag_store.specs.declared.security.SeedAnswer.TheVariants as seeds
 use Rattle.diag_store.specs.declared.security.KeyAnswer.{KeyAnswer}
 use Rattle.diag_store.specs.declared.security.KeyAnswer.TheVariants.{Delayed, NoSeed, Right, Wrong, TooMany}
 use Rattle.diag_ecu.specs.declared.effect.Decision.{Decision}
@@ -441,6 +443,10 @@ decision s who p = decision_by s who p (place_for s who p) (rule_for s who p)
 abbrev pub delay : State → ℕ → List ℕ → ℕ
 delay s who p = (decision s who p).after_ms
 
+-- whether an answer may go later than at once: a row says so
+abbrev pub may_delay : State → Bool
+may_delay s = answers.any_late s.answers
+
 -- after a request of the holder S3 lasts for the whole time from its answer on, where it doesn't last longer already
 abbrev pub kept_alive : State → ℕ → ℕ → State
 kept_alive s who after =
@@ -456,9 +462,9 @@ abbrev pub reply : State → ℕ → Bool → List ℕ → Option (List ℕ)
 reply s who functional p = reply_by s who functional p (rule_for s who p)
 
 -- the negative response code of what security access is answered, told by the table of levels
-abbrev pub seed_refusal : Option (List ℕ) → Option Nrc
-seed_refusal None = Some RequiredTimeDelayNotExpired
-seed_refusal (Some seed) = None
+abbrev pub seed_refusal : SeedAnswer → Option Nrc
+seed_refusal seeds.Delayed = Some RequiredTimeDelayNotExpired
+seed_refusal (seeds.Seed seed) = None
 
 abbrev pub key_refusal : KeyAnswer → Option Nrc
 key_refusal Delayed = Some RequiredTimeDelayNotExpired

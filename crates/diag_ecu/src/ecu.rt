@@ -2,7 +2,7 @@
 ghost use Rattle.std.specs.Prelude.{◌≡◌, ◌≢◌, ◌≤◌, ◌+◌, ◌++◌, ◌↔◌, [], None, Some, false, length, IfOk, IfNone, OnOk, OnErr};
 ghost use Rattle.diag_setup.specs.Setup.{first_holding};
 ghost use Rattle.diag_ecu.specs.State.{opening, is_holder, is_held_by_another, is_open};
-ghost use Rattle.diag_ecu.specs.Respond.{common_checks, own_checks, checks, after_request, decision, delay, own_reply, reply, outcome, effect, positive_reply, kept_alive, sent_positive, sent_negative};
+ghost use Rattle.diag_ecu.specs.Respond.{common_checks, own_checks, checks, after_request, decision, delay, may_delay, own_reply, reply, outcome, effect, positive_reply, kept_alive, sent_positive, sent_negative};
 ghost use Rattle.diag_ecu.specs.Service.{row as row_of};
 
 use crate::bytes::sub_of;
@@ -155,6 +155,14 @@ impl Ecu {
         ensures { (result ≡ false) ↔ (self.now.answers ≡ []) }
     {
         !self.answers.is_empty()
+    }
+
+    /// Whether an answer may go later than at once: a row of answers says so.
+    #[inline(always)]
+    pub fn can_delay(&self) -> bool
+        ensures { result ≡ may_delay self.now }
+    {
+        self.answers.any_late()
     }
 
     /// Puts the reply to a request of these bytes in its place, or none where none is sent, and tells what is decided of

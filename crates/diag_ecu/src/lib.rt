@@ -11,6 +11,7 @@ mod rules;
 mod security_access;
 mod service;
 mod session;
+mod software;
 mod ticks;
 mod trouble_codes;
 mod write_data;

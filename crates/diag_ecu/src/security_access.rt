@@ -1,5 +1,5 @@
 //! Security access: seeds and keys (ISO 14229-1:2013, 9.4).
-ghost use Rattle.std.specs.Prelude.{◌≡◌, ◌≤◌, length, false, option_copied, IsTrue, IfOk, Some};
+ghost use Rattle.std.specs.Prelude.{◌≡◌, ◌≤◌, length, false, IsTrue, IfOk, Some};
 ghost use Rattle.diag_setup.specs.Setup.{first_holding};
 ghost use Rattle.diag_store.specs.Security.{is_delayed};
 ghost use Rattle.diag_ecu.specs.Respond.{security_checks, security_effect, positive_reply, is_sub_function, sub, seed_refusal, key_refusal};
@@ -9,7 +9,7 @@ use crate::ecu::{Ecu, say};
 use crate::service::{Nrc, Service, SubFunctions};
 use diag_pdu::Message;
 use diag_setup::TesterId;
-use diag_store::KeyAnswer;
+use diag_store::{KeyAnswer, SeedAnswer};
 use std::alloc::AllocError;
 
 impl Ecu {
@@ -43,7 +43,7 @@ impl Ecu {
     {
         let sub = sub_of(p);
         if self.has_level(sub)
-            && let Some(seed) = self.security.seed_answer(who, sub)
+            && let SeedAnswer::Seed(seed) = self.security.seed_answer(who, sub)
         {
             return self.say_with(&[0x67, sub], seed);
         }
@@ -58,19 +58,19 @@ impl Ecu {
     {
         let sub = sub_of(p);
         if self.has_level(sub) {
-            self.security.seed(who, sub);
+            self.security.give_seed(who, sub);
         } else {
             self.security.key(who, sub.saturating_sub(1), &p[2..]);
         }
     }
 }
 
-fn seed_refusal(seed: Option<&[u8]>) -> Option<Nrc>
-    ensures { result ≡ seed_refusal (option_copied seed.entry) }
+fn seed_refusal(answer: SeedAnswer<'_>) -> Option<Nrc>
+    ensures { result ≡ seed_refusal answer.entry }
 {
-    match seed {
-        Some(_) => None,
-        None => Some(Nrc::RequiredTimeDelayNotExpired),
+    match answer {
+        SeedAnswer::Delayed => Some(Nrc::RequiredTimeDelayNotExpired),
+        SeedAnswer::Seed(_) => None,
     }
 }
 

@@ -1,5 +1,5 @@
 -- Views, as plain data: the host's, a seat's, and how one becomes another.
-use Rattle.std.specs.Prelude.{◌≡◌, ℕ, zero, suc, ◌+◌, ◌==◌, nat_le, not, Bool, true, false, if◌then◌else◌, List, [], ◌∷◌, ◌++◌, length, slice_index_or, slice_set, Option, Some, None}
+use Rattle.std.specs.Prelude.{◌≡◌, ℕ, zero, suc, ◌+◌, ◌==◌, nat_le, Bool, true, false, if◌then◌else◌, List, [], ◌∷◌, ◌++◌, length, slice_index_or, slice_set, Option, Some, None}
 use Rattle.diag_ecu.specs.State.{State, blank}
 use Rattle.diag_pdu.specs.declared.step.Step.{Step}
 use Rattle.diag_pdu.specs.declared.step.Step.TheVariants.{Request, Ticks}
@@ -20,10 +20,6 @@ pub record IsLawful (who : ℕ) (step : Step) (reply : Option (List ℕ)) (delay
   pub opened : IsOpening desk.opening
   pub legal : Legal desk.opening (desk.journal ++ entry who step reply ∷ [])
   pub told : delay ≡ delay_to (after desk.opening desk.journal) who step
-
--- whether there are rows of answers, by which an answer may go later than at once
-abbrev pub has_answers : State → Bool
-has_answers s = not (length s.answers == 0)
 
 -- ticks have no delay
 abbrev pub HasNoDelay : Step → ℕ → Type 0

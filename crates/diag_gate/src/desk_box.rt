@@ -4,7 +4,8 @@ ghost use Rattle.diag_desk.specs.Entry.{HasNoReply, most_entries};
 ghost use Rattle.diag_desk.specs.Entries.{entry};
 ghost use Rattle.diag_desk.specs.Legal.{after, entered};
 ghost use Rattle.diag_desk.specs.Timed.{delay_to};
-ghost use Rattle.diag_gate.specs.Views.{IsLegal, has_answers};
+ghost use Rattle.diag_ecu.specs.Respond.{may_delay};
+ghost use Rattle.diag_gate.specs.Views.{IsLegal};
 
 use diag_desk::{Desk, StepFault};
 use diag_pdu::{Message, Step};
@@ -53,9 +54,9 @@ impl DeskBox {
 
     /// Whether an answer may go later than at once.
     pub(crate) fn can_delay(&self) -> bool
-        ensures { result ≡ has_answers self.now.opening }
+        ensures { result ≡ may_delay self.now.opening }
     {
-        self.desk.ecu().has_answers()
+        self.desk.ecu().can_delay()
     }
 
     /// The desk's step. It tells how long after its request the answer goes, where it was made.

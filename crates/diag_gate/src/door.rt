@@ -2,7 +2,8 @@
 ghost use Rattle.std.specs.Prelude.{◌≡◌, ℕ, ◌++◌, ◌∷◌, [], false, Some, IfOk, OnOk, MatchResult};
 ghost use Rattle.diag_desk.specs.Entry.{HasNoReply};
 ghost use Rattle.diag_gate.specs.Seats.{Answered, Refused, waited};
-ghost use Rattle.diag_gate.specs.Views.{HasNoDelay, has_answers, timed_answer};
+ghost use Rattle.diag_ecu.specs.Respond.{may_delay};
+ghost use Rattle.diag_gate.specs.Views.{HasNoDelay, timed_answer};
 
 use crate::gate::{Gate, Seat};
 use diag_desk::StepFault;
@@ -108,7 +109,7 @@ impl<R: Wait> Door for GateDoor<'_, R> {
 
     ghost delay = { λ d. d.delay };
 
-    ghost can_delay = { λ d. has_answers d.opening };
+    ghost can_delay = { λ d. may_delay d.opening };
 
     ghost home = { λ d. Some d.gate };
 
@@ -136,8 +137,8 @@ impl<R: Wait> Door for GateDoor<'_, R> {
             (λ _. (self.new.own ≡ self.old.own) × (self.new.delay ≡ self.old.delay)) }
         ensures ticks_unanswered { IfOk result (λ reply. HasNoReply step.now reply) }
         ensures ticks_at_once { OnOk result (HasNoDelay step.now self.new.delay) }
-        ensures at_once { has_answers self.old.opening ≡ false → OnOk result (self.new.delay ≡ 0) }
-        ensures can_delay { has_answers self.new.opening ≡ has_answers self.old.opening }
+        ensures at_once { may_delay self.old.opening ≡ false → OnOk result (self.new.delay ≡ 0) }
+        ensures can_delay { may_delay self.new.opening ≡ may_delay self.old.opening }
         ensures tester { self.new.who ≡ self.old.who }
         ensures home { Some self.new.gate ≡ Some self.old.gate }
     {

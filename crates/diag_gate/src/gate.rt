@@ -1,7 +1,7 @@
 //! The gate, its host and its seats.
 ghost use Rattle.std.specs.Prelude.{◌≡◌, ◌↔◌, true, IfOk, IfSome, IfNone, IsTrue};
 ghost use Rattle.diag_gate.specs.Seats.{Gave, Joined, Closed, AllHome, new_host, was_given};
-ghost use Rattle.diag_gate.specs.Views.{has_answers};
+ghost use Rattle.diag_ecu.specs.Respond.{may_delay};
 
 use crate::desk_box::DeskBox;
 use crate::view::{Give, Learn, Name, OneHistory, TakeIn, View};
@@ -53,7 +53,7 @@ pub struct Host {
 impl Model for Host {
     ghost use Rattle.std.specs.Prelude.{◌≡◌};
     ghost use Rattle.diag_gate.specs.Seats.{HostView, IsHost};
-    ghost use Rattle.diag_gate.specs.Views.{has_answers};
+    ghost use Rattle.diag_ecu.specs.Respond.{may_delay};
 
     ghost Value = { HostView };
 
@@ -66,7 +66,7 @@ impl Model for Host {
     } };
 
     ghost invariant = { λ h. IsHost h.place.me h.given h.home
-        × (h.can_delay ≡ has_answers h.place.me.0.opening) };
+        × (h.can_delay ≡ may_delay h.place.me.0.opening) };
 }
 
 /// A tester's right to step.
@@ -80,14 +80,14 @@ pub struct Seat {
 impl Model for Seat {
     ghost use Rattle.std.specs.Prelude.{◌≡◌};
     ghost use Rattle.diag_gate.specs.Seats.{SeatView, IsSeat, seat_of};
-    ghost use Rattle.diag_gate.specs.Views.{has_answers};
+    ghost use Rattle.diag_ecu.specs.Respond.{may_delay};
 
     ghost Value = { SeatView };
 
     ghost view = { λ s. seat_of s.who s.place };
 
     ghost invariant = { λ s. IsSeat s.who s.place.spot.me
-        × (s.can_delay ≡ has_answers s.place.spot.me.0.opening) };
+        × (s.can_delay ≡ may_delay s.place.spot.me.0.opening) };
 }
 
 /// A seat that has the whole desk. It has no `Drop`: it ends by `step` or by `put_back`.
@@ -102,7 +102,7 @@ pub struct Guard<'a> {
 impl<'a> Model for Guard<'a> {
     ghost use Rattle.std.specs.Prelude.{◌≡◌};
     ghost use Rattle.diag_gate.specs.Seats.{SeatView, IsGuard, seat_of};
-    ghost use Rattle.diag_gate.specs.Views.{has_answers};
+    ghost use Rattle.diag_ecu.specs.Respond.{may_delay};
 
     ghost Value = { SeatView };
 
@@ -110,7 +110,7 @@ impl<'a> Model for Guard<'a> {
 
     ghost invariant = { λ h. (h.place.spot.table_id ≡ h.gate.now)
         × IsGuard h.who h.place.spot.me h.desk
-        × (h.can_delay ≡ has_answers h.place.spot.me.0.opening) };
+        × (h.can_delay ≡ may_delay h.place.spot.me.0.opening) };
 }
 
 mod steps;
@@ -231,7 +231,7 @@ impl Seat {
 
     /// Whether an answer may go later than at once.
     pub fn can_delay(&self) -> bool
-        ensures { result ≡ has_answers self.now.opening }
+        ensures { result ≡ may_delay self.now.opening }
     {
         self.can_delay
     }

@@ -14,7 +14,7 @@ use Rattle.diag_bus.specs.declared.fault.BusFault.{BusFault}
 use Rattle.diag_bus.specs.declared.fault.BusFault.TheVariants as bus
 use Rattle.diag_run.specs.Capture.{IsCutShort, IsFaultyLine, IsFrontOf, StopsOn}
 use Rattle.diag_run.specs.Capturing.{HaltsIn, Stands, fault_of}
-use Rattle.diag_run.specs.Wanted.{any_lines, replies_wanted, reply_lines}
+use Rattle.diag_run.specs.Wanted.{End, any_lines, end_with, replies_wanted, reply_lines}
 use Rattle.diag_run.specs.declared.capture.CaptureFault.{CaptureFault}
 use Rattle.diag_run.specs.declared.capture.CaptureFault.TheVariants as capture
 use Rattle.diag_text.specs.declared.fault.RunFault.{RunFault}
@@ -30,8 +30,8 @@ use Rattle.diag_port.specs.Port.{Grew}
 use Rattle.diag_live.proofs.Records.{capture_of-append, capture_says, good_join, lines_more, lines_of-append, plain_capture, record_text-append}
 use Rattle.diag_live.proofs.Numbers.{AreTicks, all_heard, fault_behind, heard_before, nothing_heard, passed_ticks}
 
-no_end_told : (more told : List ℕ) → Ok more ≡ Err told → ⊥
-no_end_told more told same = cc
+no_end_told : (end : End) (told : List ℕ) → Ok end ≡ Err told → ⊥
+no_end_told end told same = cc
 
 abbrev type_of : {T : Type 0} → T → Type 0
 type_of {T} x = T
@@ -285,7 +285,7 @@ module _ (old : Serving) (piece text : List ℕ) (ticks : ℕ) (brings : (seen :
         on seen wrote noted s rest b capture.Write stops =
             cut_within old seen wrote noted s text ticks b.lines b.fresh sent (bus_lines ((seen ++ piece) ++ rest)) (b.front rest) stops
         on seen wrote noted s rest b capture.Read stops = absurd stops
-        on seen wrote noted s rest b (capture.Otherwise told) stops = absurd (no_end_told [] told.items stops.told)
+        on seen wrote noted s rest b (capture.Otherwise told) stops = absurd (no_end_told (end_with [] 0) told.items stops.told)
         on seen wrote noted s rest b (capture.Line m x) stops =
             let f = b.fresh in
             let lines = b.lines in

@@ -3,7 +3,7 @@
 ghost use Rattle.std.specs.Prelude.{◌≡◌, ◌⊎◌, IfOk, IfErr, OnOk};
 ghost use Rattle.diag_live.specs.Serving.{CannotHear, HaltsWith, Turned};
 ghost use Rattle.diag_live.specs.Stops.{Lived, LivedWith, Stopped, StoppedWith};
-ghost use Rattle.diag_run.specs.Run.{TellsOf};
+ghost use Rattle.diag_run.specs.Run.{DoneOf, TellsOf};
 
 use crate::bench::{Bench, Heard};
 use crate::serving::Serving;
@@ -109,8 +109,8 @@ fn run_live<C: Read, B: Bench, W: Write, R: Write>(
     }
 }
 
-/// Reads a setup, serves a bus, and says how it ended: with the end of the input, or with the line and the status of the
-/// run's fault.
+/// Reads a setup, serves a bus, and says how it ended: with the end of the input and status 0, or with the line and the
+/// status of the run's fault.
 pub fn run_live_and_tell<C: Read + Drop, B: Bench + Drop, W: Write, R: Write>(
     alloc: Global,
     mut config: C,
@@ -118,16 +118,17 @@ pub fn run_live_and_tell<C: Read + Drop, B: Bench + Drop, W: Write, R: Write>(
     out: &mut W,
     recorder: &mut R,
 ) -> Outcome
-    ensures done { result ≡ Outcome.Done → (config' : C) × (bench' : B)
+    ensures status { DoneOf (λ status. status ≡ 0) result }
+    ensures done { DoneOf (λ _. (config' : C) × (bench' : B)
         × LivedWith (C.remaining config) (C.remaining config') (B.remaining bench) (B.remaining bench')
-        (W.contents out.old) (W.contents out.new) (R.contents recorder.old) (R.contents recorder.new) }
+        (W.contents out.old) (W.contents out.new) (R.contents recorder.old) (R.contents recorder.new)) result }
     ensures fault { TellsOf (λ fault. (config' : C) × (bench' : B)
         × StoppedWith B.remaining (C.remaining config) (C.remaining config') bench bench'
         (W.contents out.old) (W.contents out.new)
         (R.contents recorder.old) (R.contents recorder.new) fault) result }
 {
     match run_live(alloc, &mut config, &mut bench, out, recorder) {
-        Ok(()) => Outcome::Done,
+        Ok(()) => Outcome::Done { status: 0 },
         Err(fault) => Outcome::of(alloc, &fault),
     }
 }

@@ -7,4 +7,3 @@ pub mod Standing
 pub mod AtOnce
 pub mod Examples
 pub mod Quiet
-pub mod Delays

@@ -1,8 +1,12 @@
 -- What is held of the messages that go later.
-use Rattle.std.specs.Prelude.{ℕ, ◌-◌, List, ◌∷◌, [], sum_by}
+use Rattle.std.specs.Prelude.{◌^◌, ℕ, ◌-◌, List, ◌∷◌, [], sum_by}
 use Rattle.diag_pdu.specs.Cut.{frames_of}
 use Rattle.diag_tp.specs.Link.{last_tick}
 use Rattle.diag_port.specs.declared.held.Later.{Later}
+
+-- the most messages that are held
+abbrev pub most_held : ℕ
+most_held = 2 ^ 40
 
 -- what is held, and for how many messages more there is room
 pub record HeldState : Type 0 where

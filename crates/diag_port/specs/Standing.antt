@@ -1,5 +1,5 @@
 -- What a port stands for of a tester's run: its events, and what was answered to the steps that they give.
-use Rattle.std.specs.Prelude.{◌≡◌, ◌≤◌, ◌+◌, ℕ, Bool, true, false, List, [], ◌∷◌, ◌++◌, IsSome, IfSome, IsTrue, Option, Some, None}
+use Rattle.std.specs.Prelude.{◌≡◌, ◌≤◌, ◌+◌, ℕ, List, [], ◌∷◌, ◌++◌, IsSome, IfSome, IsTrue, Option, Some, None}
 use Rattle.std.specs.Option.{option_map, option_to_list}
 use Rattle.diag_can.specs.declared.frame.Event.{Event}
 use Rattle.diag_pdu.specs.declared.setup.LinkSetup.{LinkSetup}
@@ -13,8 +13,6 @@ use Rattle.diag_tp.specs.Moments.{is_tick, last_time}
 use Rattle.diag_tp.specs.State.{LinkState}
 use Rattle.diag_tp.specs.Taken.{IsTaken, FitsIn, asked_in}
 use Rattle.diag_tp.specs.Link.{EachHistory, asked_of, has_reply_room, unsent}
-use Rattle.diag_store.specs.declared.answers.AnswerRow.{AnswerRow}
-use Rattle.diag_ecu.specs.State.{State}
 use Rattle.diag_desk.specs.declared.entry.Entry.{Entry}
 use Rattle.diag_desk.specs.Entries.{asked, asks, entry}
 use Rattle.diag_desk.specs.Timed.{Timed, entries_of}
@@ -48,14 +46,6 @@ pub record PortStands (s : LinkSetup) (pace : Pace) (port : PortState) (E : List
   pub paced : port.pace ≡ pace
   pub stands : PortFor s port E (lates s pace E T) (drawn s pace E T)
   pub asks : asked (entries_of T) ≡ steps s E
-
--- whether a reply may go later than at once: where there are rows of answers, whichever
-abbrev pub some_rows : List AnswerRow → Bool
-some_rows [] = false
-some_rows (row ∷ rows) = true
-
-abbrev pub may_delay : State → Bool
-may_delay s = some_rows s.answers
 
 -- whatever a link stands for, the event gives a step
 abbrev pub GivesStep : LinkState → Event → Type 0

@@ -11,6 +11,7 @@ ghost use Rattle.std.specs.Prelude.{
   ◌++◌,
   length,
   sum_by,
+  OnErr,
   OnOk,
   IfSome,
   IfNone,
@@ -56,20 +57,19 @@ pub struct Held {
 impl Model for Held {
     ghost use Rattle.std.specs.Prelude.{◌≡◌, ◌≤◌, ◌-◌, length, sum_by, min, All};
     ghost use Rattle.std.specs.VecDeque.{deque_len, deque_capacity};
-    ghost use Rattle.diag_port.specs.Held.{HeldState, frames_of_later};
-    ghost use Rattle.diag_port.specs.declared.held.TheConstants.{MOST_HELD};
+    ghost use Rattle.diag_port.specs.Held.{HeldState, frames_of_later, most_held};
 
     ghost Value = { HeldState };
 
     ghost view = { λ a. record {
       messages = a.messages.items;
-      room = min (deque_capacity a.messages) MOST_HELD - deque_len a.messages;
+      room = min (deque_capacity a.messages) most_held - deque_len a.messages;
     } };
 
     ghost invariant = { λ a.
         (a.frames ≡ sum_by frames_of_later a.messages.items)
         × All (λ l. frames_of_later l ≤ 10000) a.messages.items
-        × (length a.messages.items ≤ MOST_HELD) };
+        × (length a.messages.items ≤ most_held) };
 }
 
 impl Held {
@@ -86,6 +86,7 @@ impl Held {
     /// Makes room for so many more messages. Refused where memory is, and where so many more can't be held.
     pub fn make_room(&mut self, count: usize) -> Result<(), AllocError>
         ensures ok { OnOk result (count ≤ self.new.room) }
+        ensures err { OnErr result (self.old.room < count) }
         ensures kept { self.old.room ≤ self.new.room }
         ensures same { self.new.messages ≡ self.old.messages }
     {

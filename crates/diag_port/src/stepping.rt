@@ -80,7 +80,7 @@ impl TakeSteps for Desk {
     ghost use Rattle.diag_desk.specs.Entry.{most_entries};
     ghost use Rattle.diag_desk.specs.Legal.{after, entered};
     ghost use Rattle.diag_desk.specs.Timed.{timed_entry};
-    ghost use Rattle.diag_port.specs.Standing.{may_delay};
+    ghost use Rattle.diag_ecu.specs.Respond.{may_delay};
 
     ghost allows = { λ _ _ _. ⊤ };
 
@@ -96,7 +96,7 @@ impl TakeSteps for Desk {
     ghost stays = { λ _ _. ⊤ };
 
     fn can_delay(&self) -> bool {
-        self.ecu().has_answers()
+        self.ecu().can_delay()
     }
 
     fn take_request(

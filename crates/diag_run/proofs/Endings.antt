@@ -4,19 +4,19 @@ use Rattle.diag_setup.specs.declared.raw.RawSetup.{RawSetup}
 use Rattle.diag_ecu.specs.State.{State}
 use Rattle.diag_desk.specs.declared.entry.Entry.{Entry}
 use Rattle.diag_bus.specs.Text.{ecu_after}
-use Rattle.diag_run.specs.Wanted.{EndsAs, IsEndFault}
+use Rattle.diag_run.specs.Wanted.{End, EndsAs, IsEndFault}
 use Rattle.diag_run.specs.declared.capture.CaptureFault.{CaptureFault}
 use Rattle.diag_run.specs.declared.capture.CaptureFault.TheVariants.{Line, Memory, Otherwise, Read, Write}
 
 -- the sink and the setup are those of the bus
-pub ends_seen : {S : Type 0} (took : S → RawSetup → List (List ℕ) → List Entry → Type 0) (ends : S → RawSetup → List (List ℕ) → Result (List ℕ) (List ℕ))
-    (sink sink' : S) (setup setup' : RawSetup) (ecu : State) (r : Result (List ℕ) (List ℕ)) → sink' ≡ sink → setup' ≡ setup
+pub ends_seen : {S : Type 0} (took : S → RawSetup → List (List ℕ) → List Entry → Type 0) (ends : S → RawSetup → List (List ℕ) → Result End (List ℕ))
+    (sink sink' : S) (setup setup' : RawSetup) (ecu : State) (r : Result End (List ℕ)) → sink' ≡ sink → setup' ≡ setup
     → EndsAs took ends sink' setup' ecu r → (lines : List (List ℕ)) → took sink setup lines [] → ecu ≡ ecu_after setup lines → ends sink setup lines ≡ r
 ends_seen {S} took ends sink sink' setup setup' ecu r same_sink same_setup h =
     subst (λ (x : S). EndsAs took ends x setup ecu r) same_sink (subst (λ (u : RawSetup). EndsAs took ends sink' u ecu r) same_setup h)
 
 -- what is told is told of whatever it is told of
-pub end_fault : (P Q : Result (List ℕ) (List ℕ) → Type 0) → ((r : Result (List ℕ) (List ℕ)) → P r → Q r) → (fault : CaptureFault) → IsEndFault P fault
+pub end_fault : (P Q : Result End (List ℕ) → Type 0) → ((r : Result End (List ℕ)) → P r → Q r) → (fault : CaptureFault) → IsEndFault P fault
     → IsEndFault Q fault
 end_fault P Q more Memory h = tt
 end_fault P Q more (Otherwise told) h = more _ h

@@ -13,14 +13,14 @@ use Rattle.diag_text.specs.Bytes.{Sends, Takes}
 use Rattle.diag_run.specs.Capture.{Followed, StopsReading}
 use Rattle.diag_run.specs.Capturing.{Closes, FollowedFrom, GoesOn, HaltsAtEnd, HaltsIn, Stands, StopsFrom, StopsWithin, fault_of}
 use Rattle.diag_run.specs.Files.{SaysSetup}
-use Rattle.diag_run.specs.Wanted.{Wanted, wanted}
+use Rattle.diag_run.specs.Wanted.{End, Wanted, wanted}
 use Rattle.diag_run.specs.declared.capture.Capture.{Capture}
 use Rattle.diag_run.specs.declared.capture.CaptureFault.{CaptureFault}
 use Rattle.diag_run.specs.declared.capture.CaptureFault.TheVariants.{Memory, Read}
 use Rattle.diag_run.proofs.Pieces.{GoesOn-trans, halts_within, later_within, read_fails, refused_at, stops_at, stops_at_end}
 
 module _ {S A : Type 0} (g : Ghosts S) (took : S → RawSetup → List (List ℕ) → List Entry → Type 0) (aim : S → A) (written : A → RawSetup → List (List ℕ) → List ℕ)
-    (ends : S → RawSetup → List (List ℕ) → Result (List ℕ) (List ℕ)) where
+    (ends : S → RawSetup → List (List ℕ) → Result End (List ℕ)) where
   abbrev want_of : S → Wanted
   want_of = wanted written ends aim
 
@@ -117,13 +117,14 @@ module _ {S A : Type 0} (g : Ghosts S) (took : S → RawSetup → List (List ℕ
             stops = stops_at_end g took aim written ends (want_of mid.bus.sink) mid.bus.setup bytes (on.0 ++ halts.0) fault r' end (halts.2 bytes on.0 (goes.stands [] [] stands));
           })))
 
-      pub followed_from : (new : Capture S g) → Sends w' w'' (Closes took want_of mid new) → FollowedFrom (want_of bus.sink) bus.setup r r' w w''
-      followed_from new closes =
+      pub followed_from : (new : Capture S g) (status : ℕ) → Sends w' w'' (Closes took want_of mid new status)
+          → FollowedFrom (want_of bus.sink) bus.setup r r' w w'' status
+      followed_from new status closes =
           let goes = on.2 in
           let here = closes.2 bytes on.0 (goes.stands [] [] stands) in
-          subst (λ (b : BusState S). FollowedFrom (want_of b.sink) b.setup r r' w w'') same
-          (subst (λ (o : Wanted). FollowedFrom o begun.bus.setup r r' w w'') goes.want
-          (subst (λ (u : RawSetup). FollowedFrom (want_of mid.bus.sink) u r r' w w'') goes.setup
+          subst (λ (b : BusState S). FollowedFrom (want_of b.sink) b.setup r r' w w'' status) same
+          (subst (λ (o : Wanted). FollowedFrom o begun.bus.setup r r' w w'' status) goes.want
+          (subst (λ (u : RawSetup). FollowedFrom (want_of mid.bus.sink) u r r' w w'' status) goes.setup
           (record {
             bytes = bytes;
             read = read;
@@ -137,10 +138,10 @@ module _ {S A : Type 0} (g : Ghosts S) (took : S → RawSetup → List (List ℕ
 
   module _ (want want' : Wanted) (setup setup' : RawSetup) (same_want : want' ≡ want) (same_setup : setup' ≡ setup)
       (config config' r r' w w' : Option (List ℕ)) (says : SaysSetup config config' setup) where
-    pub followed : FollowedFrom want' setup' r r' w w' → Followed want config config' r r' w w'
-    followed from =
-        let here : FollowedFrom want setup r r' w w' =
-        subst (λ (o : Wanted). FollowedFrom o setup r r' w w') same_want (subst (λ (u : RawSetup). FollowedFrom want' u r r' w w') same_setup from) in
+    pub followed : (status : ℕ) → FollowedFrom want' setup' r r' w w' status → Followed want config config' r r' w w' status
+    followed status from =
+        let here : FollowedFrom want setup r r' w w' status =
+        subst (λ (o : Wanted). FollowedFrom o setup r r' w w' status) same_want (subst (λ (u : RawSetup). FollowedFrom want' u r r' w w' status) same_setup from) in
         let M = events_of setup (bus_lines here.bytes) in
         record {
           setup = setup;

@@ -1,5 +1,5 @@
 -- A capture that comes piece by piece: what is kept of it stands for what was read and written.
-use Rattle.std.proofs.Common.{◌≡◌, ◌≢◌, ◌⊎◌, ℕ, ◌+◌, ◌-◌, ◌<◌, ◌≤◌, nat_lt, true, List, [], ◌∷◌, ◌++◌, length, take, None, Some, Option, Result, Ok, Err, OnOk, IfSome, IsOk, inl, inr, refl, sym, ap, subst, ◌∙◌, append_assoc, arith}
+use Rattle.std.proofs.Common.{◌≡◌, ◌≢◌, ◌⊎◌, ℕ, ◌+◌, ◌-◌, ◌<◌, ◌≤◌, nat_lt, true, List, [], ◌∷◌, ◌++◌, length, take, None, Some, Option, Result, Ok, Err, OnOk, IfSome, inl, inr, refl, sym, ap, subst, ◌∙◌, append_assoc, arith}
 use Rattle.std.proofs.KnownBytes.{Appends-trans}
 use Rattle.std.proofs.lemmas.List.{append-nil, length-append}
 use Rattle.diag_text.specs.Bytes.{Sends}
@@ -18,7 +18,7 @@ use Rattle.diag_bus.proofs.Faults.{first_fault_at}
 use Rattle.std.specs.Io.KnownBytes.{Appends, IsAtEnd}
 use Rattle.diag_run.specs.Capture.{IsCutShort, IsFaultyLine, IsFrontOf, StopsAt, StopsIn, StopsOn, capture_text, closing}
 use Rattle.diag_desk.specs.declared.entry.Entry.{Entry}
-use Rattle.diag_run.specs.Wanted.{IsEndFault, Wanted, wanted}
+use Rattle.diag_run.specs.Wanted.{End, EndsWith, IsEndFault, Wanted, end_with, wanted}
 use Rattle.diag_run.specs.Faults.{fault_at}
 use Rattle.diag_run.specs.Capturing.{Closes, ClosesEnded, GoesOn, Halts, HaltsEnded, HaltsAtEnd, HaltsIn, Stands, StopsAfter, StopsWithin, fault_of}
 use Rattle.diag_run.specs.declared.capture.Capture.{Capture}
@@ -40,7 +40,7 @@ both_on_ok P Q (Ok x) p q = (p, q)
 both_on_ok P Q (Err e) p q = tt
 
 module _ {S A : Type 0} (g : Ghosts S) (took : S → RawSetup → List (List ℕ) → List Entry → Type 0) (aim : S → A) (written : A → RawSetup → List (List ℕ) → List ℕ)
-    (ends : S → RawSetup → List (List ℕ) → Result (List ℕ) (List ℕ)) where
+    (ends : S → RawSetup → List (List ℕ) → Result End (List ℕ)) where
   abbrev pub want_of : S → Wanted
   want_of = wanted written ends aim
 
@@ -70,7 +70,7 @@ module _ {S A : Type 0} (g : Ghosts S) (took : S → RawSetup → List (List ℕ
   pub want_same : ((a b : S) → aim a ≡ aim b → ends a ≡ ends b) → (x y : S) → aim x ≡ aim y → want_of x ≡ want_of y
   want_same as_asked x y asked =
       ap (λ (w : RawSetup → List (List ℕ) → List ℕ). (let r : Wanted = record { written = w; ends = ends x } in r)) (ap written asked)
-      ∙ ap (λ (e : RawSetup → List (List ℕ) → Result (List ℕ) (List ℕ)). (let r : Wanted = record { written = written (aim y); ends = e } in r)) (as_asked x y asked)
+      ∙ ap (λ (e : RawSetup → List (List ℕ) → Result End (List ℕ)). (let r : Wanted = record { written = written (aim y); ends = e } in r)) (as_asked x y asked)
 
   module _ (as_asked : (a b : S) → aim a ≡ aim b → ends a ≡ ends b) (old new : Capture S g) (setup : new.bus.setup ≡ old.bus.setup)
       (asked : aim new.bus.sink ≡ aim old.bus.sink) where
@@ -314,12 +314,12 @@ module _ {S A : Type 0} (g : Ghosts S) (took : S → RawSetup → List (List ℕ
     all_ended : (seen wrote : List ℕ) → Stands took want_of capture seen wrote → ended_lines seen ≡ bus_lines seen
     all_ended seen wrote s = sym (bus_lines-ended seen (sym s.kept ∙ none))
 
-    pub closes_ended : (new : Capture S g) (sent : List ℕ) → ClosesEnded took want_of capture new sent → Closes took want_of capture new sent
-    closes_ended new sent closes = λ seen wrote s.
+    pub closes_ended : (new : Capture S g) (status : ℕ) (sent : List ℕ) → ClosesEnded took want_of capture new status sent → Closes took want_of capture new status sent
+    closes_ended new status sent closes = λ seen wrote s.
         let same = all_ended seen wrote s in
         let here = closes seen wrote s in (
           subst (λ (l : List (List ℕ)). first_fault capture.bus.setup l ≡ None) same s.took_lines.well,
-          subst (λ (l : List (List ℕ)). IsOk ((want_of capture.bus.sink).ends capture.bus.setup l)) same here.0,
+          subst (λ (l : List (List ℕ)). EndsWith ((want_of capture.bus.sink).ends capture.bus.setup l) status) same here.0,
           here.1 ∙ ap (capture_text (want_of capture.bus.sink) capture.bus.setup) same,
           subst (λ (l : List (List ℕ)). took new.bus.sink capture.bus.setup l []) same here.2,
         )
@@ -340,16 +340,16 @@ module _ {S A : Type 0} (g : Ghosts S) (took : S → RawSetup → List (List ℕ
         (ap bus_lines (append-nil (seen ++ 10 ∷ [])) ∙ last_line seen wrote s) ((h seen wrote s).stops [])
 
     module _ (mid : Capture S g) (s : List ℕ) (on : GoesOn took want_of old mid (10 ∷ []) s) where
-      pub closes_begun : (new : Capture S g) (t : List ℕ) → Closes took want_of mid new t → Closes took want_of old new (s ++ t)
-      closes_begun new t closes = λ seen wrote st.
+      pub closes_begun : (new : Capture S g) (status : ℕ) (t : List ℕ) → Closes took want_of mid new status t → Closes took want_of old new status (s ++ t)
+      closes_begun new status t closes = λ seen wrote st.
           let m = closes (seen ++ 10 ∷ []) (wrote ++ s) (on.stands seen wrote st) in
           let same = last_line seen wrote st in
           let lines = bus_lines (seen ++ 10 ∷ []) in (
             subst (λ (l : List (List ℕ)). first_fault old.bus.setup l ≡ None) same
                 (subst (λ (u : RawSetup). first_fault u lines ≡ None) on.setup m.0),
-            subst (λ (l : List (List ℕ)). IsOk ((want_of old.bus.sink).ends old.bus.setup l)) same
-                (subst (λ (o : Wanted). IsOk (o.ends old.bus.setup lines)) on.want
-                (subst (λ (u : RawSetup). IsOk ((want_of mid.bus.sink).ends u lines)) on.setup m.1)),
+            subst (λ (l : List (List ℕ)). EndsWith ((want_of old.bus.sink).ends old.bus.setup l) status) same
+                (subst (λ (o : Wanted). EndsWith (o.ends old.bus.setup lines) status) on.want
+                (subst (λ (u : RawSetup). EndsWith ((want_of mid.bus.sink).ends u lines) status) on.setup m.1)),
             sym (append_assoc wrote s t)
                 ∙ (m.2
                 ∙ (ap (λ (o : Wanted). capture_text o mid.bus.setup lines) on.want
@@ -368,21 +368,21 @@ module _ {S A : Type 0} (g : Ghosts S) (took : S → RawSetup → List (List ℕ
           (subst (λ (u : RawSetup). StopsIn (want_of mid.bus.sink) u (fault_of fault) (seen ++ 10 ∷ []) ((wrote ++ s) ++ t)) on.setup here)))
 
   -- what the end adds was added, and a front of all of it written
-  module _ (capture : Capture S g) (more : List ℕ)
-      (adds : (lines : List (List ℕ)) → TookLines took capture.bus lines → (want_of capture.bus.sink).ends capture.bus.setup lines ≡ Ok more) where
+  module _ (capture : Capture S g) (more : List ℕ) (status : ℕ)
+      (adds : (lines : List (List ℕ)) → TookLines took capture.bus lines → (want_of capture.bus.sink).ends capture.bus.setup lines ≡ Ok (end_with more status)) where
     whole_text : (seen wrote : List ℕ) → Stands took want_of capture seen wrote
         → wrote ++ (capture.text.items ++ more) ≡ capture_text (want_of capture.bus.sink) capture.bus.setup (ended_lines seen)
     whole_text seen wrote s =
         sym (append_assoc wrote capture.text.items more)
         ∙ (ap (λ (w : List ℕ). w ++ more) s.due
-        ∙ ap (λ (r : Result (List ℕ) (List ℕ)). (want_of capture.bus.sink).written capture.bus.setup (ended_lines seen) ++ closing r)
+        ∙ ap (λ (r : Result End (List ℕ)). (want_of capture.bus.sink).written capture.bus.setup (ended_lines seen) ++ closing r)
         (sym (adds (ended_lines seen) s.took_lines)))
 
     -- all of it was written
     pub close_whole : (new : Capture S g) (text sent : List ℕ) → new.bus ≡ capture.bus → text ≡ capture.text.items ++ more → sent ≡ text
-        → ClosesEnded took want_of capture new sent
+        → ClosesEnded took want_of capture new status sent
     close_whole new text sent same is whole = λ seen wrote s. (
-      subst (λ (r : Result (List ℕ) (List ℕ)). IsOk r) (sym (adds (ended_lines seen) s.took_lines)) refl,
+      subst (λ (r : Result End (List ℕ)). EndsWith r status) (sym (adds (ended_lines seen) s.took_lines)) refl,
       ap (λ (t : List ℕ). wrote ++ t) (whole ∙ is) ∙ whole_text seen wrote s,
       subst (λ (b : BusState S). took b.sink capture.bus.setup (ended_lines seen) []) (sym same) s.took_lines.taken,
     )
@@ -400,7 +400,7 @@ module _ {S A : Type 0} (g : Ghosts S) (took : S → RawSetup → List (List ℕ
   -- the end could not be added
   module _ (capture : Capture S g) where
     -- how the capture ends with the lines that the bus took
-    abbrev pub Ends : Result (List ℕ) (List ℕ) → Type 0
+    abbrev pub Ends : Result End (List ℕ) → Type 0
     Ends r = (lines : List (List ℕ)) → TookLines took capture.bus lines → (want_of capture.bus.sink).ends capture.bus.setup lines ≡ r
 
     ended_cut : (seen wrote sent : List ℕ) → Stands took want_of capture seen wrote → IsFrontOf sent capture.text.items

@@ -1,13 +1,15 @@
 -- What is told of a fault is told of one of which something holds.
-use Rattle.std.proofs.Common.{◌≡◌, subst}
+use Rattle.std.proofs.Common.{ℕ}
 use Rattle.diag_text.specs.declared.fault.RunFault.{RunFault}
 use Rattle.diag_run.specs.declared.file_run.Outcome.{Outcome}
 use Rattle.diag_run.specs.declared.file_run.Outcome.TheVariants.{Done, Fault}
-use Rattle.diag_run.specs.Run.{Tells, TellsOf}
+use Rattle.diag_run.specs.Run.{DoneOf, Tells, TellsOf}
 
 pub tells_of : (P : RunFault → Type 0) (fault : RunFault) (out : Outcome) → P fault → Tells fault out → TellsOf P out
-tells_of P fault Done holds tells = tt
+tells_of P fault (Done number) holds tells = tt
 tells_of P fault (Fault told number) holds tells = (fault, holds, tells)
 
-pub not_done : (fault : RunFault) (out : Outcome) → Tells fault out → out ≡ Done → ⊥
-not_done fault out tells is = subst (Tells fault) is tells
+-- what ended by a fault didn't write its whole text
+pub not_done : (P : ℕ → Type 0) (fault : RunFault) (out : Outcome) → Tells fault out → DoneOf P out
+not_done P fault (Done number) tells = absurd tells
+not_done P fault (Fault told number) tells = tt

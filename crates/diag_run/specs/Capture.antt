@@ -1,5 +1,5 @@
 -- What a run of a whole bus's recording reads and writes; and what it has read and written where it ends by a fault.
-use Rattle.std.specs.Prelude.{◌≡◌, ◌⊎◌, ℕ, ◌-◌, List, [], ◌++◌, take, Option, Some, None, Result, Ok, Err, IfSome, IsOk}
+use Rattle.std.specs.Prelude.{◌≡◌, ◌⊎◌, ℕ, ◌-◌, List, [], ◌++◌, take, Option, Some, None, Result, Ok, Err, IfSome}
 use Rattle.std.specs.Io.KnownBytes.{Appends, Consumes, IsAtEnd, Keeps}
 use Rattle.diag_can.specs.Bus.{bus_lines, ended_lines}
 use Rattle.diag_can.specs.declared.frame.Event.{Event}
@@ -8,15 +8,15 @@ use Rattle.diag_bus.specs.Events.{bus_events, first_fault}
 use Rattle.diag_bus.specs.Text.{IsRun, run_of, sent_of}
 use Rattle.diag_bus.specs.declared.fault.BusFault.{BusFault}
 use Rattle.diag_run.specs.Files.{ConfigEnds, SaysSetup}
-use Rattle.diag_run.specs.Wanted.{Wanted}
+use Rattle.diag_run.specs.Wanted.{End, EndsWith, Wanted}
 use Rattle.diag_text.specs.declared.fault.RunFault.{RunFault}
 use Rattle.diag_text.specs.declared.fault.RunFault.TheVariants.{Files, Config, ConfigLong, Log, JournalLine, FileLong, Memory, JournalFull, RecordsDisagree, Read, Write, Differs, Capture, Otherwise}
 
 -- ---- the text of a capture
 
 -- what its end adds
-abbrev pub closing : Result (List ℕ) (List ℕ) → List ℕ
-closing (Ok more) = more
+abbrev pub closing : Result End (List ℕ) → List ℕ
+closing (Ok end) = end.more
 closing (Err told) = []
 
 abbrev pub capture_text : Wanted → RawSetup → List (List ℕ) → List ℕ
@@ -25,8 +25,8 @@ capture_text want setup lines = want.written setup lines ++ closing (want.ends s
 -- The config and the capture were read whole, and no line is at fault. The capture's events are an interleaving M; of it
 -- there is one legal run, with these frames to each tester. The text of the capture was written and nothing else, what the
 -- lines write and what the end adds: as the frames of that run, line by line, or its journal, or its end, or that the recording
--- has just those frames.
-pub record Followed (want : Wanted) (config config' capture capture' out out' : Option (List ℕ))
+-- has just those frames. The status is that of the end.
+pub record Followed (want : Wanted) (config config' capture capture' out out' : Option (List ℕ)) (status : ℕ)
     : Type 0 where
   pub setup : RawSetup
   pub says : SaysSetup config config' setup
@@ -36,7 +36,7 @@ pub record Followed (want : Wanted) (config config' capture capture' out out' : 
   pub M : List (ℕ × Event)
   pub events : bus_events bytes setup ≡ Ok M
   pub run : IsRun setup M (run_of setup M) (sent_of setup M)
-  pub ended : IsOk (want.ends setup (bus_lines bytes))
+  pub ended : EndsWith (want.ends setup (bus_lines bytes)) status
   pub text : Appends out out' (capture_text want setup (bus_lines bytes))
 
 -- ---- where it ends by a fault

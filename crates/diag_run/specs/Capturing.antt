@@ -1,5 +1,5 @@
 -- What is kept of a capture between two reads, and how a step of it goes.
-use Rattle.std.specs.Prelude.{◌≡◌, ℕ, List, ◌++◌, [], length, None, Option, IsOk}
+use Rattle.std.specs.Prelude.{◌≡◌, ℕ, List, ◌++◌, [], length, None, Option}
 use Rattle.std.specs.Io.KnownBytes.{Appends, Consumes, IsAtEnd}
 use Rattle.diag_can.specs.Bus.{begun_line, bus_lines, ended_lines}
 use Rattle.diag_bus.specs.Bus.{TookLines}
@@ -7,7 +7,7 @@ use Rattle.diag_bus.specs.Events.{first_fault}
 use Rattle.diag_bus.specs.declared.sink.Sink.{Ghosts}
 use Rattle.diag_setup.specs.declared.raw.RawSetup.{RawSetup}
 use Rattle.diag_run.specs.Capture.{IsCutShort, StopsAt, StopsIn, StopsOn, capture_text}
-use Rattle.diag_run.specs.Wanted.{Wanted}
+use Rattle.diag_run.specs.Wanted.{EndsWith, Wanted}
 use Rattle.diag_desk.specs.declared.entry.Entry.{Entry}
 use Rattle.diag_run.specs.declared.capture.Capture.{Capture}
 use Rattle.diag_run.specs.declared.capture.CaptureFault.{CaptureFault}
@@ -53,20 +53,21 @@ abbrev pub HaltsIn : {S : Type 0} → {g : Ghosts S} → (S → RawSetup → Lis
 HaltsIn took want_of capture fault bytes sent = (seen wrote : List ℕ) → Stands took want_of capture seen wrote
     → Halts (want_of capture.bus.sink) capture.bus.setup fault (seen ++ bytes) (wrote ++ sent)
 
--- all that was read is whole lines that were taken, and what they and the end write was written; the sink stands for them
+-- all that was read is whole lines that were taken, and what they and the end write was written; the status is that of the end,
+-- and the sink stands for the lines
 abbrev pub Closes : {S : Type 0} → {g : Ghosts S} → (S → RawSetup → List (List ℕ) → List Entry → Type 0) → (S → Wanted)
-    → Capture S g → Capture S g → List ℕ → Type 0
-Closes took want_of old new sent = (seen wrote : List ℕ) → Stands took want_of old seen wrote
+    → Capture S g → Capture S g → ℕ → List ℕ → Type 0
+Closes took want_of old new status sent = (seen wrote : List ℕ) → Stands took want_of old seen wrote
     → (first_fault old.bus.setup (bus_lines seen) ≡ None)
-    × IsOk ((want_of old.bus.sink).ends old.bus.setup (bus_lines seen))
+    × EndsWith ((want_of old.bus.sink).ends old.bus.setup (bus_lines seen)) status
     × (wrote ++ sent ≡ capture_text (want_of old.bus.sink) old.bus.setup (bus_lines seen))
     × took new.bus.sink old.bus.setup (bus_lines seen) []
 
 -- the same of the lines that were ended, where no line is begun
 abbrev pub ClosesEnded : {S : Type 0} → {g : Ghosts S} → (S → RawSetup → List (List ℕ) → List Entry → Type 0) → (S → Wanted)
-    → Capture S g → Capture S g → List ℕ → Type 0
-ClosesEnded took want_of old new sent = (seen wrote : List ℕ) → Stands took want_of old seen wrote
-    → IsOk ((want_of old.bus.sink).ends old.bus.setup (ended_lines seen))
+    → Capture S g → Capture S g → ℕ → List ℕ → Type 0
+ClosesEnded took want_of old new status sent = (seen wrote : List ℕ) → Stands took want_of old seen wrote
+    → EndsWith ((want_of old.bus.sink).ends old.bus.setup (ended_lines seen)) status
     × (wrote ++ sent ≡ capture_text (want_of old.bus.sink) old.bus.setup (ended_lines seen))
     × took new.bus.sink old.bus.setup (ended_lines seen) []
 
@@ -95,14 +96,14 @@ abbrev pub StopsWithin : {S : Type 0} → {g : Ghosts S} → (S → RawSetup →
 StopsWithin took want_of capture fault bytes sent = (seen wrote : List ℕ) → Stands took want_of capture seen wrote
     → StopsAfter (want_of capture.bus.sink) capture.bus.setup fault (seen ++ bytes) (wrote ++ sent)
 
--- the capture was read whole, and its text written
-pub record FollowedFrom (want : Wanted) (setup : RawSetup) (capture capture' out out' : Option (List ℕ))
+-- the capture was read whole, and its text written; the status is that of its end
+pub record FollowedFrom (want : Wanted) (setup : RawSetup) (capture capture' out out' : Option (List ℕ)) (status : ℕ)
     : Type 0 where
   pub bytes : List ℕ
   pub read : Consumes capture capture' bytes
   pub end : IsAtEnd capture'
   pub well : first_fault setup (bus_lines bytes) ≡ None
-  pub ended : IsOk (want.ends setup (bus_lines bytes))
+  pub ended : EndsWith (want.ends setup (bus_lines bytes)) status
   pub text : Appends out out' (capture_text want setup (bus_lines bytes))
 
 -- the fault came with the capture

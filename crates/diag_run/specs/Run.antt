@@ -267,13 +267,18 @@ pub record IsFaultOf {R : Type 0} (remaining : R → Option (List ℕ)) (job : J
   pub device : (n : ℕ) → fault ≡ Read n → n ≤ length files
   pub answer : WhereKnown remaining job config files (λ said. AnswersFault job said old new fault)
 
+-- where it wrote its whole text, P holds of the status
+abbrev pub DoneOf : (ℕ → Type 0) → Outcome → Type 0
+DoneOf P (outcome.Done status) = P status
+DoneOf P (outcome.Fault told number) = Unit {0}
+
 -- it ended by this fault: the line, unless there was no memory for it, and the status are the fault's
 abbrev pub Tells : RunFault → Outcome → Type 0
-Tells fault outcome.Done = ⊥
+Tells fault (outcome.Done number) = ⊥
 Tells fault (outcome.Fault told number) =
     IfSome told (λ line. line.items ≡ fault_text fault) × (number ≡ status fault)
 
 -- where it ended by a fault, it was one of which P holds
 abbrev pub TellsOf : (RunFault → Type 0) → Outcome → Type 0
-TellsOf P outcome.Done = Unit {0}
+TellsOf P (outcome.Done number) = Unit {0}
 TellsOf P (outcome.Fault told number) = (fault : RunFault) × P fault × Tells fault (outcome.Fault told number)

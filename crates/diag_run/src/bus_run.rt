@@ -6,7 +6,7 @@ ghost use Rattle.diag_bus.specs.Bus.{TookLines};
 ghost use Rattle.diag_text.specs.Bytes.{Sends, Takes};
 ghost use Rattle.diag_run.specs.Capture.{Followed, Stops};
 ghost use Rattle.diag_run.specs.Capturing.{GoesOn, StopsWithin, fault_of, FollowedFrom, StopsFrom};
-ghost use Rattle.diag_run.specs.Run.{TellsOf};
+ghost use Rattle.diag_run.specs.Run.{DoneOf, TellsOf};
 ghost use Rattle.diag_run.specs.Wanted.{wanted};
 
 use crate::capture::{Capture, CaptureFault};
@@ -25,7 +25,8 @@ const PIECE: usize = 65_536;
 const LINES_BEFORE_A_READ: u64 = u64::MAX - 65_537;
 
 /// Reads a setup and then the recording of a whole bus, as it comes and to its end, and writes what is due as it falls
-/// due and nothing else: before each further read, what the whole lines so far write was written and flushed.
+/// due and nothing else: before each further read, what the whole lines so far write was written and flushed. It answers
+/// the status that the program ends with.
 ///
 /// # Errors
 /// The first fault in this order: the config, the capture in the order of its bytes, and last, where a verdict is wanted,
@@ -38,8 +39,8 @@ pub fn run_bus<S: Ending, R: Read, W: Write>(
     config: &mut R,
     capture: &mut R,
     out: &mut W,
-) -> Result<(), RunFault>
-    ensures done { OnOk result (Followed (wanted S.written S.ends S.aim sink) (R.remaining config.old) (R.remaining config.new)
+) -> Result<u8, RunFault>
+    ensures done { IfOk result (Followed (wanted S.written S.ends S.aim sink) (R.remaining config.old) (R.remaining config.new)
         (R.remaining capture.old) (R.remaining capture.new)
         (W.contents out.old) (W.contents out.new)) }
     ensures fault { IfErr result (Stops R.remaining (wanted S.written S.ends S.aim sink) config.old config.new
@@ -48,7 +49,7 @@ pub fn run_bus<S: Ending, R: Read, W: Write>(
     let setup = read_config(alloc, config)?;
     let bus = Bus::new(alloc, setup, sink)?;
     match run_capture(alloc, bus, capture, out) {
-        Ok(()) => Ok(()),
+        Ok(status) => Ok(status),
         Err(fault) => Err(run_fault(fault)),
     }
 }
@@ -66,15 +67,15 @@ pub fn run_fault(fault: CaptureFault) -> RunFault
     }
 }
 
-/// Runs a capture from its first read to its end.
+/// Runs a capture from its first read to its end, and answers the status of the run.
 fn run_capture<S: Ending, R: Read, W: Write>(
     alloc: Global,
     bus: Bus<S>,
     capture: &mut R,
     out: &mut W,
-) -> Result<(), CaptureFault>
+) -> Result<u8, CaptureFault>
     requires { TookLines S.took bus [] }
-    ensures done { OnOk result (FollowedFrom (wanted S.written S.ends S.aim bus.sink) bus.setup
+    ensures done { IfOk result (FollowedFrom (wanted S.written S.ends S.aim bus.sink) bus.setup
         (R.remaining capture.old) (R.remaining capture.new)
         (W.contents out.old) (W.contents out.new)) }
     ensures fault { IfErr result (StopsFrom (wanted S.written S.ends S.aim bus.sink) bus.setup
@@ -137,7 +138,8 @@ fn read_piece<R: Read>(capture: &mut R, buffer: &mut [u8]) -> Result<usize, Capt
     }
 }
 
-/// Runs, and says how it ended: with the whole text written, or with the line and the status of the run's fault.
+/// Runs, and says how it ended: with the whole text written and the status of its end, or with the line and the status of
+/// the run's fault.
 pub fn run_bus_and_tell<S: Ending, R: Read + Drop, W: Write>(
     alloc: Global,
     sink: S,
@@ -145,15 +147,15 @@ pub fn run_bus_and_tell<S: Ending, R: Read + Drop, W: Write>(
     mut capture: R,
     out: &mut W,
 ) -> Outcome
-    ensures done { result ≡ Outcome.Done → (config' : R) × (capture' : R)
+    ensures done { DoneOf (λ status. (config' : R) × (capture' : R)
         × Followed (wanted S.written S.ends S.aim sink) (R.remaining config) (R.remaining config')
-        (R.remaining capture) (R.remaining capture') (W.contents out.old) (W.contents out.new) }
+        (R.remaining capture) (R.remaining capture') (W.contents out.old) (W.contents out.new) status) result }
     ensures fault { TellsOf (λ fault. (config' : R) × (capture' : R)
         × Stops R.remaining (wanted S.written S.ends S.aim sink) config config' capture capture'
         (W.contents out.old) (W.contents out.new) fault) result }
 {
     match run_bus(alloc, sink, &mut config, &mut capture, out) {
-        Ok(()) => Outcome::Done,
+        Ok(status) => Outcome::Done { status },
         Err(fault) => Outcome::of(alloc, &fault),
     }
 }

@@ -9,7 +9,7 @@ ghost use Rattle.diag_world.specs.Block.{some_in_block};
 ghost use Rattle.diag_world.specs.Server.{quiet_of};
 ghost use Rattle.diag_run.specs.Faults.{fault_at};
 ghost use Rattle.diag_run.specs.Capture.{IsFrontOf};
-ghost use Rattle.diag_run.specs.Wanted.{IsEndFault, wanted};
+ghost use Rattle.diag_run.specs.Wanted.{IsEndFault, end_with, wanted};
 ghost use Rattle.diag_port.specs.Port.{Grew};
 
 use crate::ending::Ending;
@@ -266,16 +266,16 @@ impl<S: Ending> Capture<S> {
         Ok(())
     }
 
-    /// Takes a line that is begun as the last, and writes what is to be written and what the capture's end adds. The bus can be
-    /// asked behind it.
+    /// Takes a line that is begun as the last, and writes what is to be written and what the capture's end adds; answers the
+    /// status of the run. The bus can be asked behind it.
     ///
     /// # Errors
     /// Those of `take_piece`, `Line` with the line that is begun; and `Otherwise` with what is told in place of what the end adds,
     /// behind what the lines write.
-    pub fn finish<W: Write>(&mut self, alloc: Global, out: &mut W) -> Result<(), CaptureFault>
+    pub fn finish<W: Write>(&mut self, alloc: Global, out: &mut W) -> Result<u8, CaptureFault>
         requires { self.old.lines + 1 < 2 ^ 64 }
-        ensures ok { OnOk result (Sends (W.contents out.old) (W.contents out.new)
-            (Closes S.took (wanted S.written S.ends S.aim) self.old self.new)) }
+        ensures ok { IfOk result (λ status. Sends (W.contents out.old) (W.contents out.new)
+            (Closes S.took (wanted S.written S.ends S.aim) self.old self.new status)) }
         ensures err { IfErr result (λ fault. Sends (W.contents out.old) (W.contents out.new)
             (HaltsAtEnd S.took (wanted S.written S.ends S.aim) self.old fault)) }
     {
@@ -286,17 +286,20 @@ impl<S: Ending> Capture<S> {
         self.close(alloc, out)
     }
 
-    /// Writes what is to be written and what the capture's end adds.
-    fn close<W: Write>(&mut self, alloc: Global, out: &mut W) -> Result<(), CaptureFault>
-        ensures ok { OnOk result (Sends (W.contents out.old) (W.contents out.new)
-            (ClosesEnded S.took (wanted S.written S.ends S.aim) self.old self.new)) }
+    /// Writes what is to be written and what the capture's end adds; answers the status of the run.
+    fn close<W: Write>(&mut self, alloc: Global, out: &mut W) -> Result<u8, CaptureFault>
+        ensures ok { IfOk result (λ status. Sends (W.contents out.old) (W.contents out.new)
+            (ClosesEnded S.took (wanted S.written S.ends S.aim) self.old self.new status)) }
         ensures err { IfErr result (λ fault. Sends (W.contents out.old) (W.contents out.new)
             (HaltsEnded S.took (wanted S.written S.ends S.aim) self.old fault)) }
     {
-        if let Err(fault) = add_end(alloc, &self.bus, &mut self.text) {
-            return Err(stop(fault, &mut self.text, out));
+        match add_end(alloc, &self.bus, &mut self.text) {
+            Ok(status) => {
+                write_out(&mut self.text, out)?;
+                Ok(status)
+            }
+            Err(fault) => Err(stop(fault, &mut self.text, out)),
         }
-        write_out(&mut self.text, out)
     }
 
     /// What was taken.
@@ -307,11 +310,11 @@ impl<S: Ending> Capture<S> {
     }
 }
 
-/// Adds what the end of the bus's capture adds.
-fn add_end<S: Ending>(alloc: Global, bus: &Bus<S>, text: &mut Vec<u8>) -> Result<(), CaptureFault>
-    ensures ok { OnOk result (Grew text.old.items text.new.items (λ more.
+/// Adds what the end of the bus's capture adds, and answers the status of the run.
+fn add_end<S: Ending>(alloc: Global, bus: &Bus<S>, text: &mut Vec<u8>) -> Result<u8, CaptureFault>
+    ensures ok { IfOk result (λ status. Grew text.old.items text.new.items (λ more.
         (lines : List (List ℕ)) → TookLines S.took bus.now lines
-        → S.ends bus.now.sink bus.now.setup lines ≡ Ok more)) }
+        → S.ends bus.now.sink bus.now.setup lines ≡ Ok (end_with more status))) }
     ensures err { IfErr result (IsEndFault (λ result. (lines : List (List ℕ)) → TookLines S.took bus.now lines
         → S.ends bus.now.sink bus.now.setup lines ≡ result)) }
     ensures kept { OnErr result (text.new.items ≡ text.old.items) }

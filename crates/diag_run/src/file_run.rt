@@ -3,7 +3,7 @@
 ghost use Rattle.std.specs.Prelude.{◌≡◌, ◌≢◌, ℕ, List, length, IfOk, IfErr, OnOk, Some, Ok, Err};
 ghost use Rattle.std.specs.Io.KnownBytes.{Keeps};
 ghost use Rattle.diag_run.specs.Files.{AreKnown, Fails, SaysSetup};
-ghost use Rattle.diag_run.specs.Run.{NamesAFile, ReadsConfigFirst, TextStops, WhereKnown, Writes, joined, job_of, wanted, read_of, FilesGive, ReadToEnd, ReadingStops, RunStops, GivesRun, Wrote, WroteFront, IsFaultOf, Tells, TellsOf, answered};
+ghost use Rattle.diag_run.specs.Run.{NamesAFile, ReadsConfigFirst, TextStops, WhereKnown, Writes, joined, job_of, wanted, read_of, FilesGive, ReadToEnd, ReadingStops, RunStops, GivesRun, Wrote, WroteFront, IsFaultOf, DoneOf, Tells, TellsOf, answered};
 
 use crate::answer::{played_text, read_texts, replayed_text, woven_text};
 use crate::files::read_config;
@@ -281,8 +281,8 @@ pub fn run<T: Threads + Wait + Sync, R: Read + Drop, W: Write>(
 /// How a run ended, and what is to be told of it.
 #[derive(Drop)]
 pub enum Outcome {
-    /// The whole text was written.
-    Done,
+    /// The whole text was written, and the status is this.
+    Done { status: u8 },
     /// The fault's line, unless there was no memory for it, and its status.
     Fault { told: Option<Vec<u8>>, status: u8 },
 }
@@ -299,7 +299,8 @@ impl Outcome {
     }
 }
 
-/// Runs, and says how it ended: with the whole text written, or with the line and the status of the run's fault.
+/// Runs, and says how it ended: with the whole text written and status 0, or with the line and the status of the run's
+/// fault.
 pub fn run_and_tell<T: Threads + Wait + Sync, R: Read + Drop, W: Write>(
     rt: &T,
     alloc: Global,
@@ -308,11 +309,12 @@ pub fn run_and_tell<T: Threads + Wait + Sync, R: Read + Drop, W: Write>(
     files: Vec<R>,
     out: &mut W,
 ) -> Outcome
-    ensures done { result ≡ Outcome.Done → WhereKnown R.remaining job config files.items
-        (λ said. Wrote job said (W.contents out.old) (W.contents out.new)) }
-    ensures reads { result ≡ Outcome.Done → (config' : R) × (files' : List R)
+    ensures status { DoneOf (λ status. status ≡ 0) result }
+    ensures done { DoneOf (λ _. WhereKnown R.remaining job config files.items
+        (λ said. Wrote job said (W.contents out.old) (W.contents out.new))) result }
+    ensures reads { DoneOf (λ _. (config' : R) × (files' : List R)
         × ReadToEnd R.remaining job config config' files.items files'
-        (λ said. Wrote job said (W.contents out.old) (W.contents out.new)) }
+        (λ said. Wrote job said (W.contents out.old) (W.contents out.new))) result }
     ensures fault { TellsOf (λ fault.
         IsFaultOf R.remaining job config files.items (W.contents out.old) (W.contents out.new) fault
         × (config' : R) × (files' : List R)
@@ -320,7 +322,7 @@ pub fn run_and_tell<T: Threads + Wait + Sync, R: Read + Drop, W: Write>(
         (W.contents out.old) (W.contents out.new) fault) result }
 {
     match run(rt, alloc, job, config, files, out) {
-        Ok(()) => Outcome::Done,
+        Ok(()) => Outcome::Done { status: 0 },
         Err(fault) => Outcome::of(alloc, &fault),
     }
 }

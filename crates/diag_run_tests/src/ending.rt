@@ -21,7 +21,7 @@ pub const WELL: End<'static> = End {
 /// Whether this is the end of a run.
 pub fn is_end(outcome: &Outcome, end: End<'_>) -> Result<bool, AllocError> {
     match outcome {
-        Outcome::Done => Ok(end.status == 0),
+        Outcome::Done { status } => Ok(*status == end.status),
         Outcome::Fault { told, status } => is_fault(told, *status, end),
     }
 }

@@ -1,5 +1,9 @@
 -- Replies that wait, and the room for more.
-use Rattle.std.specs.Prelude.{ℕ, List}
+use Rattle.std.specs.Prelude.{◌^◌, ℕ, List}
+
+-- the most replies that wait
+abbrev pub most_waiting : ℕ
+most_waiting = 2 ^ 40
 
 pub record QueueState : Type 0 where
   pub replies : List (List ℕ)

@@ -11,6 +11,7 @@ ghost use Rattle.std.specs.Prelude.{
   ◌++◌,
   length,
   sum_by,
+  OnErr,
   OnOk,
   IfSome,
   IfNone,
@@ -19,6 +20,7 @@ ghost use Rattle.std.specs.Prelude.{
 };
 ghost use Rattle.diag_pdu.specs.declared.setup.LinkSetup.{LinkSetup as ALinkSetup};
 ghost use Rattle.diag_pdu.specs.Cut.{frames_of};
+ghost use Rattle.diag_sides.specs.Queue.{most_waiting};
 ghost use Rattle.diag_sides.specs.Sender.{started};
 
 use diag_pdu::{Message, frames_of};
@@ -41,20 +43,19 @@ impl Model for Queue {
     ghost use Rattle.std.specs.Prelude.{◌≡◌, ◌≤◌, ◌-◌, length, sum_by, min, All};
     ghost use Rattle.std.specs.VecDeque.{deque_len, deque_capacity};
     ghost use Rattle.diag_pdu.specs.Cut.{frames_of};
-    ghost use Rattle.diag_sides.specs.Queue.{QueueState};
-    ghost use Rattle.diag_sides.specs.declared.queue.TheConstants.{MOST_WAITING};
+    ghost use Rattle.diag_sides.specs.Queue.{QueueState, most_waiting};
 
     ghost Value = { QueueState };
 
     ghost view = { λ a. record {
       replies = a.replies.items;
-      room = min (deque_capacity a.replies) MOST_WAITING - deque_len a.replies;
+      room = min (deque_capacity a.replies) most_waiting - deque_len a.replies;
     } };
 
     ghost invariant = { λ a.
         (a.frames ≡ sum_by frames_of a.replies.items)
         × All (λ P. frames_of P ≤ 10000) a.replies.items
-        × (length a.replies.items ≤ MOST_WAITING) };
+        × (length a.replies.items ≤ most_waiting) };
 }
 
 impl Queue {
@@ -72,6 +73,7 @@ impl Queue {
     #[inline(always)]
     pub(crate) fn make_room(&mut self) -> Result<(), AllocError>
         ensures ok { OnOk result (0 < self.new.room) }
+        ensures err { OnErr result (self.old.room ≡ 0) }
         ensures kept { self.old.room ≤ self.new.room }
         ensures same { self.new.replies ≡ self.old.replies }
     {
@@ -97,6 +99,7 @@ impl Queue {
     /// Makes room for so many more replies. Refused where memory is, and where so many more can't wait.
     pub(crate) fn make_rooms(&mut self, count: usize) -> Result<(), AllocError>
         ensures ok { OnOk result (count ≤ self.new.room) }
+        ensures err { OnErr result (self.old.room < count) }
         ensures kept { self.old.room ≤ self.new.room }
         ensures same { self.new.replies ≡ self.old.replies }
     {
@@ -172,7 +175,7 @@ impl Queue {
     #[inline(always)]
     pub(crate) fn frames(&self) -> u64
         ensures count { result ≡ sum_by frames_of self.now.replies }
-        ensures few { result ≤ 10000 * MOST_WAITING }
+        ensures few { result ≤ 10000 * most_waiting }
     {
         self.frames
     }

@@ -1,7 +1,7 @@
 -- What a request that is compared with a pattern item by item fits, and which row is the first that applies.
 use Rattle.std.proofs.Common.{◌≡◌, ℕ, zero, suc, ◌+◌, ◌<◌, ◌≤◌, ◌==◌, ◌&&◌, ◌||◌, Bool, true, false, nat_lt, List, [], ◌∷◌, length, drop, get_or, slice_index_or, slice_index, slice_get, slice_set, Option, Some, None, refl, ap, sym, ◌∙◌, arith, add-one}
 use Rattle.std.specs.Prelude.{map, position, find, option_and_then}
-use Rattle.std.specs.List.{position_or_len}
+use Rattle.std.specs.List.{list_any, position_or_len}
 use Rattle.std.proofs.Math.Seq.{drop-cons}
 use Rattle.std.proofs.lemmas.Bool.{lt-ltb, eqb-true, eqb-false}
 use Rattle.std.proofs.lemmas.Bool.Decides.{nat_tests}
@@ -10,7 +10,7 @@ use Rattle.diag_setup.specs.declared.raw.PatternItem.{PatternItem}
 use Rattle.diag_store.specs.declared.answers.Access.{Access}
 use Rattle.diag_store.specs.declared.answers.AnswerRow.{AnswerRow}
 use Rattle.diag_store.specs.Security.{option_is}
-use Rattle.diag_store.specs.Answers.{is_of, fits, applies, first_item, row_first, moved_on, rows_moved_on, with_moved_on}
+use Rattle.diag_store.specs.Answers.{is_of, fits, applies, first_item, any_late, is_late, row_first, moved_on, rows_moved_on, with_moved_on}
 
 and_false : (b : Bool) → (b && false) ≡ false
 and_false true = refl
@@ -101,17 +101,31 @@ first_nowhere test (x ∷ xs) n none past =
 
 -- ---- a row whose next template moves on
 
+-- what is told of each row stays, where it doesn't look at the next template
+stays : {X : Type 0} (f : AnswerRow → X) → ((row : AnswerRow) → f (moved_on row) ≡ f row) → (rows : List AnswerRow) (place : ℕ)
+    → map f (rows_moved_on rows place) ≡ map f rows
+stays f same [] place = refl
+stays f same (row ∷ rows) zero = ap (λ x. x ∷ map f rows) (same row)
+stays f same (row ∷ rows) (suc place) =
+    let rest = stays f same rows place in
+    elim (slice_get rows place) as (λ o. map f (with_moved_on rows place o) ≡ map f rows
+    → map f (with_moved_on (row ∷ rows) (suc place) o) ≡ map f (row ∷ rows)) [
+      | None ↦ λ e. refl
+      | Some moved ↦ λ e. ap (λ xs. f row ∷ xs) e
+    ] rest
+
 -- the first items stay
 pub firsts_stay : (rows : List AnswerRow) (place : ℕ) → map row_first (rows_moved_on rows place) ≡ map row_first rows
-firsts_stay [] place = refl
-firsts_stay (row ∷ rows) zero = refl
-firsts_stay (row ∷ rows) (suc place) =
-    let rest = firsts_stay rows place in
-    elim (slice_get rows place) as (λ o. map row_first (with_moved_on rows place o) ≡ map row_first rows
-    → map row_first (with_moved_on (row ∷ rows) (suc place) o) ≡ map row_first (row ∷ rows)) [
-      | None ↦ λ e. refl
-      | Some moved ↦ λ e. ap (λ items. row_first row ∷ items) e
-    ] rest
+firsts_stay rows place = stays row_first (λ row. refl) rows place
+
+any_by_each : (rows : List AnswerRow) → any_late rows ≡ list_any (λ b. b) (map is_late rows)
+any_by_each [] = refl
+any_by_each (row ∷ rows) = ap (λ b. is_late row || b) (any_by_each rows)
+
+-- and whether one has its answer go later
+pub late_stays : (rows : List AnswerRow) (place : ℕ) → any_late (rows_moved_on rows place) ≡ any_late rows
+late_stays rows place =
+    any_by_each (rows_moved_on rows place) ∙ (ap (list_any (λ b. b)) (stays is_late (λ row. refl) rows place) ∙ sym (any_by_each rows))
 
 pub count_stays : (rows : List AnswerRow) (place : ℕ) → length (rows_moved_on rows place) ≡ length rows
 count_stays [] place = refl

@@ -1,9 +1,9 @@
 -- What requests for seeds and keys keep true.
-use Rattle.std.proofs.Common.{◌≡◌, ℕ, ◌+◌, ◌-◌, ◌%◌, ◌<◌, ◌&&◌, ◌==◌, true, false, cond, List, [], ◌∷◌, length, refl, sym, ◌∙◌, arith, slice_index, slice_set, is_none, is_some}
+use Rattle.std.proofs.Common.{◌≡◌, ℕ, ◌+◌, ◌-◌, ◌%◌, ◌<◌, ◌&&◌, ◌==◌, true, false, cond, List, [], ◌∷◌, length, refl, sym, ◌∙◌, arith, slice_index, slice_set, is_none, is_some, Bool, Option, Some, None, ap}
 use Rattle.std.specs.List.{list_all}
 use Rattle.std.proofs.lemmas.List.{get_or-set_same, get_or-set_other, length-set}
-use Rattle.std.proofs.lemmas.Bool.{eqb-true, eqb-false, leb-false, ltb-true, lt-ltb}
-use Rattle.std.specs.Prelude.{map}
+use Rattle.std.proofs.lemmas.Bool.{eq-eqb, eqb-true, eqb-false, leb-false, ltb-true, lt-ltb}
+use Rattle.std.specs.Prelude.{find, map, option_and_then, option_map, replicate, slice_get, unwrap_or}
 use Rattle.std.specs.List.{All}
 use Rattle.std.proofs.lemmas.List.{length-map, get_or-replicate}
 use Rattle.std.proofs.lemmas.List.Elements.{All-head, All-tail}
@@ -14,7 +14,7 @@ use Rattle.diag_store.specs.Opening.{level_row, key_row, opening_security}
 use Rattle.diag_store.specs.declared.levels.Level.{Level}
 use Rattle.diag_store.specs.declared.security.SecurityState.{SecurityState}
 use Rattle.diag_store.specs.Rows.{change_first}
-use Rattle.diag_store.specs.Security.{with_new_seed, is_unlocked, IsSecurity, has_sub, moved_on, next_is_in_range, is_delayed, outstanding_row, is_right_key, is_last_attempt, after_key, after_right_key, after_wrong_key, after_seed}
+use Rattle.diag_store.specs.Security.{with_new_seed, is_unlocked, level_of, next_row, seed_answer, seed_at, seed_given, IsSecurity, has_sub, moved_on, next_is_in_range, is_delayed, outstanding_row, is_right_key, is_last_attempt, after_key, after_right_key, after_wrong_key, after_seed}
 
 right_key-keeps : (s : SecurityState) (who sub : ℕ) → IsSecurity s → IsSecurity (after_right_key s who sub)
 right_key-keeps s who sub h = record {
@@ -125,6 +125,90 @@ seed-keeps s who sub h =
           | false ↦ moved
         ]
       ]
+    ]
+
+-- ---- a seed is answered alike before and after it was given
+
+change_first-find : {X : Type 0} (test : X → Bool) (change : X → X) → ((x : X) → test (change x) ≡ test x) → (xs : List X)
+    → find test (change_first test change xs) ≡ option_map change (find test xs)
+change_first-find test change same [] = refl
+change_first-find test change same (x ∷ xs) =
+    let rest = change_first-find test change same xs in
+    elim (test x) as (λ b. test x ≡ b
+    → find test (cond b (change x ∷ xs) (x ∷ change_first test change xs)) ≡ option_map change (cond b (Some x) (find test xs))) [
+      | true ↦ λ e. rw (same x ∙ e) refl
+      | false ↦ λ e. rw e rest
+    ] refl
+
+level-given : (s : SecurityState) (sub : ℕ) → level_of (with_new_seed s sub) sub ≡ option_map moved_on (level_of s sub)
+level-given s sub = change_first-find (has_sub sub) moved_on (λ level. refl) s.levels
+
+abbrev row_of : Option Level → ℕ → List ℕ
+row_of level row = unwrap_or (option_and_then (λ l. option_map (λ r. r.seed.items) (slice_get l.rows row)) level) []
+
+row_of-moved : (level : Option Level) (row : ℕ) → row_of (option_map moved_on level) row ≡ row_of level row
+row_of-moved None row = refl
+row_of-moved (Some level) row = refl
+
+seed_at-given : (s : SecurityState) (sub row : ℕ) → seed_at (with_new_seed s sub) sub row ≡ seed_at s sub row
+seed_at-given s sub row = ap (λ level. row_of level row) (level-given s sub) ∙ row_of-moved (level_of s sub) row
+
+some-moved : (level : Option Level) → is_some (option_map moved_on level) ≡ is_some level
+some-moved None = refl
+some-moved (Some level) = refl
+
+either_known : (s t : SecurityState) (sub : ℕ) (b : Bool) → is_some (level_of t sub) ≡ is_some (level_of s sub)
+    → is_some (level_of (cond b s t) sub) ≡ is_some (level_of s sub)
+either_known s t sub true same = refl
+either_known s t sub false same = same
+
+pub known_after-seed : (s : SecurityState) (who sub : ℕ) → is_some (level_of (after_seed s who sub) sub) ≡ is_some (level_of s sub)
+known_after-seed s who sub =
+    let new = with_new_seed s sub in
+    let held : SecurityState = cond (is_some (outstanding_row s.outstanding sub)) s new in
+    let given : SecurityState = cond (is_unlocked s sub) s held in
+    either_known s given sub (is_delayed s who)
+    (either_known s held sub (is_unlocked s sub)
+    (either_known s new sub (is_some (outstanding_row s.outstanding sub)) (ap is_some (level-given s sub) ∙ some-moved (level_of s sub))))
+
+new_row : (sub row : ℕ) → outstanding_row (Some (record { level = sub; row = row })) sub ≡ Some row
+new_row sub row = rw (eq-eqb sub sub refl) refl
+
+is_none_then : (o : Option ℕ) → is_some o ≡ false → o ≡ None
+is_none_then None e = refl
+is_none_then (Some row) e = cc
+
+seed_given-new : (s : SecurityState) (sub : ℕ) → is_unlocked s sub ≡ false → is_some (outstanding_row s.outstanding sub) ≡ false
+    → seed_given (with_new_seed s sub) sub ≡ seed_given s sub
+seed_given-new s sub locked none =
+    let new = with_new_seed s sub in
+    let row = next_row s sub in
+    let same : seed_at new sub (unwrap_or (outstanding_row new.outstanding sub) (next_row new sub))
+    ≡ seed_at s sub (unwrap_or (outstanding_row s.outstanding sub) row) =
+    ap (λ o. seed_at new sub (unwrap_or o (next_row new sub))) (new_row sub row)
+    ∙ (seed_at-given s sub row ∙ ap (λ o. seed_at s sub (unwrap_or o row)) (sym (is_none_then (outstanding_row s.outstanding sub) none))) in
+    elim (is_unlocked s sub) as (λ b. b ≡ false
+    → cond b (replicate (length (seed_at new sub 0)) 0) (seed_at new sub (unwrap_or (outstanding_row new.outstanding sub) (next_row new sub)))
+    ≡ cond b (replicate (length (seed_at s sub 0)) 0) (seed_at s sub (unwrap_or (outstanding_row s.outstanding sub) row))) [
+      | true ↦ λ e. cc
+      | false ↦ λ e. same
+    ] locked
+
+pub seed_answer-given : (s : SecurityState) (who sub : ℕ) → seed_answer (after_seed s who sub) who sub ≡ seed_answer s who sub
+seed_answer-given s who sub =
+    let new = with_new_seed s sub in
+    elim (is_delayed s who) as (λ b. seed_answer (cond b s (cond (is_unlocked s sub) s (cond (is_some (outstanding_row s.outstanding sub)) s new))) who sub
+    ≡ seed_answer s who sub) [
+      | true ↦ refl
+      | false ↦ elim (is_unlocked s sub) as (λ b. is_unlocked s sub ≡ b
+          → seed_answer (cond b s (cond (is_some (outstanding_row s.outstanding sub)) s new)) who sub ≡ seed_answer s who sub) [
+            | true ↦ λ locked. refl
+            | false ↦ λ locked. elim (is_some (outstanding_row s.outstanding sub)) as (λ b. is_some (outstanding_row s.outstanding sub) ≡ b
+                → seed_answer (cond b s new) who sub ≡ seed_answer s who sub) [
+                  | true ↦ λ none. refl
+                  | false ↦ λ none. ap (λ (seed : List ℕ). cond (is_delayed s who) None (Some seed)) (seed_given-new s sub locked none)
+                ] refl
+          ] refl
     ]
 
 first-in_range : (levels : List RawLevel) → All LevelFits levels → list_all next_is_in_range (map level_row levels) ≡ true

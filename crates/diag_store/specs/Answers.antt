@@ -1,5 +1,6 @@
 -- The table of answers: which row is for a request, and what it answers.
-use Rattle.std.specs.Prelude.{ℕ, ◌==◌, ◌+◌, ◌%◌, ◌&&◌, ◌||◌, not, Bool, true, false, if◌then◌else◌, List, [], ◌∷◌, find, position, length, map, slice_get, slice_index, slice_set, Option, Some, None, unwrap_or}
+use Rattle.std.specs.Prelude.{ℕ, ◌==◌, ◌+◌, ◌%◌, ◌&&◌, ◌||◌, not, Bool, true, false, if◌then◌else◌, List, [], ◌∷◌, find, position, length, map, nat_lt, slice_get, slice_index, slice_set, Option, Some, None, unwrap_or}
+use Rattle.std.specs.List.{list_any}
 use Rattle.diag_setup.specs.declared.raw.PatternItem.{PatternItem}
 use Rattle.diag_setup.specs.declared.raw.PatternItem.TheVariants as pattern
 use Rattle.diag_setup.specs.declared.raw.TemplateItem.{TemplateItem}
@@ -78,6 +79,13 @@ row_for rows access p = find (applies access p) rows
 abbrev pub next_after : AnswerRow → ℕ
 next_after row =
     if length row.templates == 0 then row.next else (row.next + 1) % length row.templates
+
+-- whether a row has its answer go later than at once
+abbrev pub is_late : AnswerRow → Bool
+is_late row = nat_lt 0 row.after_ms
+
+abbrev pub any_late : List AnswerRow → Bool
+any_late rows = list_any is_late rows
 
 abbrev pub moved_on : AnswerRow → AnswerRow
 moved_on row = record row { next = next_after row }

@@ -4,7 +4,7 @@
 ghost use Rattle.std.specs.Prelude.{◌≡◌, ◌≤◌, ◌<◌, ◌+◌, ◌↔◌, IfOk, IsTrue, [], length, map, option_map, option_copied, position, slice_get};
 ghost use Rattle.std.specs.List.{All};
 ghost use Rattle.diag_setup.specs.Fits.{AnswerFits};
-ghost use Rattle.diag_store.specs.Answers.{is_of, fits, row_first, filled_item, filled, template_now, has_reply, applies, place_for, row_for, next_after, rows_moved_on};
+ghost use Rattle.diag_store.specs.Answers.{is_of, any_late, fits, row_first, filled_item, filled, template_now, has_reply, applies, place_for, row_for, next_after, rows_moved_on};
 ghost use Rattle.diag_store.specs.Opening.{answer_row, opening_answers};
 
 use diag_setup::{Items, PatternItem, RawAnswer, Setup, TemplateItem};
@@ -99,6 +99,8 @@ pub struct AnswerRow {
 pub struct Answers {
     rows: Vec<AnswerRow>,
     firsts: Vec<PatternItem>,
+    /// Whether a row has its answer go later than at once.
+    delays: bool,
 }
 
 impl Model for Answers {
@@ -110,10 +112,12 @@ impl Model for Answers {
     ghost view = { λ d. d.rows.items };
 
     ghost use Rattle.std.specs.Prelude.{◌≡◌, ◌≤◌, length, map};
-    ghost use Rattle.diag_store.specs.Answers.{row_first};
+    ghost use Rattle.diag_store.specs.Answers.{any_late, row_first};
 
     ghost invariant = { λ d.
-        (length d.rows.items ≤ 1024) × (d.firsts.items ≡ map row_first d.rows.items) };
+        (length d.rows.items ≤ 1024)
+        × (d.firsts.items ≡ map row_first d.rows.items)
+        × (d.delays ≡ any_late d.rows.items) };
 }
 
 impl Answers {
@@ -129,7 +133,12 @@ impl Answers {
             firsts.push(row.first())?;
             rows.push(row)?;
         }
-        Ok(Answers { rows, firsts })
+        let delays = any_late(&rows);
+        Ok(Answers {
+            rows,
+            firsts,
+            delays,
+        })
     }
 
     /// Another table with the same rows, where memory isn't refused.
@@ -141,7 +150,11 @@ impl Answers {
         for row in &self.rows {
             rows.push(row.try_copy()?)?;
         }
-        Ok(Answers { rows, firsts })
+        Ok(Answers {
+            rows,
+            firsts,
+            delays: self.delays,
+        })
     }
 
     /// Whether there is no row.
@@ -150,6 +163,14 @@ impl Answers {
         ensures { IsTrue result ↔ (self.now ≡ []) }
     {
         self.rows.is_empty()
+    }
+
+    /// Whether a row has its answer go later than at once.
+    #[inline(always)]
+    pub fn any_late(&self) -> bool
+        ensures { result ≡ any_late self.now }
+    {
+        self.delays
     }
 
     /// The first row that applies to a request of a tester that has access to so much, behind its place.
@@ -180,6 +201,12 @@ impl Answers {
     {
         move_on(&mut self.rows, place as usize);
     }
+}
+
+fn any_late(rows: &[AnswerRow]) -> bool
+    ensures { result ≡ any_late rows.now }
+{
+    rows.iter().any(|row| row.after_ms > 0)
 }
 
 /// The place of the first row that applies.

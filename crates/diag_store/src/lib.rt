@@ -15,4 +15,4 @@ pub use dids::{DidFault, DidRow, DidRule, Dids};
 pub use dtcs::{ALL_GROUPS, Dtc, DtcMemory};
 pub use levels::{KeyRow, KeyRows, Level, Levels};
 pub use routines::{Routine, RoutineState, Routines};
-pub use security::{KeyAnswer, Outstanding, Security, SecurityState};
+pub use security::{KeyAnswer, Outstanding, Security, SecurityState, SeedAnswer};

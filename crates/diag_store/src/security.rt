@@ -1,7 +1,7 @@
 //! The security access of the testers: seeds, keys, and the delay after too many wrong keys (ISO 14229-1:2013, 9.4).
 
-ghost use Rattle.std.specs.Prelude.{◌≡◌, ◌≤◌, ◌<◌, false, bytes_eq, is_some, option_copied, replicate, length, Some, IsTrue, IfOk, IfSome};
-ghost use Rattle.diag_store.specs.Security.{IsSecurity, is_unlocked, level_of, key_len, locked, is_delayed, nobody_is_delayed, outstanding_row, seed_at, key_at, next_row, seed_answer, after_seed, is_right_key, key_answer, after_key, after_wrong_key, after_tick, after_ticks};
+ghost use Rattle.std.specs.Prelude.{◌≡◌, ◌≤◌, ◌<◌, false, bytes_eq, is_some, replicate, length, Some, IsTrue, IfOk, IfSome};
+ghost use Rattle.diag_store.specs.Security.{IsSecurity, is_unlocked, level_of, key_len, locked, is_delayed, nobody_is_delayed, outstanding_row, seed_at, key_at, next_row, seed_answer, seed_told, after_seed, is_right_key, key_answer, after_key, after_wrong_key, after_tick, after_ticks};
 ghost use Rattle.diag_store.specs.Opening.{opening_security};
 
 use crate::levels::Levels;
@@ -16,6 +16,15 @@ pub struct Outstanding {
     pub level: u8,
     /// Its row in that level, from 0.
     pub row: u8,
+}
+
+/// The answer to a request for a seed.
+#[derive(Clone, Copy, Debug)]
+pub enum SeedAnswer<'a> {
+    /// requiredTimeDelayNotExpired (0x37): the tester's delay is not over.
+    Delayed,
+    /// The seed, where it stands; zeros where the level is unlocked.
+    Seed(&'a [u8]),
 }
 
 /// The answer to a key.
@@ -70,6 +79,10 @@ impl Model for Security {
 }
 
 impl Security {
+    ghost use Rattle.std.specs.Borrow.{sem};
+    ghost use Rattle.std.specs.Io.BufRead.{Rests};
+    ghost use Rattle.diag_store.specs.contracts.security.Security.{the_row};
+
     /// The levels at the opening, where memory isn't refused: nothing is unlocked, and nobody is delayed.
     pub fn new(alloc: Global, setup: &Setup) -> Result<Security, AllocError>
         ensures { IfOk result (λ security. security ≡ opening_security setup.now) }
@@ -120,22 +133,31 @@ impl Security {
         Some(level.rows.key_len())
     }
 
-    /// Gives a tester the seed of a level, which `seed_answer` tells.
-    pub fn seed(&mut self, who: TesterId, sub: u8)
+    /// Takes a tester's request for the seed of a level.
+    pub fn seed(&mut self, who: TesterId, sub: u8) -> SeedAnswer<'_>
+        requires { IsTrue (is_some (level_of self.old sub)) }
+        ensures answer { seed_told result ≡ seed_answer self.old who sub }
+        ensures* state { sem 𝓛 (Rests the_row self.entry (λ new. new ≡ after_seed self.old who sub)) }
+    {
+        self.give_seed(who, sub);
+        self.seed_answer(who, sub)
+    }
+
+    /// What a request for the seed of a level is answered; nothing changes.
+    pub fn seed_answer(&self, who: TesterId, sub: u8) -> SeedAnswer<'_>
+        requires { IsTrue (is_some (level_of self.now sub)) }
+        ensures same { seed_told result ≡ seed_answer self.now who sub }
+        ensures fits { IfSome (seed_told result) (λ seed. length seed ≤ 255) }
+    {
+        self.state.seed_answer(who, sub)
+    }
+
+    /// Gives a tester the seed of a level, of which `seed_answer` tells the answer.
+    pub fn give_seed(&mut self, who: TesterId, sub: u8)
         requires { IsTrue (is_some (level_of self.old sub)) }
         ensures { self.new ≡ after_seed self.old who sub }
     {
-        self.state.seed(who, sub);
-    }
-
-    /// The seed that a request for one of a level is answered, where it stands; zeros where the level is unlocked. None
-    /// where the tester's delay is not over (requiredTimeDelayNotExpired, 0x37). Nothing changes.
-    pub fn seed_answer(&self, who: TesterId, sub: u8) -> Option<&[u8]>
-        requires { IsTrue (is_some (level_of self.now sub)) }
-        ensures same { option_copied result ≡ seed_answer self.now who sub }
-        ensures fits { IfSome result (λ seed. length seed.now ≤ 255) }
-    {
-        self.state.seed_answer(who, sub)
+        self.state.give_seed(who, sub);
     }
 
     /// Takes a tester's key for a level.
@@ -260,7 +282,7 @@ impl SecurityState {
         }
     }
 
-    fn seed(&mut self, who: TesterId, sub: u8)
+    fn give_seed(&mut self, who: TesterId, sub: u8)
         ensures { self.new ≡ after_seed self.old who sub }
     {
         if self.is_delayed(who) || self.is_unlocked(sub) || self.outstanding_row(sub).is_some() {
@@ -271,21 +293,21 @@ impl SecurityState {
         self.levels.move_on(sub);
     }
 
-    fn seed_answer(&self, who: TesterId, sub: u8) -> Option<&[u8]>
-        ensures same { option_copied result ≡ seed_answer self.now who sub }
-        ensures fits { IfSome result (λ seed. length seed.now ≤ 255) }
+    fn seed_answer(&self, who: TesterId, sub: u8) -> SeedAnswer<'_>
+        ensures same { seed_told result ≡ seed_answer self.now who sub }
+        ensures fits { IfSome (seed_told result) (λ seed. length seed ≤ 255) }
     {
         if self.is_delayed(who) {
-            return None;
+            return SeedAnswer::Delayed;
         }
         if self.is_unlocked(sub) {
-            return Some(zeros(self.seed_at(sub, 0).len()));
+            return SeedAnswer::Seed(zeros(self.seed_at(sub, 0).len()));
         }
         let row = match self.outstanding_row(sub) {
             Some(row) => row,
             None => self.next_row(sub),
         };
-        Some(self.seed_at(sub, row))
+        SeedAnswer::Seed(self.seed_at(sub, row))
     }
 
     fn key_answer(&self, who: TesterId, sub: u8, key: &[u8]) -> KeyAnswer

@@ -3,3 +3,4 @@ pub mod Lines
 pub mod Pieces
 pub mod Items
 pub mod Writing
+pub mod Nothing

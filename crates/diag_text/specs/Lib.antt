@@ -1,3 +1,4 @@
+pub mod Agreed
 pub mod Bytes
 pub mod Faults
 pub mod Taking

@@ -13,4 +13,4 @@ pub use taking::{LineTaker, TakeLines, TakePieces};
 pub use text::{
     counted_text, end_text, journal_part, one_part, play_parts_beside, play_text, replay_text,
 };
-pub use told::{agreement_text, verdict_text};
+pub use told::{agreement_status, agreement_text, verdict_text};

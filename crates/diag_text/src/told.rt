@@ -5,13 +5,15 @@ ghost use Rattle.hex.specs.Hex.{encode_upper};
 ghost use Rattle.diag_setup.specs.Setup.{name_of};
 ghost use Rattle.diag_bus.specs.Comparing.{ComparesLines};
 ghost use Rattle.diag_bus.specs.Verdict.{agreement_text, expected_text, verdict_text};
+ghost use Rattle.diag_text.specs.Agreed.{agreed_status, agreed_text, compares_nothing};
 
 use diag_bus::{Comparisons, Difference, Verdict};
 use diag_can::{FrameBytes, write_hex};
 use diag_setup::{Setup, TesterId};
 use std::alloc::{AllocError, Global};
 
-/// How many frames agree, a line a tester, where the verdict is that all do.
+/// How many frames agree, a line a tester, where the verdict is that all do; and last that nothing was compared, where
+/// the recording has no frame of any tester.
 ///
 /// # Errors
 /// `AllocError` where memory is refused.
@@ -20,6 +22,42 @@ pub fn agreement_text(
     setup: &Setup,
     kept: &Comparisons,
 ) -> Result<Vec<u8>, AllocError>
+    ensures { IfOk result (λ text. (lines : List (List ℕ)) → ComparesLines setup.now kept.now lines
+        → text.items ≡ agreed_text setup.now lines) }
+{
+    let mut text = tester_lines(alloc, setup, kept)?;
+    if compares_nothing(setup, kept) {
+        text.extend_from_slice(b"nothing compared\n")?;
+    }
+    Ok(text)
+}
+
+/// The status that the program ends with, where the verdict is that all frames agree: 9 where there are none, else 0.
+pub fn agreement_status(setup: &Setup, kept: &Comparisons) -> u8
+    ensures { (lines : List (List ℕ)) → ComparesLines setup.now kept.now lines
+        → result ≡ agreed_status setup.now lines }
+{
+    if compares_nothing(setup, kept) { 9 } else { 0 }
+}
+
+/// Whether the recording has no frame of any tester.
+fn compares_nothing(setup: &Setup, kept: &Comparisons) -> bool
+    ensures { (lines : List (List ℕ)) → ComparesLines setup.now kept.now lines
+        → result ≡ compares_nothing setup.now lines }
+{
+    for index in 0..setup.testers() {
+        let Some(who) = setup.who(index) else {
+            unreachable!()
+        };
+        if kept.recorded(who) > 0 {
+            return false;
+        }
+    }
+    true
+}
+
+/// A line for each tester with how many frames agree.
+fn tester_lines(alloc: Global, setup: &Setup, kept: &Comparisons) -> Result<Vec<u8>, AllocError>
     ensures { IfOk result (λ text. (lines : List (List ℕ)) → ComparesLines setup.now kept.now lines
         → text.items ≡ agreement_text setup.now lines) }
 {

@@ -161,14 +161,15 @@ module _ (desk : Run) (items : List Channel) (i : ℕ) {w : WorldState} {who : �
       subst (λ (d : Run). Legal d.opening d.journal → Stands setup (world_of d new) M') (sym took.grown)
       (λ legal. record {
         opening = h0.opening;
-        serves = serves_more setup M J more who e given (world_of desk (map channel_of items)).server (world_of desk1 new).server i c'.port h0.serves is ports
+        serves = serves_more (opening setup) [] setup M J more who e given (world_of desk (map channel_of items)).server (world_of desk1 new).server i c'.port
+            h0.serves is ports
             (subst (λ o. Legal o (J ++ more)) h0.opening legal) (ap (λ o. after o (J ++ more)) h0.opening) next.stands;
         testers = ap length sents ∙ (length-set (map sent (map channel_of items)) i c'.sent ∙ h0.testers);
         frames = λ j frames at. elim (set_cases (map sent (map channel_of items)) i j c'.sent frames (rw sents at at)) [
           | inl p ↦ (
               let place : j + 1 ≡ who = omega (arith, is, p.0) in
-              rw (place, p.1, items_mine M who e, own_more setup M J more who e given) next.all_sent)
-          | inr p ↦ h0.frames j frames p.1 ∙ sym (sent_other setup M J more who e given (j + 1) (other_place i j who is p.0))
+              rw (place, p.1, items_mine M who e, own_more (opening setup) [] setup M J more who e given) next.all_sent)
+          | inr p ↦ h0.frames j frames p.1 ∙ sym (sent_other (opening setup) [] setup M J more who e given (j + 1) (other_place i j who is p.0))
         ];
       })
       took.legal

@@ -1,5 +1,5 @@
 -- What a call at a tester's port says of the server.
-use Rattle.std.proofs.Common.{◌≡◌, ◌<◌, ◌≤◌, ℕ, ◌+◌, ◌-◌, Option, Some, None, List, get_or, length, refl, ap, ap₂, subst, sym, ◌∙◌, arith}
+use Rattle.std.proofs.Common.{◌≡◌, ◌<◌, ◌≤◌, ℕ, ◌+◌, ◌-◌, Option, Some, None, List, [], get_or, length, refl, ap, ap₂, subst, sym, ◌∙◌, arith}
 use Rattle.std.proofs.lemmas.List.{length-map}
 use Rattle.std.proofs.Math.Seq.{map-set_same}
 use Rattle.std.proofs.lemmas.Option.{get_or_from_slice_get, slice_get_read, slice_get-map}
@@ -109,7 +109,7 @@ module _ {ecu : State} {ports : List Port} {now : ServerView} {who i : ℕ} {por
   -- and stands for the tester's part of each run
   pub port_here : EachRun (server_of now) (λ setup M K.
       PortStands (link_of setup who) (pace_of setup) (port_of port) (items_of M who) (own_timed (timed (opening setup) K) who))
-  port_here = λ setup M K h. port_at setup now M K who i port h here.is seen_at
+  port_here = λ setup M K h. port_at (opening setup) [] setup now M K who i port h here.is seen_at
 
   -- and so does its state
   state_there : slice_get (server_of now).ports (who - 1) ≡ Some (port_of port)
@@ -124,6 +124,12 @@ module _ {ecu : State} {ports : List Port} {now : ServerView} {who i : ℕ} {por
   -- and the tester's link is closed
   pub closed_here : closing_time < port.link.state.now → IsClosed (server_of now).ports (who - 1)
   closed_here late = record { port = port_of port; found = state_there; late = late }
+
+  -- and the other way round
+  pub late_there : IsClosed (server_of now).ports (who - 1) → closing_time < port.link.state.now
+  late_there closed =
+      let same : closed.port ≡ port_of port = same_item closed.port (port_of port) _ closed.found state_there in
+      subst (λ (S : PortState). closing_time < S.link.now) same closed.late
 
   -- a port that stands for the same leaves the server what it was
   pub same_here : (ecu' : State) (port' : Port) → port_of port' ≡ port_of port → ecu' ≡ ecu → state_at ecu' (slice_set ports i port') ≡ server_of now

@@ -16,9 +16,11 @@ use Rattle.diag_tp.proofs.Moments.{last_time-frame, last_time-ticks}
 use Rattle.diag_setup.specs.Setup.{link_of}
 use Rattle.diag_setup.specs.declared.raw.RawSetup.{RawSetup}
 use Rattle.diag_desk.specs.declared.entry.Entry.{Entry}
+use Rattle.diag_ecu.specs.State.{State, opening}
 use Rattle.diag_desk.specs.Entries.{asked, asked_by, own}
 use Rattle.diag_desk.specs.Text.{ticks_in, ticks_of}
-use Rattle.diag_world.specs.Server.{ServerState, Serves}
+use Rattle.diag_desk.specs.Timed.{Timed, entries_of}
+use Rattle.diag_world.specs.Server.{ServerState, Serves, ServesFrom}
 use Rattle.diag_world.specs.Weaving.{items_of, steps_of}
 use Rattle.diag_world.proofs.Headlines.{asked_own}
 use Rattle.diag_world.proofs.Interleavings.{interleaving}
@@ -74,6 +76,10 @@ ticks_of_run links M K t run =
     ticks_own K t ∙ (ap (sum_by ticks_in) (own_asks links M K t run) ∙ omega (arith, time))
 
 -- the same of what a server took
+pub ticks_stretched : (opened : State) (T : List Timed) (setup : RawSetup) (server : ServerState) (M : List (ℕ × Event)) (K : List Entry) (t : ℕ)
+    → ServesFrom opened T setup server M K → ticks_of t (entries_of T ++ K) ≡ last_time (items_of M t)
+ticks_stretched opened T setup server M K t h = ticks_of_run (link_of setup) M (entries_of T ++ K) t h.run
+
 pub ticks_served : (setup : RawSetup) (server : ServerState) (M : List (ℕ × Event)) (K : List Entry) (t : ℕ) → Serves setup server M K
     → ticks_of t K ≡ last_time (items_of M t)
-ticks_served setup server M K t h = ticks_of_run (link_of setup) M K t h.run
+ticks_served setup server M K t h = ticks_stretched (opening setup) [] setup server M K t h

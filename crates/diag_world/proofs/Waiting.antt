@@ -7,10 +7,12 @@ use Rattle.diag_can.specs.declared.frame.Event.{Event}
 use Rattle.diag_can.specs.declared.frame.Event.TheVariants.{Ticks}
 use Rattle.diag_pdu.specs.Cut.{counted_from}
 use Rattle.diag_setup.specs.declared.raw.RawSetup.{RawSetup}
+use Rattle.diag_ecu.specs.State.{opening}
 use Rattle.diag_desk.specs.declared.entry.Entry.{Entry}
+use Rattle.diag_desk.specs.Timed.{Timed, timed}
 use Rattle.diag_port.specs.Port.{PortState, port_quiet}
 use Rattle.diag_port.specs.Standing.{entry_of_ticks}
-use Rattle.diag_world.specs.Server.{ServerState, Serves, Settled, Waited, each_of, entries_of_each, quiet_of, sent_to}
+use Rattle.diag_world.specs.Server.{EachStretch, ServerState, ServesFrom, Settled, Waited, each_of, entries_of_each, quiet_of, sent_by}
 use Rattle.diag_world.proofs.Worlds.{set_cases}
 
 -- ---- counting on
@@ -27,11 +29,18 @@ waited_none s count = record {
   many = refl;
   time = λ i port at. (let fits : port.link.now ≤ port.link.now + count = omega arith in (port, at, fits));
   rest = λ i above. refl;
-  served = λ setup M K h. (
-    subst (λ N. Serves setup s N (K ++ [])) (sym (append-nil M)) (subst (λ J. Serves setup s M J) (sym (append-nil K)) h),
-    λ t. ap₂ (λ N J. sent_to setup N J t) (append-nil M) (append-nil K),
-  );
+  served = λ setup M K h. stretched (opening setup) [] setup M K h;
+  stretched = stretched;
 }
+  where
+    stretched : EachStretch s (λ opened T setup M K.
+        ServesFrom opened T setup s (M ++ each_of 0 (Ticks count)) (K ++ entries_of_each 0 count)
+        × ((t : ℕ) → sent_by setup (M ++ each_of 0 (Ticks count)) (T ++ timed opened (K ++ entries_of_each 0 count)) t
+        ≡ sent_by setup M (T ++ timed opened K) t))
+    stretched = λ opened T setup M K h. (
+      subst (λ N. ServesFrom opened T setup s N (K ++ [])) (sym (append-nil M)) (subst (λ J. ServesFrom opened T setup s M J) (sym (append-nil K)) h),
+      λ t. ap₂ (λ N J. sent_by setup N (T ++ timed opened J) t) (append-nil M) (append-nil K),
+    )
 
 -- one tester more
 pub each_more : (n : ℕ) (e : Event) (who : ℕ) → who ≡ n + 1 → each_of (n + 1) e ≡ each_of n e ++ (who, e) ∷ []
@@ -82,27 +91,36 @@ waited_more a b c n who count is w settled =
       ];
       rest = λ i above. ap (λ ls. slice_get ls i) moved.set
           ∙ (get_set_other b.ports (who - 1) i moved.after (λ e. absurd (omega (arith, e, above, is))) ∙ w.rest i (omega (arith, above)));
-      served = λ setup M K h.
-          let before = w.served setup M K h in
-          let M' = M ++ each_of n e in
-          let K' = K ++ entries_of_each n count in
-          let served = settled.served setup M' K' before.0 in
-          let entries : K' ++ entry_of_ticks who count ∷ [] ≡ K ++ entries_of_each (n + 1) count =
-          append_assoc K (entries_of_each n count) (entry_of_ticks who count ∷ []) ∙ ap (λ w. K ++ w) (sym (entries_more n count who is)) in
-          let events : M' ++ (who, e) ∷ [] ≡ M ++ each_of (n + 1) e =
-          append_assoc M (each_of n e) ((who, e) ∷ []) ∙ ap (λ w. M ++ w) (sym (each_more n e who is)) in (
-            subst (λ J. Serves setup c (M ++ each_of (n + 1) e) J) entries (subst (λ N. Serves setup c N (K' ++ entry_of_ticks who count ∷ [])) events served.serves),
-            λ t. subst (λ J. sent_to setup (M ++ each_of (n + 1) e) J t ≡ sent_to setup M K t) entries
-                (subst (λ N. sent_to setup N (K' ++ entry_of_ticks who count ∷ []) t ≡ sent_to setup M K t) events
-                (sent_as setup M' K' (K' ++ entry_of_ticks who count ∷ []) (M' ++ (who, e) ∷ []) who t served.grown served.others ∙ before.1 t)),
-          );
+      served = λ setup M K h. stretched (opening setup) [] setup M K h;
+      stretched = stretched;
     }
   where
-    sent_as : (setup : RawSetup) (M : List (ℕ × Event)) (K K' : List Entry) (M' : List (ℕ × Event)) (who t : ℕ)
-        → sent_to setup M' K' who ≡ sent_to setup M K who ++ []
-        → ((t : ℕ) → (who == t) ≡ false → sent_to setup M' K' t ≡ sent_to setup M K t) → sent_to setup M' K' t ≡ sent_to setup M K t
-    sent_as setup M K K' M' who t mine others = pick (who == t) refl
+    sent_as : (setup : RawSetup) (M : List (ℕ × Event)) (T T' : List Timed) (M' : List (ℕ × Event)) (t : ℕ)
+        → sent_by setup M' T' who ≡ sent_by setup M T who ++ []
+        → ((t : ℕ) → (who == t) ≡ false → sent_by setup M' T' t ≡ sent_by setup M T t) → sent_by setup M' T' t ≡ sent_by setup M T t
+    sent_as setup M T T' M' t mine others = pick (who == t) refl
       where
-        pick : (b : Bool) → (who == t) ≡ b → sent_to setup M' K' t ≡ sent_to setup M K t
-        pick true same = subst (λ u. sent_to setup M' K' u ≡ sent_to setup M K u) (eqb-true who t same) (mine ∙ append-nil (sent_to setup M K who))
+        pick : (b : Bool) → (who == t) ≡ b → sent_by setup M' T' t ≡ sent_by setup M T t
+        pick true same = subst (λ u. sent_by setup M' T' u ≡ sent_by setup M T u) (eqb-true who t same) (mine ∙ append-nil (sent_by setup M T who))
         pick false away = others t away
+
+    stretched : EachStretch a (λ opened T setup M K.
+        ServesFrom opened T setup c (M ++ each_of (n + 1) (Ticks count)) (K ++ entries_of_each (n + 1) count)
+        × ((t : ℕ) → sent_by setup (M ++ each_of (n + 1) (Ticks count)) (T ++ timed opened (K ++ entries_of_each (n + 1) count)) t
+        ≡ sent_by setup M (T ++ timed opened K) t))
+    stretched = λ opened T setup M K h.
+        let before = w.stretched opened T setup M K h in
+        let e = Ticks count in
+        let M' = M ++ each_of n e in
+        let K' = K ++ entries_of_each n count in
+        let more = K' ++ entry_of_ticks who count ∷ [] in
+        let served = settled.stretched opened T setup M' K' before.0 in
+        let entries : more ≡ K ++ entries_of_each (n + 1) count =
+        append_assoc K (entries_of_each n count) (entry_of_ticks who count ∷ []) ∙ ap (λ w. K ++ w) (sym (entries_more n count who is)) in
+        let events : M' ++ (who, e) ∷ [] ≡ M ++ each_of (n + 1) e =
+        append_assoc M (each_of n e) ((who, e) ∷ []) ∙ ap (λ w. M ++ w) (sym (each_more n e who is)) in (
+          subst (λ J. ServesFrom opened T setup c (M ++ each_of (n + 1) e) J) entries (subst (λ N. ServesFrom opened T setup c N more) events served.serves),
+          λ t. subst (λ J. sent_by setup (M ++ each_of (n + 1) e) (T ++ timed opened J) t ≡ sent_by setup M (T ++ timed opened K) t) entries
+              (subst (λ N. sent_by setup N (T ++ timed opened more) t ≡ sent_by setup M (T ++ timed opened K) t) events
+              (sent_as setup M' (T ++ timed opened K') (T ++ timed opened more) (M' ++ (who, e) ∷ []) t served.grown served.others ∙ before.1 t)),
+        )

@@ -12,7 +12,7 @@ use Rattle.diag_ecu.specs.State.{State, opening}
 use Rattle.diag_desk.specs.declared.entry.Entry.{Entry}
 use Rattle.diag_desk.specs.Entries.{asked_by}
 use Rattle.diag_desk.specs.Legal.{Legal, after, after_step, reply_to}
-use Rattle.diag_desk.specs.Timed.{Timed, own_timed, timed, timed_entry}
+use Rattle.diag_desk.specs.Timed.{Timed, entries_of, own_timed, timed, timed_entry}
 use Rattle.diag_port.specs.declared.port.Port.{Port}
 use Rattle.diag_port.specs.Late.{pace_of}
 use Rattle.diag_port.specs.Placing.{drawn}
@@ -42,32 +42,47 @@ abbrev pub quiet_of : List PortState → ℕ
 quiet_of [] = always
 quiet_of (port ∷ ports) = min (port_quiet port) (quiet_of ports)
 
--- The server took the interleaving M, and K is the journal of its run: a legal run from the opening that asks what M
--- gives. The ECU is its end, and each port stands for its tester's part of both, with the delays of the
--- replies, and all frames handed out.
-pub record Serves (setup : RawSetup) (server : ServerState) (M : List (ℕ × Event)) (K : List Entry)
-    : Type 0 where
-  pub legal : Legal (opening setup) K
-  pub ecu : server.ecu ≡ after (opening setup) K
+-- The server took the interleaving M. Behind the entries T, each with its delay, the ECU was set to `opened`, and K is the
+-- journal since then: a legal run from there; T and K together ask what M gives. The ECU is the end of K, and each port
+-- stands for its tester's part of M and of both, with the delays of the replies, and all frames handed out.
+pub record ServesFrom (opened : State) (T : List Timed) (setup : RawSetup) (server : ServerState)
+    (M : List (ℕ × Event)) (K : List Entry) : Type 0 where
+  pub legal : Legal opened K
+  pub ecu : server.ecu ≡ after opened K
   pub testers : length server.ports ≡ length setup.testers
-  pub run : asked_by K ≡ steps_of (link_of setup) M
+  pub run : asked_by (entries_of T ++ K) ≡ steps_of (link_of setup) M
   pub ports : (i : ℕ) (port : PortState) → slice_get server.ports i ≡ Some port
       → PortStands (link_of setup (i + 1)) (pace_of setup) port (items_of M (i + 1))
-      (own_timed (timed (opening setup) K) (i + 1))
+      (own_timed (T ++ timed opened K) (i + 1))
+
+-- The same where nothing set the ECU since the opening of the setup: K is the journal of M, a legal run from the opening
+-- that asks what M gives.
+abbrev pub Serves : RawSetup → ServerState → List (ℕ × Event) → List Entry → Type 0
+Serves setup server M K = ServesFrom (opening setup) [] setup server M K
+
+-- the frames that a tester is sent where these are the entries of M, each with its delay
+abbrev pub sent_by : RawSetup → List (ℕ × Event) → List Timed → ℕ → List Sent
+sent_by setup M T t = drawn (link_of setup t) (pace_of setup) (items_of M t) (own_timed T t)
 
 -- the frames that a tester is sent where the journal of M is K
 abbrev pub sent_to : RawSetup → List (ℕ × Event) → List Entry → ℕ → List Sent
-sent_to setup M K t =
-    drawn (link_of setup t) (pace_of setup) (items_of M t) (own_timed (timed (opening setup) K) t)
+sent_to setup M K t = sent_by setup M (timed (opening setup) K) t
 
 -- a tester's event more, with its entry where it gives one: the tester is sent these frames more, and no other is
-pub record Served (setup : RawSetup) (server : ServerState) (M : List (ℕ × Event)) (K : List Entry)
-    (who : ℕ) (e : Event) (asked : Option Entry) (more : List Sent) : Type 0 where
-  pub serves : Serves setup server (M ++ (who, e) ∷ []) (K ++ option_to_list asked)
-  pub grown : sent_to setup (M ++ (who, e) ∷ []) (K ++ option_to_list asked) who
-      ≡ sent_to setup M K who ++ more
+pub record ServedFrom (opened : State) (T : List Timed) (setup : RawSetup) (server : ServerState)
+    (M : List (ℕ × Event)) (K : List Entry) (who : ℕ) (e : Event) (asked : Option Entry) (more : List Sent)
+    : Type 0 where
+  pub serves : ServesFrom opened T setup server (M ++ (who, e) ∷ []) (K ++ option_to_list asked)
+  pub grown : sent_by setup (M ++ (who, e) ∷ []) (T ++ timed opened (K ++ option_to_list asked)) who
+      ≡ sent_by setup M (T ++ timed opened K) who ++ more
   pub others : (t : ℕ) → (who == t) ≡ false
-      → sent_to setup (M ++ (who, e) ∷ []) (K ++ option_to_list asked) t ≡ sent_to setup M K t
+      → sent_by setup (M ++ (who, e) ∷ []) (T ++ timed opened (K ++ option_to_list asked)) t
+      ≡ sent_by setup M (T ++ timed opened K) t
+
+-- the same where nothing set the ECU since the opening
+abbrev pub Served : RawSetup → ServerState → List (ℕ × Event) → List Entry → ℕ → Event → Option Entry → List Sent
+    → Type 0
+Served setup server M K who e asked more = ServedFrom (opening setup) [] setup server M K who e asked more
 
 -- the last time, in ticks of its link, at which a tester's event is taken
 abbrev pub closing_time : ℕ
@@ -132,6 +147,15 @@ EachRun server P = (setup : RawSetup) (M : List (ℕ × Event)) (K : List Entry)
     → Serves setup server M K
     → P setup M K
 
+-- P holds of each ECU that the server was set to, of the entries before, of the setup, and of each interleaving and
+-- journal that the server stands for
+abbrev pub EachStretch : ServerState
+    → (State → List Timed → RawSetup → List (ℕ × Event) → List Entry → Type 0) → Type 0
+EachStretch server P =
+    (opened : State) (T : List Timed) (setup : RawSetup) (M : List (ℕ × Event)) (K : List Entry)
+    → ServesFrom opened T setup server M K
+    → P opened T setup M K
+
 -- the server took a tester's event with its entry, whose reply is what the ECU answered, and handed out these frames
 pub record Settled (old new : ServerState) (who : ℕ) (e : Event) (asked : Option Entry)
     (more : List Sent) : Type 0 where
@@ -139,6 +163,7 @@ pub record Settled (old new : ServerState) (who : ℕ) (e : Event) (asked : Opti
   pub ecu : new.ecu ≡ after old.ecu (option_to_list asked)
   pub moved : MovedOn old.ports new.ports (who - 1) e asked more
   pub served : EachRun old (λ setup M K. Served setup new M K who e asked more)
+  pub stretched : EachStretch old (λ opened T setup M K. ServedFrom opened T setup new M K who e asked more)
 
 -- A server took a tester's event, and these frames were handed out behind those before; a keeper has its entry, before
 -- which the tester's clock told what it did.
@@ -170,3 +195,14 @@ pub record Waited (old new : ServerState) (n count : ℕ) : Type 0 where
       Serves setup new (M ++ each_of n (Ticks count)) (K ++ entries_of_each n count)
       × ((t : ℕ) → sent_to setup (M ++ each_of n (Ticks count)) (K ++ entries_of_each n count) t
       ≡ sent_to setup M K t))
+  pub stretched : EachStretch old (λ opened T setup M K.
+      ServesFrom opened T setup new (M ++ each_of n (Ticks count)) (K ++ entries_of_each n count)
+      × ((t : ℕ) → sent_by setup (M ++ each_of n (Ticks count)) (T ++ timed opened (K ++ entries_of_each n count)) t
+      ≡ sent_by setup M (T ++ timed opened K) t))
+
+-- The ECU of the server was set to this: a new stretch begins, before which there were the entries so far. The ports are as
+-- before.
+pub record WasSet (old new : ServerState) (set : State) : Type 0 where
+  pub ecu : new.ecu ≡ set
+  pub ports : new.ports ≡ old.ports
+  pub stretched : EachStretch old (λ opened T setup M K. ServesFrom set (T ++ timed opened K) setup new M [])

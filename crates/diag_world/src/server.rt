@@ -17,8 +17,11 @@ ghost use Rattle.std.specs.Prelude.{
   OnOk,
   OnErr,
   slice_get,
+  is_some,
   IsSome,
 };
+ghost use Rattle.diag_store.specs.Dids.{with_value, write_answer};
+ghost use Rattle.diag_store.specs.Dtcs.{status_of, with_status};
 ghost use Rattle.diag_tp.specs.Gives.{gives};
 ghost use Rattle.diag_tp.specs.Moments.{last_time};
 ghost use Rattle.diag_setup.specs.Setup.{link_of};
@@ -28,7 +31,7 @@ ghost use Rattle.diag_port.specs.Standing.{GivesStep};
 ghost use Rattle.std.specs.List.{list_any};
 ghost use Rattle.diag_port.specs.Block.{port_in_block};
 ghost use Rattle.diag_world.specs.Block.{some_in_block};
-ghost use Rattle.diag_world.specs.Server.{closing_time, quiet_of, server_of, AreEarly, EachRun, IsClosed, TesterTook, Serves, ServerTook, TookNothing, Waited};
+ghost use Rattle.diag_world.specs.Server.{closing_time, quiet_of, server_of, AreEarly, EachRun, IsClosed, TesterTook, Serves, ServerTook, TookNothing, Waited, WasSet};
 
 use crate::keeper::Keeper;
 use crate::lazy_link::LazyLink;
@@ -38,6 +41,7 @@ use diag_ecu::Ecu;
 use diag_pdu::{Message, Request};
 use diag_port::{Pace, Port, TakeSteps, take};
 use diag_setup::{Setup, TesterId};
+use diag_store::DidFault;
 use diag_tp::Sent;
 use std::alloc::{AllocError, Global};
 use std::marker::Model;
@@ -121,8 +125,9 @@ impl Server {
     /// Takes an event of a tester, has the entry that it gives kept, and hands out the frames that it draws.
     ///
     /// # Errors
-    /// `Clock` where the tester's link has come to its closing time, `JournalFull` where the keeper can't keep the entry,
-    /// `Memory` where memory is refused. The server and the frames are then as before, and so is what is kept.
+    /// `Clock` exactly where the tester's link has come past its closing time, which is looked at first; `JournalFull` where
+    /// the keeper can't keep the entry, `Memory` where memory is refused. The server and the frames are then as before, and
+    /// so is what is kept.
     #[inline(always)]
     pub fn take<K: Keeper>(
         &mut self,
@@ -147,6 +152,8 @@ impl Server {
             closing_time < last_time (items_of M who)) }
         ensures closed { result ≡ Err ServerFault.Clock
             → IsClosed (server_of self.old).ports (who - 1) }
+        ensures first { IsClosed (server_of self.old).ports (who - 1)
+            → result ≡ Err ServerFault.Clock }
     {
         let index = who.index();
         let lazy = &mut self.links[index];
@@ -205,6 +212,32 @@ impl Server {
     {
         &self.ecu
     }
+
+    /// Gives a data identifier another value, of the length that it has, as the ECU's own software does. It is no step of a
+    /// tester: the law of legal runs speaks of the stretch before it and of the one behind it.
+    ///
+    /// # Errors
+    /// As `Ecu::set_value`.
+    pub fn set_value(&mut self, id: u16, value: &[u8]) -> Result<(), DidFault>
+        ensures answer { result ≡ write_answer self.old.ecu.dids id value.now }
+        ensures ok { OnOk result (WasSet (server_of self.old) (server_of self.new)
+            (record self.old.ecu { dids = with_value self.old.ecu.dids id value.now })) }
+        ensures err { OnErr result (self.new ≡ self.old) }
+        ensures room { self.new.ports ≡ self.old.ports }
+    {
+        self.ecu.set_value(id, value)
+    }
+
+    /// Gives a trouble code another status, as the ECU's own software does; whether the code is known. As `set_value` it is
+    /// no step of a tester.
+    pub fn set_status(&mut self, code: u32, status: u8) -> bool
+        ensures known { result ≡ is_some (status_of self.old.ecu.dtcs code) }
+        ensures set { WasSet (server_of self.old) (server_of self.new)
+            (record self.old.ecu { dtcs = with_status self.old.ecu.dtcs code status }) }
+        ensures room { self.new.ports ≡ self.old.ports }
+    {
+        self.ecu.set_status(code, status)
+    }
 }
 
 /// Whether at one of these links a Consecutive frame of a reply is still to go.
@@ -223,7 +256,7 @@ struct Answering<'a, K> {
 
 impl<'a, K: Keeper> TakeSteps for Answering<'a, K> {
     ghost use Rattle.std.specs.Prelude.{◌≡◌, ◌≤◌, refl};
-    ghost use Rattle.diag_port.specs.Standing.{may_delay};
+    ghost use Rattle.diag_ecu.specs.Respond.{may_delay};
     ghost use Rattle.diag_world.specs.Server.{Answered, closing_time};
 
     ghost allows = { λ _ _ before. before ≤ closing_time };
@@ -244,7 +277,7 @@ impl<'a, K: Keeper> TakeSteps for Answering<'a, K> {
 
     #[inline(always)]
     fn can_delay(&self) -> bool {
-        self.ecu.has_answers()
+        self.ecu.can_delay()
     }
 
     #[inline(always)]
@@ -301,6 +334,7 @@ fn take_at<K: Keeper>(
     ensures full { result ≡ Err ServerFault.JournalFull
         → K.is_full keeper.old × GivesStep port.old.link.state event.now }
     ensures clock { result ≡ Err ServerFault.Clock → closing_time < port.old.link.state.now }
+    ensures first { closing_time < port.old.link.state.now → result ≡ Err ServerFault.Clock }
 {
     if port.now() > CLOSING_TIME {
         return Err(ServerFault::Clock);

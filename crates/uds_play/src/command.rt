@@ -59,6 +59,8 @@ pub enum Output {
     End,
     /// The verdict on the unit's own frames.
     Verdict,
+    /// A line for each exchange; with `differences` those that agree are left out.
+    Exchanges { differences: bool },
 }
 
 /// Why nothing is run.
@@ -179,6 +181,16 @@ fn verify_command<'a>(alloc: Global) -> Result<Command<'a>, AllocError> {
     job_command(alloc, "verify", about, example)?.arg(capture_arg(alloc))
 }
 
+/// The command that tells of each exchange in the recording of a bus, with its flag.
+fn compare_command<'a>(alloc: Global) -> Result<Command<'a>, AllocError> {
+    let about = "Tell of each request in the recording of a whole bus what the unit answered";
+    let example = "Example: uds_play compare demo/setup.toml demo/other_unit.log";
+    let differences = "Leave out the exchanges that agree";
+    job_command(alloc, "compare", about, example)?
+        .arg(capture_arg(alloc))?
+        .arg(flag(alloc, "differences", differences))
+}
+
 /// The command that serves a bus as it goes.
 fn live_command<'a>(alloc: Global) -> Result<Command<'a>, AllocError> {
     let about = "Serve the bus whose lines come by standard input, in the time of the clock";
@@ -202,6 +214,7 @@ fn whole_command<'a>(alloc: Global) -> Result<Command<'a>, AllocError> {
         .subcommand(check_command(alloc)?)?
         .subcommand(bus_command(alloc)?)?
         .subcommand(verify_command(alloc)?)?
+        .subcommand(compare_command(alloc)?)?
         .subcommand(live_command(alloc)?)?
         .subcommand(play_command(
             alloc,
@@ -280,6 +293,9 @@ fn task_of<'a>(alloc: Global, name: &str, words: &ArgMatches<'a>) -> Result<Task
     let output = match name {
         "bus" => output_of(words),
         "verify" => Output::Verdict,
+        "compare" => Output::Exchanges {
+            differences: words.get_flag("differences"),
+        },
         "check" => return Ok(Task::Check),
         "live" => {
             let record = words.get_str("record");

@@ -23,6 +23,7 @@ use crossbeam_channel::{Receiver, bounded};
 use diag_bus::{Comparisons, Journal, NoText, Replies};
 use diag_can::Timing;
 use diag_check::check;
+use diag_comparing::ExchangeLines;
 use diag_live::{Bench, Heard, live};
 use diag_run::{Ending, Job, Outcome, read_config, run_bus_and_tell, run_text};
 use diag_setup::Setup;
@@ -289,6 +290,9 @@ fn run_bus<R: Print + Eprint + Files + Input + AllocGlobal>(
         Output::Journal => run_capture(rt, Journal::new(alloc), capture, notes),
         Output::End => run_capture(rt, NoText, capture, notes),
         Output::Verdict => run_capture(rt, Comparisons::new(alloc), capture, notes),
+        Output::Exchanges { differences } => {
+            run_capture(rt, ExchangeLines::new(alloc, differences), capture, notes)
+        }
     }
 }
 
@@ -361,7 +365,7 @@ fn serve<B: Bench, W: Write, F: Write>(
     record: &mut F,
 ) -> Outcome {
     match live(alloc, setup, bench, out, record) {
-        Ok(()) => Outcome::Done,
+        Ok(()) => Outcome::Done { status: 0 },
         Err(fault) => Outcome::of(alloc, &fault),
     }
 }
@@ -462,7 +466,7 @@ fn print_text(rt: &(impl Print + AllocGlobal), text: Result<Vec<Vec<u8>>, Outcom
         Err(outcome) => return outcome,
     };
     match write_whole(&mut io::writer(rt), parts.as_slice()) {
-        Ok(()) => Outcome::Done,
+        Ok(()) => Outcome::Done { status: 0 },
         Err(_) => Outcome::of(rt.alloc(), &RunFault::Write),
     }
 }
@@ -470,7 +474,7 @@ fn print_text(rt: &(impl Print + AllocGlobal), text: Result<Vec<Vec<u8>>, Outcom
 /// Prints the line of a fault, and says the status.
 fn tell(rt: &impl Eprint, outcome: &Outcome) -> ExitCode {
     match outcome {
-        Outcome::Done => ExitCode::SUCCESS,
+        Outcome::Done { status } => ExitCode::from(*status),
         Outcome::Fault { told, status } => {
             if let Some(told) = told {
                 if let Ok(line) = str::from_utf8(told.as_slice()) {

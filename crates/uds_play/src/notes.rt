@@ -85,7 +85,7 @@ impl Notes<'_> {
         }
         // Where there is no memory, no note tells of it.
         let _ = match outcome {
-            Outcome::Done => self.unseen(rt),
+            Outcome::Done { .. } => self.unseen(rt),
             Outcome::Fault {
                 told: Some(told),
                 status,

@@ -1,7 +1,8 @@
-use Rattle.std.proofs.Common.{◌≡◌, ◌∙◌, ◌++◌, ◌∷◌, [], ap, sym, rules, arith, length, length-append, refl, subst}
+use Rattle.std.proofs.Common.{◌≡◌, ◌+◌, ◌∙◌, ◌++◌, ◌∷◌, [], ap, sym, rules, arith, length, length-append, refl, subst}
 use Rattle.diag_desk.specs.Fault.{FaultAt}
 use Rattle.diag_desk.specs.Text.{text_of}
 use Rattle.diag_desk.proofs.CutText.{cut-joins, one_cut}
+use Rattle.diag_desk.proofs.EntryLemmas.{journal_more}
 use Rattle.diag_desk.proofs.ReadLemmas.{header_fault, stuck_at_end, stuck_at_line, stuck_fault, text_begins, text_more}
 use Rattle.diag_desk.proofs.read.read_lines.Goals as goal
 
@@ -49,4 +50,26 @@ loop-rest-preserved c =
       journal = c.take.ensures.journal;
       text = text ∙ (λ i. text_of (sym took.version i) (sym took.entries i) ++ c.in-Some-cut.after.now);
       number = omega (arith, inv.number, ap length took.entries, length-append c.loop-rest.reader.entries (took.entry ∷ []));
+    }
+
+pub returns-in-Err-Memory-clause-memory : goal.returns-in-Err-Memory-clause-memory
+returns-in-Err-Memory-clause-memory c = λ e.
+    let inv = c.loop-rest.invariant in
+    let old = c.loop-rest.reader in
+    let next = c.in-Err-Memory.ensures.memory c.in-Err-Memory.field-0-is in
+    let room = next.room in
+    let text = text_more old.version old.entries next.entry c.args.text.now c.loop-rest.rest.now c.in-Some-cut.line.now
+    c.in-Some-cut.after.now inv.text
+    (cut-joins 10 _ _ _ c.in-Some-cut.ensures) next.line in
+    record {
+      lines = length old.entries + 2;
+      some = omega arith;
+      begins = record {
+        version = old.version;
+        entries = old.entries ++ next.entry ∷ [];
+        rest = c.in-Some-cut.after.now;
+        journal = journal_more old.entries (old.entries ++ next.entry ∷ []) next.entry inv.journal next.is_entry (λ full. absurd (omega arith)) refl;
+        lines = omega (arith, length-append old.entries (next.entry ∷ []));
+        is = text;
+      };
     }

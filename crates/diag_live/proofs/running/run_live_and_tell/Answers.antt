@@ -1,11 +1,15 @@
+use Rattle.std.proofs.Common.{◌≡◌}
 use Rattle.diag_run.proofs.Told.{not_done, tells_of}
 use Rattle.diag_live.proofs.running.run_live_and_tell.Goals as goal
 
 pub returns-in-Ok-clause-done : goal.returns-in-Ok-clause-done
-returns-in-Ok-clause-done g c _ = (c.run_live.new.config, c.run_live.new.bench, c.in-Ok.ensures.done)
+returns-in-Ok-clause-done g c = (c.run_live.new.config, c.run_live.new.bench, c.in-Ok.ensures.done)
 
 pub returns-clause-done : goal.returns-clause-done
-returns-clause-done g c is = absurd (not_done c.in-Err.fault c.of.result c.of.ensures is)
+returns-clause-done g c = not_done _ c.in-Err.fault c.of.result c.of.ensures
+
+pub returns-clause-status : goal.returns-clause-status
+returns-clause-status g c = not_done (λ status. status ≡ 0) c.in-Err.fault c.of.result c.of.ensures
 
 pub returns-clause-fault : goal.returns-clause-fault
 returns-clause-fault g c =

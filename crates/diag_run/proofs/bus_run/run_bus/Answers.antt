@@ -19,7 +19,7 @@ returns-in_err-bus-clause-fault g c =
 pub returns-in-Ok-clause-done : goal.returns-in-Ok-clause-done
 returns-in-Ok-clause-done g c =
     followed g.S.Sink g.S.Sink.took g.S.Sink.aim g.S.Sink.written g.S.Ending.ends (wanted g.S.Sink.written g.S.Ending.ends g.S.Sink.aim c.args.sink) _ c.in_ok-setup.setup _ (want_same g.S.Sink g.S.Sink.took g.S.Sink.aim g.S.Sink.written g.S.Ending.ends g.met.S.Ending.ends_as_asked c.in_ok-bus.bus.sink c.args.sink c.in_ok-bus.ensures.aim) c.in_ok-bus.ensures.setup _ _ _ _ _ _ c.in_ok-setup.ensures.says
-    c.in-Ok.ensures.done
+    c.in-Ok.status c.in-Ok.ensures.done
 
 pub returns-in-Err-clause-fault : goal.returns-in-Err-clause-fault
 returns-in-Err-clause-fault g c =

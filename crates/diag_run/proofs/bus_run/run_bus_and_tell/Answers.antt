@@ -2,10 +2,10 @@ use Rattle.diag_run.proofs.Told.{not_done, tells_of}
 use Rattle.diag_run.proofs.bus_run.run_bus_and_tell.Goals as goal
 
 pub returns-in-Ok-clause-done : goal.returns-in-Ok-clause-done
-returns-in-Ok-clause-done g c _ = (c.run_bus.new.config, c.run_bus.new.capture, c.in-Ok.ensures.done)
+returns-in-Ok-clause-done g c = (c.run_bus.new.config, c.run_bus.new.capture, c.in-Ok.ensures.done)
 
 pub returns-clause-done : goal.returns-clause-done
-returns-clause-done g c is = absurd (not_done c.in-Err.fault c.of.result c.of.ensures is)
+returns-clause-done g c = not_done _ c.in-Err.fault c.of.result c.of.ensures
 
 pub returns-clause-fault : goal.returns-clause-fault
 returns-clause-fault g c =

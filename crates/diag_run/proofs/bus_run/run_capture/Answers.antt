@@ -1,5 +1,5 @@
 use Rattle.std.proofs.Common.{take}
-use Rattle.std.proofs.lemmas.Result.{IfErr-weaker, err_from_is_err_and, on_ok_weaker}
+use Rattle.std.proofs.lemmas.Result.{IfErr-weaker, IfOk-weaker, err_from_is_err_and}
 use Rattle.diag_run.proofs.Following.{first_read_fails, first_refused, followed_from, stops_from, stops_from_end, then_on, then_stops}
 use Rattle.diag_run.proofs.Pieces.{halts_within}
 use Rattle.diag_run.proofs.bus_run.run_capture.Goals as goal
@@ -26,7 +26,7 @@ returns-in_err-take_piece-clause-fault g c =
 
 pub returns-then-count-eq0-clause-done : goal.returns-then-count-eq0-clause-done
 returns-then-count-eq0-clause-done g c =
-    on_ok_weaker c.finish.result
+    IfOk-weaker c.finish.result _ _
     (followed_from g.S.Sink g.S.Sink.took g.S.Sink.aim g.S.Sink.written g.S.Ending.ends c.in_ok-taking.taking c.args.bus c.in_ok-taking.ensures.bus c.in_ok-taking.ensures.stands _ _ _ _
     (take c.in_ok-count.count c.read_piece.new.buffer) c.in_ok-count.ensures.read
     c.take_piece.new.self _ c.in_ok-take_piece.ensures.ok (c.in_ok-count.ensures.end c.if-count-eq0.true) c.finish.new.self) c.finish.ensures.ok
@@ -52,7 +52,7 @@ returns-clause-done g c =
     let taking = c.in_ok-taking.taking in
     let whole = then_on g.S.Sink g.S.Sink.took g.S.Sink.aim g.S.Sink.written g.S.Ending.ends taking c.take_piece.new.self _ _ _ _ _ _ (take c.in_ok-count.count c.read_piece.new.buffer) c.in_ok-count.ensures.read
     c.in_ok-take_piece.ensures.ok c.follow.new.taking c.in_ok-follow.ensures.ok in
-    on_ok_weaker c.finish-2.result
+    IfOk-weaker c.finish-2.result _ _
     (followed_from g.S.Sink g.S.Sink.took g.S.Sink.aim g.S.Sink.written g.S.Ending.ends taking c.args.bus c.in_ok-taking.ensures.bus c.in_ok-taking.ensures.stands _ _ _ _ whole.0 whole.1 c.follow.new.taking _ whole.2
     c.in_ok-follow.ensures.end c.finish-2.new.self) c.finish-2.ensures.ok
 

@@ -1,13 +1,13 @@
 use Rattle.std.proofs.Common.{◌≡◌, ℕ, List}
-use Rattle.std.proofs.lemmas.Result.{IfErr-weaker, on_ok_weaker}
+use Rattle.std.proofs.lemmas.Result.{IfErr-weaker, IfOk-weaker}
 use Rattle.diag_bus.specs.Bus.{TookLines}
 use Rattle.diag_run.specs.Wanted.{EndsAs}
 use Rattle.diag_run.proofs.Endings.{end_fault, ends_seen}
 use Rattle.diag_run.proofs.capture.add_end.Goals as goal
 
 pub returns-clause-ok : goal.returns-clause-ok
-returns-clause-ok g c = on_ok_weaker c.add_end.result
-    (λ added. record {
+returns-clause-ok g c = IfOk-weaker c.add_end.result _ _
+    (λ status added. record {
       more = added.more;
       grown = added.grown;
       holds = λ lines h. ends_seen g.S.Sink.took g.S.Ending.ends c.args.bus.now.sink c.sink.result.now c.args.bus.now.setup c.setup.result.now _ _

@@ -21,3 +21,13 @@ returns-clause-ok c = λ past f.
         play = c.in-Ok.ensures past number f.play;
       };
     }
+
+pub returns-in-Err-clause-memory : goal.returns-in-Err-clause-memory
+returns-in-Err-clause-memory c = λ e past f.
+    let count = f.count in
+    record {
+      entry = line_entry c.in-Some.entry;
+      is_entry = c.in-Some.ensures.entry;
+      room = omega arith;
+      line = c.in-Some.ensures.some past f.clocks;
+    }

@@ -1,6 +1,6 @@
 use Rattle.std.proofs.Common.{rules, ap, ◌∙◌}
 use Rattle.diag_gate.specs.Seats.{SeatView}
-use Rattle.diag_gate.specs.Views.{has_answers}
+use Rattle.diag_ecu.specs.Respond.{may_delay}
 use Rattle.diag_gate.proofs.Delays.{seat_at_once}
 use Rattle.diag_gate.proofs.door.GateDoorDoor.step.Goals as goal
 
@@ -12,4 +12,4 @@ returns-clause-given g c = search rules
 
 pub returns-clause-at_once : goal.returns-clause-at_once
 returns-clause-at_once g c = λ none. seat_at_once c.self.inside.seat c.step.new.seat c.args.step.now c.step.result c.step.ensures.made
-    (ap (λ (s : SeatView). has_answers s.opening) c.self.view_is ∙ none)
+    (ap (λ (s : SeatView). may_delay s.opening) c.self.view_is ∙ none)

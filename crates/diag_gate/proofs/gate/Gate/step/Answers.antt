@@ -1,6 +1,6 @@
 use Rattle.std.proofs.Common.{ℕ, sym, ap, ◌∙◌, subst, MatchResult}
 use Rattle.diag_gate.specs.Seats.{SeatView, Finds, Answered, IsSeat, Refused, seat_of, waited}
-use Rattle.diag_gate.specs.Views.{has_answers}
+use Rattle.diag_ecu.specs.Respond.{may_delay}
 use Rattle.diag_gate.proofs.Steps.{made_of, same_opening}
 use Rattle.diag_gate.proofs.gate.Gate.step.Goals as goal
 use Rattle.diag_gate.proofs.gate.Gate.step.Goals.{After-work}
@@ -35,5 +35,5 @@ invariant_of-seat g c =
     let opening = same_opening (start g w) (seat_of c.seat.inside.who c.work.new.place) c.args.step.now c.work.result (made g w)
     ∙ ap (λ (s : SeatView). s.opening) (sym c.seat.view_is) in (
       subst (λ (who : ℕ). IsSeat who c.work.new.place.spot.me) (sym c.loop.invariant.same.0) c.work.ensures.seat,
-      c.loop.invariant.delays ∙ c.seat.invariant.1 ∙ ap has_answers (sym opening),
+      c.loop.invariant.delays ∙ c.seat.invariant.1 ∙ ap may_delay (sym opening),
     )

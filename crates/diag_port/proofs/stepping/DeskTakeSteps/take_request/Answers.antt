@@ -5,7 +5,7 @@ use Rattle.diag_desk.specs.Legal.{Run, after}
 use Rattle.diag_desk.specs.Timed.{last_delay, timed}
 use Rattle.diag_desk.proofs.TimedLemmas.{last_entered}
 use Rattle.diag_port.specs.Standing.{timed_asks}
-use Rattle.diag_port.proofs.Delays.{none_later}
+use Rattle.diag_ecu.proofs.Delays.{none_later}
 use Rattle.diag_port.proofs.stepping.DeskTakeSteps.take_request.Goals as goal
 use Rattle.diag_port.proofs.stepping.DeskTakeSteps.take_request.Goals.{After-after_ms}
 

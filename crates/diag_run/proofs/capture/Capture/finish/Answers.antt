@@ -3,7 +3,7 @@ use Rattle.std.specs.Prelude.{◌==◌}
 use Rattle.std.proofs.KnownBytes.{Appends-trans}
 use Rattle.std.proofs.lemmas.Bool.Decides.{nat_tests}
 use Rattle.std.proofs.lemmas.List.{nil_from_length}
-use Rattle.std.proofs.lemmas.Result.{IfErr-weaker, err_from_is_err_and, on_ok_weaker}
+use Rattle.std.proofs.lemmas.Result.{IfErr-weaker, IfOk-weaker, err_from_is_err_and}
 use Rattle.diag_run.proofs.Pieces.{closes_begun, closes_ended, cut_begun, halts_begun, halts_ended}
 use Rattle.diag_run.proofs.capture.Capture.finish.Goals as goal
 
@@ -16,7 +16,7 @@ some_kept kept is tested = grind (arith, nat_tests)
 pub returns-then-is_empty-clause-ok : goal.returns-then-is_empty-clause-ok
 returns-then-is_empty-clause-ok g c =
     let none = none_kept c.args.self.now.kept c.is_empty.ensures c.if-is_empty.true in
-    on_ok_weaker c.close.result (λ s. (s.0, s.1, closes_ended g.S.Sink g.S.Sink.took g.S.Sink.aim g.S.Sink.written g.S.Ending.ends c.args.self.now none c.close.new.self s.0 s.2)) c.close.ensures.ok
+    IfOk-weaker c.close.result _ _ (λ status s. (s.0, s.1, closes_ended g.S.Sink g.S.Sink.took g.S.Sink.aim g.S.Sink.written g.S.Ending.ends c.args.self.now none c.close.new.self status s.0 s.2)) c.close.ensures.ok
 
 pub returns-then-is_empty-clause-err : goal.returns-then-is_empty-clause-err
 returns-then-is_empty-clause-err g c =
@@ -35,12 +35,12 @@ returns-clause-ok g c =
     let begun = some_kept c.args.self.now.kept c.is_empty.ensures c.if-is_empty.false in
     let on = c.in_ok-take_line.ensures.ok in
     let mid = c.take_line.new.self in
-    on_ok_weaker c.close-2.result
-    (λ s. (
+    IfOk-weaker c.close-2.result _ _
+    (λ status s. (
       on.0 ++ s.0,
       Appends-trans _ _ _ on.0 s.0 on.1 s.1,
-      closes_begun g.S.Sink g.S.Sink.took g.S.Sink.aim g.S.Sink.written g.S.Ending.ends c.args.self.now begun mid on.0 on.2 c.close-2.new.self s.0
-          (closes_ended g.S.Sink g.S.Sink.took g.S.Sink.aim g.S.Sink.written g.S.Ending.ends mid c.in_ok-take_line.ensures.kept c.close-2.new.self s.0 s.2),
+      closes_begun g.S.Sink g.S.Sink.took g.S.Sink.aim g.S.Sink.written g.S.Ending.ends c.args.self.now begun mid on.0 on.2 c.close-2.new.self status s.0
+          (closes_ended g.S.Sink g.S.Sink.took g.S.Sink.aim g.S.Sink.written g.S.Ending.ends mid c.in_ok-take_line.ensures.kept c.close-2.new.self status s.0 s.2),
     ))
     c.close-2.ensures.ok
 

@@ -1,5 +1,5 @@
-use Rattle.std.proofs.Common.{◌++◌, Ok, ap, sym, ◌∙◌}
-use Rattle.diag_run.specs.Wanted.{judged_by}
+use Rattle.std.proofs.Common.{ℕ, List, ◌++◌, Ok, ap, ap₂, sym, ◌∙◌}
+use Rattle.diag_run.specs.Wanted.{end_with, judged_by}
 use Rattle.diag_run.proofs.ending.ComparisonsEnding.add_end.Goals as goal
 
 pub returns-in_ok-extend_from_slice-in-Agrees-clause-ok : goal.returns-in_ok-extend_from_slice-in-Agrees-clause-ok
@@ -9,5 +9,6 @@ returns-in_ok-extend_from_slice-in-Agrees-clause-ok c =
     record {
       more = agreed.items;
       grown = c.in_ok-extend_from_slice-in-Agrees.ensures.items ∙ ap (λ w. c.args.text.now.items ++ w) c.as_slice.ensures.value;
-      holds = λ lines took ecu. ap (judged_by setup lines) (sym (c.in-Agrees.ensures lines took)) ∙ ap (λ w. Ok w) (sym (c.in_ok-agreed-in-Agrees.ensures lines took));
+      holds = λ lines took ecu. ap (judged_by setup lines) (sym (c.in-Agrees.ensures lines took))
+          ∙ ap₂ (λ (w : List ℕ) n. Ok (end_with w n)) (sym (c.in_ok-agreed-in-Agrees.ensures lines took)) (sym (c.agreement_status.ensures lines took));
     }

@@ -1,6 +1,6 @@
 use Rattle.std.proofs.Common.{rules, ap, ◌∙◌}
 use Rattle.diag_ecu.specs.declared.effect.Decision.{Decision}
-use Rattle.diag_port.proofs.Delays.{none_later}
+use Rattle.diag_ecu.proofs.Delays.{none_later}
 use Rattle.diag_world.proofs.server.AnsweringTakeSteps.take_request.Goals as goal
 
 pub returns-clause-took : goal.returns-clause-took

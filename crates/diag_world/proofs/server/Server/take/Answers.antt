@@ -8,7 +8,7 @@ use Rattle.diag_world.specs.Server.{ServerTook, server_of, state_at}
 use Rattle.diag_world.specs.Weaving.{items_of}
 use Rattle.diag_world.specs.declared.lazy_link.LazyLink.{LazyLink}
 use Rattle.diag_world.proofs.Lazy.{caught_still, caught_told, seen_after, seen_links, set_lazy, told_after}
-use Rattle.diag_world.proofs.Tester.{IsAt, closed_here, late_here, lazy_at, port_here, port_there, same_here, took_here}
+use Rattle.diag_world.proofs.Tester.{IsAt, closed_here, late_here, late_there, lazy_at, port_here, port_there, same_here, took_here}
 use Rattle.diag_world.proofs.server.Server.take.Given.{Over}
 use Rattle.diag_world.proofs.server.Server.take.Goals as goal
 use Rattle.diag_world.proofs.server.Server.take.Goals.{After-take_at}
@@ -79,3 +79,6 @@ returns-clause-clock g c = λ e. late_here (here g (goal.at.returns-clause-clock
 
 pub returns-clause-closed : goal.returns-clause-closed
 returns-clause-closed g c = λ e. closed_here (here g (goal.at.returns-clause-closed g c).After-take_at) (c.take_at.ensures.clock e)
+
+pub returns-clause-first : goal.returns-clause-first
+returns-clause-first g c = λ closed. c.take_at.ensures.first (late_there (here g (goal.at.returns-clause-first g c).After-take_at) closed)

@@ -1,0 +1,5 @@
+pub mod Ends
+pub mod Entering
+pub mod LineEnds
+pub mod Lines
+pub mod Takings

@@ -1,0 +1,13 @@
+//! The lines of exchanges of a recording, written as the capture goes by.
+#![tactic(auto)]
+
+mod ending;
+mod exchange_lines;
+mod laws;
+mod run_end;
+mod sink;
+mod stamps;
+mod telling;
+
+pub use exchange_lines::ExchangeLines;
+pub use laws::compared_law;

@@ -1,0 +1,90 @@
+//! The lines of exchanges, written.
+
+ghost use Rattle.std.specs.Prelude.{◌≡◌, ◌++◌, OnOk};
+ghost use Rattle.std.specs.List.{flat_map};
+ghost use Rattle.diag_setup.specs.Rows.{in_order};
+ghost use Rattle.diag_setup.specs.Setup.{name_of};
+ghost use Rattle.diag_comparing.specs.Keeping.{line_at, lines_at, told_number, written_at};
+
+use crate::stamps::Stamps;
+use diag_judge::Told;
+use diag_setup::{Setup, TesterId};
+use diag_told::{place, tell};
+use std::alloc::AllocError;
+
+/// A tester's name; none where the setup has no such tester.
+fn name_of(setup: &Setup, who: TesterId) -> &[u8]
+    ensures { result.now ≡ name_of setup.now who }
+{
+    if usize::from(who.place()) <= setup.testers() {
+        setup.name(who)
+    } else {
+        &[]
+    }
+}
+
+/// Puts exchanges in the order of their lines, those of one line as they stand.
+fn sort(batch: &mut Vec<Told>) -> Result<(), AllocError>
+    ensures { OnOk result (batch.new.items ≡ in_order told_number batch.old.items) }
+{
+    batch.sort_by_key(|told| place(&told.over).line)?;
+    Ok(())
+}
+
+/// Adds the line of an exchange.
+fn add_line(
+    setup: &Setup,
+    stamps: &Stamps,
+    told: &Told,
+    text: &mut Vec<u8>,
+) -> Result<(), AllocError>
+    ensures { OnOk result (text.new.items ≡ text.old.items ++ line_at setup.now stamps.now told.now) }
+{
+    let at = place(&told.over);
+    let moment = stamps.moment(at.line, at.moment)?;
+    tell(
+        text,
+        name_of(setup, told.who),
+        moment,
+        &told.over,
+        told.agrees,
+    )
+}
+
+/// Adds the line of an exchange, unless it is left out.
+fn write_one(
+    setup: &Setup,
+    stamps: &Stamps,
+    differences: bool,
+    told: &Told,
+    text: &mut Vec<u8>,
+) -> Result<(), AllocError>
+    ensures { OnOk result (text.new.items
+        ≡ text.old.items ++ written_at setup.now stamps.now differences told.now) }
+{
+    if differences && told.agrees {
+        return Ok(());
+    }
+    add_line(setup, stamps, told, text)
+}
+
+/// Adds the lines of exchanges, in the order of their lines; with `differences` those that agree are left out.
+///
+/// # Errors
+/// `AllocError` where memory is refused.
+pub(crate) fn write_batch(
+    setup: &Setup,
+    stamps: &Stamps,
+    differences: bool,
+    batch: &mut Vec<Told>,
+    text: &mut Vec<u8>,
+) -> Result<(), AllocError>
+    ensures { OnOk result (text.new.items
+        ≡ text.old.items ++ lines_at setup.now stamps.now differences batch.old.items) }
+{
+    sort(batch)?;
+    for told in batch.as_slice() {
+        write_one(setup, stamps, differences, told, text)?;
+    }
+    Ok(())
+}

@@ -1,0 +1,225 @@
+//! A tester of a recording.
+
+ghost use Rattle.std.specs.Prelude.{◌≡◌, ◌+◌, [], ◌∷◌, ◌++◌, List, map, option_copied, OnOk, IfOk};
+ghost use Rattle.diag_exchange.specs.Agreeing.{agrees};
+ghost use Rattle.diag_exchange.specs.declared.happening.Over.{Over as AnOver};
+ghost use Rattle.diag_judge.specs.Judging.{AreCounts, EndsCounted, EndsTold, HearsLine, HearsRequests, Judges, JudgesLine, told_for};
+
+use diag_can::FrameBytes;
+use diag_exchange::{Over, Place};
+use diag_expect::Entered;
+use diag_listen::Listener;
+use diag_pdu::LinkSetup;
+use diag_setup::{Setup, TesterId};
+use std::alloc::{AllocError, Global};
+use std::mem;
+
+/// An exchange of a tester that is over.
+#[derive(Drop)]
+pub struct Told {
+    /// The tester.
+    pub who: TesterId,
+    /// The exchange.
+    pub over: Over,
+    /// Whether it agrees.
+    pub agrees: bool,
+}
+
+/// What is counted of exchanges.
+#[derive(Clone, Copy, Drop)]
+pub struct Counts {
+    /// How many they are.
+    pub count: u64,
+    /// How many of them differ.
+    pub differ: u64,
+    /// Whether there is a message of the unit to compare.
+    pub compared: bool,
+}
+
+/// A tester of a recording: its exchanges, and how many were over.
+#[derive(Drop)]
+pub struct Tester {
+    /// The unit's side, and the exchanges that aren't over.
+    pub listener: Listener,
+    /// The requests of the line that is under way.
+    pub entered: Vec<Entered>,
+    /// What is counted of the exchanges that were over.
+    pub counts: Counts,
+}
+
+/// Hears requests that are complete at a line; what is over with them is put behind `over`.
+fn hear_requests(
+    listener: &mut Listener,
+    alloc: Global,
+    setup: &Setup,
+    at: Place,
+    entered: Vec<Entered>,
+    over: &mut Vec<Over>,
+) -> Result<(), AllocError>
+    ensures heard { OnOk result (HearsRequests setup.now at listener.old listener.new over.old.items over.new.items
+        entered.items) }
+    ensures side { listener.new.side ≡ listener.old.side }
+{
+    for one in entered {
+        let request = one.into_request(alloc, setup, at)?;
+        listener.ask(request, over)?;
+    }
+    Ok(())
+}
+
+/// The number behind this one.
+fn next(number: u64) -> Result<u64, AllocError>
+    ensures { IfOk result (λ next. next ≡ number + 1) }
+{
+    number.checked_add(1).ok_or(AllocError)
+}
+
+impl Tester {
+    /// A tester that heard nothing, whose frames are read by these settings.
+    pub fn new(alloc: Global, side: LinkSetup) -> Tester
+        ensures judges { Judges result [] [] }
+        ensures entered { result.entered.items ≡ [] }
+        ensures side { result.listener.side ≡ side }
+    {
+        Tester {
+            listener: Listener::new(alloc, side),
+            entered: Vec::new(alloc),
+            counts: Counts::new(),
+        }
+    }
+
+    /// Takes a request of the line that is under way.
+    ///
+    /// # Errors
+    /// `AllocError` where memory is refused.
+    pub fn enter(&mut self, entered: Entered) -> Result<(), AllocError>
+        ensures entered { OnOk result (self.new.entered.items ≡ self.old.entered.items ++ entered ∷ []) }
+        ensures listener { self.new.listener ≡ self.old.listener }
+        ensures counts { self.new.counts ≡ self.old.counts }
+    {
+        self.entered.push(entered)?;
+        Ok(())
+    }
+
+    /// Takes the end of a line: so many milliseconds, the requests that were entered, and a frame of the unit, where the
+    /// line has one. What is over with it is put behind `told`.
+    ///
+    /// # Errors
+    /// `AllocError` where memory is refused; of what was taken nothing is said then.
+    pub fn take_line(
+        &mut self,
+        alloc: Global,
+        setup: &Setup,
+        who: TesterId,
+        at: Place,
+        span: u64,
+        frame: Option<&FrameBytes>,
+        told: &mut Vec<Told>,
+    ) -> Result<(), AllocError>
+        ensures judges { OnOk result (JudgesLine setup.now at who self.old self.new told.old.items told.new.items span
+            (option_copied frame.entry)) }
+        ensures entered { OnOk result (self.new.entered.items ≡ []) }
+        ensures side { self.new.listener.side ≡ self.old.listener.side }
+    {
+        let mut over = Vec::new(alloc);
+        self.hear(alloc, setup, at, span, frame, &mut over)?;
+        self.counts.judge(alloc, who, over, told)
+    }
+
+    /// Hears a line.
+    fn hear(
+        &mut self,
+        alloc: Global,
+        setup: &Setup,
+        at: Place,
+        span: u64,
+        frame: Option<&FrameBytes>,
+        over: &mut Vec<Over>,
+    ) -> Result<(), AllocError>
+        ensures heard { OnOk result (HearsLine setup.now at self.old.listener self.new.listener over.old.items over.new.items
+            span self.old.entered.items (option_copied frame.entry)) }
+        ensures entered { OnOk result (self.new.entered.items ≡ []) }
+        ensures side { self.new.listener.side ≡ self.old.listener.side }
+        ensures counts { self.new.counts ≡ self.old.counts }
+    {
+        self.listener.wait(at, span, over)?;
+        let entered = mem::replace(&mut self.entered, Vec::new(alloc));
+        hear_requests(&mut self.listener, alloc, setup, at, entered, over)?;
+        match frame {
+            Some(frame) => self.listener.take(at, frame, over),
+            None => Ok(()),
+        }
+    }
+
+    /// Where all was taken, what is counted of all exchanges; those that aren't over are put behind `told`.
+    ///
+    /// # Errors
+    /// `AllocError` where memory is refused.
+    pub fn end(
+        &self,
+        alloc: Global,
+        who: TesterId,
+        told: &mut Vec<Told>,
+    ) -> Result<Counts, AllocError>
+        ensures told { OnOk result (EndsTold self.now who told.old.items told.new.items) }
+        ensures counts { IfOk result (EndsCounted self.now) }
+    {
+        let mut over = Vec::new(alloc);
+        self.listener.left(alloc, &mut over)?;
+        let mut counts = self.counts;
+        counts.judge(alloc, who, over, told)?;
+        Ok(counts)
+    }
+}
+
+impl Counts {
+    /// Nothing was counted.
+    fn new() -> Counts
+        ensures { AreCounts result [] }
+    {
+        Counts {
+            count: 0,
+            differ: 0,
+            compared: false,
+        }
+    }
+
+    /// Counts what is over, and tells it.
+    fn judge(
+        &mut self,
+        alloc: Global,
+        who: TesterId,
+        over: Vec<Over>,
+        told: &mut Vec<Told>,
+    ) -> Result<(), AllocError>
+        ensures told { OnOk result
+            (told.new.items ≡ told.old.items ++ map (told_for who) over.items) }
+        ensures counts { OnOk result ((before : List AnOver) → AreCounts self.old before
+            → AreCounts self.new (before ++ over.items)) }
+    {
+        for one in over {
+            let agrees = one.agrees(alloc)?;
+            self.note(&one, agrees)?;
+            told.push(Told {
+                who,
+                over: one,
+                agrees,
+            })?;
+        }
+        Ok(())
+    }
+
+    /// Counts an exchange that is over.
+    fn note(&mut self, over: &Over, same: bool) -> Result<(), AllocError>
+        requires { same ≡ agrees over.now }
+        ensures { OnOk result ((before : List AnOver) → AreCounts self.old before
+            → AreCounts self.new (before ++ over.now ∷ [])) }
+    {
+        self.count = next(self.count)?;
+        if !same {
+            self.differ = next(self.differ)?;
+        }
+        self.compared = self.compared || over.is_compared();
+        Ok(())
+    }
+}
