@@ -20,7 +20,7 @@ import tempfile
 import time
 
 sys.dont_write_bytecode = True
-from runs import NAMES, PROGRAM, TOP, peak_memory, setup, stamped, turn
+from runs import NAMES, PROGRAM, TOP, peak_memory, quiet, setup, stamped, turn
 
 # as many lines as make a journal that `serial` can hold, which gives each tester's ticks an entry of their own
 LINES = 250_000
@@ -50,7 +50,7 @@ def seconds(words):
     runs = []
     for _ in range(3):
         begun = time.monotonic()
-        ran = subprocess.run([PROGRAM, *words], stdout=subprocess.DEVNULL, check=False)
+        ran = subprocess.run(quiet(PROGRAM, words), stdout=subprocess.DEVNULL, check=False)
         runs.append(time.monotonic() - begun)
         if ran.returncode:
             sys.exit(f"bus: {' '.join(words)} ended with status {ran.returncode}")
@@ -86,7 +86,7 @@ def moment_of(line):
 def recording(room, config, testers):
     """Writes what was asked and what `bus` answers to it, in the order of the milliseconds."""
     whole = write(f"{room}/asked", asked(testers))
-    answers = subprocess.run([PROGRAM, "bus", config, whole], stdout=subprocess.PIPE, check=True).stdout.decode()
+    answers = subprocess.run(quiet(PROGRAM, ["bus", config, whole]), stdout=subprocess.PIPE, check=True).stdout.decode()
     lines = [*asked(testers), *answers.splitlines(True)]
     return write(f"{room}/recording", sorted(lines, key=moment_of)), len(lines)
 
@@ -108,7 +108,7 @@ def feed(child, lines):
 
 
 def measure_memory(config, flags, lines):
-    child = subprocess.Popen([PROGRAM, "bus", *flags, config], stdin=subprocess.PIPE, stdout=subprocess.DEVNULL, bufsize=1 << 16)
+    child = subprocess.Popen(quiet(PROGRAM, ["bus", *flags, config]), stdin=subprocess.PIPE, stdout=subprocess.DEVNULL, bufsize=1 << 16)
     feed(child, capture(8, lines))
     peak = peak_memory(child)
     child.stdin.close()

@@ -11,6 +11,7 @@ built first where that is needed.
 A log is a mixed one: of twelve lines, three are of other identifiers, two are ticks, and the rest are tester present, a read that
 is answered in one frame, a read of the identification with its flow control, a write in two frames, and a functional request.
 """
+import functools
 import os
 import re
 import subprocess
@@ -60,6 +61,17 @@ def peak_memory(child):
     return int(told[1]) if told else 0
 
 
+@functools.cache
+def has_notes(program):
+    """Whether a program writes notes, and so can leave them out."""
+    return subprocess.run([program, "--quiet", "--version"], stdout=subprocess.DEVNULL, stderr=subprocess.DEVNULL, check=False).returncode == 0
+
+
+def quiet(program, words):
+    """The words that run a program without notes, for which it would read its files once more."""
+    return [program, *(["--quiet"] if has_notes(program) else []), *words]
+
+
 def watched(words, each=0.001, out=subprocess.DEVNULL):
     """Runs the words, and returns the seconds that this took and the most memory in KiB, looked at each so many seconds."""
     begun, peak = time.monotonic(), 0
@@ -74,7 +86,7 @@ def watched(words, each=0.001, out=subprocess.DEVNULL):
 
 def run(words):
     """Returns the seconds and the peak memory in KiB of the quickest of three runs."""
-    return min(watched([PROGRAM, *words]) for _ in range(3))
+    return min(watched(quiet(PROGRAM, words)) for _ in range(3))
 
 
 def measure(room, command, testers, lines):

@@ -46,7 +46,7 @@ def waits(program, words):
     stored = {}
     count = number = place = 0
     reader, writer = os.pipe()
-    traced = ["valgrind", "--tool=lackey", "--trace-mem=yes", f"--log-fd={writer}", program, *words]
+    traced = ["valgrind", "--tool=lackey", "--trace-mem=yes", f"--log-fd={writer}", *module.quiet(program, words)]
     with subprocess.Popen(traced, stdout=subprocess.DEVNULL, stderr=subprocess.DEVNULL, pass_fds=(writer,)):
         os.close(writer)
         with os.fdopen(reader, encoding="ascii", errors="replace") as lines:

@@ -24,7 +24,7 @@ import tempfile
 import time
 
 sys.dont_write_bytecode = True
-from runs import NAMES, PROGRAM, TOP, setup, stamped, turn, watched
+from runs import NAMES, PROGRAM, TOP, quiet, setup, stamped, turn, watched
 
 # the lines of the two short runs whose difference tells the instructions of a line
 SHORT = 3_000
@@ -142,7 +142,7 @@ def workloads(seed):
 
 def add_replies(program, config, capture):
     """Puts the frames that the unit sends into a capture, some lines behind those that draw them."""
-    replies = subprocess.run([program, "bus", config, capture], stdout=subprocess.PIPE, check=True).stdout.decode("ascii").splitlines()
+    replies = subprocess.run(quiet(program, ["bus", config, capture]), stdout=subprocess.PIPE, check=True).stdout.decode("ascii").splitlines()
     with open(capture, encoding="ascii") as it:
         lines = it.read().splitlines()
     done, mixed = 0, []
@@ -165,7 +165,7 @@ def words_of(room, program, work, lines):
         return [*command, config, *logs]
     journal = f"{room}/journal"
     with open(journal, "wb") as it:
-        subprocess.run([program, "serial", "--journal", config, *logs], stdout=it, check=True)
+        subprocess.run(quiet(program, ["serial", "--journal", config, *logs]), stdout=it, check=True)
     return ["replay", config, journal]
 
 
@@ -174,18 +174,18 @@ def words_of(room, program, work, lines):
 
 def seconds(program, words):
     begun = time.monotonic()
-    subprocess.run([program, *words], stdout=subprocess.DEVNULL, check=True)
+    subprocess.run(quiet(program, words), stdout=subprocess.DEVNULL, check=True)
     return time.monotonic() - begun
 
 
 def peak(program, words):
     """The most memory in KiB, as the process told it last."""
-    return watched([program, *words], 0.0002)[1]
+    return watched(quiet(program, words), 0.0002)[1]
 
 
 def instructions(program, words):
     ran = subprocess.run(
-        ["valgrind", "--tool=callgrind", "--callgrind-out-file=/dev/null", program, *words],
+        ["valgrind", "--tool=callgrind", "--callgrind-out-file=/dev/null", *quiet(program, words)],
         stdout=subprocess.DEVNULL, stderr=subprocess.PIPE, check=True,
     )
     return int(re.search(rb"Collected : (\d+)", ran.stderr)[1])
@@ -213,7 +213,7 @@ def for_a_line(room, programs, work):
 
 
 def answers(program, words):
-    return subprocess.run([program, *words], stdout=subprocess.PIPE, check=True).stdout
+    return subprocess.run(quiet(program, words), stdout=subprocess.PIPE, check=True).stdout
 
 
 def measure(room, name, programs, work, lines):

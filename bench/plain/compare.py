@@ -44,7 +44,7 @@ def built(room):
 
 
 def ran(program, words):
-    it = subprocess.run([program, *words], stdout=subprocess.PIPE, stderr=subprocess.PIPE, check=False)
+    it = subprocess.run(module.quiet(program, words), stdout=subprocess.PIPE, stderr=subprocess.PIPE, check=False)
     return it.returncode, it.stdout, it.stderr
 
 
@@ -65,7 +65,7 @@ def costs(room, programs, work):
 def spent(program, words):
     """Returns the processor's seconds of a run, with the system's for it."""
     before = resource.getrusage(resource.RUSAGE_CHILDREN)
-    subprocess.run([program, *words], stdout=subprocess.DEVNULL, check=True)
+    subprocess.run(module.quiet(program, words), stdout=subprocess.DEVNULL, check=True)
     after = resource.getrusage(resource.RUSAGE_CHILDREN)
     return after.ru_utime - before.ru_utime + after.ru_stime - before.ru_stime
 

@@ -6,12 +6,15 @@
 Status, output and fault have to be the same. It ends at the first case that differs, and leaves its files.
 """
 import argparse
+import os
 import random
 import subprocess
 import sys
 import tempfile
 
-NAMES = "ABCDEFGH"
+sys.dont_write_bytecode = True
+sys.path.insert(0, os.path.dirname(os.path.dirname(os.path.abspath(__file__))))
+from runs import NAMES, quiet
 
 
 def setup(dice, testers):
@@ -120,7 +123,7 @@ def lines(dice, testers, count, faults):
 
 
 def ran(program, words, text=None):
-    it = subprocess.run([program, *words], input=text, stdout=subprocess.PIPE, stderr=subprocess.PIPE, check=False)
+    it = subprocess.run(quiet(program, words), input=text, stdout=subprocess.PIPE, stderr=subprocess.PIPE, check=False)
     return it.returncode, it.stdout, it.stderr
 
 
