@@ -93,7 +93,7 @@ class Program:
         with open(path, "w", encoding="utf-8") as it:
             it.write(setup)
         with open(f"{self.room}/told", "w+", encoding="utf-8", errors="replace") as told:
-            words = [self.program, "compare", path, self.capture]
+            words = [self.program, "--quiet", "compare", path, self.capture]
             with subprocess.Popen(words, stdout=subprocess.PIPE, stderr=told, encoding="utf-8") as child:
                 found = read_exchanges(child.stdout, self.names)
             told.seek(0)

@@ -659,7 +659,7 @@ class OfRecordings(unittest.TestCase):
             steps += [(20 * at + 6, "7E0#03220200"), (20 * at + 9, f"7E8#04620200{flag:02X}")]
         found = learned_of(frames((0, "7E0#021003"), (5, "7E8#065003003201F4"), *steps))
         self.assertEqual(8, found.status)
-        self.assertRegex(found.told, "learn: line [0-9]+: tester_7E0 was sent 62020001 to 220200, expected 62020000")
+        self.assertRegex(found.told, "learn: line [0-9]+: tester_7E0 was sent 62020000 to 220200, expected 62020001\n")
         self.assertEqual({0x0100, 0x0200}, {it["id"] for it in found.tree()["did"]})
 
     def test_pairs_of_29_bits(self) -> None:
