@@ -1,5 +1,6 @@
 """The testers of tools/live.py that scapy plays: its ISO-TP and its UDS layer, and its scanners, over a CAN socket that
 speaks the program's lines, with identifiers of 11 and of 29 bits. No part of what is proved."""
+import contextlib
 import itertools
 import logging
 import os
@@ -51,14 +52,14 @@ def loads():
 
 
 def wire_class(socket_class, packet_class):
-    """The class of a CAN socket over a run: frames go as lines, and those of one identifier come back."""
+    """The class of a CAN socket over a run: frames go as lines, and those of some identifiers come back."""
 
     class Wire(socket_class):
         nonblocking_socket = True
 
-        def __init__(self, run, identifier):  # pylint: disable=super-init-not-called
-            self.run, self.identifier, self.closed = run, identifier, False
-            self.came = run.came[f"{identifier:0{digits(is_wide(identifier))}X}"]
+        def __init__(self, run, *identifiers):  # pylint: disable=super-init-not-called
+            self.run, self.closed = run, False
+            self.came = {it: run.came[f"{it:0{digits(is_wide(it))}X}"] for it in identifiers}
             self.ins = self.outs = None
 
         def send(self, x):
@@ -68,16 +69,15 @@ def wire_class(socket_class, packet_class):
             return len(data)
 
         def recv(self, x=0):
-            try:
-                data = self.came.get_nowait()[1]
-            except queue.Empty:
-                return None
-            flags = "extended" if is_wide(self.identifier) else 0
-            return packet_class(identifier=self.identifier, flags=flags, data=bytes.fromhex(data))
+            for identifier, came in self.came.items():
+                with contextlib.suppress(queue.Empty):
+                    data = bytes.fromhex(came.get_nowait()[1])
+                    return packet_class(identifier=identifier, flags="extended" if is_wide(identifier) else 0, data=data)
+            return None
 
         @staticmethod
         def select(sockets, remain=None):
-            return [it for it in sockets if not it.came.empty()]
+            return [it for it in sockets if not all(came.empty() for came in it.came.values())]
 
         def close(self):
             self.closed = True
@@ -292,14 +292,15 @@ def wide_session(room, live):
 
 def wide_scan(room, live):
     """scapy's scanner of ISO-TP finds whom the unit answers by 29 bits, and by which identifier."""
-    asked, want = range(0x18DA10F0, 0x18DA10F4), {}
+    want = {0x18DA10F1: 0x18DAF110, 0x18DA10F2: 0x18DAF210}
     with live.running(room, wide_setup(live)) as run:
-        found = {}
-        for response in (0x18DAF110, 0x18DAF210):
-            want[response << 8 & 0xFF00 | response >> 8 & 0xFF | 0x18DA0000] = response
-            heard = isotp_scan(wire(run, response), asked, extended_can_id=True, verify_results=False, sniff_time=0.3)
-            found.update({request: identifier for request, (_, identifier) in heard.items()})
-        wrong = "" if found == want else f"{found}; "
+        # (it listens for a short while alone, so the program has to be there by then)
+        run.send("7E0", "023E00")
+        wrong = "" if run.next("7E8")[1] == live.PRESENT else "nothing; "
+        scanner = wire(run, *want.values())
+        heard = isotp_scan(scanner, range(0x18DA10F0, 0x18DA10F4), extended_can_id=True, verify_results=False, sniff_time=0.3)
+        found = {request: identifier for request, (_, identifier) in heard.items()}
+        wrong += "" if found == want else f"{found}; "
         wrong += run.ends_well()
     live.told(not wrong, "scapy: its scanner of ISO-TP, by identifiers of 29 bits", wrong)
 
