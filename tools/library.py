@@ -43,8 +43,8 @@ FRAME_LINE = re.compile(r"\((\d+)\.(\d{6})\) \S+ ([0-9A-F]{3}|[01][0-9A-F]{7})#(
 PLAIN_ID, EXTENDED = 3, 1 << 31
 # what tools/library/first.c prints
 FIRST = """0.100 s, tester 1: 7E8#065003003201F4CC
-0.200 s, tester 2: 7E9#037F1021CCCCCCCC
-0.300 s, tester 2: 7E9#0562F1950203CCCC
+0.200 s, tester 2: 7A8#037F1021CCCCCCCC
+0.300 s, tester 2: 7A8#0562F1950203CCCC
 """
 counts = {True: 0, False: 0}
 
