@@ -4,7 +4,7 @@
 - `rt lib` makes out/libuds_unit.a of crates/uds_unit, and the kit's linker out/libuds_unit.so of it, with the kit's C code
   for memory: what it gives to others, and what it takes, is looked at.
 - tools/library/calls.c, compiled as C and as C++ with all warnings as errors, against both libraries; under valgrind, where
-  that is installed. The line of a setup's fault is the program's.
+  that is installed. The line of a setup's fault is the program's, each key spoilt in turn.
 - Random captures (200, the same each time) by the library from C and from Python, beside `uds_play bus`: the same frames.
 - The package's tests, by each Python that has what they want: python-can, scapy and pytest are Debian's packages.
 - Frames a second, of one tester: at least 1,000,000 from C and 100,000 from Python.
@@ -19,6 +19,7 @@ import sys
 import tempfile
 
 sys.dont_write_bytecode = True
+from check_test import changes, spoilt
 from packages import install
 from twin import Tester, setup_text, stamped_lines
 from uds_link import read_setup
@@ -42,8 +43,8 @@ FRAME_LINE = re.compile(r"\((\d+)\.(\d{6})\) \S+ ([0-9A-F]{3}|[01][0-9A-F]{7})#(
 PLAIN_ID, EXTENDED = 3, 1 << 31
 # what tools/library/first.c prints
 FIRST = """0.100 s, tester 1: 7E8#065003003201F4CC
-0.200 s, tester 2: 7E9#037F1021CCCCCCCC
-0.300 s, tester 2: 7E9#0562F1950203CCCC
+0.200 s, tester 2: 7A8#037F1021CCCCCCCC
+0.300 s, tester 2: 7A8#0562F1950203CCCC
 """
 counts = {True: 0, False: 0}
 
@@ -135,25 +136,34 @@ def valgrind(program):
     told(ran.returncode == 0, "calls under valgrind", ran.stderr)
 
 
-def test_fault_lines(room):
-    """The line of a setup's fault is what the program tells."""
-    sys.path.insert(0, f"{TOP}/python")
-    os.environ["UDS_UNIT_LIBRARY"] = SHARED
+def line_of(config):
+    """What the library tells of a setup: the line of its fault, or nothing."""
     from uds_unit import SetupFault, Unit
 
+    try:
+        Unit(config).close()
+        return ""
+    except SetupFault as fault:
+        return f"uds_play: {fault}\n"
+
+
+def test_fault_lines(room):
+    """A setup's fault is told by the program's line: of texts that are none, and of a setup of which each key is spoilt in turn."""
+    sys.path.insert(0, f"{TOP}/python")
+    os.environ["UDS_UNIT_LIBRARY"] = SHARED
     with open(SETUP, "rb") as it:
         good = it.read()
-    wrong = [b"", b"[", b"\xff", b"s3_ms = 1", good + b"[[did]]\nid = 1\n", good.replace(b"0x7E8", b"0x7E0"), good.replace(b'"0203"', b'"02x3"')]
-    for config in wrong:
-        with open(f"{room}/wrong.toml", "wb") as it:
+    odd = [b"", b"[", b"\xff", b"s3_ms = 1", good + b"[[did]]\nid = 1\n", good.replace(b"0x7E8", b"0x7E0"), good.replace(b'"0203"', b'"02x3"')]
+    lines, path = set(), f"{room}/wrong.toml"
+    for config in [*odd, good, *(spoilt([it]) for it in changes())]:
+        with open(path, "wb") as it:
             it.write(config)
-        program = run([PROGRAM, "--quiet", "bus", f"{room}/wrong.toml", "/dev/null"])
-        try:
-            Unit(config).close()
-            line = "none"
-        except SetupFault as fault:
-            line = f"uds_play: {fault}\n"
-        told(program.returncode == 2 and program.stderr == line, f"the program's line: {line.strip()}", program.stderr)
+        program, line = run([PROGRAM, "--quiet", "bus", path, "/dev/null"]), line_of(config)
+        if program.stderr != line or program.returncode != (2 if line else 0):
+            told(False, f"a setup's fault: {config.decode(errors='replace')}", f"{line!r}, the program's {program.stderr!r}")
+        lines.add(line)
+        counts[True] += program.stderr == line
+    told(len(lines) > 40 and "" in lines, f"faults are told by the program's line, {len(lines) - 1} different ones")
 
 
 # ---- captures

@@ -2,7 +2,7 @@
 #include <stdio.h>
 
 static const char setup[] =
-    "tester = [{ name = \"A\", request = 0x7E0, response = 0x7E8 }, { name = \"B\", request = 0x7E1, response = 0x7E9 }]\n"
+    "tester = [{ name = \"A\", request = 0x7E0, response = 0x7E8 }, { name = \"B\", request = 0x7A0, response = 0x7A8 }]\n"
     "did = [{ id = 0xF195, value = \"0203\" }]\n";
 
 /* Gives the unit a frame, and prints those that it sends. */
@@ -24,8 +24,8 @@ int main(void) {
         return 1;
     }
     give(&unit, 100000, 0x7E0, "\x02\x10\x03", 3);
-    give(&unit, 200000, 0x7E1, "\x02\x10\x03", 3);
-    give(&unit, 300000, 0x7E1, "\x03\x22\xF1\x95", 4);
+    give(&unit, 200000, 0x7A0, "\x02\x10\x03", 3);
+    give(&unit, 300000, 0x7A0, "\x03\x22\xF1\x95", 4);
     uds_unit_close(&unit);
     return 0;
 }
