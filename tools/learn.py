@@ -5,7 +5,7 @@ stands.
     tools/learn.py [--pair REQUEST:RESPONSE[=NAME]].. [--varies] CAPTURE > unit.toml
 
 Example:
-    tools/learn.py --pair 7E0:7E8=workshop --pair 7E1:7E9=end_of_line demo/other_unit.log > unit.toml
+    tools/learn.py --pair 7E0:7E8=workshop --pair 7A0:7A8=end_of_line demo/other_unit.log > unit.toml
 
 CAPTURE is a recording of `candump -L`, or, where python-can is installed, one of ASC, BLF, TRC, CSV or MF4. The testers are
 the pairs that are given, or those that are found. With `--varies` an identifier that was read with different values, and

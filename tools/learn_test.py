@@ -616,7 +616,7 @@ class OfRecordings(unittest.TestCase):
 
     def test_the_demo(self) -> None:
         for name in ("bus.log", "other_unit.log"):
-            found = learned("--pair", "7E0:7E8=workshop", "--pair", "7E1:7E9=end_of_line", f"{TOP}/demo/{name}")
+            found = learned("--pair", "7E0:7E8=workshop", "--pair", "7A0:7A8=end_of_line", f"{TOP}/demo/{name}")
             self.assertEqual((0, ""), (found.status, found.told))
             self.assertEqual(["workshop", "end_of_line"], [it["name"] for it in found.tree()["tester"]])
             self.assertEqual([0xF190, 0xF195], [it["id"] for it in found.tree()["did"]])
@@ -722,7 +722,7 @@ class OnABus(unittest.TestCase):
         with tempfile.TemporaryDirectory() as room, live.running(room, setup) as run:
             for stamp, _, frame, *_ in (it.split() for it in lines):
                 identifier, _, data = frame.partition("#")
-                if identifier in ("7E0", "7E1", "7DF"):
+                if identifier in ("7E0", "7A0", "7E1", "7DF"):
                     time.sleep(max(0.0, begun + (moment_of(stamp) - first) / 1000 - time.monotonic()))
                     run.send(identifier, data)
                 elif identifier in run.came and not says_pending(data):
@@ -735,7 +735,7 @@ class OnABus(unittest.TestCase):
         return next(data for data in iter(lambda: run.next(identifier)[1], None) if not says_pending(data))
 
     def test_the_demo(self) -> None:
-        found = learned("--pair", "7E0:7E8=workshop", "--pair", "7E1:7E9=end_of_line", f"{TOP}/demo/bus.log")
+        found = learned("--pair", "7E0:7E8=workshop", "--pair", "7A0:7A8=end_of_line", f"{TOP}/demo/bus.log")
         with open(f"{TOP}/demo/bus.log", encoding="ascii") as it:
             self.play(found.text, it.readlines())
 

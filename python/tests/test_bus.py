@@ -43,8 +43,8 @@ class BusTests(unittest.TestCase):
         self.ask("021003")
         self.assertEqual(self.hear(), "7E8#065003003201F4CC")
         self.assertEqual((self.unit.session, self.unit.holder), ("extended", "workshop"))
-        self.ask("021003", 0x7E1)
-        self.assertEqual(self.hear(), "7E9#037F1021CCCCCCCC")
+        self.ask("021003", 0x7A0)
+        self.assertEqual(self.hear(), "7A8#037F1021CCCCCCCC")
         self.unit.set_value(0xF195, b"\x04\x05")
         self.unit.set_code(0xC10000, 0x2F)
         self.ask("0322F195")
@@ -86,8 +86,8 @@ class BusTests(unittest.TestCase):
     def test_others_frames(self) -> None:
         self.near.send(self.Message(arbitration_id=0x18DA00F1, data=b"\x02\x10\x03", is_extended_id=True))
         self.near.send(self.Message(arbitration_id=0x7E0, is_extended_id=False, is_remote_frame=True, dlc=3))
-        self.ask("023E00", 0x7E1)
-        self.assertEqual(self.hear(), "7E9#027E00CCCCCCCCCC")
+        self.ask("023E00", 0x7A0)
+        self.assertEqual(self.hear(), "7A8#027E00CCCCCCCCCC")
 
     @unittest.skipUnless(has("scapy"), "scapy isn't installed")
     def test_scapy_reads(self) -> None:

@@ -30,8 +30,8 @@ class UnitTests(unittest.TestCase):
 
     def test_two_testers(self) -> None:
         self.unit.frame(0.0, 0x7E0, EXTENDED)
-        busy = self.unit.frame(0.1, 0x7E1, EXTENDED)
-        self.assertEqual(busy, [Frame(0.1, 0x7E9, bytes.fromhex("037F1021CCCCCCCC"), "end_of_line")])
+        busy = self.unit.frame(0.1, 0x7A0, EXTENDED)
+        self.assertEqual(busy, [Frame(0.1, 0x7A8, bytes.fromhex("037F1021CCCCCCCC"), "end_of_line")])
         # the functional request is each tester's
         self.assertEqual([it.tester for it in self.unit.frame(0.2, 0x7DF, bytes.fromhex("023E00"))], ["workshop", "end_of_line"])
 

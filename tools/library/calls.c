@@ -98,8 +98,8 @@ static void test_frames(const uint8_t *config, size_t len) {
     told(is_next(&unit, 1000000, 0x7E8, 1, "\x06\x50\x03\x00\x32\x01\xF4\xCC", 8), "the session's reply");
     told(is_drained(&unit), "one reply");
     told(uds_unit_state(&unit, &state) == UDS_DONE && state.session == 3 && state.holder == 1, "the first tester holds it");
-    told(uds_unit_frame(&unit, 1100000, 0x7E1, bytes_of("\x02\x10\x03"), 3) == UDS_DONE, "another tester's");
-    told(is_next(&unit, 1100000, 0x7E9, 2, "\x03\x7F\x10\x21\xCC\xCC\xCC\xCC", 8), "busy");
+    told(uds_unit_frame(&unit, 1100000, 0x7A0, bytes_of("\x02\x10\x03"), 3) == UDS_DONE, "another tester's");
+    told(is_next(&unit, 1100000, 0x7A8, 2, "\x03\x7F\x10\x21\xCC\xCC\xCC\xCC", 8), "busy");
     /* frames that are none, and frames of nobody */
     told(uds_unit_frame(&unit, 9000000, 0x7E0, bytes_of("\0\0\0\0\0\0\0\0\0"), 9) == UDS_NO_FRAME, "nine bytes");
     told(uds_unit_frame(&unit, 9000000, 0x800, bytes_of("\x02\x10\x03"), 3) == UDS_NO_FRAME, "12 bits");
@@ -174,8 +174,8 @@ static void test_values(const uint8_t *config, size_t len) {
     told(uds_unit_set_value(&unit, 0xF191, version, 2) == UDS_UNKNOWN, "none to be set");
     told(uds_unit_set_value(&unit, 0xF195, version, 1) == UDS_LENGTH, "a value of another length");
     told(uds_unit_set_value(&unit, 0xF195, version, 2) == UDS_DONE, "a value is set");
-    told(uds_unit_frame(&unit, 0, 0x7E1, bytes_of("\x03\x22\xF1\x95"), 4) == UDS_DONE, "and read by a tester");
-    told(is_next(&unit, 0, 0x7E9, 2, "\x05\x62\xF1\x95\x04\x05\xCC\xCC", 8), "as it was set");
+    told(uds_unit_frame(&unit, 0, 0x7A0, bytes_of("\x03\x22\xF1\x95"), 4) == UDS_DONE, "and read by a tester");
+    told(is_next(&unit, 0, 0x7A8, 2, "\x05\x62\xF1\x95\x04\x05\xCC\xCC", 8), "as it was set");
     told(uds_unit_code(&unit, 0, &code) == UDS_DONE && code.code == 0x056200 && code.status == 0x2F, "the first code");
     told(uds_unit_code(&unit, 2, &code) == UDS_NONE, "there are two codes");
     told(uds_unit_set_code(&unit, 0x056201, 1) == UDS_UNKNOWN, "no such code");
@@ -199,7 +199,7 @@ static void test_journal(const uint8_t *config, size_t len) {
     told(memcmp(text, header, many) == 0, "the header's text");
     told(uds_unit_journal(&unit, text, sizeof text, &many) == UDS_DONE && many == 0, "no line more");
     told(uds_unit_frame(&unit, 0, 0x7E0, bytes_of("\x02\x10\x03"), 3) == UDS_DONE, "a request");
-    told(uds_unit_frame(&unit, 0, 0x7E1, bytes_of("\x02\x10\x03"), 3) == UDS_DONE, "another");
+    told(uds_unit_frame(&unit, 0, 0x7A0, bytes_of("\x02\x10\x03"), 3) == UDS_DONE, "another");
     memset(text, 'x', sizeof text);
     told(uds_unit_journal(&unit, text, strlen(lines) - 1, &many) == UDS_ROOM && many == strlen(lines), "one byte too little");
     told(text[0] == 'x', "then none is written");
@@ -236,7 +236,7 @@ static void test_two(const uint8_t *config, size_t len) {
     told(uds_unit_frame(&one, 0, 0x7E0, bytes_of("\x02\x10\x03"), 3) == UDS_DONE, "one unit");
     told(uds_unit_state(&other, &state) == UDS_DONE && state.session == 1 && is_drained(&other), "and the other");
     uds_unit_close(&one);
-    told(uds_unit_frame(&other, 0, 0x7E1, bytes_of("\x02\x10\x03"), 3) == UDS_DONE, "goes on");
+    told(uds_unit_frame(&other, 0, 0x7A0, bytes_of("\x02\x10\x03"), 3) == UDS_DONE, "goes on");
     uds_unit_close(&other);
 }
 
