@@ -580,7 +580,7 @@ class Learned:
 
 # what the command line gives: the program, and the seeds
 OPTIONS: list[str] = []
-RUNS = range(1, 41)
+RUNS = range(1, 201)
 
 
 def learned(*words: str) -> Learned:
@@ -791,7 +791,7 @@ def repeated(lines: list[str], most: int) -> Iterator[str]:
 def main() -> int:
     words = argparse.ArgumentParser(description=__doc__, formatter_class=argparse.RawDescriptionHelpFormatter)
     words.add_argument("--program", default=learn.PROGRAM)
-    words.add_argument("runs", type=int, nargs="?", default=40)
+    words.add_argument("runs", type=int, nargs="?", default=200)
     words.add_argument("first", type=int, nargs="?", default=1)
     given = words.parse_args()
     if not os.access(given.program, os.X_OK):
