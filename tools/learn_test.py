@@ -4,7 +4,7 @@ answers, services that the server's model lacks. The setup that is learned from 
 recordings, one that can't be explained, other forms of pairs, and how long a million lines take. The recordings are the
 same each time. The last line is 'N passed, M failed'.
 Usage: tools/learn_test.py [--program PROGRAM] [RUNS [FIRST]]
-  RUNS, FIRST    so many recordings (default 40), the first with this seed (default 1)"""
+  RUNS, FIRST    so many recordings (default 200), the first with this seed (default 1)"""
 import argparse
 import io
 import os
