@@ -261,9 +261,9 @@ def known_names():
 
 
 def missing_files(text):
-    """The paths that a text tells of and that are not there; CRATE and NAME stand for any word."""
+    """The paths that a text tells of and that are not there; CRATE and NAME stand for any word, and what is built isn't looked for."""
     paths = re.findall(r"(?<![\w/.])((?:crates|docs|tools|runs|bench|demo|include|python)/[\w./*-]*[\w*/])", text)
-    return sorted({it for it in paths if not glob.glob(f"{TOP}/{re.sub('NAME|CRATE', '*', it)}")})
+    return sorted({it for it in paths if "/out/" not in it and not glob.glob(f"{TOP}/{re.sub('NAME|CRATE', '*', it)}")})
 
 
 def missing_names(text, known):
