@@ -1,9 +1,9 @@
 #!/usr/bin/env python3
-"""Tests tools/view.py: its texts of the worked examples beside those stored in tools/view/texts.txt, its session beside
+"""Tests tools/view.py: its texts of the worked examples beside those stored in test/view_texts.txt, its session beside
 the program, its pages in headless Chromium. The last line is 'N passed, M failed'.
 
-    tools/view_test.py --store      stores the texts of the worked examples anew
-    tools/view_test.py --pictures   makes docs/pictures/view.png and docs/pictures/compare.png anew
+    test/view_test.py --store      stores the texts of the worked examples anew
+    test/view_test.py --pictures   makes docs/pictures/view.png and docs/pictures/compare.png anew
 """
 import contextlib
 import hashlib
@@ -15,6 +15,7 @@ import subprocess
 import sys
 import tempfile
 
+from harness import PROGRAM, TOP, Tally
 import browser
 import bus
 import examples
@@ -22,10 +23,8 @@ import uds_names
 import uds_run
 import view
 
-TOP = os.path.dirname(os.path.dirname(os.path.abspath(__file__)))
-PROGRAM = f"{TOP}/crates/uds_play/out/uds_play"
 VIEW = f"{TOP}/tools/view.py"
-TEXTS = f"{TOP}/tools/view/texts.txt"
+TEXTS = f"{TOP}/test/view_texts.txt"
 PICTURES = f"{TOP}/docs/pictures"
 MOST_PICTURE = 200_000
 # milliseconds; a quiet machine takes 20
@@ -33,12 +32,7 @@ MOST_DRAWING = 500
 # of a long text the first lines are stored, and a digest
 MOST_LINES = 30
 LONG = 100_000
-counts = {True: 0, False: 0}
-
-
-def told(good, name, more=""):
-    counts[good] += 1
-    print(f"view: {name}" if good else f"VIEW WRONG: {name}: {more}"[:900], flush=True)
+told = Tally("view")
 
 
 def run(*words, given=None):
@@ -68,7 +62,7 @@ def names(_):
 
 
 def built_examples():
-    """The examples of tools/examples.py: name, setup, and what `serial` prints."""
+    """The examples of test/examples.py: name, setup, and what `serial` prints."""
     found = []
 
     def check(name, words, files, prints="", tells="", status=0):
@@ -142,7 +136,7 @@ def stored_texts():
 
 def store():
     with open(TEXTS, "w", encoding="ascii") as it:
-        it.write("# What tools/view.py --text writes of each worked example; made by tools/view_test.py --store.\n")
+        it.write("# What tools/view.py --text writes of each worked example; made by test/view_test.py --store.\n")
         it.writelines(f"== {name}\n{shortened(text_of(setup, text))}" for name, setup, text in all_runs())
 
 
@@ -685,14 +679,9 @@ def main():
         return store()
     if sys.argv[1:] == ["--pictures"]:
         return make_pictures()
-    if not os.access(PROGRAM, os.X_OK):
-        print(f"view: {PROGRAM} isn't built\n0 passed, 1 failed")
-        return 1
-    for group in (names, texts, lines_a_step, sessions, silence, late, beside, faults, pages):
-        with tempfile.TemporaryDirectory() as room:
-            group(room)
-    print(f"{counts[True]} passed, {counts[False]} failed")
-    return 1 if counts[False] else 0
+    told.needs_program()
+    told.in_rooms(names, texts, lines_a_step, sessions, silence, late, beside, faults, pages)
+    return told.ended()
 
 
 if __name__ == "__main__":

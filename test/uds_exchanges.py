@@ -1,7 +1,7 @@
 """The exchanges of a recording: which message of the unit answers which request, whether it is what the server replies,
 and what `compare` has to write. The slow reading of it: each question is asked of whole lists, and nothing is kept from
 one line to the next (docs/DEFINITIONS.md, Exchanges of a recording). What the server replies is read from the journal that
-`bus --journal` writes. For tools/compare.py and for tests; no part of what is proved."""
+`bus --journal` writes. For test/compare.py and for tests; no part of what is proved."""
 import math
 import tomllib
 from dataclasses import dataclass, replace

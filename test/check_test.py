@@ -9,6 +9,8 @@ import subprocess
 import sys
 import tempfile
 
+from harness import PROGRAM, Tally
+
 FAULTS = ("syntax", "missing ", "bad value ", "range", "empty", "duplicate", "unknown code", "unknown level", "too long")
 UNIT = (
     "p2_ms", "p2_star_10ms", "s3_ms", "n_bs_ms", "n_cr_ms", "block_size", "st_min", "max_request", "pad", "pad_byte", "availability", "functional",
@@ -24,9 +26,7 @@ LISTS = {
     "answer": ("request", "reply", "session", "level", "enter", "after_ms"),
 }
 MOST_ROWS = {"tester": 8, "did": 1024, "code": 4096, "routine": 256, "level": 4, "level.row": 64, "answer": 1024}
-TOP = os.path.dirname(os.path.dirname(os.path.abspath(__file__)))
 UNPLACED = "the look at the setup found another first"
-PROGRAM = os.path.join(TOP, "crates", "uds_play", "out", "uds_play")
 SEVERAL = 400
 GOOD = {
     "s3_ms": 4000,
@@ -133,7 +133,7 @@ TOGETHER = {
     "the most templates": [(0, "answer", [{"request": "00", "reply": [""] * 4096}] * 16)],
     "one more": [(0, "answer", [{"request": "00", "reply": [""] * 4096}] * 16 + [{"request": "00", "reply": [""]}])],
 }
-counts = {True: 0, False: 0}
+told = Tally("setup", most=5000, quiet=True)
 
 
 def value_text(value):
@@ -201,18 +201,17 @@ def compare(folder, name, data):
     path = os.path.join(folder, "setup.toml")
     with open(path, "wb") as file:
         file.write(data)
-    told = ran("--quiet", "bus", path, os.devnull).stderr.strip().removeprefix("uds_play: config: ")
+    run = ran("--quiet", "bus", path, os.devnull).stderr.strip().removeprefix("uds_play: config: ")
     check = ran("check", path)
     lines = [line for line in check.stdout.splitlines() if line.startswith(FAULTS)]
     first, _, place = lines[0].partition(": ") if lines else ("", "", "")
-    good = told == first and check.stderr == "" and check.returncode == (2 if told else 0)
-    good = good and check.stdout != "" and UNPLACED not in check.stdout and bool(place) == bool(told)
-    counts[good] += 1
-    if not good:
-        print(f"SETUP WRONG: {name}: a run says {told!r}, the look at it {check.stdout[:300]!r}\n{data[:4000].decode(errors='replace')}")
+    good = run == first and check.stderr == "" and check.returncode == (2 if run else 0)
+    good = good and check.stdout != "" and UNPLACED not in check.stdout and bool(place) == bool(run)
+    told(good, name, f"a run says {run!r}, the look at it {check.stdout[:300]!r}\n{data.decode(errors='replace')}")
 
 
 def main():
+    told.needs_program()
     every = list(changes())
     chance = random.Random(7)
     with tempfile.TemporaryDirectory() as folder:
@@ -226,8 +225,7 @@ def main():
         for _ in range(SEVERAL):
             some = chance.sample(every, 3)
             compare(folder, some, spoilt(some))
-    print(f"{counts[True]} passed, {counts[False]} failed")
-    return 1 if counts[False] else 0
+    return told.ended()
 
 
 if __name__ == "__main__":

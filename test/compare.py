@@ -1,16 +1,15 @@
 #!/usr/bin/env python3
 """Runs `compare` of the built program over recordings that are made here, beside the slow reading of
-tools/uds_exchanges.py: the worked examples, units that answer well, that drop, repeat, delay, spoil or exchange their
+test/uds_exchanges.py: the worked examples, units that answer well, that drop, repeat, delay, spoil or exchange their
 answers, response pending, TesterPresent in between, messages that are cut off, traffic of others, several testers; faults
 of a capture, pieces as they come, and a long recording. The recordings are the same each time. The last line is 'N
 passed, M failed'.
-Usage: tools/compare.py [--reading] [--long LINES] [RUNS [FIRST]]
+Usage: test/compare.py [--reading] [--long LINES] [RUNS [FIRST]]
   --reading      the slow reading alone, on the worked examples: no `compare` of the program is run
   --long LINES   so many lines of the long recording (default 1000000)
   RUNS, FIRST    so many random recordings of each kind (default 60), the first with this seed (default 1)"""
 import argparse
 import heapq
-import os
 import random
 import re
 import subprocess
@@ -18,20 +17,15 @@ import sys
 import tempfile
 from dataclasses import dataclass, field
 
-sys.dont_write_bytecode = True
-from bus import LONG, MOST_MEMORY, PROGRAM, SETUP, THIRD, WRONG, Live, long_lines, peak_of, pieces, put, run, stamped, text_of
+from harness import PROGRAM, Tally
+from bus import LONG, MOST_MEMORY, SETUP, THIRD, WRONG, Live, long_lines, peak_of, pieces, put, run, stamped, text_of
 from uds_exchanges import compared, read, read_setup, written_of
 
 # the testers, and the identifiers that they and the unit send with
 TESTERS = {"A": ("7E0", "7E8"), "B": ("7E1", "7E9"), "C": ("7E2", "7EA")}
 # the same of 29 bits, by normal fixed addressing
 WIDE_IDS = {"A": ("18DA10F1", "18DAF110"), "B": ("18DA20F1", "18DAF120"), "C": ("18DA30F1", "18DAF130")}
-counts = {True: 0, False: 0}
-
-
-def told(good: bool, name: str, more: object = "") -> None:
-    counts[good] += 1
-    print(f"compare: {name}" if good else f"COMPARE WRONG: {name}: {more}"[:1500], flush=True)
+told = Tally("compare", most=1500)
 
 
 def widened(setup: str, names: list[str]) -> str:
@@ -596,9 +590,7 @@ def main() -> int:
     words.add_argument("runs", type=int, nargs="?", default=60)
     words.add_argument("first", type=int, nargs="?", default=1)
     given = words.parse_args()
-    if not os.access(PROGRAM, os.X_OK):
-        print(f"compare: {PROGRAM} isn't built\n0 passed, 1 failed")
-        return 1
+    told.needs_program()
     with tempfile.TemporaryDirectory() as room:
         worked(room, given.reading)
         if not given.reading:
@@ -607,8 +599,7 @@ def main() -> int:
             faults(room)
             in_pieces(room)
             long_recording(room, given.long)
-    print(f"{counts[True]} passed, {counts[False]} failed")
-    return 1 if counts[False] else 0
+    return told.ended()
 
 
 if __name__ == "__main__":

@@ -1,18 +1,15 @@
 #!/usr/bin/env python3
 """Runs the worked examples by the built program, and compares whole outputs and statuses: those of runs/examples.txt and
 runs/answers.txt, those of runs/refusals.txt, and those whose logs or journals are built here. Of a play that ends well the
-slow twin of tools/uds_link.py has to agree, too. The last line is 'N passed, M failed'. With `--files NAME FOLDER` it only
+slow twin of test/uds_link.py has to agree, too. The last line is 'N passed, M failed'. With `--files NAME FOLDER` it only
 writes the files of that example of runs/examples.txt or runs/answers.txt."""
-import os
 import subprocess
 import sys
 import tempfile
 
-sys.dont_write_bytecode = True
+from harness import PROGRAM, TOP, Tally
 from uds_link import cut, differs, events, read_setup
 
-TOP = os.path.dirname(os.path.dirname(os.path.abspath(__file__)))
-PROGRAM = f"{TOP}/crates/uds_play/out/uds_play"
 with open(f"{TOP}/runs/setup.toml") as it:
     SETUP = it.read()
 with open(f"{TOP}/runs/answers.toml") as it:
@@ -22,12 +19,7 @@ HELD = "session extended\nholder A\ncode 012345 2F\n"
 GRANT = "(0000000000.000000) A 7E8#300000CCCCCCCCCC\n"
 READ = "1 P 22F190 62F1905445535456494E30313233343536373839\n"
 STAMP = "(0000000000.000000) can0 "
-counts = {True: 0, False: 0}
-
-
-def told(good, name, more=""):
-    counts[good] += 1
-    print(f"example: {name}" if good else f"EXAMPLE WRONG: {name}{more}", flush=True)
+told = Tally("examples")
 
 
 def log(lines):
@@ -45,10 +37,10 @@ def check(name, words, files, prints="", tells="", status=0):
         ran = subprocess.run(line, cwd=room, capture_output=True, timeout=120)
     want = (status, prints.encode(), f"uds_play: {tells}\n".encode() if tells else b"")
     found = (ran.returncode, ran.stdout, ran.stderr)
-    told(found == want, f"{name}: {' '.join(words)}", f": {found}"[:600])
+    told(found == want, f"{name}: {' '.join(words)}", found)
     if status == 0 and words[0] in ("serial", "play") and "--journal" not in words:
         why = twin_differs(words, files, ran.stdout.decode())
-        told(why is None, f"{name}: {' '.join(words)}: the slow twin", f": {why}"[:600])
+        told(why is None, f"{name}: {' '.join(words)}: the slow twin", why)
 
 
 def twin_differs(words, files, text):
@@ -179,7 +171,7 @@ def read_of(name, asked, length, last):
     request = "22" + "".join(asked)
     reply = "62" + "".join(it + "00" * SIZES[it] for it in asked if it in SIZES)
     frames = framed(reply)
-    told(len(reply) == 2 * length and frames[-1] == last, f"{name}: {len(frames)} frames", f": {frames[-1]}")
+    told(len(reply) == 2 * length and frames[-1] == last, f"{name}: {len(frames)} frames", frames[-1])
     lines = [*of_requests(read_setup(SETUP), [request]), *["7E0#300000"] * (length > 7)]
     sent = GRANT * (len(request) > 14) + "".join(f"(0000000000.000000) A 7E8#{it}\n" for it in frames)
     plays(name, log(lines), f"{sent}diag-journal 1\n1 P {request} {reply}\n{DEFAULT}", tables=tables)
@@ -304,7 +296,7 @@ def a_million_events():
 
 
 def log_faults():
-    # (tools/addressing.py has each identifier with each rest)
+    # (test/addressing.py has each identifier with each rest)
     for line, fault in [
         ("7E0#023", "bad line"),
         ("7E0#021003000000000000", "too many bytes"),
@@ -394,7 +386,7 @@ def read_while_written():
         ran = subprocess.run([PROGRAM, "--quiet", "play", "setup", "a", "b"], cwd=room, capture_output=True, text=True, timeout=120)
     sent = [it for it in ran.stdout.split("\n") if it.startswith("(") and " B " in it]
     either = [[f"(0000000000.000000) B 7E9#101462F190{it}"] for it in ("544553", "414243")]
-    told(ran.returncode == 0 and sent in either, "a value is read while it is written", f": {sent}")
+    told(ran.returncode == 0 and sent in either, "a value is read while it is written", sent)
     journal = "diag-journal" + ran.stdout.partition("diag-journal")[2].partition("session")[0]
     check("a value is read while it is written", ["replay"], [SETUP, journal], f"entries 5\n{HELD}")
 
@@ -403,14 +395,11 @@ def main():
     if sys.argv[1:2] == ["--files"]:
         write_example(*sys.argv[2:])
         return 0
-    if not os.access(PROGRAM, os.X_OK):
-        print(f"examples: {PROGRAM} isn't built\n0 passed, 1 failed")
-        return 1
+    told.needs_program()
     groups = [run_file, refusals, long_requests, long_replies, many_reads, two_routines, largest_setup, any_key, log_faults, a_million_events]
     for group in [*groups, replays, config_faults, read_while_written]:
         group()
-    print(f"{counts[True]} passed, {counts[False]} failed")
-    return 1 if counts[False] else 0
+    return told.ended()
 
 
 if __name__ == "__main__":

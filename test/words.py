@@ -2,7 +2,7 @@
 """Makes the man page and the completion for bash from what `uds_play --help` and `uds_play COMMAND --help` print, and
 compares them with man/uds_play.1 and completion/uds_play.bash; with --write it writes these. The page is read by man, where
 that is there, and the completion is tried in bash; the example of each command runs over demo/.
-Usage: tools/words.py [--write]
+Usage: test/words.py [--write]
 The last line is 'N passed, M failed'."""
 import os
 import re
@@ -11,8 +11,8 @@ import subprocess
 import sys
 import tempfile
 
-TOP = os.path.dirname(os.path.dirname(os.path.abspath(__file__)))
-PROGRAM = os.path.join(TOP, "crates", "uds_play", "out", "uds_play")
+from harness import PROGRAM, TOP, Tally
+
 PAGE, COMPLETION = "man/uds_play.1", "completion/uds_play.bash"
 STATUS = (
     ("0", "the whole text was written"),
@@ -37,17 +37,12 @@ TRIED = (
     (["uds_play", "compare", "--differences", "unit.toml", ""], ["drive.log", "folder"]),
     (["uds_play", "replay", "unit.toml", ""], ["drive.log", "folder", "journal", "unit.toml"]),
 )
-counts = {True: 0, False: 0}
-
-
-def told(good, name, more=""):
-    counts[good] += 1
-    print(f"words: {name}" if good else f"WORDS WRONG: {name}{more}")
+told = Tally("words")
 
 
 def help_of(*words):
     texts = [subprocess.run([PROGRAM, *words, it], capture_output=True, text=True, timeout=60, check=True).stdout for it in ("--help", "-h")]
-    told(texts[0] == texts[1], f"help by -h: {' '.join(words)}", f": {texts[1]}")
+    told(texts[0] == texts[1], f"help by -h: {' '.join(words)}", texts[1])
     return re.sub(r"Usage: \S+", "Usage: uds_play", texts[0], count=1)
 
 
@@ -128,7 +123,7 @@ def try_completion():
                 pass
         for words, want in TRIED:
             found = completed(folder, words)
-            told(found == want, f"completed: {' '.join(words)}", f": {found}")
+            told(found == want, f"completed: {' '.join(words)}", found)
 
 
 def try_page():
@@ -136,7 +131,7 @@ def try_page():
         print("words: there is no man, so the page isn't read by it")
         return
     done = subprocess.run(["man", "--warnings", "-l", f"{TOP}/{PAGE}"], capture_output=True, text=True, timeout=60, env={**os.environ, "MANWIDTH": "100"})
-    told(done.returncode == 0 and not done.stderr and "uds_play verify" in done.stdout, "man reads the page", f": {done.stderr}")
+    told(done.returncode == 0 and not done.stderr and "uds_play verify" in done.stdout, "man reads the page", done.stderr)
 
 
 def try_examples(commands):
@@ -147,13 +142,11 @@ def try_examples(commands):
         for name, parts in commands.items():
             lines = "\n".join(parts["Example"])
             done = subprocess.run(["bash", "-ec", lines], cwd=folder, capture_output=True, text=True, timeout=60, env={**os.environ, "PATH": f"{folder}:{os.environ['PATH']}"})
-            told(parts["Example"] != [] and done.returncode == (8 if name in ("verify", "compare") else 0) and "note:" not in done.stderr, f"the example of {name}", f": {done}")
+            told(parts["Example"] != [] and done.returncode == (8 if name in ("verify", "compare") else 0) and "note:" not in done.stderr, f"the example of {name}", done)
 
 
 def main():
-    if not os.access(PROGRAM, os.X_OK):
-        print(f"words: {PROGRAM} isn't built\n0 passed, 1 failed")
-        return 1
+    told.needs_program()
     whole = parts_of(help_of())
     commands = {name: parts_of(help_of(name)) for name, _ in whole["Commands"]}
     for path, text in ((PAGE, page(whole, commands)), (COMPLETION, completion(whole, commands))):
@@ -163,14 +156,13 @@ def main():
                 file.write(text)
         try:
             with open(f"{TOP}/{path}") as file:
-                told(file.read() == text, path, " isn't what the texts of help make: tools/words.py --write")
+                told(file.read() == text, path, "it isn't what the texts of help make: test/words.py --write")
         except OSError as fault:
-            told(False, path, f": {fault}")
+            told(False, path, fault)
     try_page()
     try_completion()
     try_examples(commands)
-    print(f"{counts[True]} passed, {counts[False]} failed")
-    return 1 if counts[False] else 0
+    return told.ended()
 
 
 if __name__ == "__main__":

@@ -1,7 +1,7 @@
 #!/usr/bin/env bash
 # Refuses each request for memory in turn, in the executables that `rt ci`, `rt test` or `rt run` left in out/: the
 # program and, with the word `tests`, the executables of the tests, a test at a time; with `suite FILE` that one executable.
-# Usage: tools/refuse.sh [tests | suite FILE]
+# Usage: test/refuse.sh [tests | suite FILE]
 # The program must answer want of memory (status 4, nothing on standard output, and of `bus`, `compare` and `live`, which
 # write as they go, a front of the text) or, where it had no more need of the memory, what it answers without a refusal; where there was no
 # memory for its line on standard error, that is empty. Notes read the setup once more, and so ask as often again: most runs
@@ -16,7 +16,7 @@ set -uo pipefail
 cd "$(dirname "$0")/.." || exit 2
 room=$(mktemp -d)
 trap 'rm -rf "$room"' EXIT
-cc -O2 -shared -fPIC -o "$room/refuse.so" tools/refuse.c -ldl || { echo "refuse: no C compiler"; echo "0 passed, 1 failed"; exit 1; }
+cc -O2 -shared -fPIC -o "$room/refuse.so" test/refuse.c -ldl || { echo "refuse: no C compiler"; echo "0 passed, 1 failed"; exit 1; }
 end=$(($(date +%s) + ${REFUSE_SECONDS:-600}))
 passed=0
 failed=0
@@ -106,7 +106,7 @@ sweep_test() {
 # sweep_example PROGRAM NAME: a serial run of that worked example
 sweep_example() {
   mkdir -p "$room/example"
-  if tools/examples.py --files "$2" "$room/example" 2> "$room/err"; then
+  if test/examples.py --files "$2" "$room/example" 2> "$room/err"; then
     sweep_run "$2" 0 "$room/example/prints" '' "$1" --quiet serial "$room/example/setup" "$room/example/a" "$room/example/b"
   else
     bad "$2: there is no such example"
@@ -198,7 +198,7 @@ sweep_suites() {
   suites=$(find crates/*/out -maxdepth 1 -name '*_tests' -type f -perm -u+x | sort)
   if [ -z "$suites" ]; then : > "$room/err"; bad "no suite of tests is built"; return; fi
   # shellcheck disable=SC2086 # a path a word
-  printf '%s\n' $suites | xargs -P "$(nproc)" -n 1 tools/refuse.sh suite > "$room/suites"
+  printf '%s\n' $suites | xargs -P "$(nproc)" -n 1 test/refuse.sh suite > "$room/suites"
   grep -vE '^[0-9]+ passed, [0-9]+ failed$' "$room/suites"
   counts=$(grep -E '^[0-9]+ passed, [0-9]+ failed$' "$room/suites")
   passed=$((passed + $(awk '{ n += $1 } END { print n + 0 }' <<< "$counts")))

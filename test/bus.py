@@ -7,11 +7,10 @@ import re
 import select
 import subprocess
 import sys
-import tempfile
 import time
 
-TOP = os.path.dirname(os.path.dirname(os.path.abspath(__file__)))
-PROGRAM = f"{TOP}/crates/uds_play/out/uds_play"
+from harness import PROGRAM, TOP, Tally
+
 with open(f"{TOP}/runs/setup.toml", encoding="ascii") as it:
     SETUP = it.read()
 THIRD = '\n[[tester]]\nname = "C"\nrequest = 0x7E2\nresponse = 0x7EA\n'
@@ -55,12 +54,7 @@ FRAMES = [
 ]
 OTHERS = ["123#00", "7E8#065003003201F4CC", "18DB33F1#021003", "7E0#R8", "7E0##1021001", "7DF#023E80", "7DF#0322F190"]
 WRONG = ["tick 0", "tick 60001", "(0.000000) can0 800#00", "can0 7E0#00", "(0.000000) can0 123#000102030405060708"]
-counts = {True: 0, False: 0}
-
-
-def told(good, name, more=""):
-    counts[good] += 1
-    print(f"bus: {name}" if good else f"BUS WRONG: {name}: {more}"[:700], flush=True)
+told = Tally("bus", most=700)
 
 
 def run(words, **how):
@@ -384,14 +378,9 @@ def long_capture(room):
 
 
 def main():
-    if not os.access(PROGRAM, os.X_OK):
-        print(f"bus: {PROGRAM} isn't built\n0 passed, 1 failed")
-        return 1
-    for group in (streams, faults, one_tester, several_testers, cannot_write, long_capture):
-        with tempfile.TemporaryDirectory() as room:
-            group(room)
-    print(f"{counts[True]} passed, {counts[False]} failed")
-    return 1 if counts[False] else 0
+    told.needs_program()
+    told.in_rooms(streams, faults, one_tester, several_testers, cannot_write, long_capture)
+    return told.ended()
 
 
 if __name__ == "__main__":

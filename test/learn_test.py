@@ -3,7 +3,7 @@
 answers, services that the server's model lacks. The setup that is learned from each has to agree with it. The demo's
 recordings, one that can't be explained, other forms of pairs, and how long a million lines take. The recordings are the
 same each time. The last line is 'N passed, M failed'.
-Usage: tools/learn_test.py [--program PROGRAM] [RUNS [FIRST]]
+Usage: test/learn_test.py [--program PROGRAM] [RUNS [FIRST]]
   RUNS, FIRST    so many recordings (default 200), the first with this seed (default 1)"""
 import argparse
 import io
@@ -19,7 +19,7 @@ from contextlib import redirect_stderr, redirect_stdout
 from dataclasses import dataclass, field
 from typing import Callable, Iterator, Optional
 
-sys.dont_write_bytecode = True
+from harness import DEBIAN, TOP, Tally
 import learn
 import learn_bus
 import live
@@ -30,7 +30,6 @@ from learn_setup import between, code_name
 from uds_link import Setup as LinkSetup
 from uds_link import cut
 
-TOP = os.path.dirname(os.path.dirname(os.path.abspath(__file__)))
 LONG = 1_000_000
 MOST_SECONDS = 20
 # the seed of a recording that is played on a bus: of two testers, with long messages and response pending, of some seconds
@@ -696,7 +695,7 @@ class OfOtherForms(unittest.TestCase):
     """A recording of another tool is learned as one of candump, where python-can is installed."""
 
     def test_asc_and_blf(self) -> None:
-        sys.path.append(learn.DEBIAN)
+        sys.path.append(DEBIAN)
         try:
             import can  # pylint: disable=import-outside-toplevel
         except ImportError:
@@ -794,15 +793,14 @@ def main() -> int:
     words.add_argument("runs", type=int, nargs="?", default=200)
     words.add_argument("first", type=int, nargs="?", default=1)
     given = words.parse_args()
-    if not os.access(given.program, os.X_OK):
-        print(f"learn: {given.program} isn't built\n0 passed, 1 failed")
-        return 1
+    told = Tally("learn")
+    told.needs_program(given.program)
     OPTIONS[:] = ["--program", given.program]
     globals()["RUNS"] = range(given.first, given.first + given.runs)
     ran = unittest.TextTestRunner(sys.stdout, verbosity=1).run(unittest.defaultTestLoader.loadTestsFromModule(sys.modules["__main__"]))
-    failed = len(ran.failures) + len(ran.errors)
-    print(f"{ran.testsRun - min(failed, ran.testsRun)} passed, {failed} failed")
-    return 1 if failed else 0
+    told.failed = len(ran.failures) + len(ran.errors)
+    told.passed = ran.testsRun - min(told.failed, ran.testsRun)
+    return told.ended()
 
 
 if __name__ == "__main__":

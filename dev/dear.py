@@ -1,7 +1,7 @@
 #!/usr/bin/env python3
 """Which proofs of a crate are dear: the processor seconds of each function's modules, of a check from nothing.
 
-Usage: tools/dear.py CRATE [--test]     after `rt check` in that crate, which builds the libraries below it
+Usage: dev/dear.py CRATE [--test]     after `rt check` in that crate, which builds the libraries below it
 
 It runs the prover with one job over a copy of the crate in a folder of its own, where each module's file is written as soon
 as it is checked, and looks at the processor time five times a second: a module's seconds are those since the file before.

@@ -1,7 +1,7 @@
 #!/usr/bin/env python3
 """Runs `live` of the built program over a pipe, by the clock: sessions by plain lines, by scapy's testers
-(tools/live_scapy.py) and by python-can's (tools/live_can.py), with identifiers of 11 and of 29 bits, separation times
-(tools/live_gaps.py), outputs that nobody reads or that are closed, bad lines, records, and silence. Each session's record
+(test/live_scapy.py) and by python-can's (test/live_can.py), with identifiers of 11 and of 29 bits, separation times
+(test/live_gaps.py), outputs that nobody reads or that are closed, bad lines, records, and silence. Each session's record
 is played by `bus`, which has to write the same bytes. How long the silence lasts is LIVE_SILENCE, in seconds (10 where it
 isn't set). The last line is 'N passed, M failed'."""
 import contextlib
@@ -18,12 +18,11 @@ import threading
 import time
 import tomllib
 
+from harness import PROGRAM, TOP, Tally
 import live_can
 import live_gaps
 import live_scapy
 
-TOP = os.path.dirname(os.path.dirname(os.path.abspath(__file__)))
-PROGRAM = f"{TOP}/crates/uds_play/out/uds_play"
 with open(f"{TOP}/runs/setup.toml", encoding="ascii") as it:
     SETUP = it.read()
 USAGE = "usage: uds_play COMMAND [FLAG..] CONFIG [FILE..]; see uds_play --help"
@@ -40,17 +39,9 @@ MANY, UNREAD = 100_000, 60_000
 SLOW = '\n[[answer]]\nrequest = "14FFFFFF"\nafter_ms = 700\n'
 SOONER, LATER = 0.002, 0.5
 LONG = ["101462F190544553", "215456494E303132", "2233343536373839"]
-counts = {True: 0, False: 0}
+told = Tally("live", most=700)
+note = told.note
 numbers = itertools.count()
-
-
-def told(good, name, more=""):
-    counts[good] += 1
-    print(f"live: {name}" if good else f"LIVE WRONG: {name}: {more}"[:700], flush=True)
-
-
-def note(name):
-    print(f"live: {name}", flush=True)
 
 
 def put(path, text):
@@ -480,9 +471,7 @@ def play(group):
 
 
 def main():
-    if not os.access(PROGRAM, os.X_OK):
-        print(f"live: {PROGRAM} isn't built\n0 passed, 1 failed")
-        return 1
+    told.needs_program()
     live = sys.modules[__name__]
     # (first, while nothing else runs here)
     live_gaps.keeps_pace(live)
@@ -500,8 +489,7 @@ def main():
                 group(room, live)
     for it in beside:
         it.join()
-    print(f"{counts[True]} passed, {counts[False]} failed")
-    return 1 if counts[False] else 0
+    return told.ended()
 
 
 if __name__ == "__main__":

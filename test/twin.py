@@ -1,33 +1,24 @@
 #!/usr/bin/env python3
 """Runs the built program over random logs and captures of up to eight testers with random settings of the links and
-random rows of answers, and compares what it sends and journals with the slow twin of tools/uds_link.py, which computes
+random rows of answers, and compares what it sends and journals with the slow twin of test/uds_link.py, which computes
 both from the whole logs by the definitions: `serial` with ticks and with stamps, `play`, and `bus`. The replies' bytes are
 the journal's own, but for those that a row gives. The logs are the same each time. The last line is 'N passed, M failed'.
-Usage: tools/twin.py [RUNS [FIRST]]     so many runs of each kind (default 60), the first with this seed (default 1)"""
-import os
+Usage: test/twin.py [RUNS [FIRST]]     so many runs of each kind (default 60), the first with this seed (default 1)"""
 import random
 import subprocess
 import sys
 import tempfile
 
-sys.dont_write_bytecode = True
+from harness import PROGRAM, Tally
 from uds_link import bus_differs, cut, differs, events, read_output, read_setup
 
-TOP = os.path.dirname(os.path.dirname(os.path.abspath(__file__)))
-PROGRAM = f"{TOP}/crates/uds_play/out/uds_play"
 LINES = 100
 # the lengths of the values that may be read, each under its place from 0x0100 on
 SIZES = [1, 2, 3, 4, 5, 8, 11, 12, 18, 19, 25, 26, 32, 40, 110, 255]
 # what rows of answers are for, and what they answer: nothing, one template, or some round and round
 PATTERNS = ["22*", "2201....", "2201000100", "22....*", "3E00", "3E80", "..*", "1003", "1002", "22010001000100*"]
 TEMPLATES = ["", "62$0$1", "7F$078", "7F$021", "??$1", "62" + "5A" * 5, "62$0" + "5A" * 6, "62" + "$1??" * 10, "62" + "A5" * 120]
-counts = {True: 0, False: 0}
-
-
-def told(good, name, more=""):
-    counts[good] += 1
-    if not good:
-        print(f"TWIN WRONG: {name}: {more}"[:900], flush=True)
+told = Tally("twin", quiet=True)
 
 
 # ---- setups and frames by chance
@@ -255,9 +246,7 @@ def count(out):
 
 
 def main():
-    if not os.access(PROGRAM, os.X_OK):
-        print(f"twin: {PROGRAM} isn't built\n0 passed, 1 failed")
-        return 1
+    told.needs_program()
     runs, first = (int(it) for it in [*sys.argv[1:], *["60", "1"][len(sys.argv) - 1 :]])
     with tempfile.TemporaryDirectory() as room:
         for seed in range(first, first + runs):
@@ -266,8 +255,7 @@ def main():
             captures(room, seed)
     told(all(it >= runs for it in had.values()), "the logs bring enough about", had)
     print(f"twin: {', '.join(f'{it} {name}' for name, it in had.items())}")
-    print(f"{counts[True]} passed, {counts[False]} failed")
-    return 1 if counts[False] else 0
+    return told.ended()
 
 
 if __name__ == "__main__":

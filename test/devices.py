@@ -1,5 +1,5 @@
 #!/usr/bin/env python3
-"""Runs the built program with devices that fail (tools/fail.c, preloaded). Files come byte by byte and each write takes one:
+"""Runs the built program with devices that fail (test/fail.c, preloaded). Files come byte by byte and each write takes one:
 each read of each file fails in turn, and each write, or it takes no byte. What was written, the line on standard error,
 the status and the number of calls are compared. Then come a config past its limit, a clock that can't be read when `live`
 starts, and logs of which the testers of `play` have to mix. The last line is 'N passed, M failed'."""
@@ -10,17 +10,12 @@ import sys
 import tempfile
 import threading
 
-TOP = os.path.dirname(os.path.dirname(os.path.abspath(__file__)))
-PROGRAM = f"{TOP}/crates/uds_play/out/uds_play"
+from harness import PROGRAM, TOP, Tally
+
 MOST_OF_A_CONFIG = 1_048_576
 CANNOT_WRITE = "uds_play: cannot write\n"
-counts = {True: 0, False: 0}
+told = Tally("devices", most=700)
 own = threading.local()
-
-
-def told(good, name, more=""):
-    counts[good] += 1
-    print(f"devices: {name}" if good else f"DEVICES WRONG: {name}: {more}"[:700], flush=True)
 
 
 def read(path):
@@ -168,12 +163,10 @@ def put(folder, files):
 
 
 def main():
-    if not os.access(PROGRAM, os.X_OK):
-        print(f"devices: {PROGRAM} isn't built\n0 passed, 1 failed")
-        return 1
+    told.needs_program()
     with tempfile.TemporaryDirectory() as room, concurrent.futures.ThreadPoolExecutor(os.cpu_count()) as pool:
         room, preload = os.path.realpath(room), f"{os.path.realpath(room)}/fail.so"
-        subprocess.run(["cc", "-O2", "-shared", "-fPIC", "-o", preload, f"{TOP}/tools/fail.c", "-ldl"], check=True)
+        subprocess.run(["cc", "-O2", "-shared", "-fPIC", "-o", preload, f"{TOP}/test/fail.c", "-ldl"], check=True)
         for number, case in enumerate(FILES):
             folder = put(f"{room}/{number}", case.files)
             reads_fail(pool, folder, case, preload, case.files, lambda count: b"")
@@ -185,8 +178,7 @@ def main():
         long_config(room, preload)
         no_clock(room, preload)
         play_mixes(room)
-    print(f"{counts[True]} passed, {counts[False]} failed")
-    return 1 if counts[False] else 0
+    return told.ended()
 
 
 if __name__ == "__main__":

@@ -1,11 +1,8 @@
-"""The separation times of tools/live.py: testers that hold STmin against the program, with other traffic beside, while it
+"""The separation times of test/live.py: testers that hold STmin against the program, with other traffic beside, while it
 runs as it will and while it is stopped now and then. The program writes into a socket whose kernel stamps each frame as
 it is written, so a tester that reads late doesn't matter. No part of what is proved."""
-import contextlib
 import itertools
-import os
 import random
-import re
 import signal
 import socket
 import statistics

@@ -1,4 +1,4 @@
-"""The testers of tools/live.py that python-can plays: messages on a virtual bus, which go to the program as lines of
+"""The testers of test/live.py that python-can plays: messages on a virtual bus, which go to the program as lines of
 python-can's writer, and come back by its reader. No part of what is proved."""
 import io
 import logging
@@ -7,9 +7,8 @@ import sys
 import threading
 
 import packages
+from harness import DEBIAN
 
-# where Debian's package stands, for a Python that isn't Debian's
-DEBIAN = "/usr/lib/python3/dist-packages"
 # the most seconds that an answer may take
 PATIENCE = 10
 SETUP = """

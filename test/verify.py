@@ -3,26 +3,19 @@
 answers put among its capture, and that recording with one frame dropped, doubled, changed or moved, each in turn; late
 and early answers, response pending, faults, and a long recording. The last line is 'N passed, M failed'."""
 import heapq
-import os
 import random
 import re
 import subprocess
 import sys
-import tempfile
 
-sys.dont_write_bytecode = True
-from bus import ANSWERS, LONG, MOST_MEMORY, PROGRAM, SETUP, THIRD, WRONG, Live, capture, long_lines, peak_of, pieces, put, run, stamped, text_of
+from harness import PROGRAM, Tally
+from bus import ANSWERS, LONG, MOST_MEMORY, SETUP, THIRD, WRONG, Live, capture, long_lines, peak_of, pieces, put, run, stamped, text_of
 
 # the testers of the setup, and the identifier of the frames that the unit sends to each
 TESTERS = {"A": "7E8", "B": "7E9", "C": "7EA"}
 # a line of a recording with a data frame of an 11-bit identifier
 FRAME = re.compile(r"\((\d+)\.(\d+)\) \S+ ([0-9A-Fa-f]{3})#([0-9A-Fa-f]*)(_[9A-Fa-f])?( [RT])?\r?$")
-counts = {True: 0, False: 0}
-
-
-def told(good, name, more=""):
-    counts[good] += 1
-    print(f"verify: {name}" if good else f"VERIFY WRONG: {name}: {more}"[:900], flush=True)
+told = Tally("verify")
 
 
 # ---- the model
@@ -297,14 +290,9 @@ def long_recording(room):
 
 
 def main():
-    if not os.access(PROGRAM, os.X_OK):
-        print(f"verify: {PROGRAM} isn't built\n0 passed, 1 failed")
-        return 1
-    for group in (agrees, early, one_frame, shorter_frames, random_frames, faults, in_pieces, long_recording):
-        with tempfile.TemporaryDirectory() as room:
-            group(room)
-    print(f"{counts[True]} passed, {counts[False]} failed")
-    return 1 if counts[False] else 0
+    told.needs_program()
+    told.in_rooms(agrees, early, one_frame, shorter_frames, random_frames, faults, in_pieces, long_recording)
+    return told.ended()
 
 
 if __name__ == "__main__":

@@ -3,8 +3,8 @@
 of what the commands need; and sees that the files and the names that a document tells of are there, and that the
 pictures are those of their texts. The last line is 'N passed, M failed'.
 
-    tools/docs.py               all documents
-    tools/docs.py docs/USE.md   this one
+    test/docs.py               all documents
+    test/docs.py docs/USE.md   this one
 
 In a document a block is what is indented by four spaces, or stands between lines of three backticks. What it is:
 
@@ -30,10 +30,10 @@ import subprocess
 import sys
 import tempfile
 
+from harness import TOP, Tally, is_built
 import packages
 import pictures
 
-TOP = os.path.dirname(os.path.dirname(os.path.abspath(__file__)))
 PROGRAM = "crates/uds_play/out/uds_play"
 LIBRARY = "crates/uds_unit/out/libuds_unit.so"
 # those whose commands are run
@@ -44,7 +44,7 @@ QUOTING = ["docs/EMBED.md"]
 CHANGES = "CHANGELOG.md"
 # names in the documents that are no names of the repository's
 OF_OTHERS = {"can_logger", "can_logconvert"}
-RUN = ("./uds_play", "tools/", "LC_ALL=C sort ", "sed ", "diff ", "grep ", "for ", "rt lemma ")
+RUN = ("./uds_play", "tools/", "test/", "dev/", "LC_ALL=C sort ", "sed ", "diff ", "grep ", "for ", "rt lemma ")
 STAND_INS = {"candump": "sed -n 1,10p demo/bus.log", "canplayer": "cat"}
 # programs that a machine may not have, with Debian's packages of them
 OTHERS = {"asc2log": "can-utils", "log2asc": "can-utils", "can_logconvert": "python3-can"}
@@ -56,12 +56,7 @@ NOT_RUN = {
 # files and folders that the commands need
 NEEDED = ["uds_play", "crates.txt", "demo", "tools"]
 SECONDS = 120
-counts = {True: 0, False: 0}
-
-
-def told(good, name, more=""):
-    counts[good] += 1
-    print(f"docs: {name}" if good else f"DOCS WRONG: {name}: {more}"[:2000], flush=True)
+told = Tally("docs", most=2000)
 
 
 def whole(path):
@@ -87,7 +82,7 @@ class Block:
         return bool(self.language) or self.lines[0].startswith(RUN) or word in OTHERS or word in STAND_INS
 
     def has_command(self):
-        return any(line.startswith(("./uds_play", "tools/")) for line in self.lines)
+        return any(line.startswith(("./uds_play", "tools/", "test/", "dev/")) for line in self.lines)
 
     def why_not(self):
         """Why the commands can't be run here."""
@@ -252,7 +247,7 @@ def words_of(text):
 def known_names():
     """All words of the sources, the proofs, the edits and the tools, and of the names of their files."""
     found = set()
-    for part in (*(f"crates/*/{it}" for it in ("src", "specs", "proofs", "must-fail", "edits")), "tools", "runs", "bench", "demo", "include", "python"):
+    for part in (*(f"crates/*/{it}" for it in ("src", "specs", "proofs", "must-fail", "edits")), "tools", "test", "dev", "runs", "bench", "demo", "include", "python"):
         for path in glob.glob(f"{TOP}/{part}/**/*", recursive=True):
             if path.endswith((".rt", ".antt", ".py", ".sh", ".c", ".h", ".toml")):
                 found |= words_of(whole(path))
@@ -262,7 +257,7 @@ def known_names():
 
 def missing_files(text):
     """The paths that a text tells of and that are not there; CRATE and NAME stand for any word, and what is built isn't looked for."""
-    paths = re.findall(r"(?<![\w/.])((?:crates|docs|tools|runs|bench|demo|include|python)/[\w./*-]*[\w*/])", text)
+    paths = re.findall(r"(?<![\w/.])((?:crates|docs|tools|test|dev|runs|bench|demo|include|python)/[\w./*-]*[\w*/])", text)
     return sorted({it for it in paths if "/out/" not in it and not glob.glob(f"{TOP}/{re.sub('NAME|CRATE', '*', it)}")})
 
 
@@ -299,7 +294,7 @@ def look_at_pictures(known):
     """Sees that each picture is that of its text, and that the names in it are there."""
     for path in sorted(glob.glob(f"{pictures.FOLDER}/*.txt")):
         name = os.path.relpath(path, TOP)
-        told(pictures.is_drawn(path), f"{name}: its picture", "it is another; run tools/pictures.py")
+        told(pictures.is_drawn(path), f"{name}: its picture", "it is another; run dev/pictures.py")
         lines = "\n".join(pictures.lines_of(whole(path)))
         missing = sorted({it for it in words_of(lines) if re.search(r"[a-z]_[a-z]|[a-z][A-Z]", it)} - known)
         told(not missing, f"{name}: the names that it tells of are there", ", ".join(missing))
@@ -324,24 +319,22 @@ def look():
 def play_alone(name):
     """Runs the commands of a document in a folder of its own."""
     with tempfile.TemporaryDirectory() as room:
-        before = counts[True] + counts[False]
+        before = told.passed + told.failed
         play(name, room)
-        told(counts[True] + counts[False] > before, f"{name} has commands")
+        told(told.passed + told.failed > before, f"{name} has commands")
 
 
 def main():
-    built = os.access(f"{TOP}/{PROGRAM}", os.X_OK)
     for name in sys.argv[1:] or DOCUMENTS:
         if name in QUOTING:
             compare_code(name, whole(f"{TOP}/{name}"))
-        elif built:
+        elif is_built():
             play_alone(name)
         else:
             told(False, f"{name}: {PROGRAM} isn't built")
     if not sys.argv[1:]:
         look()
-    print(f"{counts[True]} passed, {counts[False]} failed")
-    return counts[False] > 0 or counts[True] == 0
+    return told.ended()
 
 
 if __name__ == "__main__":

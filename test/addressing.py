@@ -11,16 +11,14 @@ import re
 import shutil
 import subprocess
 import sys
-import tempfile
 from dataclasses import dataclass
 from typing import Optional
 
-sys.dont_write_bytecode = True
+from harness import DEBIAN, Tally
 import live_scapy
 import packages
-from bus import PROGRAM, put, run
+from bus import put, run
 
-DEBIAN = "/usr/lib/python3/dist-packages"
 SETUP = """
 [[tester]]
 name = "A"
@@ -44,12 +42,7 @@ id = 0xF190
 value = "30313233343536373839414243444546"
 """
 PRESENT = "027E00CCCCCCCCCC"
-counts = {True: 0, False: 0}
-
-
-def told(good: bool, name: str, more: object = "") -> None:
-    counts[good] += 1
-    print(f"addressing: {name}" if good else f"ADDRESSING WRONG: {name}: {more}"[:900], flush=True)
+told = Tally("addressing")
 
 
 # ---- each identifier with every rest
@@ -297,14 +290,9 @@ def shown(path: str, *names: str, more: Optional[list[str]] = None) -> list[list
 
 
 def main() -> int:
-    if not os.access(PROGRAM, os.X_OK):
-        print(f"addressing: {PROGRAM} isn't built\n0 passed, 1 failed")
-        return 1
-    for group in (each_rest, others, by_scapy, by_wireshark):
-        with tempfile.TemporaryDirectory() as room:
-            group(room)
-    print(f"{counts[True]} passed, {counts[False]} failed")
-    return 1 if counts[False] else 0
+    told.needs_program()
+    told.in_rooms(each_rest, others, by_scapy, by_wireshark)
+    return told.ended()
 
 
 if __name__ == "__main__":

@@ -2,8 +2,8 @@
 """Draws the pictures of docs/ARCHITECTURE.md: docs/pictures/NAME.svg of docs/pictures/NAME.txt, for each such text.
 The head of each text says how its lines are read.
 
-    tools/pictures.py           draws them all
-    tools/pictures.py --look    tells which of them aren't those of their texts, and draws none
+    dev/pictures.py           draws them all
+    dev/pictures.py --look    tells which of them aren't those of their texts, and draws none
 
 The last line of --look is 'N passed, M failed'; the status is 0 where M is 0.
 """
@@ -143,7 +143,7 @@ def main():
     if sys.argv[1:] == ["--look"]:
         wrong = [path for path in paths if not is_drawn(path)]
         for path in wrong:
-            print(f"WRONG: {os.path.basename(path)}: its picture is another; run tools/pictures.py")
+            print(f"WRONG: {os.path.basename(path)}: its picture is another; run dev/pictures.py")
         print(f"{len(paths) - len(wrong)} passed, {len(wrong)} failed")
         return 1 if wrong or not paths else 0
     for path in paths:

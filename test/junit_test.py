@@ -9,13 +9,10 @@ import sys
 import xml.etree.ElementTree as ElementTree
 from typing import Iterator
 
-sys.dont_write_bytecode = True
+from harness import DEBIAN, PROGRAM, TOP, Tally
 import packages
 
-TOP = os.path.dirname(os.path.dirname(os.path.abspath(__file__)))
 TOOL = f"{TOP}/tools/junit.py"
-PROGRAM = f"{TOP}/crates/uds_play/out/uds_play"
-DEBIAN = "/usr/lib/python3/dist-packages"
 # JUnit's schema, as build servers read it: of each element the attributes that it has to have, those that it may have,
 # and what may stand in it
 SCHEMA = {
@@ -33,12 +30,7 @@ UNASKED = "7 0000000100.040000 B U - 7E00 - - 0\n"
 HIDDEN = "9 0000000100.050000 A P 2301 63AA12 63??11 1 0\n"
 LONG = f"12 0000000100.060000 A P 2E{'AB' * 300} 6EABAB 7F2E31 1 0\n"
 SILENT = "13 0000000100.070000 B F 3E80 7E00 - 1 0\n"
-counts = {True: 0, False: 0}
-
-
-def told(good: bool, name: str, more: object = "") -> None:
-    counts[good] += 1
-    print(f"junit: {name}" if good else f"JUNIT WRONG: {name}: {more}"[:1500], flush=True)
+told = Tally("junit", most=1500)
 
 
 def report(text: str) -> tuple[str, int, str]:
@@ -149,13 +141,10 @@ def by_parser() -> None:
 
 
 def main() -> int:
-    if not os.access(PROGRAM, os.X_OK):
-        print(f"junit: {PROGRAM} isn't built\n0 passed, 1 failed")
-        return 1
+    told.needs_program()
     for group in (by_schema, words, of_program, by_parser):
         group()
-    print(f"{counts[True]} passed, {counts[False]} failed")
-    return 1 if counts[False] else 0
+    return told.ended()
 
 
 if __name__ == "__main__":

@@ -1,7 +1,7 @@
 #!/usr/bin/env bash
 # Tries the wrong edits that stand outside the gate, those of crates/NAME/edits/: the prover must refuse each. Run it for a
 # crate whose contracts, definitions or proofs you changed, and look at what it says of each edit.
-# Usage: tools/edits.sh [CRATE..]     these crates, or all that have such edits
+# Usage: dev/edits.sh [CRATE..]     these crates, or all that have such edits
 # Works on a copy in which they stand under must-fail/, and begins with what `rt check` kept of the crate.
 # The last line is 'N passed, M failed'; the status is 0 where M is 0.
 set -uo pipefail

@@ -1,4 +1,4 @@
-"""Headless Chromium over its debugging pipe, for tools/view_test.py: opens a page, asks it, moves the mouse, takes
+"""Headless Chromium over its debugging pipe, for test/view_test.py: opens a page, asks it, moves the mouse, takes
 pictures, and gathers what it tells on its console. No part of what is proved."""
 import base64
 import json

@@ -1,4 +1,4 @@
-"""The testers of tools/live.py that scapy plays: its ISO-TP and its UDS layer, and its scanners, over a CAN socket that
+"""The testers of test/live.py that scapy plays: its ISO-TP and its UDS layer, and its scanners, over a CAN socket that
 speaks the program's lines, with identifiers of 11 and of 29 bits. No part of what is proved."""
 import contextlib
 import itertools
@@ -10,9 +10,8 @@ import threading
 import time
 
 import packages
+from harness import DEBIAN
 
-# where Debian's package stands, for a Python that isn't Debian's
-DEBIAN = "/usr/lib/python3/dist-packages"
 SERVICES = {0x10, 0x11, 0x14, 0x19, 0x22, 0x27, 0x2E, 0x31, 0x3E, 0x85}
 LONG = bytes(range(60)).hex().upper()
 OTHER = bytes(range(100, 160)).hex().upper()
