@@ -83,15 +83,15 @@ def writes_fail(pool, room, case, preload):
 
 SETUP = {"setup": read("setup.toml")}
 MIXED = b"diag-journal 1\n"
-PLAYED = read("threaded_play/lines")
-CAPTURE = read("bus_order/no_last_line_feed.log")
+PLAYED = read("logs/threaded_play/lines")
+CAPTURE = read("bus/order/no_last_line_feed.log")
 # how many lines of the text each line of that capture draws, the last at the end
 REPLIES, ENTRIES, COMPARED = (1, 0, 1, 1, 1), (1, 0, 3, 3, 3), (0, 0, 0, 1, 5)
 FILES = [
-    Case("serial", ["serial", "setup", "a", "b"], {**SETUP, "a": read("two_testers/a.log"), "b": read("two_testers/b.log")}, read("two_testers/stdout")),
-    Case("play", ["play", "setup", "a", "b"], {**SETUP, "a": read("threaded_play/a.log"), "b": read("threaded_play/b.log")}, PLAYED,
+    Case("serial", ["serial", "setup", "a", "b"], {**SETUP, "a": read("logs/two_testers/a.log"), "b": read("logs/two_testers/b.log")}, read("logs/two_testers/stdout")),
+    Case("play", ["play", "setup", "a", "b"], {**SETUP, "a": read("logs/threaded_play/a.log"), "b": read("logs/threaded_play/b.log")}, PLAYED,
          settled=PLAYED.index(MIXED) + len(MIXED)),
-    Case("replay", ["replay", "setup", "journal"], {**SETUP, "journal": read("replay/journal")}, read("replay/stdout")),
+    Case("replay", ["replay", "setup", "journal"], {**SETUP, "journal": read("logs/replay/journal")}, read("logs/replay/stdout")),
 ]
 
 
@@ -108,17 +108,17 @@ def drawn(text, header, lines):
 
 def captures():
     """The runs over a capture, with what each has written when so many of its bytes were read."""
-    replies, journal, compared = read("bus_order/stdout"), read("bus_order_journal/stdout"), read("compare_order/stdout")
+    replies, journal, compared = read("bus/order/bus.stdout"), read("bus/order/journal.stdout"), read("bus/order/compare.stdout")
     capture, unwritten = {**SETUP, "capture": CAPTURE}, lambda count: b""
     verify = ["verify", "setup", "capture"]
-    lacking = read("verify_order/stderr").decode()
+    lacking = read("bus/order/verify.stderr").decode()
     return [
         (Case("bus", ["bus", "setup", "capture"], capture, replies), drawn(replies, 0, REPLIES)),
         (Case("bus -", ["bus", "setup", "-"], {**SETUP, "-": CAPTURE}, replies), drawn(replies, 0, REPLIES)),
         (Case("bus --journal", ["bus", "--journal", "setup", "capture"], capture, journal), drawn(journal, 1, ENTRIES)),
-        (Case("bus --end", ["bus", "--end", "setup", "capture"], capture, read("bus_order_end/stdout")), unwritten),
+        (Case("bus --end", ["bus", "--end", "setup", "capture"], capture, read("bus/order/end.stdout")), unwritten),
         (Case("compare", ["compare", "setup", "capture"], capture, compared, status=8), drawn(compared, 0, COMPARED)),
-        (Case("verify", verify, {**SETUP, "capture": read("verify_agrees/capture.log")}, read("verify_agrees/stdout")), unwritten),
+        (Case("verify", verify, {**SETUP, "capture": read("verify/agrees/capture.log")}, read("verify/agrees/stdout")), unwritten),
         (Case("verify, of which a frame lacks", verify, capture, tells=lacking, status=8), unwritten),
     ]
 

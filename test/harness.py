@@ -1,8 +1,10 @@
 """What each test of the built program repeats: where it is, a line for what was found good or wrong, and the last line,
 'N passed, M failed'. Whoever imports this finds the modules of tools/ and dev/, too. No part of what is proved."""
+import glob
 import os
 import sys
 import tempfile
+from dataclasses import dataclass
 
 sys.dont_write_bytecode = True
 TOP = os.path.dirname(os.path.dirname(os.path.abspath(__file__)))
@@ -14,6 +16,39 @@ sys.path += [f"{TOP}/tools", f"{TOP}/dev"]
 
 def is_built(program=PROGRAM):
     return os.access(program, os.X_OK)
+
+
+@dataclass(frozen=True)
+class Case:
+    """A case of runs/, as test/runs.sh runs it: its folder, what its files begin with, and the words of its commands, without
+    a file that is standard input."""
+
+    folder: str
+    prefix: str
+    commands: list
+
+    def file(self, kind):
+        """The path of what is expected: of `stdout`, `stderr` and so on."""
+        return f"{self.folder}/{self.prefix}{kind}"
+
+    @property
+    def name(self):
+        return f"{os.path.relpath(self.folder, TOP + '/runs')}/{self.prefix}".rstrip("/.")
+
+    @property
+    def has_notes(self):
+        """Whether notes are compared, too."""
+        return self.name.startswith("words/")
+
+
+def cases():
+    """The cases of runs/, by name."""
+    found = []
+    for path in glob.glob(f"{TOP}/runs/**/*commands", recursive=True):
+        with open(path, encoding="ascii") as it:
+            commands = [line.partition(" < ")[0].split() for line in it]
+        found.append(Case(os.path.dirname(path), os.path.basename(path).removesuffix("commands"), commands))
+    return sorted(found, key=lambda it: it.name)
 
 
 class Tally:

@@ -1,6 +1,6 @@
 #!/usr/bin/env python3
 """Tests tools/junit.py: what it makes of texts of `compare`, read back as XML by the rules of JUnit's schema, and by
-junitparser (Debian's python3-junitparser) where that is there; the statuses; and what the program writes over runs/compare_*.
+junitparser (Debian's python3-junitparser) where that is there; the statuses; and what the program writes over the captures of runs/.
 The last line is 'N passed, M failed'."""
 import io
 import os
@@ -9,7 +9,7 @@ import sys
 import xml.etree.ElementTree as ElementTree
 from typing import Iterator
 
-from harness import DEBIAN, PROGRAM, TOP, Tally
+from harness import DEBIAN, PROGRAM, TOP, Tally, cases
 import packages
 
 TOOL = f"{TOP}/tools/junit.py"
@@ -108,15 +108,15 @@ def words() -> None:
 
 def of_program() -> None:
     """What the program writes is taken as it comes, and the report has the program's status."""
-    for name in sorted(it for it in os.listdir(f"{TOP}/runs") if it.startswith("compare_")):
-        with open(f"{TOP}/runs/{name}/commands", encoding="ascii") as it:
-            words, _, path = it.readline().rstrip("\n").partition(" < ")
-        with open(f"{TOP}/runs/{name}/{path}" if path else os.devnull, "rb") as given:
-            ran = subprocess.run([PROGRAM, "--quiet", *words.split(" ")], cwd=f"{TOP}/runs/{name}", stdin=given, capture_output=True, timeout=60)
+    for case in cases():
+        words = next((it for it in case.commands if it[0] == "compare" and "--help" not in it), None)
+        if words is None or case.has_notes:
+            continue
+        ran = subprocess.run([PROGRAM, "--quiet", *words], cwd=case.folder, stdin=subprocess.DEVNULL, capture_output=True, timeout=60)
         xml, ended, tells = report(ran.stdout.decode())
         wrong = list(faults_of(ElementTree.fromstring(xml)))
         # where nothing was written, or not all, the report tells of a fault, whichever it was
-        told(ended == (3 if ran.stderr else ran.returncode) and not wrong and not tells, f"of the program: {name}", f"{ended}, {tells}, {ran}, {wrong}")
+        told(ended == (3 if ran.stderr else ran.returncode) and not wrong and not tells, f"of the program: {case.name}", f"{ended}, {tells}, {ran}, {wrong}")
 
 
 def by_parser() -> None:

@@ -130,12 +130,12 @@ sweep_program() {
     printf 'entries 1\nsession extended\nholder A\n' > "$room/replayed"
     printf 'diag-journal 1\n1 P 1003 5003003201F5\n' > "$room/other"
     printf 'x' > "$room/bad"
-    usage=$(cat runs/usage/stderr)
+    usage=$(cat runs/cli/usage/stderr)
     sweep_run "the stored run" 0 crates/uds_play/stdout '' "$program"
     sweep_run "serial" 0 "$room/played" '' "$program" --quiet serial --stamps "$room/config" "$room/log"
     sweep_run "play" 0 "$room/played" '' "$program" --quiet play --stamps "$room/config" "$room/log"
-    any_order=1 sweep_run "play of two testers" 0 runs/threaded_play/lines '' \
-      "$program" --quiet play runs/setup.toml runs/threaded_play/a.log runs/threaded_play/b.log
+    any_order=1 sweep_run "play of two testers" 0 runs/logs/threaded_play/lines '' \
+      "$program" --quiet play runs/setup.toml runs/logs/threaded_play/a.log runs/logs/threaded_play/b.log
     sweep_example "$program" suppressed-reply
     sweep_example "$program" long-reply
     sweep_example "$program" trouble-codes
@@ -143,27 +143,27 @@ sweep_program() {
     sweep_example "$program" "many-identifiers, one of them unknown"
     sweep_example "$program" rule-pending-many
     sweep_run "replay" 0 "$room/replayed" '' "$program" --quiet replay "$room/config" "$room/journal"
-    writes_as_it_goes=1 sweep_run "bus" 0 runs/bus_merge/stdout '' "$program" --quiet bus runs/setup.toml runs/bus_merge/capture.log
-    writes_as_it_goes=1 sweep_run "bus with later answers" 0 runs/bus_rule_slow_twice/stdout '' \
-      "$program" --quiet bus runs/bus_rule_slow_twice/setup.toml runs/bus_rule_slow_twice/capture.log
-    writes_as_it_goes=1 sweep_run "the journal of a bus" 0 runs/bus_functional_journal/stdout '' \
-      "$program" --quiet bus --journal runs/setup.toml runs/bus_functional/capture.log
-    writes_as_it_goes=1 sweep_run "the end of a bus" 0 runs/bus_order_end/stdout '' \
-      "$program" --quiet bus --end runs/setup.toml runs/bus_order/capture.log
-    writes_as_it_goes=1 sweep_run "a capture at fault" 3 runs/bus_fault/stdout 'uds_play: capture line 5: bad tick' \
-      "$program" --quiet bus runs/setup.toml runs/bus_fault/capture.log
-    input=runs/live_at_once/bus.log writes_as_it_goes=1 sweep_run "live" 0 runs/live_at_once/stdout '' "$program" --quiet live runs/setup.toml
-    sweep_run "a verdict" 0 runs/verify_agrees/stdout '' "$program" --quiet verify runs/setup.toml runs/verify_agrees/capture.log
+    writes_as_it_goes=1 sweep_run "bus" 0 runs/bus/merge/stdout '' "$program" --quiet bus runs/setup.toml runs/bus/merge/capture.log
+    writes_as_it_goes=1 sweep_run "bus with later answers" 0 runs/bus/rule_slow_twice/bus.stdout '' \
+      "$program" --quiet bus runs/bus/rule_slow_twice/setup.toml runs/bus/rule_slow_twice/capture.log
+    writes_as_it_goes=1 sweep_run "the journal of a bus" 0 runs/bus/functional/journal.stdout '' \
+      "$program" --quiet bus --journal runs/setup.toml runs/bus/functional/capture.log
+    writes_as_it_goes=1 sweep_run "the end of a bus" 0 runs/bus/order/end.stdout '' \
+      "$program" --quiet bus --end runs/setup.toml runs/bus/order/capture.log
+    writes_as_it_goes=1 sweep_run "a capture at fault" 3 runs/bus/fault/bus.stdout 'uds_play: capture line 5: bad tick' \
+      "$program" --quiet bus runs/setup.toml runs/bus/fault/capture.log
+    input=runs/live/at_once/bus.log writes_as_it_goes=1 sweep_run "live" 0 runs/live/at_once/stdout '' "$program" --quiet live runs/setup.toml
+    sweep_run "a verdict" 0 runs/verify/agrees/stdout '' "$program" --quiet verify runs/setup.toml runs/verify/agrees/capture.log
     sweep_run "a verdict on a frame" 8 "$room/nothing" 'uds_play: line 3: B sent 037F1022CCCCCCCC, expected 037F1021CCCCCCCC' \
-      "$program" --quiet verify runs/setup.toml runs/verify_second_first/capture.log
+      "$program" --quiet verify runs/setup.toml runs/verify/second_first/capture.log
     sweep_run "a verdict on what is missing" 8 "$room/nothing" 'uds_play: A sent 1 frames, expected 065001003201F4CC next' \
-      "$program" --quiet verify runs/setup.toml runs/bus_order/capture.log
-    writes_as_it_goes=1 sweep_run "exchanges" 8 runs/compare_order/stdout '' \
-      "$program" --quiet compare runs/setup.toml runs/bus_order/capture.log
-    writes_as_it_goes=1 sweep_run "exchanges by rules" 8 runs/compare_varies/stdout '' \
-      "$program" --quiet compare runs/compare_varies/lax.toml runs/compare_varies/capture.log
-    writes_as_it_goes=1 sweep_run "exchanges before a fault" 3 runs/compare_fault/stdout 'uds_play: capture line 6: bad tick' \
-      "$program" --quiet compare runs/setup.toml runs/compare_fault/capture.log
+      "$program" --quiet verify runs/setup.toml runs/bus/order/capture.log
+    writes_as_it_goes=1 sweep_run "exchanges" 8 runs/bus/order/compare.stdout '' \
+      "$program" --quiet compare runs/setup.toml runs/bus/order/capture.log
+    writes_as_it_goes=1 sweep_run "exchanges by rules" 8 runs/compare/varies/stdout '' \
+      "$program" --quiet compare runs/compare/varies/lax.toml runs/compare/varies/capture.log
+    writes_as_it_goes=1 sweep_run "exchanges before a fault" 3 runs/compare/fault/stdout 'uds_play: capture line 6: bad tick' \
+      "$program" --quiet compare runs/setup.toml runs/compare/fault/capture.log
     sweep_run "a capture that is not there" 7 "$room/nothing" 'uds_play: cannot read file 1' "$program" --quiet bus "$room/config" "$room/none"
     printf 's3_m = 1\n[[tester]]\nname = "A"\nrequest = 710\n' > "$room/slips"
     {

@@ -1,8 +1,9 @@
 #!/usr/bin/env bash
-# Runs the built program over the folders of runs/ and compares all that it writes, and its status. A folder has the
-# file `commands`, a command of the program on each line, which is run in that folder, with `< FILE` at its end where a
-# file of the folder is standard input; `stdout`, or `lines` where the order of the lines isn't fixed (with neither
-# nothing is written); `stderr` and `status`, where they aren't empty and 0. Notes are compared in runs/words/ alone.
+# Runs the built program over the folders of runs/ and compares all that it writes, and its status. A folder has a capture,
+# logs or a setup, and the cases of it. A case is a file `commands`, or `NAME.commands` where there are several: a command of
+# the program on each line, which is run in that folder, with `< FILE` at its end where a file is standard input. Beside it
+# stand, with the same NAME, `stdout`, or `lines` where the order of the lines isn't fixed (with neither nothing is written);
+# `stderr` and `status`, where they aren't empty and 0. Notes are compared in runs/words/ alone.
 # Then come runs over files that are made here, and of the launcher. The last line is 'N passed, M failed'.
 set -uo pipefail
 cd "$(dirname "$0")/.." || exit 2
@@ -39,27 +40,28 @@ leave_out_notes() {
 # same FILE OTHER: whether the file, or nothing where there is none, is the other
 same() { cmp -s "$([ -f "$1" ] && echo "$1" || echo "$room/nothing")" "$2"; }
 
-# is_right FOLDER: whether what was written is what the folder says
+# is_right CASE: whether what was written is what the case says, whose files begin so
 is_right() {
-  [ "$status" = "$(cat "$1/status" 2> /dev/null || echo 0)" ] || return 1
-  same "$1/stderr" "$room/err" || return 1
-  if [ -f "$1/lines" ]; then
-    sort "$1/lines" | cmp -s - <(sort "$room/out")
+  [ "$status" = "$(cat "$1status" 2> /dev/null || echo 0)" ] || return 1
+  same "$1stderr" "$room/err" || return 1
+  if [ -f "$1lines" ]; then
+    sort "$1lines" | cmp -s - <(sort "$room/out")
   else
-    same "$1/stdout" "$room/out"
+    same "$1stdout" "$room/out"
   fi
 }
 
-for folder in "$PWD"/runs/*/ "$PWD"/runs/words/*/; do
-  [ "$folder" != "$PWD/runs/words/" ] || continue
-  before=$((passed + failed))
+while IFS= read -r file; do
+  before=$((passed + failed)) case=$PWD/${file%commands} name=${file#runs/}
+  name=${name%commands}
+  name=${name%[/.]}
   while read -r -a words; do
-    ran "$folder" "${words[@]}"
-    [[ $folder = */runs/words/*/ ]] || leave_out_notes
-    if is_right "$folder"; then good "$(basename "$folder"): ${words[*]}"; else bad "$(basename "$folder"): ${words[*]}: status $status"; fi
-  done < "${folder}commands"
-  [ $((passed + failed)) -gt $before ] || bad "$(basename "$folder"): it has no command"
-done
+    ran "${file%/*}" "${words[@]}"
+    [[ $file = runs/words/* ]] || leave_out_notes
+    if is_right "$case"; then good "$name: ${words[*]}"; else bad "$name: ${words[*]}: status $status"; fi
+  done < "$file"
+  [ $((passed + failed)) -gt $before ] || bad "$name: it has no command"
+done < <(find runs -name commands -o -name '*.commands' | LC_ALL=C sort)
 
 # ends NAME STATUS TOLD: the last run ended so, wrote nothing, and told this line of a fault
 ends() {
@@ -73,7 +75,7 @@ ends() {
 
 setup=$PWD/runs/setup.toml
 empty=$PWD/runs/empty.log
-usage=$(sed 's/^uds_play: //' runs/usage/stderr)
+usage=$(sed 's/^uds_play: //' runs/cli/usage/stderr)
 yes tick | head -n 1000000 > "$room/most.log"
 yes tick | head -n 1000001 > "$room/past.log"
 yes tick | head -n 500001 > "$room/half.log"
@@ -104,7 +106,7 @@ ran "$room" replay "$setup" most.txt
 if [ "$status" = 0 ] && [ "$(head -n 1 "$room/out")" = 'entries 1000000' ]; then good "a million entries: replay"; else bad "a million entries: replay: status $status"; fi
 
 # A journal of threads, whatever order they took, replays.
-ran runs/threaded_play play --journal "$setup" a.log b.log
+ran runs/logs/threaded_play play --journal "$setup" a.log b.log
 cp "$room/out" "$room/journal"
 ran "$room" replay "$setup" journal
 printf 'entries 5\nsession extended\nholder A\ncode 012345 2F\n' > "$room/want"
@@ -140,7 +142,7 @@ for command in verify bus 'bus --journal'; do
 done
 : > "$room/out"
 status=0
-timeout 120 "$room/launcher" bus "$setup" runs/bus_order/no_last_line_feed.log >&- 2> "$room/err" || status=$?
+timeout 120 "$room/launcher" bus "$setup" runs/bus/order/no_last_line_feed.log >&- 2> "$room/err" || status=$?
 ends "no standard output: bus" 7 'cannot write'
 status=0
 echo '(0.000000) can0 7E0#021003' > "$room/line"

@@ -15,7 +15,7 @@ import subprocess
 import sys
 import tempfile
 
-from harness import PROGRAM, TOP, Tally
+from harness import PROGRAM, TOP, Tally, cases
 import browser
 import bus
 import examples
@@ -78,16 +78,13 @@ def built_examples():
 
 
 def stored_runs():
-    """The folders of runs/ that have what a run prints: name, setup, and that."""
+    """The cases of runs/ that have what a run prints: name, setup, and that."""
     found = []
-    for name in sorted(os.listdir(f"{TOP}/runs")):
-        folder = f"{TOP}/runs/{name}"
-        if not os.path.exists(f"{folder}/stdout"):
-            continue
-        words = whole(f"{folder}/commands").split("\n")[0].split()
-        files = [it for it in words[1:] if not it.startswith("-")]
-        if words[0] in ("serial", "play", "bus") and "--end" not in words and not name.startswith("help"):
-            found.append((name, whole(f"{folder}/{files[0]}"), whole(f"{folder}/stdout")))
+    for case in cases():
+        (command, *words), *_ = case.commands
+        files = [it for it in words if not it.startswith("-")]
+        if command in ("serial", "play", "bus") and "--end" not in words and os.path.exists(case.file("stdout")) and not case.has_notes:
+            found.append((case.name, whole(f"{case.folder}/{files[0]}"), whole(case.file("stdout"))))
     return found
 
 
@@ -332,9 +329,9 @@ def silence(room):
 def late(_):
     """Of frames with their journal, each response pending and each reply that goes later than its request stand alone, at
     their time; another reply is that of its entry."""
-    folder = f"{TOP}/runs/bus_rule_slow_twice"
+    folder = f"{TOP}/runs/bus/rule_slow_twice"
     setup = uds_run.read_setup(whole(f"{folder}/setup.toml"))
-    found = uds_run.read_run(setup, [(it, whole(f"{it}/stdout")) for it in (folder, f"{folder}_journal")])
+    found = uds_run.read_run(setup, [(it, whole(it)) for it in (f"{folder}/bus.stdout", f"{folder}/journal.stdout")])
     replies, cut, rest = view.chart(setup, found)
     alone = [(it["kind"], it["time"], it["before"], it["words"][:5], it.get("of"), it.get("after")) for it in rest]
     want = [
@@ -476,14 +473,14 @@ def whole_pages(room, page):
     journal = run("bus", "--journal", config, f"{TOP}/demo/bus.log")
     eight, capture = put(f"{room}/eight", eight_testers()), put(f"{room}/capture", traffic(random.Random(1), 8, 120))
     of_eight, frames_of_eight = run("bus", "--journal", eight, capture), run("bus", eight, capture)
-    slow = f"{TOP}/runs/bus_rule_slow_twice"
+    slow = f"{TOP}/runs/bus/rule_slow_twice"
     for name, setup, given, flow in [
         ("the demo's logs", demo, [serial], grants_in(serial)),
         ("the demo's bus", demo, [journal], 0),
         ("the demo's bus with its frames", demo, [journal, frames], grants_in(frames)),
         ("eight testers", eight_testers(), [of_eight], 0),
         ("eight testers with their frames", eight_testers(), [frames_of_eight, of_eight], grants_in(frames_of_eight)),
-        ("answers that take their time", whole(f"{slow}/setup.toml"), [whole(f"{it}/stdout") for it in (slow, f"{slow}_journal")], 0),
+        ("answers that take their time", whole(f"{slow}/setup.toml"), [whole(f"{slow}/{it}.stdout") for it in ("bus", "journal")], 0),
     ]:
         page.open(page_of(room, setup, *given), 1600, HIGH)
         found, want = drawn(page), {**in_text("".join(given)), "flow": flow}
@@ -527,8 +524,8 @@ def by_mouse(room, page):
 
 def later(room, page):
     """A reply that goes later is an arrow at its time, and is marked with its request's line."""
-    slow = f"{TOP}/runs/bus_rule_slow_twice"
-    page.open(page_of(room, whole(f"{slow}/setup.toml"), *(whole(f"{it}/stdout") for it in (slow, f"{slow}_journal"))), 1600, 900)
+    slow = f"{TOP}/runs/bus/rule_slow_twice"
+    page.open(page_of(room, whole(f"{slow}/setup.toml"), *(whole(f"{slow}/{it}.stdout") for it in ("bus", "journal"))), 1600, 900)
     shown = page.ask("[...document.querySelectorAll('text.later')].map((it) => it.textContent)")
     told(shown == ["answered at 0.400", "answered at 0.400", "answered at 0.300"], "when an answer comes is said at its request", shown)
     page.mouse("mouseMoved", *middle_of(page, "[...document.querySelectorAll('text.done')].find((it) => it.textContent.startsWith('54'))"))
