@@ -304,7 +304,7 @@ def look():
     """Sees that what the documents tell of is there."""
     known = known_names()
     look_at_pictures(known)
-    for path in sorted([*glob.glob(f"{TOP}/*.md"), *glob.glob(f"{TOP}/docs/*.md"), f"{TOP}/demo/README.md"]):
+    for path in sorted([*glob.glob(f"{TOP}/*.md"), *glob.glob(f"{TOP}/docs/*.md"), f"{TOP}/demo/README.md", f"{TOP}/bench/plain/README.md"]):
         name, text = os.path.relpath(path, TOP), whole(path)
         compare_code(name, text)
         missing = missing_files(text)
