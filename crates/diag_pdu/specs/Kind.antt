@@ -1,5 +1,5 @@
 -- ISO 15765-2:2016, 9.6, protocol control information: what the first bytes of a frame say.
-use Rattle.std.specs.Prelude.{◌≡◌, ◌≤◌, ℕ, ◌+◌, ◌*◌, ◌/◌, ◌%◌, ◌^◌, ◌==◌, nat_le, nat_lt, Bool, true, false, ◌&&◌, if◌then◌else◌, List, [], ◌∷◌, length, take, drop, slice_index}
+use Rattle.std.specs.Prelude.{◌≡◌, ◌≤◌, ℕ, ◌+◌, ◌*◌, ◌/◌, ◌%◌, ◌^◌, ◌==◌, nat_le, nat_lt, ◌&&◌, if◌then◌else◌, List, [], ◌∷◌, length, take, drop, slice_index}
 use Rattle.diag_pdu.specs.declared.pci.Pci.{Pci}
 use Rattle.diag_pdu.specs.declared.pci.Pci.TheVariants as lent
 use Rattle.diag_pdu.specs.Cut.{head_size}

@@ -1,5 +1,5 @@
 -- What is left of a frame does what the frame does.
-use Rattle.std.proofs.Common.{◌≡◌, ℕ, ◌+◌, List, [], ◌∷◌, ◌++◌, length, refl, ◌∙◌, ap, arith, false}
+use Rattle.std.proofs.Common.{◌≡◌, ℕ, ◌+◌, List, [], ◌∷◌, ◌++◌, length, refl, ◌∙◌, ap, arith}
 use Rattle.std.specs.Prelude.{Bool, Option, None, IsTrue, sum_by, is_some, if◌then◌else◌}
 use Rattle.std.proofs.lemmas.Bool.Decides.{nat_tests}
 use Rattle.diag_can.specs.declared.frame.Event.{Event}
@@ -14,8 +14,8 @@ use Rattle.diag_tp.specs.Kept.{sender_event}
 use Rattle.diag_sides.specs.Sender.{frame_count, current_left}
 use Rattle.diag_tp.specs.State.{LinkState}
 use Rattle.diag_tp.specs.Wire.{Placed}
-use Rattle.diag_tp.specs.Link.{is_frame, partial_after, grant_after, IsReadHere, pending, StandsFor}
-use Rattle.diag_tp.specs.Taken.{Left, OfFunctional, OfIgnored, OfSingle, OfLast, OfKind, left_in, IsTaken, left_of_kind, left_of, reception_after, granted_after, sender_after, once_settled}
+use Rattle.diag_tp.specs.Link.{is_frame, partial_after, grant_after, pending, StandsFor}
+use Rattle.diag_tp.specs.Taken.{Left, OfFunctional, OfIgnored, OfKind, left_in, IsTaken, left_of_kind, left_of, reception_after, granted_after, sender_after, once_settled}
 use Rattle.diag_tp.proofs.Numbers.{IsWithin}
 use Rattle.diag_tp.proofs.History.{stands_fed}
 use Rattle.diag_tp.proofs.Views.{Numbers, within_numbers, grant_few}

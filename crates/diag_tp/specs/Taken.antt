@@ -1,5 +1,5 @@
 -- A frame between the two halves in which a link takes it: what it asks, and what it does once that was asked.
-use Rattle.std.specs.Prelude.{◌≡◌, ◌≤◌, ℕ, IsTrue, List, [], Option, None, Some, is_some, if◌then◌else◌}
+use Rattle.std.specs.Prelude.{◌≡◌, ◌≤◌, ℕ, IsTrue, List, Option, None, Some, is_some, if◌then◌else◌}
 use Rattle.diag_can.specs.declared.frame.Event.{Event}
 use Rattle.diag_can.specs.declared.frame.Event.TheVariants.{Physical, Functional, Ticks}
 use Rattle.diag_pdu.specs.Kind.{Kind, Single, First, Overflow, Consecutive, FlowControl, Ignored, kind, says, single_only, needed_for, IsRead}
