@@ -4,11 +4,12 @@
 # The last line is 'N passed, M failed'.
 set -uo pipefail
 unset UDS_UNIT_LIBRARY
+command -v rt > /dev/null || { echo "release test: the command rt (the Rattle kit) is not on the PATH" >&2; exit 2; }
 cd "$(dirname "$0")/.." || exit 2
 room=$(mktemp -d)
 trap 'rm -rf "$room"' EXIT
 copy=$room/copy
-built=(crates/uds_play/out/uds_play crates/uds_unit/out/libuds_unit.so)
+built=(crates/uds_play/out/uds_play crates/uds_unit/out/libuds_unit.a crates/uds_unit/out/libuds_unit.so)
 passed=0
 failed=0
 good() { passed=$((passed + 1)); echo "release test: $*"; }
@@ -32,35 +33,29 @@ shows() {
   if [ "$status" = 0 ] && cmp -s "$room/out" "$2"; then good "$1"; else bad "$1"; fi
 }
 
-# A folder with these programs alone.
-folder_of() {
-  local at=$1 word
-  shift
-  mkdir "$at"
-  for word in "$@"; do ln -s "$(command -v "$word")" "$at/$word"; done
-}
-
 for file in "${built[@]}"; do
   [ -f "$file" ] || { echo "RELEASE TEST WRONG: $file isn't built"; echo "0 passed, 1 failed"; exit 1; }
 done
 mkdir -p "$copy"
 tar -cf - --exclude=out --exclude=__pycache__ --exclude=release --exclude=.git . | tar -C "$copy" -xf -
 put_built() {
-  for file in "${built[@]}"; do mkdir -p "$copy/${file%/*}" && cp "$file" "$copy/$file"; done
+  local it
+  for it in "${built[@]}"; do mkdir -p "$copy/${it%/*}" && cp "$it" "$copy/$it"; done
 }
 forget_built() { rm -rf "$copy"/crates/*/out "$copy/out"; }
 put_built
-# a machine without the kit: it has what the launcher and `make` call
-words=(bash sh env find sort xargs sha256sum cut awk uname readlink mkdir sed head timeout cat dirname cp rm ln install tar gzip mktemp)
-folder_of "$room/bin" "${words[@]}"
+# a machine without the kit: it has what the launcher and the installers call
+words=(bash sh echo env find sort xargs sha256sum cut awk uname readlink mkdir sed head timeout cat dirname cp rm ln install tar gzip mktemp cmp wc grep mv tee tac touch)
+mkdir "$room/bin"
+for word in "${words[@]}"; do ln -s "$(command -v "$word")" "$room/bin/$word"; done
 ln -s "$(python3 -c 'import sys; print(sys.executable)')" "$room/bin/python3"
 if command -v make > /dev/null; then ln -s "$(command -v make)" "$room/bin/make"; fi
 without_kit=(env PATH="$room/bin")
-# one with a kit that proves nothing, and tells what it was asked for
+# one with a kit that has this one's version, proves nothing, and tells what it was asked for
 cp -a "$room/bin" "$room/kit"
-ln -s "$(command -v mv)" "$(command -v tee)" "$(command -v tac)" "$(command -v touch)" "$(command -v grep)" "$(command -v wc)" "$room/kit"
 cat > "$room/kit/rt" <<END
 #!/bin/sh
+[ "\$1" = version ] && echo "$(rt version)" && exit 0
 echo "\$PWD: rt \$*" >> "$room/asked"
 exit 1
 END
@@ -73,17 +68,19 @@ END
 printf '(1763800001.000000) can0 7E0#0322F195\n' > "$copy/first.log"
 printf '(1763800001.000000) A 7E8#0562F1950203CCCC\n' > "$room/first"
 
-ran tools/release.sh --check
+ran "${with_kit[@]}" tools/release.sh --check
 holds "without release/ it is passed over" 0 'passed over'
 ran "${without_kit[@]}" tools/release.sh --put
 holds "without the kit nothing is put into release/" 2 'not on the PATH'
-ran tools/release.sh --put
+ran "${with_kit[@]}" tools/release.sh --put
 holds "what was built is put into release/" 0
-ran tools/release.sh --check
+ran "${with_kit[@]}" tools/release.sh --check
 holds "and found to be what was built" 0 ', 0 failed'
-ran tools/release.sh
+ran "${with_kit[@]}" tools/release.sh
 holds "what no source is newer than isn't built again" 0 'linux-x86_64.tar.gz'
 forget_built
+glibc=$(objdump -T "$copy"/release/{uds_play,libuds_unit.so} | grep -o 'GLIBC_[0-9.]*' | sort -uV | tail -n 1)
+if [ "$(printf '%s\n' "$glibc" GLIBC_2.34 | sort -V | tail -n 1)" = GLIBC_2.34 ]; then good "it wants $glibc at most"; else bad "it wants $glibc"; fi
 
 # at once, as in a fresh clone: the first start of three that takes under a second
 quick() {
@@ -113,7 +110,7 @@ holds "another processor is told, and the kit is wanted" 2 'does not run here'
 # doesn't start it: with the kit it proves and builds instead. With the word gate the launcher isn't asked.
 unlike() {
   put_built
-  ran tools/release.sh --check
+  ran "${with_kit[@]}" tools/release.sh --check
   holds "the gate refuses $1" 1 'tools/release.sh makes release/ anew'
   rm -rf "$copy"/crates/*/out
   [ "${2:-}" != gate ] || return
@@ -200,9 +197,9 @@ int main(void) { struct uds_unit unit = UDS_UNIT_INIT; return uds_unit_close(&un
   if [ "$status" = 0 ] && [ -z "$(find "$room/usr" ! -type d)" ]; then good "make uninstall leaves nothing"; else bad "make uninstall leaves nothing"; fi
   ran "${without_kit[@]}" tools/release.sh --tarball
   holds "the tarball is made" 0 'linux-x86_64.tar.gz'
-  first=$(sha256sum "$copy"/out/*.tar.gz | cut -d' ' -f1)
-  ran tools/release.sh --tarball
-  if [ "$(sha256sum "$copy"/out/*.tar.gz | cut -d' ' -f1)" = "$first" ]; then good "and again the same"; else bad "and again the same"; fi
+  first=$(sha256sum "$copy"/out/*.tar.gz 2> /dev/null | cut -d' ' -f1)
+  ran "${with_kit[@]}" tools/release.sh --tarball
+  if [ -n "$first" ] && [ "$(sha256sum "$copy"/out/*.tar.gz | cut -d' ' -f1)" = "$first" ]; then good "and again the same"; else bad "and again the same"; fi
 else
   echo "release test: make isn't installed; its tests are passed over"
 fi
