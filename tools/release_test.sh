@@ -47,7 +47,7 @@ put_built
 # a machine without the kit: it has what the launcher and the installers call
 words=(bash sh echo env find sort xargs sha256sum cut awk uname readlink mkdir sed head timeout cat dirname cp rm ln install tar gzip mktemp cmp wc grep mv tee tac touch)
 mkdir "$room/bin"
-for word in "${words[@]}"; do ln -s "$(command -v "$word")" "$room/bin/$word"; done
+for word in "${words[@]}"; do ln -s "$(type -P "$word")" "$room/bin/$word"; done
 ln -s "$(python3 -c 'import sys; print(sys.executable)')" "$room/bin/python3"
 if command -v make > /dev/null; then ln -s "$(command -v make)" "$room/bin/make"; fi
 without_kit=(env PATH="$room/bin")
