@@ -113,6 +113,7 @@ impl Listener {
     ///
     /// # Errors
     /// As `wait`.
+    #[inline(always)]
     pub fn ask(&mut self, request: Request, over: &mut Vec<Over>) -> Result<(), AllocError>
         ensures heard { OnOk result
             (HearsRequest self.old self.new over.old.items over.new.items request) }
