@@ -18,6 +18,7 @@ import tempfile
 import time
 
 sys.dont_write_bytecode = True
+sys.path.append(os.path.join(os.path.dirname(os.path.dirname(os.path.abspath(__file__))), "test"))
 from build_library import SHARED, STATIC, TOP, build, how, kit
 from check_test import changes, spoilt
 from packages import install
