@@ -13,6 +13,7 @@ import sys
 from typing import Iterable, Optional
 from xml.sax.saxutils import escape, quoteattr
 
+sys.dont_write_bytecode = True
 sys.path.append(os.path.join(os.path.dirname(os.path.abspath(__file__)), "parts"))
 import uds_words
 from uds_compared import FAULT, NOT_COMPARED, NOTHING, Compared, Report, read_report

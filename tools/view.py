@@ -18,6 +18,7 @@ import sys
 from bisect import bisect_left
 from dataclasses import dataclass
 
+sys.dont_write_bytecode = True
 sys.path.append(os.path.join(os.path.dirname(os.path.abspath(__file__)), "parts"))
 from uds_compared import is_report, read_report
 from uds_names import service_name
