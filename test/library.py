@@ -19,7 +19,6 @@ import tempfile
 import time
 
 from harness import PROGRAM, TOP, Tally
-
 from build_library import SHARED, STATIC, build, how, kit
 from check_test import changes, spoilt
 from packages import install
@@ -39,7 +38,7 @@ BUS_LINE = re.compile(r"\((\d+)\.(\d{6})\) (\S+) ([0-9A-F]+)#([0-9A-F]*)")
 FRAME_LINE = re.compile(r"\((\d+)\.(\d{6})\) \S+ ([0-9A-F]{3}|[01][0-9A-F]{7})#((?:[0-9A-F]{2})*)(?: .*)?")
 # how many digits an identifier of 11 bits has, and the bit of one of 29
 PLAIN_ID, EXTENDED = 3, 1 << 31
-# what test/library/first.c prints
+# what demo/first.c prints
 FIRST = """0.100 s, tester 1: 7E8#065003003201F4CC
 0.200 s, tester 2: 7A8#037F1021CCCCCCCC
 0.300 s, tester 2: 7A8#0562F1950203CCCC
@@ -81,7 +80,7 @@ def compiled(room, name, words, source, library):
     out = f"{room}/{name}"
     libraries = [library, f"{kit()}/c/liblibc_c.a"] if library == STATIC else [library, f"-Wl,-rpath,{room}"]
     language = ["-x", "none"] if "c++" in words else []
-    made = run([*words, "-o", out, f"{TOP}/test/library/{source}", *language, *libraries])
+    made = run([*words, "-o", out, f"{TOP}/{source}", *language, *libraries])
     if made.returncode != 0:
         told(False, f"{name} compiles", made.stderr)
         return None
@@ -93,11 +92,11 @@ def test_c(room):
     shutil.copy(SHARED, f"{room}/libuds_unit.so.1")
     for language, words in (("C", C), ("C++", CPP)):
         for kind, library in (("static", STATIC), ("shared", SHARED)):
-            program = compiled(room, f"calls_{language}_{kind}", words, "calls.c", library)
+            program = compiled(room, f"calls_{language}_{kind}", words, "test/library/calls.c", library)
             if program:
                 ran = run([program, SETUP])
                 told(ran.returncode == 0, f"calls from {language}, {kind}: {ran.stdout.splitlines()[-1:]}", ran.stdout)
-        program = compiled(room, f"first_{language}", words, "first.c", STATIC)
+        program = compiled(room, f"first_{language}", words, "demo/first.c", STATIC)
         told(program and run([program]).stdout == FIRST, f"the example of docs/USE.md from {language}")
     valgrind(f"{room}/calls_C_static")
 
@@ -291,7 +290,7 @@ def main():
         with tempfile.TemporaryDirectory() as room:
             test_c(room)
             test_fault_lines(room)
-            program = compiled(room, "capture", C, "capture.c", STATIC)
+            program = compiled(room, "capture", C, "test/library/capture.c", STATIC)
             if program:
                 test_captures(room, program)
                 test_speed(room, program)

@@ -26,6 +26,7 @@ from dataclasses import replace
 from typing import Iterable, Iterator, Optional
 
 sys.dont_write_bytecode = True
+sys.path.append(os.path.join(os.path.dirname(os.path.abspath(__file__)), "parts"))
 from learn_bus import MOST_TESTERS, Pair, Sending, functional_of, look, pair_of, pairs_of, sending_of
 from learn_judge import AGREES, DIFFERS, NOTHING, Judge, Program, Refused, Verdict
 from learn_model import learn_model

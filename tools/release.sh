@@ -19,7 +19,7 @@ cd "$top" || exit 2
 release=release
 program=crates/uds_play/out/uds_play
 library=crates/uds_unit/out/libuds_unit.so
-tools_of_users=(tools/junit.py tools/learn*.py tools/uds_*.py tools/view*)
+tools_of_users=(tools/junit.py tools/learn.py tools/view.py tools/parts)
 # all that the proofs, the wrong edits and the build read, and how the library is built
 read_by_build=(crates crates.txt HANDLES include tools/build_library.py)
 
