@@ -97,7 +97,7 @@ tarball() {
   mkdir "$room/$folder/tools"
   cp -r README.md CHANGELOG.md demo docs "$room/$folder/" && cp -r "${tools_of_users[@]}" "$room/$folder/tools/" \
     && cp python/pyproject.toml python/wheel_of_unit.py "$room/$folder/python/" && ln -s bin/uds_play "$room/$folder/uds_play" || return 2
-  tar -C "$room" --sort=name --owner=0 --group=0 --numeric-owner --mode=u+w,go=rX --mtime=@0 -cf - "$folder" | gzip -9n > "out/$folder.tar.gz"
+  tar -C "$room" --exclude=__pycache__ --sort=name --owner=0 --group=0 --numeric-owner --mode=u+w,go=rX --mtime=@0 -cf - "$folder" | gzip -9n > "out/$folder.tar.gz"
   rm -rf "$room"
   echo "out/$folder.tar.gz"
 }
