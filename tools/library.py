@@ -19,6 +19,7 @@ import sys
 import tempfile
 
 sys.dont_write_bytecode = True
+sys.path.append(os.path.join(os.path.dirname(os.path.dirname(os.path.abspath(__file__))), "test"))
 from check_test import changes, spoilt
 from packages import install
 from twin import Tester, setup_text, stamped_lines
