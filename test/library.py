@@ -27,6 +27,8 @@ from uds_link import read_setup
 
 SETUP = f"{TOP}/demo/setup.toml"
 CAPTURES = 200
+# the most seconds that anything may take
+PATIENCE = 200
 TESTERS = 4
 C_FRAMES, PYTHON_FRAMES, QUICK = 1_000_000, 100_000, 0.05
 WARNINGS = ["-O2", "-Wall", "-Wextra", "-Werror", "-pedantic", f"-I{TOP}/include"]
@@ -47,7 +49,10 @@ told = Tally("library", most=3000)
 
 
 def run(words, **more):
-    return subprocess.run(words, capture_output=True, text=True, errors="replace", timeout=600, **more)
+    try:
+        return subprocess.run(words, capture_output=True, text=True, errors="replace", timeout=PATIENCE, **more)
+    except subprocess.TimeoutExpired:
+        return subprocess.CompletedProcess(words, 1, "", f"it hadn't ended after {PATIENCE} seconds")
 
 
 # ---- what the shared library gives and takes
