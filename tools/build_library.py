@@ -4,7 +4,7 @@
 - Where both are there, and no source is newer, nothing is done.
 - Where `rt ci` left the crates below, as it had proved them, and no source of theirs is newer, the kit's `rattle` proves
   uds_unit alone over them and builds it: minutes. Else `rt lib` does that, which proves each crate below as well where
-  `rt check` didn't. Both make the same bytes.
+  `rt check` didn't. (Both ways should make the same bytes: docs/DECISIONS.md.)
 - The kit's linker makes the shared library of the static one and of the kit's C code for memory.
 Where another run of it is building, it waits for that.
 Usage: tools/build_library.py [--how]     with --how it only tells which of these it would do"""
