@@ -1,15 +1,13 @@
 #!/usr/bin/env python3
-"""Builds the library for C and Python, which is proved by the gate's own steps, and runs it from both.
+"""Builds the library for C and Python (tools/build_library.py), and runs it from both.
 
-- `rt lib` makes out/libuds_unit.a of crates/uds_unit, and the kit's linker out/libuds_unit.so of it, with the kit's C code
-  for memory: what it gives to others, and what it takes, is looked at.
+- What the shared library gives to others, and what it takes, is looked at.
 - tools/library/calls.c, compiled as C and as C++ with all warnings as errors, against both libraries; under valgrind, where
   that is installed. The line of a setup's fault is the program's, each key spoilt in turn.
 - Random captures (200, the same each time) by the library from C and from Python, beside `uds_play bus`: the same frames.
 - The package's tests, by each Python that has what they want: python-can, scapy and pytest are Debian's packages.
 - Frames a second, of one tester: at least 1,000,000 from C and 100,000 from Python.
-The last line is 'N passed, M failed'.
-Usage: tools/library.py [--build]     with --build the libraries are only built"""
+The last line is 'N passed, M failed'."""
 import os
 import random
 import re
@@ -17,17 +15,17 @@ import shutil
 import subprocess
 import sys
 import tempfile
+import time
 
 sys.dont_write_bytecode = True
+sys.path.append(os.path.join(os.path.dirname(os.path.dirname(os.path.abspath(__file__))), "test"))
+from build_library import SHARED, STATIC, TOP, build, how, kit
 from check_test import changes, spoilt
 from packages import install
 from twin import Tester, setup_text, stamped_lines
 from uds_link import read_setup
 
-TOP = os.path.dirname(os.path.dirname(os.path.abspath(__file__)))
-CRATE = f"{TOP}/crates/uds_unit"
 PROGRAM = f"{TOP}/crates/uds_play/out/uds_play"
-STATIC, SHARED = f"{CRATE}/out/libuds_unit.a", f"{CRATE}/out/libuds_unit.so"
 SETUP = f"{TOP}/demo/setup.toml"
 CAPTURES = 200
 TESTERS = 4
@@ -59,25 +57,7 @@ def run(words, **more):
     return subprocess.run(words, capture_output=True, text=True, timeout=600, **more)
 
 
-def kit():
-    """The kit's folder: that of the page to read first."""
-    return os.path.dirname(run(["rt", "doc"]).stdout.strip())
-
-
-# ---- the libraries
-
-
-def build():
-    """Builds both, by the kit alone; what went wrong, if anything."""
-    made = run(["rt", "lib"], cwd=CRATE, stdin=subprocess.DEVNULL)
-    if made.returncode != 0:
-        return made.stdout + made.stderr
-    tools = f"{kit()}/toolchain"
-    inputs = ["--whole-archive", STATIC, "--no-whole-archive", f"{kit()}/c/liblibc_c.a", f"{tools}/lib/libc.so.6"]
-    limits = [f"--version-script={TOP}/include/uds_unit.map", "--gc-sections", "-z", "defs", "-z", "relro", "-z", "now"]
-    name = ["-soname", "libuds_unit.so.1", "--build-id=none", "--strip-all"]
-    made = run([f"{tools}/bin/ld.lld", "-shared", "-o", SHARED, *inputs, *limits, *name])
-    return None if made.returncode == 0 else made.stderr
+# ---- what the shared library gives and takes
 
 
 def symbols(*words):
@@ -294,11 +274,9 @@ def test_package():
 
 
 def main():
+    way, begun = how(), time.monotonic()
     fault = build()
-    if sys.argv[1:] == ["--build"]:
-        print(fault or f"{STATIC}\n{SHARED}")
-        return fault is not None
-    if told(fault is None, "the libraries are built", fault):
+    if told(fault is None, f"the libraries are built, {way}: {time.monotonic() - begun:.0f} seconds", fault):
         look()
         with tempfile.TemporaryDirectory() as room:
             test_c(room)

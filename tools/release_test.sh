@@ -1,26 +1,36 @@
 #!/usr/bin/env bash
-# Tests of tools/release.sh, of the launcher over release/, and of `make install`, in a copy of this tree with what was built
-# in it: what is refused, and what runs without the kit. The last line is 'N passed, M failed'.
+# Tests of tools/release.sh, of the launcher over release/, of `make install` and `pip install`, in a copy of this tree with what
+# was built in it: what runs at once without the kit, and what is refused. Nothing is proved or built for it.
+# The last line is 'N passed, M failed'.
 set -uo pipefail
+unset UDS_UNIT_LIBRARY
+command -v rt > /dev/null || { echo "release test: the command rt (the Rattle kit) is not on the PATH" >&2; exit 2; }
 cd "$(dirname "$0")/.." || exit 2
 room=$(mktemp -d)
 trap 'rm -rf "$room"' EXIT
 copy=$room/copy
-built=(crates/uds_play/out/uds_play crates/uds_unit/out/libuds_unit.so)
+built=(crates/uds_play/out/uds_play crates/uds_unit/out/libuds_unit.a crates/uds_unit/out/libuds_unit.so)
 passed=0
 failed=0
 good() { passed=$((passed + 1)); echo "release test: $*"; }
 bad() { failed=$((failed + 1)); echo "RELEASE TEST WRONG: $*"; head -n 8 "$room/out" "$room/err"; }
 
-# ran WORD..: runs it in the copy; what it writes is in out and err, its status in status
+# ran WORD..: runs it in the copy; what it writes is in out and err, its status in status, its milliseconds in took
 ran() {
   status=0
+  local begun=${EPOCHREALTIME/[.,]/}
   (cd "$copy" && exec timeout 120 "$@") > "$room/out" 2> "$room/err" < /dev/null || status=$?
+  took=$(((${EPOCHREALTIME/[.,]/} - begun) / 1000))
 }
 
 # holds WHAT STATUS [TEXT]: whether the last command ended so, and wrote the text
 holds() {
   if [ "$status" = "$2" ] && { [ $# -lt 3 ] || grep -qF -- "$3" "$room/out" "$room/err"; }; then good "$1"; else bad "$1"; fi
+}
+
+# shows WHAT FILE: whether the last command went well, and wrote what the file has
+shows() {
+  if [ "$status" = 0 ] && cmp -s "$room/out" "$2"; then good "$1"; else bad "$1"; fi
 }
 
 for file in "${built[@]}"; do
@@ -29,85 +39,151 @@ done
 mkdir -p "$copy"
 tar -cf - --exclude=out --exclude=__pycache__ --exclude=release --exclude=.git . | tar -C "$copy" -xf -
 put_built() {
-  for file in "${built[@]}"; do mkdir -p "$copy/${file%/*}" && cp "$file" "$copy/$file"; done
+  local it
+  for it in "${built[@]}"; do mkdir -p "$copy/${it%/*}" && cp "$it" "$copy/$it"; done
 }
+forget_built() { rm -rf "$copy"/crates/*/out "$copy/out"; }
 put_built
-# the words of a shell without the kit
+# a machine without the kit: it has what the launcher and the installers call
+words=(bash sh echo env find sort xargs sha256sum cut awk uname readlink mkdir sed head timeout cat dirname cp rm ln install tar gzip mktemp cmp wc grep mv tee tac touch)
 mkdir "$room/bin"
-for word in bash env find sort xargs sha256sum cut awk uname readlink mkdir sed head timeout cat dirname; do ln -s "$(command -v "$word")" "$room/bin/$word"; done
+for word in "${words[@]}"; do ln -s "$(type -P "$word")" "$room/bin/$word"; done
+ln -s "$(python3 -c 'import sys; print(sys.executable)')" "$room/bin/python3"
+if command -v make > /dev/null; then ln -s "$(command -v make)" "$room/bin/make"; fi
 without_kit=(env PATH="$room/bin")
+# one with a kit that has this one's version, proves nothing, and tells what it was asked for
+cp -a "$room/bin" "$room/kit"
+cat > "$room/kit/rt" <<END
+#!/bin/sh
+[ "\$1" = version ] && echo "$(rt version)" && exit 0
+echo "\$PWD: rt \$*" >> "$room/asked"
+exit 1
+END
+chmod +x "$room/kit/rt"
+with_kit=(env PATH="$room/kit")
+cat > "$copy/first.toml" <<'END'
+tester = [{ name = "A", request = 0x7E0, response = 0x7E8 }]
+did = [{ id = 0xF195, value = "0203" }]
+END
+printf '(1763800001.000000) can0 7E0#0322F195\n' > "$copy/first.log"
+printf '(1763800001.000000) A 7E8#0562F1950203CCCC\n' > "$room/first"
 
-ran tools/release.sh --check
+ran "${with_kit[@]}" tools/release.sh --check
 holds "without release/ it is passed over" 0 'passed over'
-ran tools/release.sh --put
+ran "${without_kit[@]}" tools/release.sh --put
+holds "without the kit nothing is put into release/" 2 'not on the PATH'
+ran "${with_kit[@]}" tools/release.sh --put
 holds "what was built is put into release/" 0
-ran tools/release.sh --check
+ran "${with_kit[@]}" tools/release.sh --check
 holds "and found to be what was built" 0 ', 0 failed'
+ran "${with_kit[@]}" tools/release.sh
+holds "what no source is newer than isn't built again" 0 'linux-x86_64.tar.gz'
+forget_built
+glibc=$(objdump -T "$copy"/release/{uds_play,libuds_unit.so} | grep -o 'GLIBC_[0-9.]*' | sort -uV | tail -n 1)
+if [ "$(printf '%s\n' "$glibc" GLIBC_2.34 | sort -V | tail -n 1)" = GLIBC_2.34 ]; then good "it wants $glibc at most"; else bad "it wants $glibc"; fi
 
-# the launcher, with no kit and nothing built
-rm -rf "$copy"/crates/*/out "$copy/out"
-ran "${without_kit[@]}" ./uds_play --version
-holds "release/ runs at once without the kit" 0 'uds_play '
+# at once, as in a fresh clone: the first start of three that takes under a second
+quick() {
+  local what=$1 file=$2 least=99999
+  shift 2
+  for _ in 1 2 3; do
+    rm -rf "$copy/out"
+    ran "${without_kit[@]}" "$@"
+    [ "$took" -ge "$least" ] || least=$took
+    [ "$least" -ge 1000 ] || break
+  done
+  shows "$what" "$file"
+  if [ "$least" -lt 1000 ]; then good "in $least ms, without the kit"; else bad "in $least ms: $what"; fi
+}
+quick "./uds_play shows its own run" crates/uds_play/stdout ./uds_play
+quick "./uds_play bus answers a recording" "$room/first" ./uds_play bus first.toml first.log
 ran "${without_kit[@]}" ./uds_play bus demo/setup.toml demo/bus.log
-if [ "$status" = 0 ] && cmp -s "$room/out" demo/bus_output.txt; then good "and answers the demo"; else bad "and answers the demo"; fi
+shows "and the demo's" demo/bus_output.txt
 ran "${without_kit[@]}" ./uds_play --origin
 holds "--origin says so" 0 'release/uds_play: release/SUMS has'
-mkdir "$room/other" && cp -a "$room/bin/." "$room/other/" && rm "$room/other/uname"
+cp -a "$room/bin" "$room/other" && rm "$room/other/uname"
 printf '#!/bin/sh\necho Linux aarch64\n' > "$room/other/uname" && chmod +x "$room/other/uname"
 ran env PATH="$room/other" ./uds_play --version
 holds "another processor is told, and the kit is wanted" 2 'does not run here'
 
-# changed LINE WHAT: what a change of the copy brings about; it is undone by the next part
-refused() {
+# unlike WHAT [gate]: that the gate refuses the copy as it was changed, and that the launcher, which has found all well before,
+# doesn't start it: with the kit it proves and builds instead. With the word gate the launcher isn't asked.
+unlike() {
   put_built
-  ran tools/release.sh --check
-  holds "the gate refuses $1" 1 'RELEASE WRONG'
-  rm -rf "$copy"/crates/*/out "$copy/out"
-  [ "${2:-}" = gate ] && return
+  ran "${with_kit[@]}" tools/release.sh --check
+  holds "the gate refuses $1" 1 'tools/release.sh makes release/ anew'
+  rm -rf "$copy"/crates/*/out
+  [ "${2:-}" != gate ] || return
   ran "${without_kit[@]}" ./uds_play --version
-  holds "the launcher doesn't start $1" 2 'not on the PATH'
+  holds "the launcher doesn't start $1" 2 "release/ isn't of these sources"
+  : > "$room/asked"
+  ran "${with_kit[@]}" ./uds_play --version
+  holds "and says that it proves and builds" 2 'the program is proved and built'
+  if grep -q 'crates/uds_play: rt run' "$room/asked"; then good "and asks the kit for it"; else bad "and asks the kit for it"; fi
 }
 cp -a "$copy/release" "$room/release"
-again() { rm -rf "$copy/release" && cp -a "$room/release" "$copy/release"; }
+again() {
+  rm -rf "$copy/release" && cp -a "$room/release" "$copy/release"
+  ran "${without_kit[@]}" ./uds_play --version
+  if [ "$status" != 0 ] || [ ! -f "$copy/out/released" ]; then bad "with all as it was it runs again"; fi
+}
+again
 printf 'x' | dd of="$copy/release/uds_play" bs=1 seek=100 conv=notrunc 2> /dev/null
-refused "a changed program"
+unlike "a program with one byte changed"
 again
 printf 'x' | dd of="$copy/release/libuds_unit.so" bs=1 seek=100 conv=notrunc 2> /dev/null
-refused "a changed library"
+unlike "a library with one byte changed"
 again
 sed -i 's/^kit .*/kit another/' "$copy/release/SUMS"
-refused "a stamp of another kit" gate
+unlike "a stamp of another kit" gate
 again
 sed -i "s/^sources .*/sources $(printf '%064d' 0)/" "$copy/release/SUMS"
-refused "a stamp of other sources"
+unlike "a stamp of other sources"
 again
 touch "$copy/release/more"
-refused "another file in release/" gate
+unlike "another file in release/" gate
 again
-proof=$(cd "$copy" && find crates/diag_can/proofs -name '*.antt' | LC_ALL=C sort | head -n 1)
-cp "$copy/$proof" "$room/proof"
-echo '-- a change' >> "$copy/$proof"
-refused "sources of which a proof changed"
-cp "$room/proof" "$copy/$proof"
-mv "$copy/$proof" "$copy/$proof.moved"
-refused "sources of which a file is elsewhere"
-mv "$copy/$proof.moved" "$copy/$proof"
+# behind: a file of the sources that is changed, and changed back
+behind() {
+  local file=$2
+  cp -a "$copy/$file" "$room/file"
+  echo "$3" >> "$copy/$file"
+  unlike "$1 that changed behind it"
+  cp -a "$room/file" "$copy/$file"
+  again
+}
+behind "a source" crates/diag_can/src/lib.rt '// a change'
+behind "a proof" "$(cd "$copy" && find crates/diag_can/proofs -name '*.antt' | LC_ALL=C sort | head -n 1)" '-- a change'
+behind "a wrong edit" "$(cd "$copy" && find crates/*/must-fail -name '*.edit' | LC_ALL=C sort | head -n 1)" '# a change'
+behind "the header" include/uds_unit.h '/* a change */'
+mv "$copy/crates/diag_can/src/lib.rt" "$copy/crates/diag_can/src/moved.rt"
+unlike "sources of which a file is elsewhere"
+mv "$copy/crates/diag_can/src/moved.rt" "$copy/crates/diag_can/src/lib.rt"
+again
 ran "${without_kit[@]}" ./uds_play --version
 holds "with all as it was it runs again" 0 'uds_play '
 
+# runs_installed WHERE PYTHON..: the package that was installed, by this Python
+runs_installed() {
+  local where=$1 version
+  shift
+  version=$("$copy/release/uds_play" --version | awk '{ print $NF }')
+  ran "$@" -c "
+import uds_unit, uds_unit.library
+with uds_unit.Unit('demo/setup.toml') as unit:
+    assert unit.frame(0.0, 0x7E0, bytes.fromhex('021003'))[0].tester == 'workshop'
+assert uds_unit.__version__ == '$version', uds_unit.__version__
+assert uds_unit.library.load()._name.startswith('$room/$where'), uds_unit.library.load()._name"
+  holds "its package runs, with its own library, and has the program's version" 0
+}
+
 # make install, from release/
-if command -v make > /dev/null; then
-  ran make install PREFIX="$room/usr" PYTHONDIR="$room/usr/python"
+if [ -e "$room/bin/make" ]; then
+  ran "${without_kit[@]}" make install PREFIX="$room/usr" PYTHONDIR="$room/usr/python"
   holds "make install" 0
   ran "$room/usr/bin/uds_play" --version
   holds "the installed program runs" 0 'uds_play '
-  ran env PYTHONPATH="$room/usr/python" python3 -c "
-import uds_unit
-with uds_unit.Unit('demo/setup.toml') as unit:
-    assert unit.frame(0.0, 0x7E0, bytes.fromhex('021003'))[0].tester == 'workshop'
-version = '$("$room/usr/bin/uds_play" --version | awk '{ print $NF }')'
-assert uds_unit.__version__ == version, uds_unit.__version__"
-  holds "the installed package runs, and has the program's version" 0
+  runs_installed usr env PYTHONPATH="$room/usr/python" python3
   echo '#include <uds_unit.h>
 int main(void) { struct uds_unit unit = UDS_UNIT_INIT; return uds_unit_close(&unit) != UDS_CLOSED; }' > "$room/it.c"
   flags="-I$room/usr/include -L$room/usr/lib -luds_unit"
@@ -117,15 +193,26 @@ int main(void) { struct uds_unit unit = UDS_UNIT_INIT; return uds_unit_close(&un
   holds "a C program is linked with the installed library" 0
   ran "$room/it"
   holds "and runs" 0
-  ran make uninstall PREFIX="$room/usr" PYTHONDIR="$room/usr/python"
+  ran "${without_kit[@]}" make uninstall PREFIX="$room/usr" PYTHONDIR="$room/usr/python"
   if [ "$status" = 0 ] && [ -z "$(find "$room/usr" ! -type d)" ]; then good "make uninstall leaves nothing"; else bad "make uninstall leaves nothing"; fi
-  ran tools/release.sh --tarball
+  ran "${without_kit[@]}" tools/release.sh --tarball
   holds "the tarball is made" 0 'linux-x86_64.tar.gz'
-  first=$(sha256sum "$copy"/out/*.tar.gz | cut -d' ' -f1)
-  ran tools/release.sh --tarball
-  if [ "$(sha256sum "$copy"/out/*.tar.gz | cut -d' ' -f1)" = "$first" ]; then good "and again the same"; else bad "and again the same"; fi
+  first=$(sha256sum "$copy"/out/*.tar.gz 2> /dev/null | cut -d' ' -f1)
+  ran "${with_kit[@]}" tools/release.sh --tarball
+  if [ -n "$first" ] && [ "$(sha256sum "$copy"/out/*.tar.gz | cut -d' ' -f1)" = "$first" ]; then good "and again the same"; else bad "and again the same"; fi
 else
   echo "release test: make isn't installed; its tests are passed over"
+fi
+
+# pip install, from release/, in an environment of its own; no other package is wanted
+if python3 -m venv "$room/venv" > /dev/null 2>&1; then
+  ran "${without_kit[@]}" "$room/venv/bin/python" -m pip install --no-index --quiet ./python
+  holds "pip install ./python" 0
+  runs_installed venv "$room/venv/bin/python"
+  ran "$room/venv/bin/uds_unit" --help
+  holds "and its program" 0 'usage: '
+else
+  echo "release test: Python's venv isn't installed; the test of pip is passed over"
 fi
 echo "$passed passed, $failed failed"
 [ "$failed" = 0 ]

@@ -130,7 +130,7 @@ def table():
     """The tables of docs/VIEW.md, as text."""
     rows = ["| Service | Name | Sub-functions |", "|---|---|---|"]
     rows += [f"| {sid:02X} | {it.name} | {subs_in_words(sid, it.subs)} |" for sid, it in SERVICES.items()]
-    rows += [f"| {sid:02X} | {name} | not in the unit |" for sid, name in OTHERS.items()]
+    rows += ["", f"Not in the unit: {', '.join(f'{sid:02X} {name}' for sid, name in OTHERS.items())}."]
     rows += ["", "| NRC | Name |", "|---|---|"]
     rows += [f"| 0x{code:02X} | {name} |" for code, name in NEGATIVE.items()]
     return "".join(f"{it}\n" for it in rows)
