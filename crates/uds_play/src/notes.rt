@@ -95,7 +95,7 @@ impl Notes<'_> {
         };
         if let Ok(report) = look_at(rt.alloc(), text.as_slice()) {
             // Where there is no memory, no note tells of it.
-            let _ = self.remarks(rt, &report.passed);
+            let _ = self.remarks(rt, report.passed.as_slice());
         }
     }
 
@@ -103,7 +103,7 @@ impl Notes<'_> {
     fn remarks<R: Eprint + AllocGlobal>(
         &self,
         rt: &R,
-        remarks: &Vec<Remark>,
+        remarks: &[Remark],
     ) -> Result<(), AllocError> {
         let config = self.config;
         for remark in remarks {
@@ -383,7 +383,7 @@ impl Notes<'_> {
         }
         if is_one_silent {
             let report = look_at(rt.alloc(), config.as_slice())?;
-            self.remarks(rt, &report.odd)?;
+            self.remarks(rt, report.odd.as_slice())?;
         }
         Ok(())
     }
