@@ -5,6 +5,7 @@ ghost use Rattle.diag_check.specs.Report.{finding_text, line_text};
 
 use crate::keys::{Kind, Table};
 use diag_config::ConfigFault;
+use std::alloc::{AllocError, Global};
 use std::fmt;
 use std::fmt::InlineText;
 use toml::Value;
@@ -33,6 +34,18 @@ pub struct Finding {
     pub line: Option<usize>,
     /// Which key of which row, what stands there, and what is allowed.
     pub place: String,
+}
+
+impl Finding {
+    /// It, as no fault.
+    pub fn remark(&self, alloc: Global) -> Result<Remark, AllocError> {
+        let fault = self.fault;
+        let place = self.place.as_str();
+        Ok(Remark {
+            line: self.line,
+            text: format!(in alloc; "{fault}: {place}")?,
+        })
+    }
 }
 
 impl fmt::Display for Finding {

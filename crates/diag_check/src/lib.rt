@@ -48,11 +48,7 @@ impl Report {
         ensures { OnOk result (self.new.faults.items ≡ []) }
     {
         for finding in &self.faults {
-            let fault = finding.fault;
-            let place = finding.place.as_str();
-            let text = format!(in alloc; "{fault}: {place}")?;
-            let line = finding.line;
-            self.odd.push(Remark { line, text })?;
+            self.odd.push(finding.remark(alloc)?)?;
         }
         self.faults.clear();
         Ok(())

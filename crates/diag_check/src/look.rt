@@ -19,7 +19,7 @@ pub struct Look<'a> {
     /// What the text says.
     tree: &'a Tree,
     /// Where it says it, once something is found.
-    places: Option<Places<'a>>,
+    places: Option<Places>,
     /// The faults.
     pub faults: Vec<Finding>,
     /// The keys that are passed over.

@@ -11,36 +11,47 @@ use std::alloc::{AllocError, Global};
 use std::collections::BTreeMap;
 use toml::{Table as Tree, Value};
 
-/// The lines of a text's tables and keys, from 1.
+/// What stands behind the head of a table, or before the first one.
 #[derive(Drop)]
-pub struct Places<'a> {
-    /// The line that each part begins with: that of the unit's own keys, then one behind each head of a table.
-    parts: Vec<usize>,
-    /// The parts behind the heads of one path, in their order. Of `level.row` the level's number is with the path, else 0.
-    heads: BTreeMap<(&'a str, usize), Vec<usize>>,
-    /// The line of a plain key of a part.
-    keys: BTreeMap<(usize, &'a str), usize>,
+struct Part {
+    /// The line of the head.
+    line: usize,
+    /// The lines of its plain keys.
+    keys: BTreeMap<String, usize>,
+    /// Of a level the parts of its rows, in their order.
+    rows: Vec<usize>,
 }
 
-impl<'a> Places<'a> {
+/// The lines of a text's tables and keys, from 1.
+#[derive(Drop)]
+pub struct Places {
+    alloc: Global,
+    /// The unit's own part, then one for each head.
+    parts: Vec<Part>,
+    /// The parts behind the heads of a path, in their order, but for those of levels' rows.
+    heads: BTreeMap<String, Vec<usize>>,
+}
+
+impl Places {
     /// The places of a text that is TOML.
-    pub fn of(alloc: Global, text: &'a str) -> Result<Places<'a>, AllocError> {
+    pub fn of(alloc: Global, text: &str) -> Result<Places, AllocError> {
         let mut places = Places {
-            parts: vec![in alloc; 1usize]?,
+            alloc,
+            parts: Vec::new(alloc),
             heads: BTreeMap::new(alloc),
-            keys: BTreeMap::new(alloc),
         };
+        places.part(1)?;
         if !text.contains("\"\"\"") && !text.contains("'''") {
-            places.read(alloc, text.strip_prefix('\u{FEFF}').unwrap_or(text))?;
+            places.read(text.strip_prefix('\u{FEFF}').unwrap_or(text))?;
         }
         Ok(places)
     }
 
-    fn read(&mut self, alloc: Global, text: &'a str) -> Result<(), AllocError> {
+    fn read(&mut self, text: &str) -> Result<(), AllocError> {
         let mut open = 0;
         for (index, line) in text.split('\n').enumerate() {
             if open == 0 {
-                self.line(alloc, line.trim_start(), index.saturating_add(1))?;
+                self.line(line.trim_start(), index.saturating_add(1))?;
             }
             open = open_behind(open, line);
         }
@@ -48,83 +59,105 @@ impl<'a> Places<'a> {
     }
 
     /// Takes the line of a number, without the spaces before it.
-    fn line(&mut self, alloc: Global, line: &'a str, number: usize) -> Result<(), AllocError> {
-        if let Some(head) = line.strip_prefix('[') {
-            return self.head(alloc, path_of(head), number);
+    fn line(&mut self, line: &str, number: usize) -> Result<(), AllocError> {
+        match line.strip_prefix('[') {
+            Some(head) => self.head(path_of(head), number),
+            None => self.key(line, number),
         }
+    }
+
+    fn key(&mut self, line: &str, number: usize) -> Result<(), AllocError> {
         let (name, _) = line.split_once('=').unwrap_or(("", ""));
         let name = name.trim_end();
         if is_plain(name) {
-            self.keys
-                .insert((self.parts.len().saturating_sub(1), name), number)?;
-        }
-        Ok(())
-    }
-
-    fn head(&mut self, alloc: Global, path: &'a str, number: usize) -> Result<(), AllocError> {
-        let part = self.parts.len();
-        self.parts.push(number)?;
-        let level = if path == Table::LevelRow.path() {
-            self.count(Table::Level)
-        } else {
-            0
-        };
-        match self.heads.get_mut(&(path, level)) {
-            Some(parts) => parts.push(part)?,
-            None => {
-                let parts = vec![in alloc; part]?;
-                self.heads.insert((path, level), parts)?;
+            let name = String::from_str(self.alloc, name)?;
+            if let Some(part) = self.parts.last_mut() {
+                part.keys.insert(name, number)?;
             }
         }
         Ok(())
     }
 
-    /// How many heads a list of the unit has.
-    fn count(&self, list: Table) -> usize {
-        self.heads
-            .get(&(list.path(), 0))
-            .map_or(0, |parts| parts.len())
+    fn head(&mut self, path: &str, number: usize) -> Result<(), AllocError> {
+        let part = self.parts.len();
+        self.part(number)?;
+        if path == Table::LevelRow.path() {
+            self.row(part)
+        } else {
+            self.table(path, part)
+        }
+    }
+
+    /// Begins a part at this line.
+    fn part(&mut self, line: usize) -> Result<(), AllocError> {
+        self.parts.push(Part {
+            line,
+            keys: BTreeMap::new(self.alloc),
+            rows: Vec::new(self.alloc),
+        })?;
+        Ok(())
+    }
+
+    fn row(&mut self, part: usize) -> Result<(), AllocError> {
+        let level = match self.heads.get(Table::Level.path()) {
+            Some(levels) => levels.last().copied().unwrap_or(0),
+            None => 0,
+        };
+        if let Some(level) = self.parts.get_mut(level) {
+            level.rows.push(part)?;
+        }
+        Ok(())
+    }
+
+    fn table(&mut self, path: &str, part: usize) -> Result<(), AllocError> {
+        match self.heads.get_mut(path) {
+            Some(parts) => parts.push(part)?,
+            None => {
+                let path = String::from_str(self.alloc, path)?;
+                let parts = vec![in self.alloc; part]?;
+                self.heads.insert(path, parts)?;
+            }
+        }
+        Ok(())
     }
 
     /// The line of a spot of the tree that the text makes.
     pub fn of_spot(&self, tree: &Tree, spot: Spot<'_>) -> Option<usize> {
-        let part = self.part(tree, spot.row)?;
+        let is_unit = spot.row.table == Table::Unit;
+        let part = self.parts.get(self.number(tree, spot.row)?)?;
         match spot.name {
-            None if part == 0 => None,
-            None => self.parts.get(part).copied(),
-            Some(name) => {
-                let line = self.keys.get(&(part, name)).copied();
-                if line.is_none() && part == 0 {
-                    self.first_head(tree, name)
-                } else {
-                    line
-                }
+            None if is_unit => None,
+            None => Some(part.line),
+            Some(name) => match part.keys.get(name) {
+                Some(line) => Some(*line),
+                None if is_unit => self.first_head(tree, name),
+                None => None,
+            },
+        }
+    }
+
+    /// The number of a table's part.
+    fn number(&self, tree: &Tree, row: Row) -> Option<usize> {
+        match row.table {
+            Table::Unit => Some(0),
+            Table::LevelRow => {
+                let level = self
+                    .parts
+                    .get(self.number_in_list(tree, Table::Level, row.level)?)?;
+                nth(
+                    level.rows.as_slice(),
+                    rows_of(tree, row.level).len(),
+                    row.number,
+                )
             }
+            list => self.number_in_list(tree, list, row.number),
         }
     }
 
-    /// The part of a table: 0 is the unit's.
-    fn part(&self, tree: &Tree, row: Row) -> Option<usize> {
-        if row.table == Table::Unit {
-            return Some(0);
-        }
-        let list = if row.table == Table::LevelRow {
-            let level = Row::of(Table::Level, row.level);
-            self.head_of(level, list_at(tree, level.table.path()).len())?;
-            rows_of(tree, row.level)
-        } else {
-            list_at(tree, row.table.path())
-        };
-        self.head_of(row, list.len())
-    }
-
-    /// The part behind the head of a table, where its list has so many tables as heads.
-    fn head_of(&self, row: Row, count: usize) -> Option<usize> {
-        let parts = self.heads.get(&(row.table.path(), row.level))?;
-        if parts.len() != count {
-            return None;
-        }
-        parts.get(row.number.checked_sub(1)?).copied()
+    /// The number of the part of a table in a list of the unit.
+    fn number_in_list(&self, tree: &Tree, list: Table, number: usize) -> Option<usize> {
+        let parts = self.heads.get(list.path())?;
+        nth(parts.as_slice(), list_at(tree, list.path()).len(), number)
     }
 
     /// The line of the first head of this path, where all tables of the unit's key have heads.
@@ -134,12 +167,17 @@ impl<'a> Places<'a> {
             Value::Table(_) => 1,
             _ => return None,
         };
-        let parts = self.heads.get(&(name, 0))?;
-        if parts.len() != count {
-            return None;
-        }
-        self.parts.get(*parts.first()?).copied()
+        let part = nth(self.heads.get(name)?.as_slice(), count, 1)?;
+        Some(self.parts.get(part)?.line)
     }
+}
+
+/// The part of this number, from 1, where the list has so many tables as heads.
+fn nth(parts: &[usize], count: usize, number: usize) -> Option<usize> {
+    if parts.len() != count {
+        return None;
+    }
+    parts.get(number.checked_sub(1)?).copied()
 }
 
 /// The rows of the level of this number.

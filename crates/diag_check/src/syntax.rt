@@ -12,23 +12,32 @@ use toml::de::Error;
 /// The fault of a text that `toml` refuses: where, what `toml` says, and what helps.
 pub fn slip(alloc: Global, text: &str, error: &Error) -> Result<Finding, AllocError> {
     let told = format!(in alloc; "{error}")?;
-    let (head, message) = told
-        .as_str()
-        .split_once('\n')
-        .unwrap_or((told.as_str(), ""));
-    let at = head
-        .strip_prefix("TOML parse error at line ")
-        .unwrap_or(head);
-    let (line, column) = at.split_once(", ").unwrap_or(("", at));
+    let (at, message) = told.as_str().split_once('\n').unwrap_or(("", ""));
+    let at = at.strip_prefix("TOML parse error at line ").unwrap_or(at);
+    let (line, column) = at.split_once(", ").unwrap_or(("", ""));
     let message = message.trim_end();
-    let start = error.span().map_or(0, |span| span.start);
-    let hint = Hint::of(text, start);
+    let hint = Hint::of(text, start_of(error));
     let place = format!(in alloc; "{column}: {message}{hint}")?;
     Ok(Finding {
         fault: ConfigFault::Syntax,
-        line: line.parse::<usize>().ok(),
+        line: number(line),
         place,
     })
+}
+
+/// Where in the text an error is.
+fn start_of(error: &Error) -> usize {
+    match error.span() {
+        Some(span) => span.start,
+        None => 0,
+    }
+}
+
+fn number(text: &str) -> Option<usize> {
+    match text.parse::<usize>() {
+        Ok(number) => Some(number),
+        Err(_) => None,
+    }
 }
 
 /// What helps where a text is no TOML.
