@@ -6,8 +6,11 @@
   uds_unit alone over them and builds it: minutes. Else `rt lib` does that, which proves each crate below as well where
   `rt check` didn't. Both make the same bytes.
 - The kit's linker makes the shared library of the static one and of the kit's C code for memory.
+Where another run of it is building, it waits for that.
 Usage: tools/build_library.py [--how]     with --how it only tells which of these it would do"""
+import fcntl
 import os
+import signal
 import subprocess
 import sys
 
@@ -74,10 +77,10 @@ def how():
 
 
 def jobs():
-    """As many as there are processors and memory for, at most four."""
+    """As many as there are processors and memory for, at most two, so that other tests can run beside."""
     with open("/proc/meminfo", encoding="ascii") as it:
         free = next(1024 * int(line.split()[1]) for line in it if line.startswith("MemAvailable:"))
-    return max(1, min(len(os.sched_getaffinity(0)), free // JOB, 4))
+    return max(1, min(len(os.sched_getaffinity(0)), free // JOB, 2))
 
 
 def over_ci(at_once):
@@ -102,7 +105,6 @@ def build_static(way):
     if way == BY_RT:
         made = run(["rt", "lib"], PATIENCE[way], CRATE)
     else:
-        os.makedirs(os.path.dirname(STATIC), exist_ok=True)
         made = run(over_ci(jobs()), PATIENCE[way], CRATE)
         if made.returncode == -9:
             # most likely for memory
@@ -122,6 +124,13 @@ def build_shared():
 
 def build():
     """Builds both where they are wanted; what went wrong, if anything."""
+    os.makedirs(os.path.dirname(STATIC), exist_ok=True)
+    with open(f"{os.path.dirname(STATIC)}/lock", "w", encoding="ascii") as lock:
+        fcntl.flock(lock, fcntl.LOCK_EX)
+        return build_alone()
+
+
+def build_alone():
     way = how()
     if way == KEPT:
         return None
@@ -138,6 +147,8 @@ def main():
     if sys.argv[1:] == ["--how"]:
         print(how())
         return 0
+    # (then what it runs is ended, too)
+    signal.signal(signal.SIGTERM, lambda *_: sys.exit(2))
     fault = build()
     print(fault or f"{STATIC}\n{SHARED}")
     return fault is not None

@@ -11,13 +11,15 @@
 #        tools/release.sh --files       the paths of the program and of the shared library: those in out/ where no source is
 #                                       newer, else those in release/; for `make install`
 #        tools/release.sh --put         puts what was built into release/, without building it
-#        tools/release.sh --tarball     out/uds_play-VERSION-linux-x86_64.tar.gz: both files, and what is installed with them
+#        tools/release.sh --tarball     out/uds_play-VERSION-linux-x86_64.tar.gz: both files, what is installed with them, README,
+#                                       demo and docs, and the tools that README and docs/USE.md call
 set -uo pipefail
 top=$(cd "$(dirname "${BASH_SOURCE[0]}")/.." && pwd) || exit 2
 cd "$top" || exit 2
 release=release
 program=crates/uds_play/out/uds_play
 library=crates/uds_unit/out/libuds_unit.so
+tools_of_users=(tools/junit.py tools/learn.py tools/view.py tools/parts)
 # all that the proofs, the wrong edits and the build read, and how the library is built
 read_by_build=(crates crates.txt HANDLES include tools/build_library.py)
 
@@ -90,9 +92,12 @@ tarball() {
   version=$("${paths[0]}" --version | awk '{ print $NF }')
   folder=uds_play-$version-linux-x86_64
   room=$(mktemp -d) && mkdir -p out || return 2
-  make -s install DESTDIR="$room" PREFIX="/$folder" PYTHONDIR="/$folder/python" || return 2
-  cp -r README.md CHANGELOG.md demo docs "$room/$folder/"
-  tar -C "$room" --sort=name --owner=0 --group=0 --numeric-owner --mtime=@0 -cf - "$folder" | gzip -9n > "out/$folder.tar.gz"
+  # shellcheck disable=SC2016 # pkg-config reads that word: the file's own folder
+  make -s install DESTDIR="$room" PREFIX="/$folder" PYTHONDIR="/$folder/python" PCPREFIX='$${pcfiledir}/../..' > /dev/null || return 2
+  mkdir "$room/$folder/tools"
+  cp -r README.md CHANGELOG.md demo docs "$room/$folder/" && cp -r "${tools_of_users[@]}" "$room/$folder/tools/" \
+    && cp python/pyproject.toml python/wheel_of_unit.py "$room/$folder/python/" && ln -s bin/uds_play "$room/$folder/uds_play" || return 2
+  tar -C "$room" --exclude=__pycache__ --sort=name --owner=0 --group=0 --numeric-owner --mode=u+w,go=rX --mtime=@0 -cf - "$folder" | gzip -9n > "out/$folder.tar.gz"
   rm -rf "$room"
   echo "out/$folder.tar.gz"
 }
@@ -118,6 +123,7 @@ check() {
   holds "SUMS tells this kit" [ "$(told kit)" = "$(rt version)" ]
   holds "SUMS tells these sources" [ "$(told sources)" = "$(sources)" ]
   holds "SUMS has four lines and no other" [ "$(wc -l < "$release/SUMS")" = 4 ]
+  holds "what was built is in out/" [ -f "$program" -a -f "$library" ]
   holds "uds_play is what was built" cmp -s "$release/uds_play" "$program"
   holds "libuds_unit.so is what was built" cmp -s "$release/libuds_unit.so" "$library"
   holds "uds_play has its sum" [ "$(told uds_play)" = "$(sum_of "$release/uds_play")" ]

@@ -133,7 +133,12 @@ impl Listener {
     }
 
     /// Hears a frame of this kind.
-    fn take_kind(&mut self, at: Place, kind: Pci<'_>, over: &mut Vec<Over>) -> Result<(), AllocError>
+    fn take_kind(
+        &mut self,
+        at: Place,
+        kind: Pci<'_>,
+        over: &mut Vec<Over>,
+    ) -> Result<(), AllocError>
         requires { IsRead self.old.side.max_request (says kind) }
         ensures moves { OnOk result (Moves self.old self.new over.old.items over.new.items
             (kind_happens self.old.receiver.partial at (says kind.entry))

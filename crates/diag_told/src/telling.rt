@@ -1,12 +1,12 @@
 //! The line of an exchange.
 
-ghost use Rattle.std.specs.Prelude.{◌≡◌, ◌≤◌, ◌+◌, ◌/◌, ◌%◌, ◌∷◌, [], ◌++◌, codes, decimal, length, drop, option_copied, vec_len, vec_capacity, OnOk};
+ghost use Rattle.std.specs.Prelude.{◌≡◌, ◌<◌, ◌≤◌, ◌+◌, ◌/◌, ◌%◌, ◌^◌, ◌∷◌, [], ◌++◌, codes, decimal, length, drop, option_copied, vec_len, vec_capacity, OnOk};
 ghost use Rattle.hex.specs.Hex.{encode_upper};
 ghost use Rattle.diag_can.specs.Reply.{zero_filled};
 ghost use Rattle.diag_exchange.specs.Agreeing.{marks, waited};
 ghost use Rattle.diag_told.specs.Told.{byte_text, bytes_text, expected_text, kind_text, message_text, pendings_told, place_told, reply_text, request_text, sent_text, stamp_text, time_text, told_text};
 
-use diag_can::{add_bytes, add_hex, write_hex};
+use diag_can::{add_bytes, add_hex, decimal_pair, write_hex};
 use diag_exchange::{Expected, Over, Place};
 use diag_pdu::Message;
 use itoa::Buffer;
@@ -18,6 +18,9 @@ const HEAD_ROOM: usize = 80;
 
 /// More bytes than the numbers at a line's end have.
 const NUMBERS_ROOM: usize = 48;
+
+/// The first number of more than ten digits.
+const TEN_DIGITS: u64 = 10_000_000_000;
 
 /// Adds the line of an exchange of a tester of this name, by the bus's time of its line, in milliseconds; `same` says whether
 /// it agrees.
@@ -245,26 +248,54 @@ fn add_stamp(text: &mut Vec<u8>, at: u64)
     ensures len { vec_len text.new ≤ vec_len text.old + 44 }
     ensures capacity { vec_capacity text.new ≡ vec_capacity text.old }
 {
-    add_filled(text, 10, at / 1000);
+    add_seconds(text, at / 1000);
     text.push_reserved(b'.');
-    add_filled(text, 3, at % 1000);
+    add_three(text, at % 1000);
     add_bytes(text, b"000");
 }
 
-/// Adds a number with so many digits at least, where there is room.
-fn add_filled(text: &mut Vec<u8>, width: usize, number: u64)
-    requires few { width ≤ 20 }
-    requires room { vec_len text.old + 20 ≤ vec_capacity text.old }
-    ensures items { text.new.items ≡ text.old.items ++ zero_filled width (decimal number) }
+/// Adds a number with ten digits at least, where there is room.
+#[inline(always)]
+fn add_seconds(text: &mut Vec<u8>, number: u64)
+    requires { vec_len text.old + 20 ≤ vec_capacity text.old }
+    ensures items { text.new.items ≡ text.old.items ++ zero_filled 10 (decimal number) }
     ensures len { vec_len text.new ≤ vec_len text.old + 20 }
     ensures capacity { vec_capacity text.new ≡ vec_capacity text.old }
 {
-    let mut buffer = Buffer::new();
-    let digits = buffer.format(number);
-    for made in 0..width.saturating_sub(digits.len()) {
-        text.push_reserved(b'0');
+    if number < TEN_DIGITS {
+        add_ten(text, number);
+    } else {
+        add_number(text, number);
     }
-    add_bytes(text, digits.as_bytes());
+}
+
+/// Adds the ten digits of a number, where there is room.
+#[inline(always)]
+fn add_ten(text: &mut Vec<u8>, number: u64)
+    requires few { number < 10 ^ 10 }
+    requires room { vec_len text.old + 10 ≤ vec_capacity text.old }
+    ensures items { text.new.items ≡ text.old.items ++ zero_filled 10 (decimal number) }
+    ensures len { vec_len text.new ≡ vec_len text.old + 10 }
+    ensures capacity { vec_capacity text.new ≡ vec_capacity text.old }
+{
+    add_bytes(text, &decimal_pair(number / 100_000_000));
+    add_bytes(text, &decimal_pair(number / 1_000_000 % 100));
+    add_bytes(text, &decimal_pair(number / 10_000 % 100));
+    add_bytes(text, &decimal_pair(number / 100 % 100));
+    add_bytes(text, &decimal_pair(number % 100));
+}
+
+/// Adds the three digits of a number, where there is room.
+#[inline(always)]
+fn add_three(text: &mut Vec<u8>, number: u64)
+    requires few { number < 1000 }
+    requires room { vec_len text.old + 3 ≤ vec_capacity text.old }
+    ensures items { text.new.items ≡ text.old.items ++ zero_filled 3 (decimal number) }
+    ensures len { vec_len text.new ≡ vec_len text.old + 3 }
+    ensures capacity { vec_capacity text.new ≡ vec_capacity text.old }
+{
+    text.push_reserved(b'0' + (number / 100) as u8);
+    add_bytes(text, &decimal_pair(number % 100));
 }
 
 /// Adds a number, where there is room.

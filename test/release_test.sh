@@ -198,8 +198,16 @@ int main(void) { struct uds_unit unit = UDS_UNIT_INIT; return uds_unit_close(&un
   ran "${without_kit[@]}" tools/release.sh --tarball
   holds "the tarball is made" 0 'linux-x86_64.tar.gz'
   first=$(sha256sum "$copy"/out/*.tar.gz 2> /dev/null | cut -d' ' -f1)
-  ran "${with_kit[@]}" tools/release.sh --tarball
+  (umask 077 && cd "$copy" && tools/release.sh --tarball > /dev/null)
   if [ -n "$first" ] && [ "$(sha256sum "$copy"/out/*.tar.gz | cut -d' ' -f1)" = "$first" ]; then good "and again the same"; else bad "and again the same"; fi
+  tar -C "$room" -xzf "$copy"/out/*.tar.gz
+  apart=$(echo "$room"/uds_play-*)
+  ran env -C "$apart" ./uds_play bus demo/setup.toml demo/bus.log
+  shows "its program answers the demo" demo/bus_output.txt
+  for tool in learn view; do
+    ran env -C "$apart" python3 "tools/$tool.py" --help
+    holds "its tools/$tool.py finds what it stands on" 0 'usage: '
+  done
 else
   echo "release test: make isn't installed; its tests are passed over"
 fi

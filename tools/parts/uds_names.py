@@ -1,7 +1,7 @@
 """The names of ISO 14229-1:2013 for services, sub-functions and negative response codes: the one table of them, which
 tools/view.py reads and docs/VIEW.md shows. No part of what is proved.
 
-    tools/uds_names.py     prints the tables as docs/VIEW.md has them
+    python3 tools/parts/uds_names.py     prints the tables as docs/VIEW.md has them
 """
 from dataclasses import dataclass, field
 

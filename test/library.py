@@ -2,11 +2,12 @@
 """Builds the library for C and Python (tools/build_library.py), and runs it from both.
 
 - What the shared library gives to others, and what it takes, is looked at.
-- tools/library/calls.c, compiled as C and as C++ with all warnings as errors, against both libraries; under valgrind, where
+- test/library/calls.c, compiled as C and as C++ with all warnings as errors, against both libraries; under valgrind, where
   that is installed. The line of a setup's fault is the program's, each key spoilt in turn.
 - Random captures (200, the same each time) by the library from C and from Python, beside `uds_play bus`: the same frames.
 - The package's tests, by each Python that has what they want: python-can, scapy and pytest are Debian's packages.
-- Frames a second, of one tester: at least 1,000,000 from C and 100,000 from Python.
+- Frames a second, of one tester: at least 1,000,000 from C and 100,000 from Python. Where the machine is slow they are told
+  and not judged: a million turns of an empty loop of Python take more than 0.05 s.
 The last line is 'N passed, M failed'."""
 import os
 import random
@@ -17,19 +18,17 @@ import sys
 import tempfile
 import time
 
-sys.dont_write_bytecode = True
-sys.path.append(os.path.join(os.path.dirname(os.path.dirname(os.path.abspath(__file__))), "test"))
-from build_library import SHARED, STATIC, TOP, build, how, kit
+from harness import PROGRAM, TOP, Tally
+from build_library import SHARED, STATIC, build, how, kit
 from check_test import changes, spoilt
 from packages import install
 from twin import Tester, setup_text, stamped_lines
 from uds_link import read_setup
 
-PROGRAM = f"{TOP}/crates/uds_play/out/uds_play"
 SETUP = f"{TOP}/demo/setup.toml"
 CAPTURES = 200
 TESTERS = 4
-C_FRAMES, PYTHON_FRAMES = 1_000_000, 100_000
+C_FRAMES, PYTHON_FRAMES, QUICK = 1_000_000, 100_000, 0.05
 WARNINGS = ["-O2", "-Wall", "-Wextra", "-Werror", "-pedantic", f"-I{TOP}/include"]
 C = ["cc", "-std=c11", *WARNINGS]
 CPP = ["c++", "-std=c++17", *WARNINGS, "-x", "c++"]
@@ -39,18 +38,12 @@ BUS_LINE = re.compile(r"\((\d+)\.(\d{6})\) (\S+) ([0-9A-F]+)#([0-9A-F]*)")
 FRAME_LINE = re.compile(r"\((\d+)\.(\d{6})\) \S+ ([0-9A-F]{3}|[01][0-9A-F]{7})#((?:[0-9A-F]{2})*)(?: .*)?")
 # how many digits an identifier of 11 bits has, and the bit of one of 29
 PLAIN_ID, EXTENDED = 3, 1 << 31
-# what tools/library/first.c prints
+# what demo/first.c prints
 FIRST = """0.100 s, tester 1: 7E8#065003003201F4CC
 0.200 s, tester 2: 7A8#037F1021CCCCCCCC
 0.300 s, tester 2: 7A8#0562F1950203CCCC
 """
-counts = {True: 0, False: 0}
-
-
-def told(good, name, more=""):
-    counts[good] += 1
-    print(f"library: {name}" if good else f"LIBRARY WRONG: {name}: {more}"[:3000], flush=True)
-    return good
+told = Tally("library", most=3000)
 
 
 def run(words, **more):
@@ -87,7 +80,7 @@ def compiled(room, name, words, source, library):
     out = f"{room}/{name}"
     libraries = [library, f"{kit()}/c/liblibc_c.a"] if library == STATIC else [library, f"-Wl,-rpath,{room}"]
     language = ["-x", "none"] if "c++" in words else []
-    made = run([*words, "-o", out, f"{TOP}/tools/library/{source}", *language, *libraries])
+    made = run([*words, "-o", out, f"{TOP}/{source}", *language, *libraries])
     if made.returncode != 0:
         told(False, f"{name} compiles", made.stderr)
         return None
@@ -99,18 +92,18 @@ def test_c(room):
     shutil.copy(SHARED, f"{room}/libuds_unit.so.1")
     for language, words in (("C", C), ("C++", CPP)):
         for kind, library in (("static", STATIC), ("shared", SHARED)):
-            program = compiled(room, f"calls_{language}_{kind}", words, "calls.c", library)
+            program = compiled(room, f"calls_{language}_{kind}", words, "test/library/calls.c", library)
             if program:
                 ran = run([program, SETUP])
                 told(ran.returncode == 0, f"calls from {language}, {kind}: {ran.stdout.splitlines()[-1:]}", ran.stdout)
-        program = compiled(room, f"first_{language}", words, "first.c", STATIC)
+        program = compiled(room, f"first_{language}", words, "demo/first.c", STATIC)
         told(program and run([program]).stdout == FIRST, f"the example of docs/USE.md from {language}")
     valgrind(f"{room}/calls_C_static")
 
 
 def valgrind(program):
     if not shutil.which("valgrind"):
-        print("library: valgrind isn't installed; its run is passed over")
+        told.note("valgrind isn't installed; its run is passed over")
         return
     ran = run(["valgrind", "-q", "--error-exitcode=9", "--leak-check=full", "--show-leak-kinds=all", program, SETUP])
     told(ran.returncode == 0, "calls under valgrind", ran.stderr)
@@ -142,7 +135,7 @@ def test_fault_lines(room):
         if program.stderr != line or program.returncode != (2 if line else 0):
             told(False, f"a setup's fault: {config.decode(errors='replace')}", f"{line!r}, the program's {program.stderr!r}")
         lines.add(line)
-        counts[True] += program.stderr == line
+        told.passed += program.stderr == line
     told(len(lines) > 40 and "" in lines, f"faults are told by the program's line, {len(lines) - 1} different ones")
 
 
@@ -216,11 +209,23 @@ def test_captures(room, program):
 # ---- speed
 
 
+def loop():
+    """The processor seconds of a million turns of an empty loop."""
+    taken = []
+    for _ in range(5):
+        begun = time.process_time()
+        for _ in range(1_000_000):
+            pass
+        taken.append(time.process_time() - begun)
+    return min(taken)
+
+
 def test_speed(room, program):
     """A request of one frame with its reply, again and again."""
+    before = loop()
     lines = "".join(f"{at * 1000} 7E0 0322F195\n" for at in range(10_000))
     rate = max(float(run([program, SETUP, "20"], input=lines).stdout.split()[0]) for _ in range(3))
-    told(rate >= C_FRAMES, f"{rate:,.0f} frames a second from C, each with its reply", rate)
+    rates = [(rate, C_FRAMES, "C")]
     code = f"""
 import sys, time
 sys.path.insert(0, {TOP + "/python"!r})
@@ -234,8 +239,12 @@ for _ in range(5):
         best = max(best, 30_000 / (time.process_time() - begun))
 print(best)
 """
-    rate = float(run([sys.executable, "-c", code]).stdout)
-    told(rate >= PYTHON_FRAMES, f"{rate:,.0f} frames a second from Python, each with its reply", rate)
+    rates.append((float(run([sys.executable, "-c", code]).stdout), PYTHON_FRAMES, "Python"))
+    turns = max(before, loop())
+    for rate, least, kind in rates:
+        told(rate >= least or turns > QUICK, f"{rate:,.0f} frames a second from {kind}, each with its reply", rate)
+    if turns > QUICK:
+        told.note(f"the machine is slow ({turns:.3f} s for a loop), so the speeds weren't judged")
 
 
 # ---- Python's tests
@@ -270,7 +279,7 @@ def test_package():
         passed_over = {(name, why) for name, why in re.findall(r"^(\w+) .*\.\.\. skipped ['\"](.*)['\"]$", ran.stderr, re.M)}
         last_skipped = passed_over
     for name, why in sorted(it for it in last_skipped if it[0] not in seen):
-        print(f"library: {name} is passed over: {why}")
+        told.note(f"{name} is passed over: {why}")
 
 
 def main():
@@ -281,13 +290,12 @@ def main():
         with tempfile.TemporaryDirectory() as room:
             test_c(room)
             test_fault_lines(room)
-            program = compiled(room, "capture", C, "capture.c", STATIC)
+            program = compiled(room, "capture", C, "test/library/capture.c", STATIC)
             if program:
                 test_captures(room, program)
                 test_speed(room, program)
         test_package()
-    print(f"{counts[True]} passed, {counts[False]} failed")
-    return counts[False] > 0 or counts[True] == 0
+    return told.ended()
 
 
 if __name__ == "__main__":
