@@ -47,7 +47,7 @@ told = Tally("library", most=3000)
 
 
 def run(words, **more):
-    return subprocess.run(words, capture_output=True, text=True, timeout=600, **more)
+    return subprocess.run(words, capture_output=True, text=True, errors="replace", timeout=600, **more)
 
 
 # ---- what the shared library gives and takes

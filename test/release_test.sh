@@ -163,6 +163,21 @@ again
 ran "${without_kit[@]}" ./uds_play --version
 holds "with all as it was it runs again" 0 'uds_play '
 
+# which way the library would be built
+would_build() {
+  ran "${without_kit[@]}" tools/build_library.py --how
+  holds "$1: the library would be built $2" 0 "$2"
+}
+would_build "with nothing in out/" 'by rt lib'
+for crate in "$copy"/crates/*; do mkdir -p "$crate/out/rlib/${crate##*/}.rlib"; done
+would_build "with crates that rt ci left" 'as rt ci left them'
+touch "$copy/crates/diag_can/out/rlib/stamp"
+would_build "with one that rt check built" 'by rt lib'
+rm "$copy/crates/diag_can/out/rlib/stamp"
+touch "$copy/crates/diag_can/src/lib.rt"
+would_build "with a source that is newer" 'by rt lib'
+forget_built
+
 # runs_installed WHERE PYTHON..: the package that was installed, by this Python
 runs_installed() {
   local where=$1 version

@@ -191,7 +191,7 @@ def functional_of(sight: Sight, pairs: list[Pair], is_extended: bool = False) ->
 
 @dataclass
 class Sending:
-    """How the unit and its testers send: the filling byte, None for none; block size and STmin of the unit's flow control;
+    """How the unit and its testers send: the padding byte, None for none; block size and STmin of the unit's flow control;
     the longest request; the longest time within a request, and from an answer's FirstFrame to its flow control, in
     milliseconds."""
 

@@ -1,4 +1,4 @@
-"""What of a recording goes into the server's model: times, identifiers, trouble codes, routines, seeds and keys. One
+"""What of a recording goes into the server's model: times, identifiers, DTCs, routines, seeds and keys. One
 reader a service, in the table READERS. For tools/learn.py; no part of what is proved."""
 from collections import Counter, defaultdict
 from typing import Callable, NamedTuple, Optional

@@ -140,7 +140,7 @@ def as_text(value: bytes) -> str:
 
 
 def code_name(code: int) -> str:
-    """A trouble code as ISO 15031-6 writes it, with its failure type."""
+    """A DTC as ISO 15031-6 writes it, with its failure type."""
     return f"{'PCBU'[code >> 22]}{code >> 20 & 3:X}{code >> 16 & 15:X}{code >> 8 & 255:02X}-{code & 255:02X}"
 
 
