@@ -1,10 +1,13 @@
 #!/usr/bin/env python3
 """Holds `uds_play check` against the program's runs: setups with one thing wrong, each in turn, and with several, of a
 seed. The first line of `check` begins with the fault that a run tells, and names a place; where a run takes the setup
-`check` finds no fault, and its status says which. The last line is 'N passed, M failed'."""
+`check` finds no fault, and its status says which. Each line of `check` tells the line of the setup on which the key or the
+table was written here, and none where that isn't plain.
+The last line is 'N passed, M failed'."""
 import copy
 import os
 import random
+import re
 import subprocess
 import sys
 import tempfile
@@ -28,6 +31,19 @@ LISTS = {
 MOST_ROWS = {"tester": 8, "did": 1024, "code": 4096, "routine": 256, "level": 4, "level.row": 64, "answer": 1024}
 UNPLACED = "the look at the setup found another first"
 SEVERAL = 400
+# what a line of `check` tells of: a key or, where one is missing, a table
+TOLD = re.compile(
+    r"(?:line (?P<line>\d+): )?(?:(?P<missing>missing) \S+: |bad value \S+: |(?:range|empty|duplicate|unknown code|unknown level): )?"
+    r"(?P<name>[A-Za-z0-9_-]+)(?: of \[\[(?P<path>[a-z.]+)\]\] (?P<number>\d+))?(?: of \[\[level\]\] (?P<level>\d+))?(?: is | has |: |$)"
+)
+# an item of a list that is no table
+ITEM = re.compile(r"(?:line (?P<line>\d+): )?bad value [a-z.]+: (?P<path>[a-z.]+) \d+(?: of \[\[level\]\] (?P<level>\d+))? is .*: a table, as ")
+EMPTY = re.compile(r"(?:line (?P<line>\d+): )?empty: (?:there is no \[\[tester\]\]|\[\[level\]\] (?P<number>\d+) has no )")
+# the whole unit, as a row
+WHOLE = ("", 0, 0)
+# lines that say nothing, and a key whose lines look like other keys
+IDLE = ("", "# name = 1", "  # [[tester]]", "\t", "#[level", "# ''")
+FAR = 'xx = {\nvalue = 1,\nname = "{[\\"",\nsub = \'}\\\' }'
 GOOD = {
     "s3_ms": 4000,
     "pad": True,
@@ -146,8 +162,70 @@ def value_text(value):
     return '"' + value + '"' if isinstance(value, str) else str(value)
 
 
-def toml_of(tree):
-    return "".join(f"{key} = {value_text(value)}\n" for key, value in tree.items()).encode()
+class Written:
+    """The text of a setup, written in one of many ways, and the lines of its tables and keys that are written plainly: for
+    each row, which is the list's path, the number and that of its level, those of its keys; None is the row itself."""
+
+    def __init__(self, tree, chance):
+        self.chance, self.text, self.next, self.lines = chance, [], 1, {}
+        self.is_plain = chance.random() > 0.05
+        lists = {key: it for key, it in tree.items() if self.has_heads(it)}
+        self.keys(WHOLE, {key: it for key, it in tree.items() if key not in lists})
+        if not self.is_plain:
+            self.put('far = """\n[[tester]]\n"""')
+        for path, rows in lists.items():
+            self.tables(path, rows, 0)
+
+    def has_heads(self, value):
+        """Whether a value is written as tables with heads."""
+        return isinstance(value, list) and value != [] and all(isinstance(it, dict) for it in value) and self.chance.random() > 0.1
+
+    def put(self, text):
+        """Writes a text, and answers its first line."""
+        at = self.next
+        self.text.append(text)
+        self.next += text.count("\n") + 1
+        return at
+
+    def keys(self, row, table):
+        lines = self.lines[row] = {}
+        if self.chance.random() < 0.05:
+            lines["xx"] = self.put(FAR)
+        for key, value in table.items():
+            if self.chance.random() < 0.1:
+                self.put(self.chance.choice(IDLE))
+            text, way = value_text(value), self.chance.random()
+            if way < 0.05:
+                self.put(f'"{key}" = {text}')
+            elif way < 0.1 and isinstance(value, list) and value != []:
+                lines[key] = self.put(f"{key} = [ # [\n" + ",\n".join(map(value_text, value)) + "\n]")
+            else:
+                lines[key] = self.put(f" {key}={text} # {key} = [" if way < 0.15 else f"{key} = {text}")
+
+    def tables(self, path, rows, level):
+        """Writes a list as tables with heads. Where one of these is written otherwise none counts."""
+        heads, are_plain = {}, True
+        for number, table in enumerate(rows, 1):
+            form = self.chance.choice(("[[{}]]", "[[{}]] # x", "  [[{}]]")) if self.chance.random() > 0.01 else "[[ {} ]]"
+            are_plain = are_plain and form != "[[ {} ]]"
+            row = (path, number, level)
+            heads[row] = self.put(form.format(path))
+            inner = table.get("row") if path == "level" and self.has_heads(table.get("row")) else None
+            self.keys(row, {key: it for key, it in table.items() if key != "row" or inner is None})
+            if inner is not None:
+                self.tables("level.row", inner, number)
+        for row, line in heads.items():
+            self.lines[row][None] = line
+        if not are_plain:
+            self.lines = {row: {} if row in heads or (path == "level" and row[0] == "level.row") else it for row, it in self.lines.items()}
+        elif level == 0:
+            self.lines[WHOLE][path] = heads[path, 1, 0]
+
+    def data(self):
+        return ("\n".join(self.text) + "\n").encode()
+
+    def line(self, row, name):
+        return self.lines.get(row, {}).get(name) if self.is_plain else None
 
 
 def places(tree):
@@ -189,25 +267,55 @@ def spoilt(changes):
             tables[at].pop(key, None)
         else:
             tables[at][key] = value
-    return toml_of(tree)
+    return tree
 
 
 def ran(*words):
     return subprocess.run([PROGRAM, *words], capture_output=True, timeout=60, text=True)
 
 
-def compare(folder, name, data):
+def lines_of(text, written):
+    """The line that a line of `check` tells, and the one on which that was written."""
+    if found := EMPTY.match(text):
+        return found["line"], written.line(("level", int(found["number"]), 0), None) if found["number"] else written.line(WHOLE, "tester")
+    if found := ITEM.match(text):
+        return found["line"], written.line(("level", int(found["level"]), 0), "row") if found["level"] else written.line(WHOLE, found["path"])
+    found = TOLD.match(text)
+    if not found:
+        return None, "no place"
+    row = (found["path"], int(found["number"]), int(found["level"] or 0)) if found["path"] else WHOLE
+    return found["line"], written.line(row, None if found["missing"] else found["name"])
+
+
+def misplaced(text, written, above):
+    """The first line of `check` that doesn't tell the right line of a setup below so many others; None where each does."""
+    for line in text.splitlines():
+        if line != "nothing is wrong" and not line.startswith("range: the replies of all "):
+            found, want = lines_of(line, written)
+            if found != (str(want + above) if isinstance(want, int) else want):
+                return line
+    return None
+
+
+def compare(folder, name, written, before=b""):
     """Whether a run and the look at the setup say the same."""
     path = os.path.join(folder, "setup.toml")
+    data = before + written.data()
+    above = before.count(b"\n")
+    if before.startswith(b"a = "):
+        written.lines[WHOLE]["a"] = 1 - above
     with open(path, "wb") as file:
         file.write(data)
     run = ran("--quiet", "bus", path, os.devnull).stderr.strip().removeprefix("uds_play: config: ")
     check = ran("check", path)
-    lines = [line for line in check.stdout.splitlines() if line.startswith(FAULTS)]
+    lines = [line for line in (re.sub(r"^line \d+: ", "", line) for line in check.stdout.splitlines()) if line.startswith(FAULTS)]
     first, _, place = lines[0].partition(": ") if lines else ("", "", "")
     good = run == first and check.stderr == "" and check.returncode == (2 if run else 0)
     good = good and check.stdout != "" and UNPLACED not in check.stdout and bool(place) == bool(run)
-    told(good, name, f"a run says {run!r}, the look at it {check.stdout[:300]!r}\n{data.decode(errors='replace')}")
+    if run == "syntax":
+        good = good and check.stdout.startswith("syntax: " if name == "no UTF-8" else "line 1: syntax: column ")
+    wrong = misplaced(check.stdout, written, above) if run not in ("syntax", "too long") else None
+    told(good and wrong is None, name, f"a run says {run!r}, the look at it {wrong or check.stdout[:300]!r}\n{data.decode(errors='replace')}")
 
 
 def main():
@@ -215,16 +323,16 @@ def main():
     every = list(changes())
     chance = random.Random(7)
     with tempfile.TemporaryDirectory() as folder:
-        compare(folder, "good", toml_of(GOOD))
+        compare(folder, "good", Written(GOOD, chance))
         for name, before in BEFORE.items():
-            compare(folder, name, before + toml_of(GOOD))
+            compare(folder, name, Written(GOOD, chance), before)
         for name, some in TOGETHER.items():
-            compare(folder, name, spoilt(some))
+            compare(folder, name, Written(spoilt(some), chance))
         for change in every:
-            compare(folder, change, spoilt([change]))
+            compare(folder, change, Written(spoilt([change]), chance))
         for _ in range(SEVERAL):
             some = chance.sample(every, 3)
-            compare(folder, some, spoilt(some))
+            compare(folder, some, Written(spoilt(some), chance))
     return told.ended()
 
 

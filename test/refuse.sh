@@ -167,9 +167,9 @@ sweep_program() {
     sweep_run "a capture that is not there" 7 "$room/nothing" 'uds_play: cannot read file 1' "$program" --quiet bus "$room/config" "$room/none"
     printf 's3_m = 1\n[[tester]]\nname = "A"\nrequest = 710\n' > "$room/slips"
     {
-      echo 'missing tester.response: response of [[tester]] 1'
-      echo 's3_m: passed over; s3_ms?'
-      echo 'request of [[tester]] 1: 710 is 0x2C6; 0x710?'
+      echo 'line 2: missing tester.response: response of [[tester]] 1'
+      echo 'line 1: s3_m: passed over; s3_ms?'
+      echo 'line 4: request of [[tester]] 1: 710 is 0x2C6; 0x710?'
     } > "$room/looked"
     sweep_run "a look at a setup" 2 "$room/looked" '' "$program" check "$room/slips"
     sweep_run "a usage fault" 1 "$room/nothing" "$usage" "$program" replay --journal "$room/config" "$room/journal"

@@ -1,7 +1,7 @@
 //! What of a level's rows, or of a row of answers, depends on more than one key.
 
 use crate::finding::{Row, Shown};
-use crate::keys::MOST_STANDARD;
+use crate::keys::{MOST_STANDARD, Table};
 use crate::look::{Look, list_at};
 use crate::pairs::{is_extended, number_at};
 use crate::value::{greatest_index, pattern_items};
@@ -20,7 +20,7 @@ impl Look<'_> {
     pub fn empties(&mut self, tree: &Tree) -> Result<(), AllocError> {
         if is_empty(tree, "tester") {
             let place = String::from_str(self.alloc, "there is no [[tester]]")?;
-            self.refuse(SetupFault::Empty, place)?;
+            self.refuse(SetupFault::Empty, Row::UNIT.key("tester"), place)?;
         }
         for (index, level) in list_at(tree, "level").iter().enumerate() {
             if let Value::Table(level) = level {
@@ -33,7 +33,8 @@ impl Look<'_> {
     fn empty_level(&mut self, level: &Tree, number: usize) -> Result<(), AllocError> {
         if is_empty(level, "row") {
             let place = format!(in self.alloc; "[[level]] {number} has no [[level.row]]")?;
-            self.refuse(SetupFault::Empty, place)?;
+            let row = Row::of(Table::Level, number);
+            self.refuse(SetupFault::Empty, row.whole(), place)?;
         }
         Ok(())
     }
@@ -50,11 +51,15 @@ impl Look<'_> {
         for (index, row) in list_at(level, "row").iter().enumerate() {
             let bytes = bytes_of(row, name);
             if before.is_some() && bytes.is_some() && before != bytes {
-                let row = index.saturating_add(1);
+                let row = Row {
+                    table: Table::LevelRow,
+                    number: index.saturating_add(1),
+                    level: number,
+                };
                 let place = format!(in self.alloc;
-                    "{name} of [[level.row]] {row} of [[level]] {number} is longer or shorter than the one before it: all of a level have one length"
+                    "{name}{row} is longer or shorter than the one before it: all of a level have one length"
                 )?;
-                return self.refuse(SetupFault::Range, place);
+                return self.refuse(SetupFault::Range, row.key(name), place);
             }
             before = bytes.or(before);
         }
@@ -73,7 +78,7 @@ impl Look<'_> {
                     let place = format!(in self.alloc;
                         "{name}{row} is {shown}: 0 to 0x7FF, or extended = true and 29 bits"
                     )?;
-                    self.refuse(SetupFault::Range, place)?;
+                    self.refuse(SetupFault::Range, row.key(name), place)?;
                 }
                 _ => {}
             }
@@ -89,7 +94,7 @@ impl Look<'_> {
                 let place = format!(in self.alloc;
                     "enter{row} is {enter}: it is 0 where there is no reply"
                 )?;
-                self.refuse(SetupFault::Range, place)?;
+                self.refuse(SetupFault::Range, row.key("enter"), place)?;
             }
         }
         if let Some(after_ms) = number_at(answer, "after_ms") {
@@ -97,7 +102,7 @@ impl Look<'_> {
                 let place = format!(in self.alloc;
                     "after_ms{row} is {after_ms}: at most p2_ms and {MOST_PENDINGS} times p2_star_10ms, which is {latest}"
                 )?;
-                self.refuse(SetupFault::Range, place)?;
+                self.refuse(SetupFault::Range, row.key("after_ms"), place)?;
             }
         }
         self.templates(answer, row)
@@ -115,7 +120,7 @@ impl Look<'_> {
                 let place = format!(in self.alloc;
                     "reply{row} has {shown}, which names a byte that its pattern of {count} items doesn't have: they count from $0"
                 )?;
-                return self.refuse(SetupFault::Range, place);
+                return self.refuse(SetupFault::Range, row.key("reply"), place);
             }
         }
         Ok(())
@@ -133,7 +138,7 @@ impl Look<'_> {
             let place = format!(in self.alloc;
                 "the replies of all [[answer]] are {count} templates: at most {MOST_TEMPLATES}"
             )?;
-            self.refuse(SetupFault::Range, place)?;
+            self.refuse(SetupFault::Range, Row::UNIT.whole(), place)?;
         }
         Ok(())
     }

@@ -1,30 +1,77 @@
 //! What is found, and how it is told.
 
 ghost use Rattle.std.specs.Prelude.{Some};
-ghost use Rattle.diag_check.specs.Report.{finding_text};
+ghost use Rattle.diag_check.specs.Report.{finding_text, line_text};
 
 use crate::keys::{Kind, Table};
 use diag_config::ConfigFault;
+use std::alloc::{AllocError, Global};
 use std::fmt;
 use std::fmt::InlineText;
 use toml::Value;
+
+/// The line of a setup that is told first, where it is known.
+#[derive(Clone, Copy)]
+struct Line(Option<usize>);
+
+impl fmt::Display for Line {
+    ghost output = { λ line. Some (line_text line.0) };
+
+    fn fmt<W: fmt::Write>(&self, f: &mut fmt::Formatter<W>) -> fmt::Result {
+        match self.0 {
+            Some(line) => write!(f, "line {line}: "),
+            None => Ok(()),
+        }
+    }
+}
 
 /// A fault of a setup, and where it is.
 #[derive(Drop)]
 pub struct Finding {
     /// The fault, as a run tells it.
     pub fault: ConfigFault,
+    /// The line of the setup, from 1, where it is known.
+    pub line: Option<usize>,
     /// Which key of which row, what stands there, and what is allowed.
     pub place: String,
+}
+
+impl Finding {
+    /// It, as no fault.
+    pub fn remark(&self, alloc: Global) -> Result<Remark, AllocError> {
+        let fault = self.fault;
+        let place = self.place.as_str();
+        Ok(Remark {
+            line: self.line,
+            text: format!(in alloc; "{fault}: {place}")?,
+        })
+    }
 }
 
 impl fmt::Display for Finding {
     ghost output = { λ finding. Some (finding_text finding) };
 
     fn fmt<W: fmt::Write>(&self, f: &mut fmt::Formatter<W>) -> fmt::Result {
+        let line = Line(self.line);
         let fault = self.fault;
         let place = self.place.as_str();
-        write!(f, "{fault}: {place}")
+        write!(f, "{line}{fault}: {place}")
+    }
+}
+
+/// What is told of a setup that is no fault of it.
+#[derive(Drop)]
+pub struct Remark {
+    /// The line of the setup, from 1, where it is known.
+    pub line: Option<usize>,
+    pub text: String,
+}
+
+impl fmt::Display for Remark {
+    fn fmt<W: fmt::Write>(&self, f: &mut fmt::Formatter<W>) -> fmt::Result {
+        let line = Line(self.line);
+        let text = self.text.as_str();
+        write!(f, "{line}{text}")
     }
 }
 
@@ -44,6 +91,38 @@ impl Row {
         number: 0,
         level: 0,
     };
+
+    /// The table of this number of a list of the unit.
+    pub fn of(table: Table, number: usize) -> Row {
+        Row {
+            table,
+            number,
+            level: 0,
+        }
+    }
+
+    /// A key of it.
+    pub fn key(self, name: &str) -> Spot<'_> {
+        Spot {
+            row: self,
+            name: Some(name),
+        }
+    }
+
+    /// The table as a whole.
+    pub fn whole(self) -> Spot<'static> {
+        Spot {
+            row: self,
+            name: None,
+        }
+    }
+}
+
+/// What of a setup something is told of: a table, or one of its keys.
+#[derive(Clone, Copy)]
+pub struct Spot<'a> {
+    pub row: Row,
+    pub name: Option<&'a str>,
 }
 
 /// As it stands behind the name of a key.
@@ -61,7 +140,7 @@ impl fmt::Display for Row {
 }
 
 /// The most bytes of a value, or of a key, that are told.
-const MOST_SHOWN: usize = 60;
+pub const MOST_SHOWN: usize = 60;
 
 /// A value as it is told: on one line, and not all of a long one.
 #[derive(Drop)]
@@ -97,6 +176,9 @@ impl fmt::Display for Meant<'_> {
                 let path = table.path();
                 write!(f, "; [[{path}]] begins each of them")
             }
+            (kind, Value::Float(_)) if kind.is_number() => {
+                write!(f, "; a number in hex begins with 0x")
+            }
             (kind, Value::String(text)) => write_meant(f, kind, text.as_str()),
             _ => Ok(()),
         }
@@ -131,7 +213,8 @@ fn is_spaced_hex(text: &str) -> bool {
     text.split(' ').all(|pair| pair.len() == 2 && is_hex(pair))
 }
 
-fn is_hex(text: &str) -> bool {
+/// Whether a text is hex digits alone.
+pub fn is_hex(text: &str) -> bool {
     text.bytes().all(|c| c.is_ascii_hexdigit())
 }
 
@@ -188,12 +271,8 @@ pub struct ShownKey<'a>(pub &'a str);
 
 impl fmt::Display for ShownKey<'_> {
     fn fmt<W: fmt::Write>(&self, f: &mut fmt::Formatter<W>) -> fmt::Result {
-        let name = self.0;
-        let is_plain = name
-            .as_bytes()
-            .iter()
-            .all(|c| c.is_ascii_alphanumeric() || *c == b'_' || *c == b'-');
-        let name = InlineText::<MOST_SHOWN>::of(name);
+        let is_plain = is_plain(self.0);
+        let name = InlineText::<MOST_SHOWN>::of(self.0);
         let name = name.as_str();
         if is_plain {
             f.write_str(name)
@@ -201,4 +280,13 @@ impl fmt::Display for ShownKey<'_> {
             write!(f, "{name:?}")
         }
     }
+}
+
+/// Whether a key may stand without quotes.
+pub fn is_plain(name: &str) -> bool {
+    !name.is_empty()
+        && name
+            .as_bytes()
+            .iter()
+            .all(|c| c.is_ascii_alphanumeric() || *c == b'_' || *c == b'-')
 }

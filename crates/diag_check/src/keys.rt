@@ -31,6 +31,18 @@ impl Table {
             Table::Answer => "answer",
         }
     }
+
+    /// The table with this path between `[[` and `]]`.
+    pub fn of(path: &str) -> Option<Table> {
+        for key in &KEYS {
+            if let Kind::Rows(table, _) = key.kind {
+                if table.path() == path {
+                    return Some(table);
+                }
+            }
+        }
+        None
+    }
 }
 
 /// What a key may hold.
@@ -347,6 +359,18 @@ impl Key {
 }
 
 impl Kind {
+    /// Whether it holds a number.
+    pub fn is_number(self) -> bool {
+        matches!(
+            self,
+            Kind::Number(..)
+                | Kind::Identifier(_)
+                | Kind::Separation
+                | Kind::SubFunction
+                | Kind::Reference
+        )
+    }
+
     /// What a value of the kind is, in words.
     pub fn is_what(self) -> &'static str {
         match self {

@@ -12,31 +12,43 @@ mod look;
 mod near;
 mod odd;
 mod pairs;
+mod places;
+mod syntax;
 mod value;
 
 use diag_config::{ConfigFault, read_setup};
-pub use finding::Finding;
+pub use finding::{Finding, Remark};
 use look::Look;
 use std::alloc::{AllocError, Global};
+use syntax::slip;
 
 /// What is told of a setup.
 #[derive(Drop)]
 pub struct Report {
     /// The faults, in the order in which a run looks for them. The first is the one that it tells.
     pub faults: Vec<Finding>,
-    /// A line for each key that is passed over.
-    pub passed: Vec<String>,
-    /// A line for each thing that is odd without being a fault.
-    pub odd: Vec<String>,
+    /// The keys that are passed over, in the order of the text where their lines are known.
+    pub passed: Vec<Remark>,
+    /// What is odd without being a fault, in this order too.
+    pub odd: Vec<Remark>,
 }
 
 impl Report {
+    /// That of a text with this fault alone.
+    fn of_fault(alloc: Global, fault: Finding) -> Result<Report, AllocError> {
+        Ok(Report {
+            faults: vec![in alloc; fault]?,
+            passed: Vec::new(alloc),
+            odd: Vec::new(alloc),
+        })
+    }
+
     /// Says that the setup has no fault. What the look took for one is odd.
     fn is_setup(&mut self, alloc: Global) -> Result<(), AllocError>
         ensures { OnOk result (self.new.faults.items ≡ []) }
     {
         for finding in &self.faults {
-            self.odd.push(format!(in alloc; "{finding}")?)?;
+            self.odd.push(finding.remark(alloc)?)?;
         }
         self.faults.clear();
         Ok(())
@@ -53,7 +65,8 @@ impl Report {
             }
         }
         let place = String::from_str(alloc, "the look at the setup found another first")?;
-        self.faults.insert(0, Finding { fault, place })?;
+        let line = None;
+        self.faults.insert(0, Finding { fault, line, place })?;
         Ok(())
     }
 
@@ -63,13 +76,11 @@ impl Report {
         for finding in &self.faults {
             writeln!(text, "{finding}")?;
         }
-        for line in &self.passed {
-            text.push_str(line.as_str())?;
-            text.push_str("\n")?;
+        for remark in &self.passed {
+            writeln!(text, "{remark}")?;
         }
-        for line in &self.odd {
-            text.push_str(line.as_str())?;
-            text.push_str("\n")?;
+        for remark in &self.odd {
+            writeln!(text, "{remark}")?;
         }
         if text.is_empty() {
             text.push_str("nothing is wrong\n")?;
@@ -105,17 +116,31 @@ fn no_text(bytes: &[u8]) -> &'static str {
 
 /// All that the look at a setup file's bytes finds by itself.
 pub fn look_at(alloc: Global, bytes: &[u8]) -> Result<Report, AllocError> {
-    let text = std::str::from_utf8(bytes).unwrap_or("");
-    let mut look = Look::new(alloc, text);
-    if text.len() == bytes.len() {
-        look.text()?;
-    } else {
-        let place = String::from_str(alloc, no_text(bytes))?;
-        look.tell(ConfigFault::Syntax, place)?;
+    match std::str::from_utf8(bytes) {
+        Ok(text) => look_at_text(alloc, text),
+        Err(_) => Report::of_fault(
+            alloc,
+            Finding {
+                fault: ConfigFault::Syntax,
+                line: None,
+                place: String::from_str(alloc, no_text(bytes))?,
+            },
+        ),
     }
-    Ok(Report {
-        faults: look.faults,
-        passed: look.passed,
-        odd: look.odd,
-    })
+}
+
+fn look_at_text(alloc: Global, text: &str) -> Result<Report, AllocError> {
+    match toml::table_from_str(alloc, text) {
+        Ok(tree) => {
+            let mut look = Look::new(alloc, text, &tree);
+            look.setup()?;
+            Ok(Report {
+                faults: look.faults,
+                passed: look.passed,
+                odd: look.odd,
+            })
+        }
+        Err(e) if e.is_memory() => Err(AllocError),
+        Err(e) => Report::of_fault(alloc, slip(alloc, text, &e)?),
+    }
 }

@@ -1,9 +1,10 @@
 //! The look at a setup: its faults, the keys that are passed over, and what is odd.
 
 use crate::across::latest_answer_ms;
-use crate::finding::{Finding, Meant, Row, Shown, ShownKey};
+use crate::finding::{Finding, Meant, Remark, Row, Shown, ShownKey, Spot};
 use crate::keys::{KEYS, Key, Kind, Need, Table};
 use crate::near::nearest;
+use crate::places::Places;
 use crate::value::{is_allowed, is_of_kind, is_pattern, is_template, items};
 use diag_config::ConfigFault;
 use diag_setup::SetupFault;
@@ -15,35 +16,80 @@ use toml::{Table as Tree, Value};
 pub struct Look<'a> {
     pub alloc: Global,
     pub text: &'a str,
+    /// What the text says.
+    tree: &'a Tree,
+    /// Where it says it, once something is found.
+    places: Option<Places>,
     /// The faults.
     pub faults: Vec<Finding>,
-    /// A line for each key that is passed over.
-    pub passed: Vec<String>,
-    /// A line for each thing that is odd, and no fault.
-    pub odd: Vec<String>,
+    /// The keys that are passed over.
+    pub passed: Vec<Remark>,
+    /// What is odd, and no fault.
+    pub odd: Vec<Remark>,
 }
 
 impl<'a> Look<'a> {
-    /// Nothing found.
-    pub fn new(alloc: Global, text: &'a str) -> Look<'a> {
+    /// Nothing found in a text, which makes this tree.
+    pub fn new(alloc: Global, text: &'a str, tree: &'a Tree) -> Look<'a> {
         Look {
             alloc,
             text,
+            tree,
+            places: None,
             faults: Vec::new(alloc),
             passed: Vec::new(alloc),
             odd: Vec::new(alloc),
         }
     }
 
+    /// Looks at the whole setup. The faults come in the order in which a run looks for them, and the rest in that of the text.
+    pub fn setup(&mut self) -> Result<(), AllocError> {
+        self.unit(self.tree)?;
+        self.faults.sort_by_key(|finding| phase(finding.fault))?;
+        self.passed
+            .sort_by_key(|remark| remark.line.unwrap_or(usize::MAX))?;
+        self.odd
+            .sort_by_key(|remark| remark.line.unwrap_or(usize::MAX))
+    }
+
+    /// The line of a spot of the setup.
+    fn line(&mut self, spot: Spot<'_>) -> Result<Option<usize>, AllocError> {
+        if self.places.is_none() {
+            self.places = Some(Places::of(self.alloc, self.text)?);
+        }
+        match &self.places {
+            Some(places) => Ok(places.of_spot(self.tree, spot)),
+            None => Ok(None),
+        }
+    }
+
     /// Adds a fault.
-    pub fn tell(&mut self, fault: ConfigFault, place: String) -> Result<(), AllocError> {
-        self.faults.push(Finding { fault, place })?;
+    pub fn tell(
+        &mut self,
+        fault: ConfigFault,
+        spot: Spot<'_>,
+        place: String,
+    ) -> Result<(), AllocError> {
+        let line = self.line(spot)?;
+        self.faults.push(Finding { fault, line, place })?;
         Ok(())
     }
 
-    /// Adds a fault of the setup as a whole.
-    pub fn refuse(&mut self, fault: SetupFault, place: String) -> Result<(), AllocError> {
-        self.tell(ConfigFault::Setup(fault), place)
+    /// Adds a fault that `check` of the setup finds.
+    pub fn refuse(
+        &mut self,
+        fault: SetupFault,
+        spot: Spot<'_>,
+        place: String,
+    ) -> Result<(), AllocError> {
+        self.tell(ConfigFault::Setup(fault), spot, place)
+    }
+
+    /// Adds what is odd.
+    pub fn remark(&mut self, spot: Spot<'_>, text: String) -> Result<(), AllocError> {
+        let line = self.line(spot)?;
+        self.odd.push(Remark { line, text })?;
+        Ok(())
     }
 
     /// Looks at the keys of a table, each by itself, but for those of lists.
@@ -64,7 +110,7 @@ impl<'a> Look<'a> {
             None if is_needed(tree, key) => {
                 let name = key.name;
                 let place = format!(in self.alloc; "{name}{row}")?;
-                self.tell(ConfigFault::Missing(key.path), place)
+                self.tell(ConfigFault::Missing(key.path), row.whole(), place)
             }
             Some(value) if counts(tree, key) => self.value(key, value, row),
             _ => Ok(()),
@@ -79,7 +125,7 @@ impl<'a> Look<'a> {
             self.other_kind(key, value, row)
         } else if !is_allowed(kind, value) {
             let place = format!(in self.alloc; "{name}{row} is {shown}: {kind}")?;
-            self.refuse(SetupFault::Range, place)
+            self.refuse(SetupFault::Range, row.key(name), place)
         } else {
             Ok(())
         }
@@ -101,7 +147,7 @@ impl<'a> Look<'a> {
                 format!(in self.alloc; "{name}{row} is {shown}: {what}{meant}")?
             }
         };
-        self.tell(ConfigFault::BadValue(key.path), place)
+        self.tell(ConfigFault::BadValue(key.path), row.key(name), place)
     }
 
     /// Tells of a key that is passed over.
@@ -111,9 +157,10 @@ impl<'a> Look<'a> {
         }
         let hint = hint(self.alloc, name, row.table)?;
         let hint = hint.as_str();
-        let name = ShownKey(name);
-        let line = format!(in self.alloc; "{name}{row}: passed over{hint}")?;
-        self.passed.push(line)?;
+        let shown = ShownKey(name);
+        let text = format!(in self.alloc; "{shown}{row}: passed over{hint}")?;
+        let line = self.line(row.key(name))?;
+        self.passed.push(Remark { line, text })?;
         Ok(())
     }
 
@@ -122,12 +169,8 @@ impl<'a> Look<'a> {
         self.key(tree, key, Row::UNIT)?;
         let latest_ms = latest_answer_ms(tree);
         for (index, item) in list_at(tree, key.name).iter().enumerate() {
-            let row = Row {
-                table: list,
-                number: index.saturating_add(1),
-                level: 0,
-            };
-            self.item(key, item, row)?;
+            let row = Row::of(list, index.saturating_add(1));
+            self.item(key, Row::UNIT, item, row)?;
             if let Value::Table(tree) = item {
                 self.beside(tree, row, latest_ms)?;
             }
@@ -135,8 +178,8 @@ impl<'a> Look<'a> {
         Ok(())
     }
 
-    /// A table of a list by itself, or what stands in its place.
-    fn item(&mut self, key: &Key, item: &Value, row: Row) -> Result<(), AllocError> {
+    /// A table of the list at a key by itself, or what stands in its place.
+    fn item(&mut self, key: &Key, of: Row, item: &Value, row: Row) -> Result<(), AllocError> {
         match item {
             Value::Table(tree) => self.table(tree, row),
             _ => {
@@ -144,9 +187,9 @@ impl<'a> Look<'a> {
                 let number = row.number;
                 let shown = Shown(item);
                 let place = format!(in self.alloc;
-                    "{path} {number} is {shown}: a table, as [[{path}]] begins one"
+                    "{path} {number}{of} is {shown}: a table, as [[{path}]] begins one"
                 )?;
-                self.tell(ConfigFault::BadValue(path), place)
+                self.tell(ConfigFault::BadValue(path), of.key(key.name), place)
             }
         }
     }
@@ -183,7 +226,7 @@ impl<'a> Look<'a> {
                 number: index.saturating_add(1),
                 level: of.number,
             };
-            self.item(key, item, row)?;
+            self.item(key, of, item, row)?;
         }
         Ok(())
     }
@@ -202,36 +245,6 @@ impl<'a> Look<'a> {
         self.doubles(tree)?;
         self.references(tree)
     }
-
-    /// Looks at a text, and puts the faults in the order in which a run looks for them.
-    pub fn text(&mut self) -> Result<(), AllocError> {
-        match toml::table_from_str(self.alloc, self.text) {
-            Ok(tree) => self.unit(&tree)?,
-            Err(e) if e.is_memory() => return Err(AllocError),
-            Err(e) => self.syntax(&e)?,
-        }
-        self.faults.sort_by_key(|finding| phase(finding.fault))
-    }
-
-    /// Adds that the text is no TOML, and where.
-    fn syntax(&mut self, error: &toml::de::Error) -> Result<(), AllocError> {
-        let told = format!(in self.alloc; "{error}")?;
-        let (line, rest) = told.as_str().split_once('\n').unwrap_or(("", ""));
-        let line = line.strip_prefix("TOML parse error at ").unwrap_or(line);
-        let message = rest.trim_end();
-        let hint = if is_recording(self.text) {
-            "; this is a recording, and no setup"
-        } else {
-            ""
-        };
-        let place = format!(in self.alloc; "{line}: {message}{hint}")?;
-        self.tell(ConfigFault::Syntax, place)
-    }
-}
-
-/// Whether a text begins as a recording of `candump -L` does.
-fn is_recording(text: &str) -> bool {
-    text.starts_with('(') || text.starts_with("tick")
 }
 
 /// When a run looks for a fault.

@@ -26,8 +26,8 @@ impl Look<'_> {
         if LEAST_LOOK <= id && id <= MOST_LOOK {
             let numeral = format!(in self.alloc; "{id}")?;
             if self.text.contains(numeral.as_str()) {
-                let line = format!(in self.alloc; "{name}{row}: {id} is 0x{id:X}; 0x{id}?")?;
-                self.odd.push(line)?;
+                let text = format!(in self.alloc; "{name}{row}: {id} is 0x{id:X}; 0x{id}?")?;
+                self.remark(row.key(name), text)?;
             }
         }
         Ok(())
@@ -56,10 +56,10 @@ impl Look<'_> {
         let is_odd = is_obd_request(request) != is_obd_response(response)
             || (is_obd_request(request) && response.checked_sub(request) != Some(PARTNER));
         if is_odd {
-            let line = format!(in self.alloc;
+            let text = format!(in self.alloc;
                 "request{row} is 0x{request:X} and response 0x{response:X}: ISO 15765-4 has 0x7E0 to 0x7E7, each with the response 8 above"
             )?;
-            self.odd.push(line)?;
+            self.remark(row.key("request"), text)?;
         }
         Ok(())
     }
@@ -69,10 +69,10 @@ impl Look<'_> {
         let [kind, format, target, source] = request.to_be_bytes();
         let partner = u32::from_be_bytes([kind, format, source, target]);
         if (kind, format) == FIXED && response != partner {
-            let line = format!(in self.alloc;
+            let text = format!(in self.alloc;
                 "request{row} is 0x{request:X} and response 0x{response:X}: with normal fixed addressing it is 0x{partner:X}"
             )?;
-            self.odd.push(line)?;
+            self.remark(row.key("request"), text)?;
         }
         Ok(())
     }
@@ -82,10 +82,10 @@ impl Look<'_> {
         let is_written = matches!(did.get("write"), Some(Value::Boolean(true)));
         let has_level = number_at(did, "write_level").is_some_and(|level| level > 0);
         if has_level && !is_written {
-            let line = format!(in self.alloc;
+            let text = format!(in self.alloc;
                 "write_level{row}: it can't be written; write = true?"
             )?;
-            self.odd.push(line)?;
+            self.remark(row.key("write_level"), text)?;
         }
         Ok(())
     }
@@ -95,10 +95,10 @@ impl Look<'_> {
         let session = number_at(answer, "session").unwrap_or(0);
         let level = number_at(answer, "level").unwrap_or(0);
         if session == 1 && level > 0 {
-            let line = format!(in self.alloc;
+            let text = format!(in self.alloc;
                 "session{row} is 1 beside a level: the row never applies, for session 1 unlocks none"
             )?;
-            self.odd.push(line)?;
+            self.remark(row.key("session"), text)?;
         }
         Ok(())
     }

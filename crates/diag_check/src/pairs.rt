@@ -1,5 +1,7 @@
 //! Numbers that stand twice, and numbers that are named and aren't there.
 
+use crate::finding::Row;
+use crate::keys::Table;
 use crate::look::{Look, list_at};
 use crate::value::number;
 use diag_setup::SetupFault;
@@ -37,10 +39,10 @@ impl Look<'_> {
     pub fn doubles(&mut self, tree: &Tree) -> Result<(), AllocError> {
         self.double_identifiers(tree)?;
         self.double_names(tree)?;
-        self.double_numbers(tree, "did", "id")?;
-        self.double_numbers(tree, "code", "code")?;
-        self.double_numbers(tree, "routine", "id")?;
-        self.double_numbers(tree, "level", "sub")
+        self.double_numbers(tree, Table::Did, "id")?;
+        self.double_numbers(tree, Table::Code, "code")?;
+        self.double_numbers(tree, Table::Routine, "id")?;
+        self.double_numbers(tree, Table::Level, "sub")
     }
 
     /// Two equal identifiers among all requests and responses, and one of these that is a functional one.
@@ -74,7 +76,8 @@ impl Look<'_> {
         let place = format!(in self.alloc;
             "{name} of [[tester]] {row} is 0x{id:X}, as {other} of [[tester]] {first}"
         )?;
-        self.refuse(SetupFault::DuplicateId, place)
+        let row = Row::of(Table::Tester, row);
+        self.refuse(SetupFault::DuplicateId, row.key(name), place)
     }
 
     /// Requests and responses that are a functional identifier; several testers may have one of these.
@@ -93,7 +96,8 @@ impl Look<'_> {
                     let place = format!(in self.alloc;
                         "{name} of [[tester]] {row} is 0x{id:X}, as functional"
                     )?;
-                    self.refuse(SetupFault::DuplicateId, place)?;
+                    let row = Row::of(Table::Tester, row);
+                    self.refuse(SetupFault::DuplicateId, row.key(name), place)?;
                 }
             }
         }
@@ -115,16 +119,18 @@ impl Look<'_> {
                     let place = format!(in self.alloc;
                         "name of [[tester]] {row} is {name:?}, as that of [[tester]] {first}"
                     )?;
-                    self.refuse(SetupFault::DuplicateId, place)?;
+                    let row = Row::of(Table::Tester, row);
+                    self.refuse(SetupFault::DuplicateId, row.key("name"), place)?;
                 }
             }
         }
         Ok(())
     }
 
-    fn double_numbers(&mut self, tree: &Tree, list: &str, name: &str) -> Result<(), AllocError> {
+    fn double_numbers(&mut self, tree: &Tree, list: Table, name: &str) -> Result<(), AllocError> {
+        let path = list.path();
         let mut seen = BTreeMap::new(self.alloc);
-        for (index, item) in list_at(tree, list).iter().enumerate() {
+        for (index, item) in list_at(tree, path).iter().enumerate() {
             let Some(number) = number_of(item, name) else {
                 continue;
             };
@@ -135,9 +141,10 @@ impl Look<'_> {
                 }
                 Some(first) => {
                     let place = format!(in self.alloc;
-                        "{name} of [[{list}]] {row} is 0x{number:X}, as that of [[{list}]] {first}"
+                        "{name} of [[{path}]] {row} is 0x{number:X}, as that of [[{path}]] {first}"
                     )?;
-                    self.refuse(SetupFault::DuplicateId, place)?;
+                    let row = Row::of(list, row);
+                    self.refuse(SetupFault::DuplicateId, row.key(name), place)?;
                 }
             }
         }
@@ -147,51 +154,45 @@ impl Look<'_> {
     /// Codes and levels that are named and aren't there.
     pub fn references(&mut self, tree: &Tree) -> Result<(), AllocError> {
         let codes = numbers(self.alloc, tree, "code", "code")?;
-        self.unknown(tree, "routine", "code", &codes)?;
+        self.unknown(tree, Table::Routine, "code", &codes)?;
         let mut levels = numbers(self.alloc, tree, "level", "sub")?;
         levels.insert(0, ())?;
-        self.unknown(tree, "did", "read_level", &levels)?;
-        self.unknown(tree, "did", "write_level", &levels)?;
-        self.unknown(tree, "routine", "level", &levels)?;
-        self.unknown(tree, "answer", "level", &levels)
+        self.unknown(tree, Table::Did, "read_level", &levels)?;
+        self.unknown(tree, Table::Did, "write_level", &levels)?;
+        self.unknown(tree, Table::Routine, "level", &levels)?;
+        self.unknown(tree, Table::Answer, "level", &levels)
     }
 
     fn unknown(
         &mut self,
         tree: &Tree,
-        list: &str,
+        list: Table,
         name: &str,
         known: &BTreeMap<u32, ()>,
     ) -> Result<(), AllocError> {
-        for (index, item) in list_at(tree, list).iter().enumerate() {
+        for (index, item) in list_at(tree, list.path()).iter().enumerate() {
             let Some(number) = number_of(item, name) else {
                 continue;
             };
             if known.get(&number).is_none() {
-                let row = index.saturating_add(1);
-                self.unknown_one(list, name, row, number)?;
+                let row = Row::of(list, index.saturating_add(1));
+                self.unknown_one(row, name, number)?;
             }
         }
         Ok(())
     }
 
-    fn unknown_one(
-        &mut self,
-        list: &str,
-        name: &str,
-        row: usize,
-        number: u32,
-    ) -> Result<(), AllocError> {
+    fn unknown_one(&mut self, row: Row, name: &str, number: u32) -> Result<(), AllocError> {
         if name == "code" {
             let place = format!(in self.alloc;
-                "{name} of [[{list}]] {row} is 0x{number:06X}, which no [[code]] has"
+                "{name}{row} is 0x{number:06X}, which no [[code]] has"
             )?;
-            self.refuse(SetupFault::UnknownCode, place)
+            self.refuse(SetupFault::UnknownCode, row.key(name), place)
         } else {
             let place = format!(in self.alloc;
-                "{name} of [[{list}]] {row} is {number}, which no [[level]] has as its sub"
+                "{name}{row} is {number}, which no [[level]] has as its sub"
             )?;
-            self.refuse(SetupFault::UnknownLevel, place)
+            self.refuse(SetupFault::UnknownLevel, row.key(name), place)
         }
     }
 }

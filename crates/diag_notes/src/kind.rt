@@ -1,28 +1,36 @@
 //! What a line looks like that isn't one of `candump -L`.
 
-/// What a line of a log or of a capture looks like, and what helps.
-pub fn looks(line: &[u8]) -> &'static str {
-    match by_first_bytes(line) {
-        Some(told) => told,
-        None => by_text(std::str::from_utf8(line).unwrap_or("")),
+/// What a file is by its first bytes, where it is none of lines of ASCII, and what helps.
+pub fn file_kind(first: &[u8]) -> Option<&'static str> {
+    match first {
+        [b'L', b'O', b'G', b'G', ..] => {
+            Some("BLF: convert it with can_logconvert of python-can")
+        }
+        [0x0A, 0x0D, 0x0D, 0x0A, ..]
+        | [0xD4, 0xC3, 0xB2, 0xA1, ..]
+        | [0xA1, 0xB2, 0xC3, 0xD4, ..]
+        | [0x4D, 0x3C, 0xB2, 0xA1, ..]
+        | [0xA1, 0xB2, 0x3C, 0x4D, ..] => { Some("a capture of Wireshark: record with candump -L") }
+        [b'M', b'D', b'F', b' ', ..] => {
+            Some("MDF: export it as ASC, which asc2log of can-utils converts")
+        }
+        [0x1F, 0x8B, ..] => Some(
+            "packed by gzip: unpack it, or pipe what zcat writes into bus, verify or compare",
+        ),
+        [0xFF, 0xFE, ..] | [0xFE, 0xFF, ..] | [_, 0, _, 0, ..] | [0, _, 0, _, ..] => {
+            Some("UTF-16: save it as ASCII")
+        }
+        _ => None,
     }
 }
 
-/// What the first bytes of a file of another kind say.
-fn by_first_bytes(line: &[u8]) -> Option<&'static str> {
+/// What a line of a log or of a capture looks like, and what helps.
+pub fn looks(line: &[u8]) -> &'static str {
     match line {
         [0xEF, 0xBB, 0xBF, ..] => {
-            Some("it begins with a byte order mark: save the recording without one")
+            "it begins with a byte order mark: save the recording without one"
         }
-        [0xFF, 0xFE, ..] | [0xFE, 0xFF, ..] | [_, 0, _, 0, ..] | [0, _, 0, _, ..] => {
-            Some("it is UTF-16: save the recording as ASCII")
-        }
-        [b'L', b'O', b'G', b'G', ..] => Some("it is BLF: convert it with python-can"),
-        [0x0A, 0x0D, 0x0D, 0x0A, ..] | [0xD4, 0xC3, 0xB2, 0xA1, ..] => {
-            Some("it is a capture of Wireshark: record with candump -L")
-        }
-        [0x1F, 0x8B, ..] => Some("it is packed by gzip: zcat FILE | uds_play bus CONFIG"),
-        _ => None,
+        _ => by_text(std::str::from_utf8(line).unwrap_or("")),
     }
 }
 
@@ -37,7 +45,7 @@ fn by_text(line: &str) -> &'static str {
     } else if is_asc(line) {
         "it is ASC: convert it with asc2log of can-utils"
     } else if line.starts_with(";$") {
-        "it is TRC: convert it with python-can"
+        "it is TRC: convert it with can_logconvert of python-can"
     } else if is_setup(line) {
         "it is no frame, but as a line of a setup: the setup comes first, then the recording"
     } else if text.starts_with('(') {

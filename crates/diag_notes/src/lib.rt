@@ -4,11 +4,12 @@
 mod journal;
 mod kind;
 mod line;
+mod often;
 mod place;
 mod seen;
 
 pub use journal::expected;
-pub use kind::{is_recording, looks};
+pub use kind::{file_kind, is_recording, looks};
 pub use line::{ShownLine, line_at};
 pub use place::Place;
 pub use seen::{Recording, Side};

@@ -10,6 +10,9 @@ pub const MOST_KEPT: usize = 256;
 /// The most bytes of a line that are told.
 const MOST_SHOWN: usize = 60;
 
+/// The most bytes that are told of what is no text.
+const MOST_SHOWN_RAW: usize = 8;
+
 /// How many bytes are read at once.
 const PIECE: usize = 65_536;
 
@@ -73,8 +76,13 @@ pub struct ShownLine<'a>(pub &'a [u8]);
 
 impl fmt::Display for ShownLine<'_> {
     fn fmt<W: fmt::Write>(&self, f: &mut fmt::Formatter<W>) -> fmt::Result {
+        let most = if is_text(self.0) {
+            MOST_SHOWN
+        } else {
+            MOST_SHOWN_RAW
+        };
         for (index, byte) in self.0.iter().enumerate() {
-            if index >= MOST_SHOWN {
+            if index >= most {
                 return write!(f, "..");
             }
             match byte {
@@ -84,4 +92,11 @@ impl fmt::Display for ShownLine<'_> {
         }
         Ok(())
     }
+}
+
+/// Whether at least three of four bytes are printable characters of ASCII, as far as a line is told.
+fn is_text(line: &[u8]) -> bool {
+    let start = line.iter().take(MOST_SHOWN);
+    let printable = start.filter(|c| matches!(c, b' '..=b'~' | b'\t')).count();
+    4 * printable >= 3 * line.len().min(MOST_SHOWN)
 }

@@ -1,5 +1,6 @@
 //! Whose frames are in a recording, as far as it is looked at.
 
+use crate::often::Often;
 use memchr::{memchr, memchr_iter};
 use std::alloc::{AllocError, Global};
 use std::str;
@@ -107,6 +108,10 @@ pub struct Recording<'a> {
     alloc: Global,
     /// The testers, and how many frames of each were seen.
     sides: Vec<(Side<'a>, Frames)>,
+    /// Whether a frame of a tester was seen.
+    is_heard: bool,
+    /// The identifiers before the first frame of a tester.
+    often: Often,
     standard: u64,
     extended: u64,
     flexible: u64,
@@ -124,6 +129,8 @@ impl<'a> Recording<'a> {
         Recording {
             alloc,
             sides: Vec::new(alloc),
+            is_heard: false,
+            often: Often::new(alloc),
             standard: 0,
             extended: 0,
             flexible: 0,
@@ -167,6 +174,10 @@ impl<'a> Recording<'a> {
                     frames.count(side, line);
                 }
             }
+        }
+        self.is_heard = self.is_heard || is_heard;
+        if !self.is_heard {
+            self.often.count(line.id, line.is_extended)?;
         }
         if is_named && !is_heard {
             self.pass(line);
@@ -223,6 +234,9 @@ impl<'a> Recording<'a> {
                     "no frame of the unit to {name} was seen{part}: its answers have the identifier {response:0digits$X}"
                 )?)?;
             }
+        }
+        if !self.is_heard {
+            notes.extend(self.often.note(part)?)?;
         }
         self.passed(&mut notes, part)?;
         self.names(&mut notes, part)?;

@@ -30,7 +30,7 @@ use diag_run::{Ending, Job, Outcome, read_config, run_bus_and_tell, run_text};
 use diag_setup::Setup;
 use diag_stored::{CONFIG, LOG_A, LOG_B};
 use diag_text::{ReadFault, RunFault, read_whole, write_text, write_whole};
-use notes::{FileKind, Notes, note_lines};
+use notes::{FileKind, Notes, note_usage};
 use source::Source;
 use standard::{PIECES, Record, StandardBench, read_all};
 use std::alloc::{AllocError, Global};
@@ -167,7 +167,7 @@ fn run_words<R: Print + Eprint + Files + Input + AllocGlobal + Clock + Threads +
             let status = refuse(rt, &refusal);
             if let Refusal::Usage(text) = &refusal {
                 if !is_quiet(words) {
-                    note_lines(rt, text.as_str());
+                    note_usage(rt, text.as_str(), is_live(words));
                 }
             }
             status

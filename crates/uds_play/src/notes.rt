@@ -2,9 +2,11 @@
 //! nor the status, and where there is no memory or no file for one, it is left out.
 
 use crate::answer::{Answer, answer_at};
-use diag_check::{Report, check, look_at};
+use diag_check::{Remark, check, look_at};
 use diag_config::read_setup;
-use diag_notes::{Place, Recording, ShownLine, Side, expected, is_recording, line_at, looks};
+use diag_notes::{
+    Place, Recording, ShownLine, Side, expected, file_kind, is_recording, line_at, looks,
+};
 use diag_run::Outcome;
 use diag_setup::{RawSetup, RawTester};
 use std::alloc::{AllocError, Global};
@@ -20,6 +22,9 @@ const MOST_LOOK: usize = 1_048_576;
 
 /// The most bytes of a journal.
 const MOST_JOURNAL: usize = 67_108_864;
+
+/// How many of a file's first bytes tell what it is.
+const MOST_FIRST: usize = 16;
 
 /// The most faults of a setup that are noted.
 const MOST_FAULTS: usize = 10;
@@ -55,13 +60,27 @@ pub fn note(rt: &impl Eprint, text: &str) {
     let _ = eprintln!(rt; "uds_play: note: {text}");
 }
 
-/// Prints each line of a text as a note.
-pub fn note_lines(rt: &impl Eprint, text: &str) {
+/// Prints each line of clap's text as a note, and what it doesn't say: that `live` takes no file behind the setup.
+pub fn note_usage(rt: &impl Eprint, text: &str, is_live: bool) {
     for line in text.split('\n') {
         let line = line.trim();
         if !line.is_empty() {
             note(rt, line);
         }
+    }
+    if is_live && has_file_more(text) {
+        note(
+            rt,
+            "live hears standard input: uds_play live CONFIG < CAPTURE",
+        );
+    }
+}
+
+/// Whether clap refuses a word more that is no flag.
+fn has_file_more(text: &str) -> bool {
+    match text.split_once("unexpected argument '") {
+        Some((_, word)) => !word.starts_with('-') || word.starts_with("-'"),
+        None => false,
     }
 }
 
@@ -75,10 +94,23 @@ impl Notes<'_> {
             return;
         };
         if let Ok(report) = look_at(rt.alloc(), text.as_slice()) {
-            for line in &report.passed {
-                note(rt, line.as_str());
-            }
+            // Where there is no memory, no note tells of it.
+            let _ = self.remarks(rt, report.passed.as_slice());
         }
+    }
+
+    /// What is told of the setup, each with its path, for a line alone could be one of a recording.
+    fn remarks<R: Eprint + AllocGlobal>(
+        &self,
+        rt: &R,
+        remarks: &[Remark],
+    ) -> Result<(), AllocError> {
+        let config = self.config;
+        for remark in remarks {
+            let line = format!(in rt.alloc(); "{config}: {remark}")?;
+            note(rt, line.as_str());
+        }
+        Ok(())
     }
 
     /// Behind a run: what can be told of its fault, or of what it didn't see. `first` are the first bytes of standard
@@ -113,14 +145,8 @@ impl Notes<'_> {
         match place {
             Place::Setup => self.faults(rt),
             Place::File(number) => self.unreadable(rt, number),
-            Place::Line(file, number) => match self.line(rt, file, number, first)? {
-                Some(line) => self.bad_line(rt, file, number, line.as_slice()),
-                None => Ok(()),
-            },
-            Place::JournalLine(number) => match self.line(rt, 1, number, first)? {
-                Some(line) => self.bad_journal_line(rt, number, line.as_slice()),
-                None => Ok(()),
-            },
+            Place::Line(file, number) => self.bad_line(rt, file, number, first),
+            Place::JournalLine(number) => self.bad_journal_line(rt, number, first),
             Place::Entry(number) => match self.line(rt, 1, number.saturating_add(1), first)? {
                 Some(line) => self.other_entry(rt, number, line.as_slice()),
                 None => Ok(()),
@@ -158,7 +184,17 @@ impl Notes<'_> {
             return Ok(());
         }
         let report = check(rt.alloc(), text.as_slice())?;
-        note_faults(rt, &report)
+        for finding in report.faults.iter().take(MOST_FAULTS) {
+            let config = self.config;
+            let line = format!(in rt.alloc(); "{config}: {finding}")?;
+            note(rt, line.as_str());
+        }
+        let more = report.faults.len().saturating_sub(MOST_FAULTS);
+        if more > 0 {
+            let line = format!(in rt.alloc(); "and {more} more: uds_play check tells all")?;
+            note(rt, line.as_str());
+        }
+        Ok(())
     }
 
     fn path(&self, number: usize) -> &str {
@@ -211,27 +247,60 @@ impl Notes<'_> {
         }
     }
 
-    fn bad_line<R: Eprint + AllocGlobal>(
+    /// A line that is at fault, and what it looks like.
+    fn bad_line<R: Eprint + Files + AllocGlobal>(
         &self,
         rt: &R,
         file: usize,
         number: u64,
-        line: &[u8],
+        first: &[u8],
     ) -> Result<(), AllocError> {
-        self.shown(rt, file, number, line)?;
-        note(rt, looks(line));
+        if self.other_kind(rt, file, first)? {
+            return Ok(());
+        }
+        if let Some(line) = self.line(rt, file, number, first)? {
+            self.shown(rt, file, number, line.as_slice())?;
+            note(rt, looks(line.as_slice()));
+        }
         Ok(())
     }
 
-    fn bad_journal_line<R: Eprint + AllocGlobal>(
+    /// A line of a journal that is at fault, and what was expected.
+    fn bad_journal_line<R: Eprint + Files + AllocGlobal>(
         &self,
         rt: &R,
         number: u64,
-        line: &[u8],
+        first: &[u8],
     ) -> Result<(), AllocError> {
-        self.shown(rt, 1, number, line)?;
-        note(rt, expected(number, line));
+        if self.other_kind(rt, 1, first)? {
+            return Ok(());
+        }
+        if let Some(line) = self.line(rt, 1, number, first)? {
+            self.shown(rt, 1, number, line.as_slice())?;
+            note(rt, expected(number, line.as_slice()));
+        }
         Ok(())
+    }
+
+    /// Tells what a file is whose first bytes are no text, and says whether it is such a one. Its lines tell nothing.
+    fn other_kind<R: Eprint + Files + AllocGlobal>(
+        &self,
+        rt: &R,
+        file: usize,
+        first: &[u8],
+    ) -> Result<bool, AllocError> {
+        let path = self.path(file);
+        let kind = if self.files.is_empty() {
+            file_kind(first)
+        } else {
+            let first = read_regular(rt, path, MOST_FIRST);
+            first.and_then(|first| file_kind(first.as_slice()))
+        };
+        if let Some(kind) = kind {
+            let line = format!(in rt.alloc(); "{path} is {kind}")?;
+            note(rt, line.as_str());
+        }
+        Ok(kind.is_some())
     }
 
     /// An entry that differs, and what the server answers.
@@ -313,32 +382,11 @@ impl Notes<'_> {
             }
         }
         if is_one_silent {
-            note_odd(rt, config.as_slice())?;
+            let report = look_at(rt.alloc(), config.as_slice())?;
+            self.remarks(rt, report.odd.as_slice())?;
         }
         Ok(())
     }
-}
-
-/// What is odd about the text of a setup.
-fn note_odd<R: Eprint + AllocGlobal>(rt: &R, config: &[u8]) -> Result<(), AllocError> {
-    let report = look_at(rt.alloc(), config)?;
-    for line in &report.odd {
-        note(rt, line.as_str());
-    }
-    Ok(())
-}
-
-fn note_faults<R: Eprint + AllocGlobal>(rt: &R, report: &Report) -> Result<(), AllocError> {
-    for finding in report.faults.iter().take(MOST_FAULTS) {
-        let line = format!(in rt.alloc(); "{finding}")?;
-        note(rt, line.as_str());
-    }
-    let more = report.faults.len().saturating_sub(MOST_FAULTS);
-    if more > 0 {
-        let line = format!(in rt.alloc(); "and {more} more: uds_play check tells all")?;
-        note(rt, line.as_str());
-    }
-    Ok(())
 }
 
 /// Tells what wasn't seen in the text of a recording: of all testers, or of the one whose log it is. Answers whether one of
