@@ -405,7 +405,7 @@ class Recording:
         self.lines[at] = self.lines[at].lower()
 
     def shuffle(self, _: int) -> None:
-        """The records of a list of trouble codes, in another order."""
+        """The records of a list of DTCs, in another order."""
         texts = {"100F5902FF012345": "100F5902FF012346", "100F590AFF012345": "100F590AFF012346", "212F0123462F0123": "212F0123452F0123"}
         for old, new in texts.items():
             self.lines = [it.replace(old, new) for it in self.lines]

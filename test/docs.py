@@ -98,7 +98,7 @@ class Block:
 
     def source(self):
         """The path of the source in which these lines stand."""
-        found = re.search(r"`((?:crates|tools)/[\w/]+\.(?:rt|c))`:$", self.before)
+        found = re.search(r"`((?:crates|demo)/[\w/]+\.(?:rt|c))`:$", self.before)
         return found and found[1]
 
     def is_added(self):

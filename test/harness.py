@@ -11,7 +11,7 @@ TOP = os.path.dirname(os.path.dirname(os.path.abspath(__file__)))
 PROGRAM = f"{TOP}/crates/uds_play/out/uds_play"
 # where Debian's packages for Python stand, for a Python that isn't Debian's
 DEBIAN = "/usr/lib/python3/dist-packages"
-sys.path += [f"{TOP}/tools", f"{TOP}/dev"]
+sys.path += [f"{TOP}/tools", f"{TOP}/tools/parts", f"{TOP}/dev"]
 
 
 def is_built(program=PROGRAM):

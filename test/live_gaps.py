@@ -25,7 +25,7 @@ STOP, STOPS = 0.03, (0.05, 0.15)
 OVERLOADED = 0.15
 # how much the program's clock may be behind once no block is under way, in ms, where it is asked so often
 BEHIND, ASKED = 25, 5
-# a First frame has 6 bytes of the reply 62 F1 90 .., a Consecutive frame 7
+# a FirstFrame has 6 bytes of the reply 62 F1 90 .., a ConsecutiveFrame 7
 VALUE = (6 + 7 * (GAPS + 1) - 3) * "5A"
 SETUP = f"""
 [[tester]]
@@ -132,7 +132,7 @@ class Tester:
         self.wrong += "" if first.startswith("10") else f"{first} in place of a First frame; "
 
     def takes(self):
-        """The Consecutive frames, between which the other tester asks now and then."""
+        """The ConsecutiveFrames, between which the other tester asks now and then."""
         frames = []
         for _ in range(GAPS + 1):
             if self.random.random() < 0.3:

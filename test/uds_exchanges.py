@@ -282,7 +282,7 @@ def is_reply(expected: Expected, sent: Optional[bytes]) -> bool:
 
 
 def has_same_records(sent: bytes, reply: bytes) -> bool:
-    """Whether both are a list of trouble codes with the same records, in any order."""
+    """Whether both are a list of DTCs with the same records, in any order."""
     return reply[:2] in (b"\x59\x02", b"\x59\x0a") and sent[:3] == reply[:3] and records(sent) == records(reply)
 
 

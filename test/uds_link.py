@@ -1,6 +1,6 @@
 """The slow twin of a link: what receptions, flow control and time make of a tester's log, looked up in whole lists each
 time. It says what docs/DEFINITIONS.md, Transport, says, by another way: no function goes on from what another call has
-kept. But which row of answers decides about a request is followed through the journal (tools/uds_run.py). For
+kept. But which row of answers decides about a request is followed through the journal (tools/parts/uds_run.py). For
 test/twin.py and test/examples.py, which compare it with what the program sends; no part of what is proved."""
 import re
 import tomllib

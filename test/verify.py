@@ -191,7 +191,7 @@ def one_frame(room):
 
 
 def shorter_frames(room):
-    """A frame that lacks its filling, has more of it, or says something else than response pending."""
+    """A frame that lacks its padding, has more of it, or says something else than response pending."""
     config, path = put(f"{room}/setup", SETUP.encode()), f"{room}/capture"
     ask = stamped(100_000, "7E0#021003")
     for data in ("065003003201F4", "065003003201F400", "065003003201F4CCCC", "", "037F1079", "027F78", "047F102278", "037E1078", "137F1078", "037F10", "7F1078"):

@@ -16,9 +16,9 @@ mod ecu;
 #[cfg(test)]
 mod gate;
 #[cfg(test)]
-mod link;
+mod journal;
 #[cfg(test)]
-mod logs;
+mod link;
 #[cfg(test)]
 mod server;
 #[cfg(test)]
