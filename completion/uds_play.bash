@@ -10,10 +10,10 @@ _uds_play() {
   case $command in
     '') flags="check bus verify compare live serial play replay --quiet --help --version" ;;
     check) flags="--quiet --help" ;;
-    bus) flags="--journal --quiet --end --help" ;;
-    verify) flags="--quiet --help" ;;
-    compare) flags="--differences --quiet --help" ;;
-    live) flags="--quiet --record --help" ;;
+    bus) flags="--interface --quiet --journal --end --help" ;;
+    verify) flags="--interface --quiet --help" ;;
+    compare) flags="--interface --quiet --differences --help" ;;
+    live) flags="--interface --quiet --record --help" ;;
     serial) flags="--journal --quiet --stamps --help" ;;
     play) flags="--journal --quiet --stamps --help" ;;
     replay) flags="--quiet --help" ;;

@@ -62,10 +62,10 @@ def responses_of(setup):
 class Run:
     """The program, live over a pipe, and what it wrote."""
 
-    def __init__(self, room, setup=SETUP, reads=True, limits=None, out=subprocess.PIPE):
+    def __init__(self, room, setup=SETUP, reads=True, limits=None, out=subprocess.PIPE, flags=()):
         self.config = put(f"{room}/setup{next(numbers)}", setup.encode())
         self.record = f"{room}/record{next(numbers)}"
-        words = [PROGRAM, "--quiet", "live", "--record", self.record, self.config]
+        words = [PROGRAM, "--quiet", "live", *flags, "--record", self.record, self.config]
         pipes = {"stdin": subprocess.PIPE, "stdout": out, "stderr": subprocess.PIPE}
         self.child = subprocess.Popen(words, bufsize=0, preexec_fn=limits, **pipes)
         self.pieces = []
@@ -391,6 +391,19 @@ def killed_reader(room):
 # ---- records
 
 
+def one_interface(room):
+    """Of two interfaces one is served, and the record has the other's lines without their frames."""
+    with running(room, flags=("--interface", "can0")) as run:
+        run.give(b"(1.000000) can1 7E0#021003\n")
+        wrong = run.asks(1, "021003", SESSION)
+        run.give(b"(2.000000) can1 7E1#021001\n(2.000000)  vcan0  7E1#021001\n")
+        wrong += run.asks(0, "021003", BUSY) + run.ends_well()
+        with open(run.record, encoding="ascii") as it:
+            others = it.read().count("(0.000000) other 000#R\n")
+        wrong += "" if others == 3 else f"{others} lines of other interfaces in the record"
+        told(not wrong, "one of three interfaces", wrong)
+
+
 def records(room):
     """A record is a new file, made once the setup was read."""
     config, there = put(f"{room}/setup", SETUP.encode()), put(f"{room}/there", b"kept\n")
@@ -461,7 +474,7 @@ def silence(room):
 
 GROUPS = [
     session, key_delay, separation, slow_answer, two_at_once, no_flow_control, file_as_input, many_frames, unread_output,
-    bad_lines, closed_output, killed_reader, records, full_record,
+    bad_lines, closed_output, killed_reader, one_interface, records, full_record,
 ]
 
 

@@ -31,6 +31,7 @@ TRIED = (
     (["uds_play", "--q"], ["--quiet"]),
     (["uds_play", "bus", "--j"], ["--journal"]),
     (["uds_play", "compare", "--d"], ["--differences"]),
+    (["uds_play", "verify", "--i"], ["--interface"]),
     (["uds_play", "--quiet", "live", "--r"], ["--record"]),
     (["uds_play", "check", ""], ["folder", "unit.toml"]),
     (["uds_play", "verify", "unit.toml", ""], ["drive.log", "folder"]),

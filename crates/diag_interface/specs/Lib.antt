@@ -1,3 +1,4 @@
 pub mod Interface
 pub mod Window
 pub mod Only
+pub mod Chosen

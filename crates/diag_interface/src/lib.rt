@@ -1,10 +1,12 @@
 //! A recording of several interfaces, of which only the frames of one count.
 #![tactic(auto)]
 
+mod chosen;
 mod laws;
 mod line;
 mod only;
 mod window;
 
+pub use chosen::Chosen;
 pub use laws::interface_law;
 pub use only::OnlyInterface;

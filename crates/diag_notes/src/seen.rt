@@ -118,6 +118,36 @@ pub struct Recording<'a> {
     /// How many of the testers' frames have more bytes behind a space.
     spaced: u64,
     interfaces: Vec<Interface<'a>>,
+    choice: Choice<'a>,
+}
+
+/// Whose frames count, as far as its run has a choice.
+#[derive(Clone, Copy)]
+enum Choice<'a> {
+    /// There is none: those of all interfaces.
+    None,
+    /// Those of all interfaces.
+    All,
+    /// Those of the interface of this name.
+    Only(&'a str),
+}
+
+impl Choice<'_> {
+    /// Whether the frames of this interface count.
+    fn counts(self, interface: &str) -> bool {
+        match self {
+            Choice::Only(name) => name == interface,
+            Choice::All | Choice::None => true,
+        }
+    }
+
+    /// Whether this interface was chosen.
+    fn is_only(self, interface: &str) -> bool {
+        match self {
+            Choice::Only(name) => name == interface,
+            Choice::All | Choice::None => false,
+        }
+    }
 }
 
 /// The most names of interfaces that are told.
@@ -136,7 +166,16 @@ impl<'a> Recording<'a> {
             flexible: 0,
             spaced: 0,
             interfaces: Vec::new(alloc),
+            choice: Choice::None,
         }
+    }
+
+    /// Its run can take the frames of one interface alone: of this one, if any is given.
+    pub fn choose(&mut self, interface: Option<&'a str>) {
+        self.choice = match interface {
+            Some(name) => Choice::Only(name),
+            None => Choice::All,
+        };
     }
 
     /// One tester more.
@@ -164,6 +203,14 @@ impl<'a> Recording<'a> {
     }
 
     fn count(&mut self, line: &Line<'a>) -> Result<(), AllocError> {
+        self.interface(line.interface)?;
+        if self.choice.counts(line.interface) {
+            self.count_frame(line);
+        }
+        Ok(())
+    }
+
+    fn count_frame(&mut self, line: &Line<'_>) {
         let mut is_named = false;
         let mut is_heard = false;
         for (side, frames) in self.sides.iter_mut() {
@@ -185,7 +232,6 @@ impl<'a> Recording<'a> {
         if is_heard && line.is_spaced() {
             self.spaced = self.spaced.saturating_add(1);
         }
-        self.interface(line.interface)
     }
 
     /// Counts a frame with a tester's number that is none of its frames.
@@ -206,7 +252,8 @@ impl<'a> Recording<'a> {
                 return Ok(());
             }
         }
-        if self.interfaces.len() < MOST_INTERFACES {
+        let is_chosen = self.choice.is_only(name);
+        if self.interfaces.len() < MOST_INTERFACES || is_chosen {
             self.interfaces.push(Interface { name, frames: 1 })?;
         }
         Ok(())
@@ -214,6 +261,10 @@ impl<'a> Recording<'a> {
 
     /// Whether there is a tester of whom no frame with the identifier of its requests was seen.
     pub fn is_one_silent(&self) -> bool {
+        !self.is_without_chosen() && self.is_no_request()
+    }
+
+    fn is_no_request(&self) -> bool {
         self.sides.iter().any(|(_, frames)| frames.requests == 0)
     }
 
@@ -221,6 +272,10 @@ impl<'a> Recording<'a> {
     /// `is_judged` the unit's own frames should be there.
     pub fn notes(&self, part: &str, is_judged: bool) -> Result<Vec<String>, AllocError> {
         let mut notes = Vec::new(self.alloc);
+        if self.is_without_chosen() {
+            notes.push(self.unchosen(part)?)?;
+            return Ok(notes);
+        }
         for (side, frames) in self.sides.iter() {
             let told = self.unseen(side, *frames, part)?;
             if let Some(told) = told {
@@ -290,11 +345,56 @@ impl<'a> Recording<'a> {
         Ok(())
     }
 
+    /// Whether an interface was chosen of which no line was seen.
+    fn is_without_chosen(&self) -> bool {
+        match self.choice {
+            Choice::Only(name) => !self.has_interface(name),
+            Choice::All | Choice::None => false,
+        }
+    }
+
+    fn has_interface(&self, name: &str) -> bool {
+        self.interfaces
+            .iter()
+            .any(|interface| interface.name == name)
+    }
+
+    /// That no line of the chosen interface was seen, in place of all that follows from that.
+    fn unchosen(&self, part: &str) -> Result<String, AllocError> {
+        let Choice::Only(name) = self.choice else {
+            return Ok(String::new(self.alloc));
+        };
+        let told = format!(in self.alloc; "no line of the interface {name} was seen")?;
+        self.listed(told, part)
+    }
+
+    /// A second interface, where none was chosen.
     fn names(&self, notes: &mut Vec<String>, part: &str) -> Result<(), AllocError> {
         if self.interfaces.len() < 2 {
             return Ok(());
         }
-        let mut line = String::from_str(self.alloc, "frames of more than one interface count")?;
+        let told = "frames of more than one interface count";
+        let mut line = self.listed(String::from_str(self.alloc, told)?, part)?;
+        match self.choice {
+            Choice::Only(_) => return Ok(()),
+            Choice::None => {}
+            Choice::All => self.name_flag(&mut line)?,
+        }
+        notes.push(line)?;
+        Ok(())
+    }
+
+    /// Adds the flag that takes the first interface.
+    fn name_flag(&self, line: &mut String) -> Result<(), AllocError> {
+        if let Some(first) = self.interfaces.first() {
+            let name = first.name;
+            write!(line, "; --interface {name} takes those of one")?;
+        }
+        Ok(())
+    }
+
+    /// A text, and behind it the frames of each interface.
+    fn listed(&self, mut line: String, part: &str) -> Result<String, AllocError> {
         line.push_str(part)?;
         for (index, interface) in self.interfaces.iter().enumerate() {
             let name = interface.name;
@@ -302,8 +402,7 @@ impl<'a> Recording<'a> {
             let mark = if index == 0 { ":" } else { "," };
             write!(line, "{mark} {name} {frames}")?;
         }
-        notes.push(line)?;
-        Ok(())
+        Ok(line)
     }
 }
 

@@ -35,16 +35,20 @@ pub enum Task<'a> {
         job: Job,
         paths: Vec<&'a str>,
     },
-    /// To write this over a capture by its path; over standard input where there is none.
+    /// To write this over a capture by its path; over standard input where there is none. With a name only the frames of this
+    /// interface count.
     Bus {
         output: Output,
         capture: Option<&'a str>,
+        interface: Option<&'a str>,
     },
     /// To tell all that is wrong with the setup.
     Check,
-    /// To serve the bus that comes by standard input, and to keep its capture in a new file of this path.
+    /// To serve the bus that comes by standard input, or its interface of this name, and to keep its capture in a new file of
+    /// this path.
     Live {
         record: Option<&'a str>,
+        interface: Option<&'a str>,
     },
 }
 
@@ -163,13 +167,33 @@ fn capture_arg<'a>(alloc: Global) -> Arg<'a> {
         .action(ArgAction::Set)
 }
 
+/// Whose frames count.
+fn interface_arg<'a>(alloc: Global) -> Arg<'a> {
+    Arg::new(alloc, "interface")
+        .long("interface")
+        .value_name("NAME")
+        .help("Take the frames of this interface alone; other lines tell the time")
+        .action(ArgAction::Set)
+}
+
+/// A command over the recording of a bus.
+fn capture_command<'a>(
+    alloc: Global,
+    name: &'a str,
+    about: &'a str,
+    example: &'a str,
+) -> Result<Command<'a>, AllocError> {
+    job_command(alloc, name, about, example)?
+        .arg(capture_arg(alloc))?
+        .arg(interface_arg(alloc))
+}
+
 /// The command that answers the recording of a bus, with its flags.
 fn bus_command<'a>(alloc: Global) -> Result<Command<'a>, AllocError> {
     let about = "Answer the recording of a whole bus, as it comes";
     let example = "Example: uds_play bus demo/setup.toml demo/bus.log";
     let end = flag(alloc, "end", "Print the end alone").conflicts_with("journal")?;
-    job_command(alloc, "bus", about, example)?
-        .arg(capture_arg(alloc))?
+    capture_command(alloc, "bus", about, example)?
         .arg(flag(alloc, "journal", "Print the journal alone"))?
         .arg(end)
 }
@@ -178,7 +202,7 @@ fn bus_command<'a>(alloc: Global) -> Result<Command<'a>, AllocError> {
 fn verify_command<'a>(alloc: Global) -> Result<Command<'a>, AllocError> {
     let about = "Say whether the unit in the recording of a whole bus answered as the server";
     let example = "Example: uds_play verify demo/setup.toml demo/other_unit.log";
-    job_command(alloc, "verify", about, example)?.arg(capture_arg(alloc))
+    capture_command(alloc, "verify", about, example)
 }
 
 /// The command that tells of each exchange in the recording of a bus, with its flag.
@@ -186,9 +210,7 @@ fn compare_command<'a>(alloc: Global) -> Result<Command<'a>, AllocError> {
     let about = "Tell of each request in the recording of a whole bus what the unit answered";
     let example = "Example: uds_play compare demo/setup.toml demo/other_unit.log";
     let differences = "Leave out the exchanges that agree";
-    job_command(alloc, "compare", about, example)?
-        .arg(capture_arg(alloc))?
-        .arg(flag(alloc, "differences", differences))
+    capture_command(alloc, "compare", about, example)?.arg(flag(alloc, "differences", differences))
 }
 
 /// The command that serves a bus as it goes.
@@ -200,7 +222,9 @@ fn live_command<'a>(alloc: Global) -> Result<Command<'a>, AllocError> {
         .help("Keep the capture in this file, which must not be there yet")
         .action(ArgAction::Set);
     let example = "Example: uds_play live demo/setup.toml < demo/bus.log";
-    job_command(alloc, "live", about, example)?.arg(record)
+    job_command(alloc, "live", about, example)?
+        .arg(interface_arg(alloc))?
+        .arg(record)
 }
 
 fn whole_command<'a>(alloc: Global) -> Result<Command<'a>, AllocError> {
@@ -299,12 +323,18 @@ fn task_of<'a>(alloc: Global, name: &str, words: &ArgMatches<'a>) -> Result<Task
         "check" => return Ok(Task::Check),
         "live" => {
             let record = words.get_str("record");
-            return Ok(Task::Live { record });
+            let interface = words.get_str("interface");
+            return Ok(Task::Live { record, interface });
         }
         _ => return files_of(alloc, name, words),
     };
     let capture = capture_of(words);
-    Ok(Task::Bus { output, capture })
+    let interface = words.get_str("interface");
+    Ok(Task::Bus {
+        output,
+        capture,
+        interface,
+    })
 }
 
 /// A job, and its files.

@@ -20,19 +20,20 @@ mod source;
 mod standard;
 
 use command::{Output, Refusal, Request, Task, USAGE, read_words};
-use crossbeam_channel::{Receiver, bounded};
+use crossbeam_channel::bounded;
 use diag_bus::{Comparisons, Journal, NoText, Replies};
 use diag_can::Timing;
 use diag_check::check;
 use diag_comparing::ExchangeLines;
-use diag_live::{Bench, Heard, live};
+use diag_interface::Chosen;
+use diag_live::{Bench, live};
 use diag_run::{Ending, Job, Outcome, read_config, run_bus_and_tell, run_text};
 use diag_setup::Setup;
 use diag_stored::{CONFIG, LOG_A, LOG_B};
 use diag_text::{ReadFault, RunFault, read_whole, write_text, write_whole};
 use notes::{FileKind, Notes, note_usage};
 use source::Source;
-use standard::{PIECES, Record, StandardBench, read_all};
+use standard::{Hearing, PIECES, Record, StandardBench, read_all};
 use std::alloc::{AllocError, Global};
 use std::io::{ErrorKind, Read, Write};
 use std::process::ExitCode;
@@ -52,20 +53,23 @@ fn main(rt: HostRuntime) -> ExitCode {
             Err(AllocError) => refuse(&rt, &Refusal::Memory),
             Ok(words) => {
                 // A thread that nobody waits for owns its runtime, and only `main` has more of it than a reference: so it
-                // starts here, by the command's name alone, before the words are read. Where these are refused it ends
-                // with the program.
-                let pieces = if is_live(words.as_slice()) {
-                    let Ok((to, pieces)) = bounded(rt.alloc(), PIECES) else {
+                // starts here, by the command's name alone, before the words are read. It reads once it is told whose frames
+                // count; where the words are refused it ends with the program.
+                let hearing = if is_live(words.as_slice()) {
+                    let (Ok((to, pieces)), Ok((begin, begun))) = (
+                        bounded(rt.alloc(), PIECES),
+                        bounded(rt.alloc(), 1),
+                    ) else {
                         return refuse(&rt, &Refusal::Memory);
                     };
-                    if thread::spawn(&rt, move || read_all(&rt, rt.alloc(), &to)).is_err() {
+                    if thread::spawn(&rt, move || read_all(&rt, rt.alloc(), &begun, &to)).is_err() {
                         return refuse(&rt, &Refusal::Memory);
                     }
-                    Some(pieces)
+                    Some(Hearing { begin, pieces })
                 } else {
                     None
                 };
-                run_words(&rt, words.as_slice(), pieces)
+                run_words(&rt, words.as_slice(), hearing)
             }
         },
     }
@@ -108,7 +112,7 @@ type RunSource<'a, R> = Source<'a, <R as Files>::File, <R as Input>::Reader>;
 fn run_words<R: Print + Eprint + Files + Input + AllocGlobal + Clock + Threads + Wait + Sync>(
     rt: &R,
     words: &[String],
-    pieces: Option<Receiver<Heard>>,
+    hearing: Option<Hearing>,
 ) -> ExitCode {
     if words.len() < 2 {
         return run_stored(rt);
@@ -124,16 +128,22 @@ fn run_words<R: Print + Eprint + Files + Input + AllocGlobal + Clock + Threads +
             Task::Files { job, paths } => {
                 let notes = Notes {
                     quiet,
+                    interface: None,
                     config,
                     files: paths.as_slice(),
                     kind: kind_of(job),
                 };
                 run_files(rt, job, &notes)
             }
-            Task::Bus { output, capture } => {
+            Task::Bus {
+                output,
+                capture,
+                interface,
+            } => {
                 let path = [capture.unwrap_or("")];
                 let notes = Notes {
                     quiet,
+                    interface,
                     config,
                     files: given(capture, &path),
                     kind: FileKind::Capture,
@@ -143,22 +153,24 @@ fn run_words<R: Print + Eprint + Files + Input + AllocGlobal + Clock + Threads +
             Task::Check => {
                 let notes = Notes {
                     quiet,
+                    interface: None,
                     config,
                     files: &[],
                     kind: FileKind::Journal,
                 };
                 run_check(rt, &notes)
             }
-            Task::Live { record } => {
+            Task::Live { record, interface } => {
                 let path = [record.unwrap_or("")];
                 let notes = Notes {
                     quiet,
+                    interface,
                     config,
                     files: given(record, &path),
                     kind: FileKind::Record,
                 };
-                match pieces {
-                    Some(pieces) => run_live(rt, record, pieces, &notes),
+                match hearing {
+                    Some(hearing) => run_live(rt, record, hearing, &notes),
                     None => refuse(rt, &Refusal::Usage(String::new(rt.alloc()))),
                 }
             }
@@ -312,6 +324,13 @@ fn run_capture<S: Ending, R: Print + Eprint + Files + Input + AllocGlobal>(
     ) else {
         return refuse(rt, &Refusal::Memory);
     };
+    let name = notes.interface.map(|name| name.as_bytes());
+    let (Ok(config), Ok(capture)) = (
+        Chosen::new(rt.alloc(), config, None),
+        Chosen::new(rt.alloc(), capture, name),
+    ) else {
+        return refuse(rt, &Refusal::Memory);
+    };
     let mut out = io::writer(rt);
     let outcome = run_bus_and_tell(rt.alloc(), sink, config, capture, &mut out);
     finish(rt, notes, &outcome, first.as_slice())
@@ -321,7 +340,7 @@ fn run_capture<S: Ending, R: Print + Eprint + Files + Input + AllocGlobal>(
 fn run_live<R: Print + Eprint + Files + Input + AllocGlobal + Clock + Wait>(
     rt: &R,
     record: Option<&str>,
-    pieces: Receiver<Heard>,
+    hearing: Hearing,
     notes: &Notes<'_>,
 ) -> ExitCode {
     notes.before(rt);
@@ -339,6 +358,9 @@ fn run_live<R: Print + Eprint + Files + Input + AllocGlobal + Clock + Wait>(
             notes.no_record(rt, &e);
             return status;
         }
+    };
+    let Ok(pieces) = hearing.begin(rt, rt.alloc(), notes.interface) else {
+        return refuse(rt, &Refusal::Memory);
     };
     let mut bench = match StandardBench::start(rt, rt.alloc(), &setup, pieces) {
         Ok(bench) => bench,

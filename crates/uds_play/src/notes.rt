@@ -34,6 +34,8 @@ const MOST_FAULTS: usize = 10;
 pub struct Notes<'a> {
     /// Whether they are left out.
     pub quiet: bool,
+    /// The name of the interface whose frames count; none is all.
+    pub interface: Option<&'a str>,
     /// The path of the setup.
     pub config: &'a str,
     /// The paths of the files behind it; none is standard input.
@@ -377,7 +379,12 @@ impl Notes<'_> {
                 FileKind::Capture | FileKind::Journal | FileKind::Record => None,
             };
             if let Some(text) = read_regular(rt, path, MOST_LOOK) {
-                let is_silent = note_unseen(rt, setup.raw(), only, is_judged, text.as_slice())?;
+                let looked = Looked {
+                    only,
+                    interface: self.interface,
+                    is_judged,
+                };
+                let is_silent = note_unseen(rt, setup.raw(), &looked, text.as_slice())?;
                 is_one_silent = is_one_silent || is_silent;
             }
         }
@@ -389,18 +396,31 @@ impl Notes<'_> {
     }
 }
 
+/// What is looked for in a recording.
+#[derive(Clone, Copy)]
+struct Looked<'a> {
+    /// The place of the tester whose log it is; none is all testers' capture.
+    only: Option<usize>,
+    /// The interface whose frames count; none is all.
+    interface: Option<&'a str>,
+    /// Whether the unit's own frames should be there.
+    is_judged: bool,
+}
+
 /// Tells what wasn't seen in the text of a recording: of all testers, or of the one whose log it is. Answers whether one of
 /// them asks nothing in it.
 fn note_unseen<R: Eprint + AllocGlobal>(
     rt: &R,
     setup: &RawSetup,
-    only: Option<usize>,
-    is_judged: bool,
+    looked: &Looked<'_>,
     text: &[u8],
 ) -> Result<bool, AllocError> {
     let mut recording = Recording::new(rt.alloc());
+    if looked.only.is_none() {
+        recording.choose(looked.interface);
+    }
     for (index, tester) in setup.testers.as_slice().iter().enumerate() {
-        if only.is_none_or(|only| only == index) {
+        if looked.only.is_none_or(|only| only == index) {
             recording.side(Side {
                 name: str::from_utf8(tester.name.as_slice()).unwrap_or(""),
                 request: tester.request,
@@ -416,7 +436,7 @@ fn note_unseen<R: Eprint + AllocGlobal>(
     } else {
         " in the first 1048576 bytes"
     };
-    for line in &recording.notes(part, is_judged)? {
+    for line in &recording.notes(part, looked.is_judged)? {
         note(rt, line.as_str());
     }
     Ok(recording.is_one_silent())

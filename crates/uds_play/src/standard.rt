@@ -3,6 +3,7 @@
 use crate::flow_lines::FlowLines;
 use crate::pace::Pace;
 use crossbeam_channel::{Receiver, RecvTimeoutError, Sender};
+use diag_interface::Chosen;
 use diag_live::{Bench, Heard};
 use diag_setup::Setup;
 use std::alloc::{AllocError, Global};
@@ -178,10 +179,58 @@ impl<'a, R: Clock + Wait> Bench for StandardBench<'a, R> {
     }
 }
 
-/// Reads standard input to its end, and hands over what it reads, until nobody takes it. Its thread is waited for by
-/// nobody, for it may stand in a read that never returns: it ends with the program.
-pub fn read_all<R: Input + Wait>(rt: &R, alloc: Global, to: &Sender<Heard>) {
-    let mut input = rt.reader();
+/// What a thread reads of standard input, once it may begin.
+#[derive(Drop)]
+pub struct Hearing {
+    /// Tells the thread to begin, and whose frames count.
+    pub begin: Sender<Option<Vec<u8>>>,
+    /// What it reads.
+    pub pieces: Receiver<Heard>,
+}
+
+impl Hearing {
+    /// Lets the thread begin, where only the frames of the interface of this name count, if any is given.
+    ///
+    /// # Errors
+    /// Memory was refused.
+    pub fn begin<R: Wait>(
+        self,
+        rt: &R,
+        alloc: Global,
+        interface: Option<&str>,
+    ) -> Result<Receiver<Heard>, AllocError> {
+        let name = match interface {
+            Some(name) => Some(Vec::from_slice(alloc, name.as_bytes())?),
+            None => None,
+        };
+        // Where the thread is gone, so are its pieces, and the run tells of it.
+        let _ = self.begin.send(rt, name);
+        Ok(self.pieces)
+    }
+}
+
+/// Waits until it may begin, reads standard input to its end, and hands over what it reads, until nobody takes it. Its thread is
+/// waited for by nobody, for it may stand in a read that never returns: it ends with the program.
+pub fn read_all<R: Input + Wait>(
+    rt: &R,
+    alloc: Global,
+    begun: &Receiver<Option<Vec<u8>>>,
+    to: &Sender<Heard>,
+) {
+    let Ok(interface) = begun.recv(rt) else {
+        return;
+    };
+    let name = interface.as_ref().map(|name| name.as_slice());
+    match Chosen::new(alloc, rt.reader(), name) {
+        Ok(mut input) => read_pieces(rt, alloc, &mut input, to),
+        Err(AllocError) => {
+            let _ = to.send(rt, Heard::Memory);
+        }
+    }
+}
+
+/// Hands over what a reader has, until nobody takes it.
+fn read_pieces<R: Wait, I: Read>(rt: &R, alloc: Global, input: &mut I, to: &Sender<Heard>) {
     let mut buffer = [0u8; PIECE];
     for _ in rt.forever() {
         let heard = match input.read(&mut buffer) {
