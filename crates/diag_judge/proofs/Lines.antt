@@ -1,10 +1,10 @@
 -- A line to a tester: its parts one behind the other.
-use Rattle.std.proofs.Common.{◌≡◌, ℕ, ◌+◌, Bool, true, false, Option, None, List, [], ◌∷◌, ◌++◌, length, map, refl, ap, ap₂, subst, sym, ◌∙◌, append_assoc, arith}
-use Rattle.std.proofs.lemmas.List.{append-nil, length-append, map-append}
+use Rattle.std.proofs.Common.{◌≡◌, ℕ, ◌+◌, Bool, true, false, zero, suc, Option, None, List, [], ◌∷◌, ◌++◌, length, map, take, drop, refl, ap, ap₂, subst, sym, ◌∙◌, append_assoc, arith}
+use Rattle.std.proofs.lemmas.List.{append-nil, length-append, map-append, reverse-append}
 use Rattle.std.proofs.lemmas.List.Elements.{filter-append}
 use Rattle.std.proofs.lemmas.List.Folds.{list_any-append}
 use Rattle.std.specs.List.{filter}
-use Rattle.std.specs.Prelude.{◌||◌}
+use Rattle.std.specs.Prelude.{◌||◌, reverse}
 use Rattle.diag_can.specs.Log.{waited}
 use Rattle.diag_can.specs.declared.frame.Event.{Event}
 use Rattle.diag_setup.specs.declared.raw.RawSetup.{RawSetup}
@@ -32,9 +32,18 @@ handed_on hs xs ys out out' out'' first second =
     second ∙ (ap (λ w. w ++ over_after (hs ++ xs) ys) first ∙ (append_assoc out (over_after hs xs) (over_after (hs ++ xs) ys)
     ∙ ap (λ w. out ++ w) (sym (over_append hs xs ys))))
 
-pub no_items : (es : List Entered) → length es ≡ 0 → es ≡ []
-no_items [] none = refl
-no_items (e ∷ es) none = absurd (omega (arith, none))
+next_at : {X : Type 0} (n : ℕ) (all ys : List X) (x : X) → x ∷ ys ≡ drop n all → (ys ≡ drop (suc n) all) × (take (suc n) all ≡ take n all ++ x ∷ [])
+next_at zero [] ys x e = cc
+next_at zero (z ∷ all) ys x e = (ap (drop 1) e, ap (take 1) (sym e))
+next_at (suc n) [] ys x e = cc
+next_at (suc n) (z ∷ all) ys x e =
+    let more = next_at n all ys x e in
+    (more.0, ap (λ w. z ∷ w) more.1)
+
+-- of those that are left, which stand turned round, the last is the next
+pub next_of : {X : Type 0} (n : ℕ) (all left less : List X) (x : X) → reverse left ≡ drop n all → left ≡ less ++ x ∷ []
+    → (reverse less ≡ drop (suc n) all) × (take (suc n) all ≡ take n all ++ x ∷ [])
+next_of n all left less x are is = next_at n all (reverse less) x (sym (reverse-append less (x ∷ [])) ∙ (ap reverse (sym is) ∙ are))
 
 -- a line without a frame
 pub nothing_heard : (own : Listener) (out : List Over) (at : Place) → Hears own own out out at []

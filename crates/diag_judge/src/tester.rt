@@ -12,7 +12,6 @@ use diag_listen::Listener;
 use diag_pdu::LinkSetup;
 use diag_setup::{Setup, TesterId};
 use std::alloc::{AllocError, Global};
-use std::mem;
 
 /// An exchange of a tester that is over.
 #[derive(Drop)]
@@ -43,24 +42,29 @@ pub struct Tester {
     pub listener: Listener,
     /// The requests of the line that is under way.
     pub entered: Vec<Entered>,
+    /// Room for what is over with a line.
+    pub over: Vec<Over>,
     /// What is counted of the exchanges that were over.
     pub counts: Counts,
 }
 
-/// Hears requests that are complete at a line; what is over with them is put behind `over`.
+/// Hears requests that are complete at a line, and leaves none; what is over with them is put behind `over`.
 fn hear_requests(
     listener: &mut Listener,
     alloc: Global,
     setup: &Setup,
     at: Place,
-    entered: Vec<Entered>,
+    entered: &mut Vec<Entered>,
     over: &mut Vec<Over>,
 ) -> Result<(), AllocError>
     ensures heard { OnOk result (HearsRequests setup.now at listener.old listener.new over.old.items over.new.items
-        entered.items) }
+        entered.old.items) }
+    ensures none { OnOk result (entered.new.items ≡ []) }
     ensures side { listener.new.side ≡ listener.old.side }
 {
-    for one in entered {
+    entered.reverse();
+    for _turn in 0..entered.len() {
+        let one = entered.take_last();
         let request = one.into_request(alloc, setup, at)?;
         listener.ask(request, over)?;
     }
@@ -84,6 +88,7 @@ impl Tester {
         Tester {
             listener: Listener::new(alloc, side),
             entered: Vec::new(alloc),
+            over: Vec::new(alloc),
             counts: Counts::new(),
         }
     }
@@ -92,12 +97,14 @@ impl Tester {
     ///
     /// # Errors
     /// `AllocError` where memory is refused.
+    #[inline(always)]
     pub fn enter(&mut self, entered: Entered) -> Result<(), AllocError>
         ensures entered { OnOk result (self.new.entered.items ≡ self.old.entered.items ++ entered ∷ []) }
         ensures listener { self.new.listener ≡ self.old.listener }
         ensures counts { self.new.counts ≡ self.old.counts }
     {
-        self.entered.push(entered)?;
+        self.entered.reserve(1)?;
+        self.entered.push_reserved(entered);
         Ok(())
     }
 
@@ -154,15 +161,15 @@ impl Tester {
         ensures entered { OnOk result (self.new.entered.items ≡ []) }
         ensures side { self.new.listener.side ≡ self.old.listener.side }
     {
-        let mut over = Vec::new(alloc);
-        self.hear(alloc, setup, at, span, frame, &mut over)?;
-        if over.is_empty() {
+        self.hear(alloc, setup, at, span, frame)?;
+        if self.over.is_empty() {
             return Ok(());
         }
-        self.counts.judge(alloc, who, over, told)
+        self.counts.judge(alloc, who, &mut self.over, told)
     }
 
-    /// Hears a line.
+    /// Hears a line, and keeps what is over with it.
+    #[inline(always)]
     fn hear(
         &mut self,
         alloc: Global,
@@ -170,19 +177,25 @@ impl Tester {
         at: Place,
         span: u64,
         frame: Option<&FrameBytes>,
-        over: &mut Vec<Over>,
     ) -> Result<(), AllocError>
-        ensures heard { OnOk result (HearsLine setup.now at self.old.listener self.new.listener over.old.items over.new.items
+        ensures heard { OnOk result (HearsLine setup.now at self.old.listener self.new.listener [] self.new.over.items
             span self.old.entered.items (option_copied frame.entry)) }
         ensures entered { OnOk result (self.new.entered.items ≡ []) }
         ensures side { self.new.listener.side ≡ self.old.listener.side }
         ensures counts { self.new.counts ≡ self.old.counts }
     {
-        self.listener.wait(at, span, over)?;
-        let entered = mem::replace(&mut self.entered, Vec::new(alloc));
-        hear_requests(&mut self.listener, alloc, setup, at, entered, over)?;
+        self.over.clear();
+        self.listener.wait(at, span, &mut self.over)?;
+        hear_requests(
+            &mut self.listener,
+            alloc,
+            setup,
+            at,
+            &mut self.entered,
+            &mut self.over,
+        )?;
         match frame {
-            Some(frame) => self.listener.take(at, frame, over),
+            Some(frame) => self.listener.take(at, frame, &mut self.over),
             None => Ok(()),
         }
     }
@@ -203,7 +216,7 @@ impl Tester {
         let mut over = Vec::new(alloc);
         self.listener.left(alloc, &mut over)?;
         let mut counts = self.counts;
-        counts.judge(alloc, who, over, told)?;
+        counts.judge(alloc, who, &mut over, told)?;
         Ok(counts)
     }
 }
@@ -225,22 +238,25 @@ impl Counts {
         &mut self,
         alloc: Global,
         who: TesterId,
-        over: Vec<Over>,
+        over: &mut Vec<Over>,
         told: &mut Vec<Told>,
     ) -> Result<(), AllocError>
         ensures told { OnOk result
-            (told.new.items ≡ told.old.items ++ map (told_for who) over.items) }
+            (told.new.items ≡ told.old.items ++ map (told_for who) over.old.items) }
         ensures counts { OnOk result ((before : List AnOver) → AreCounts self.old before
-            → AreCounts self.new (before ++ over.items)) }
+            → AreCounts self.new (before ++ over.old.items)) }
     {
-        for one in over {
+        told.reserve(over.len())?;
+        over.reverse();
+        for _turn in 0..over.len() {
+            let one = over.take_last();
             let agrees = one.agrees(alloc)?;
             self.note(&one, agrees)?;
-            told.push(Told {
+            told.push_reserved(Told {
                 who,
                 over: one,
                 agrees,
-            })?;
+            });
         }
         Ok(())
     }

@@ -1,30 +1,51 @@
-use Rattle.std.proofs.Common.{◌≡◌, List, [], ◌∷◌, ◌++◌, ap, subst, sym, ◌∙◌, append_assoc, arith}
-use Rattle.std.proofs.lemmas.List.{append-nil}
+use Rattle.std.proofs.Common.{◌≡◌, ◌≤◌, ◌+◌, suc, List, [], ◌∷◌, ◌++◌, drop, length, take, refl, ap, subst, sym, ◌∙◌, arith}
+use Rattle.std.proofs.lemmas.List.{append-nil, nil_from_length, reverse-reverse, take_all}
+use Rattle.std.specs.Prelude.{reverse}
 use Rattle.diag_exchange.specs.Exchanges.{over_after}
+use Rattle.diag_exchange.specs.declared.happening.Happening.{Happening}
 use Rattle.diag_expect.specs.declared.entered.Entered.{Entered}
 use Rattle.diag_listen.specs.Listening.{Listens}
 use Rattle.diag_judge.specs.Judging.{requests_happen}
-use Rattle.diag_judge.proofs.Lines.{no_items, request_heard}
+use Rattle.diag_judge.proofs.Lines.{next_of, request_heard}
 use Rattle.diag_judge.proofs.tester.hear_requests.Goals as goal
 
-pub loop-one-preserved : goal.loop-one-preserved
-loop-one-preserved c =
-    let past = c.loop-one.yielded in
-    let one = c.in-Some.one in record {
-      all = c.loop-one.invariant.all ∙ (ap (λ w. past ++ w) c.in-Some.ensures.steps.0 ∙ sym (append_assoc past (one ∷ []) c.next.new.self.rest.items));
-      heard = λ E hs l. request_heard
-          c.args.setup.now c.args.at c.loop-one.listener c.ask.new.self c.args.over.now.items c.loop-one.over.items c.ask.new.over.items past one
-          c.in_ok-request.request E hs c.in_ok-request.ensures c.in_ok-ask.ensures.heard (c.loop-one.invariant.heard E hs l);
-      side = c.ask.ensures.side ∙ c.loop-one.invariant.side;
+pub loop-turn-init : goal.loop-turn-init
+loop-turn-init c = record {
+  left = ap reverse c.reverse.ensures.items ∙ reverse-reverse c.args.entered.now.items;
+  many = omega (arith, c.reverse.ensures.len);
+  heard = λ E hs l. (subst (λ (w : List Happening). Listens c.args.listener.now E w) (sym (append-nil hs)) l, sym (append-nil c.args.over.now.items));
+  side = refl;
+}
+
+pub loop-turn-preserved : goal.loop-turn-preserved
+loop-turn-preserved c =
+    let inv = c.loop-turn.invariant in
+    let old = c.args.entered.now.items in
+    let n = c.loop-turn._turn in
+    let one = c.take_last-one.result in
+    let next = next_of n old c.loop-turn.entered.items c.take_last-one.new.self.items one inv.left c.take_last-one.ensures.items in
+    let count : suc n ≡ n + 1 = omega arith in record {
+      left = next.0 ∙ ap (λ k. drop k old) count;
+      many = omega (arith, inv.many, c.take_last-one.ensures.len);
+      heard = λ E hs l. subst
+          (λ (es : List Entered). Listens c.ask.new.self E (hs ++ requests_happen c.args.setup.now c.args.at es)
+          × (c.ask.new.over.items ≡ c.args.over.now.items ++ over_after hs (requests_happen c.args.setup.now c.args.at es)))
+          (sym next.1 ∙ ap (λ k. take k old) count)
+          (request_heard
+          c.args.setup.now c.args.at c.loop-turn.listener c.ask.new.self c.args.over.now.items c.loop-turn.over.items c.ask.new.over.items (take n old) one
+          c.in_ok-request.request E hs c.in_ok-request.ensures c.in_ok-ask.ensures.heard (inv.heard E hs l));
+      side = c.ask.ensures.side ∙ inv.side;
     }
 
 pub returns-clause-heard : goal.returns-clause-heard
 returns-clause-heard c = λ E hs l.
-    let past = c.loop-one.yielded in
-    let rest = c.loop-one.one-iterator.rest in
-    let empty : rest.items ≡ [] = no_items rest.items (omega (arith, c.in-None.ensures.steps.0, rest.ok)) in
-    let all : c.args.entered.items ≡ past = c.loop-one.invariant.all ∙ (ap (λ w. past ++ w) empty ∙ append-nil past) in
+    let old = c.args.entered.now.items in
+    let all : length old ≤ c.loop-turn._turn = omega (arith, c.loop-turn-test.false, c.len-turn-end.ensures, c.reverse.ensures.len, c.args.entered.now.ok) in
     subst
-    (λ (es : List Entered). Listens c.loop-one.listener E (hs ++ requests_happen c.args.setup.now c.args.at es)
-    × (c.loop-one.over.items ≡ c.args.over.now.items ++ over_after hs (requests_happen c.args.setup.now c.args.at es)))
-    (sym all) (c.loop-one.invariant.heard E hs l)
+    (λ (es : List Entered). Listens c.loop-turn.listener E (hs ++ requests_happen c.args.setup.now c.args.at es)
+    × (c.loop-turn.over.items ≡ c.args.over.now.items ++ over_after hs (requests_happen c.args.setup.now c.args.at es)))
+    (take_all c.loop-turn._turn old all) (c.loop-turn.invariant.heard E hs l)
+
+pub returns-clause-none : goal.returns-clause-none
+returns-clause-none c = nil_from_length c.loop-turn.entered.items
+    (omega (arith, c.loop-turn.invariant.many, c.loop-turn-test.false, c.len-turn-end.ensures, c.reverse.ensures.len, c.loop-turn.entered.ok))

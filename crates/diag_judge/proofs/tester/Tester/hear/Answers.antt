@@ -1,8 +1,10 @@
-use Rattle.std.proofs.Common.{◌≡◌, ℕ, List, Option, Some, None, ap, subst, sym, ◌∙◌}
+use Rattle.std.proofs.Common.{◌≡◌, ℕ, List, [], Option, Some, None, ap, subst, sym, ◌∙◌}
 use Rattle.std.proofs.lemmas.Result.{on_ok_weaker}
 use Rattle.std.specs.Prelude.{option_copied, OnOk}
-use Rattle.diag_expect.specs.declared.entered.Entered.{Entered}
-use Rattle.diag_judge.specs.Judging.{HearsLine, HearsRequests}
+use Rattle.diag_can.specs.Log.{waited}
+use Rattle.diag_exchange.specs.declared.happening.Over.{Over}
+use Rattle.diag_listen.specs.Listening.{Hears}
+use Rattle.diag_judge.specs.Judging.{HearsLine}
 use Rattle.diag_judge.proofs.Lines.{line_heard, nothing_heard}
 use Rattle.diag_judge.proofs.tester.Tester.hear.Goals as goal
 
@@ -11,33 +13,29 @@ returns-in-Some-clause-heard c =
     let own = c.args.self.now.listener in
     let entered = c.args.self.now.entered.items in
     let asked = c.hear_requests.new.listener in
-    let before = c.args.over.now.items in
     let later = c.hear_requests.new.over.items in
     let is : option_copied c.args.frame ≡ Some c.in-Some.frame.now = ap option_copied c.in-Some.is in
-    let requests = subst
-    (λ (es : List Entered). HearsRequests c.args.setup.now c.args.at c.wait.new.self asked c.wait.new.over.items later es)
-    (ap (λ v. v.items) c.replace-entered.ensures.value) c.in_ok-hear_requests.ensures.heard in
+    let time = subst
+    (λ (os : List Over). Hears own c.wait.new.self os c.wait.new.over.items c.args.at (waited c.args.span)) c.clear.ensures.items c.in_ok-wait.ensures.heard in
     subst
-    (λ (frame : Option (List ℕ)). OnOk c.take.result (HearsLine c.args.setup.now c.args.at own c.take.new.self before c.take.new.over.items
+    (λ (frame : Option (List ℕ)). OnOk c.take.result (HearsLine c.args.setup.now c.args.at own c.take.new.self [] c.take.new.over.items
     c.args.span entered frame))
     (sym is)
     (on_ok_weaker c.take.result (λ last.
-    line_heard c.args.setup.now c.args.at own c.wait.new.self asked c.take.new.self before c.wait.new.over.items later c.take.new.over.items c.args.span
-    entered (Some c.in-Some.frame.now) c.in_ok-wait.ensures.heard requests (c.hear_requests.ensures.side ∙ c.wait.ensures.side) last) c.take.ensures.heard)
+    line_heard c.args.setup.now c.args.at own c.wait.new.self asked c.take.new.self [] c.wait.new.over.items later c.take.new.over.items c.args.span
+    entered (Some c.in-Some.frame.now) time c.in_ok-hear_requests.ensures.heard (c.hear_requests.ensures.side ∙ c.wait.ensures.side) last) c.take.ensures.heard)
 
 pub returns-in-None-clause-heard : goal.returns-in-None-clause-heard
 returns-in-None-clause-heard c =
     let own = c.args.self.now.listener in
     let entered = c.args.self.now.entered.items in
     let asked = c.hear_requests.new.listener in
-    let before = c.args.over.now.items in
     let later = c.hear_requests.new.over.items in
     let is : option_copied c.args.frame ≡ None = ap option_copied c.in-None.is in
-    let requests = subst
-    (λ (es : List Entered). HearsRequests c.args.setup.now c.args.at c.wait.new.self asked c.wait.new.over.items later es)
-    (ap (λ v. v.items) c.replace-entered.ensures.value) c.in_ok-hear_requests.ensures.heard in
+    let time = subst
+    (λ (os : List Over). Hears own c.wait.new.self os c.wait.new.over.items c.args.at (waited c.args.span)) c.clear.ensures.items c.in_ok-wait.ensures.heard in
     subst
-    (λ (frame : Option (List ℕ)). HearsLine c.args.setup.now c.args.at own asked before later c.args.span entered frame)
+    (λ (frame : Option (List ℕ)). HearsLine c.args.setup.now c.args.at own asked [] later c.args.span entered frame)
     (sym is)
-    (line_heard c.args.setup.now c.args.at own c.wait.new.self asked asked before c.wait.new.over.items later later c.args.span entered None
-    c.in_ok-wait.ensures.heard requests (c.hear_requests.ensures.side ∙ c.wait.ensures.side) (nothing_heard asked later c.args.at))
+    (line_heard c.args.setup.now c.args.at own c.wait.new.self asked asked [] c.wait.new.over.items later later c.args.span entered None
+    time c.in_ok-hear_requests.ensures.heard (c.hear_requests.ensures.side ∙ c.wait.ensures.side) (nothing_heard asked later c.args.at))
