@@ -3,8 +3,10 @@
 # What is installed is in out/ where it was built of these sources, else in release/ (tools/release.sh --files).
 PREFIX ?= /usr/local
 PYTHON ?= python3
-# where Python looks for packages under PREFIX
-PYTHONDIR ?= $(shell $(PYTHON) -c 'import sysconfig; print(sysconfig.get_path("purelib", "posix_prefix", {"base": "$(PREFIX)"}))')
+# where Python looks for packages under PREFIX (Debian's does so in dist-packages), else where it would
+PYTHONDIR ?= $(shell $(PYTHON) -c 'import sys, sysconfig; at = [it for it in sys.path if it.startswith("$(PREFIX)/lib/") and it.endswith("-packages")]; print((at + [sysconfig.get_path("purelib", "posix_prefix", {"base": "$(PREFIX)"})])[0])')
+# PREFIX as the file for pkg-config tells it
+PCPREFIX ?= $(PREFIX)
 ROOT = $(DESTDIR)$(PREFIX)
 PACKAGE = $(DESTDIR)$(PYTHONDIR)/uds_unit
 
@@ -19,12 +21,13 @@ install:
 	ln -sf libuds_unit.so.1 '$(ROOT)/lib/libuds_unit.so'; \
 	install -D -m 644 include/uds_unit.h '$(ROOT)/include/uds_unit.h'; \
 	install -d '$(ROOT)/lib/pkgconfig'; \
-	sed -e 's|@PREFIX@|$(PREFIX)|' -e "s|@VERSION@|$$version|" include/uds_unit.pc.in > '$(ROOT)/lib/pkgconfig/uds_unit.pc'; \
+	sed -e 's|@PREFIX@|$(PCPREFIX)|' -e "s|@VERSION@|$$version|" include/uds_unit.pc.in > '$(ROOT)/lib/pkgconfig/uds_unit.pc'; \
 	install -D -m 644 man/uds_play.1 '$(ROOT)/share/man/man1/uds_play.1'; \
 	install -D -m 644 completion/uds_play.bash '$(ROOT)/share/bash-completion/completions/uds_play'; \
 	install -d '$(PACKAGE)'; \
 	install -m 644 python/uds_unit/*.py python/uds_unit/py.typed '$(PACKAGE)'; \
 	install -m 644 "$$2" '$(PACKAGE)/libuds_unit.so'
+	@test -n '$(DESTDIR)' || ldconfig 2> /dev/null || true
 	@echo 'installed under $(ROOT)'
 
 uninstall:

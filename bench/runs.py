@@ -8,7 +8,7 @@ For each run: lines per second, the peak memory of the process, and that memory 
 log grows, and the memory below 300 bytes a line. Each run is made three times and the quickest counts. The program is
 built first where that is needed.
 
-A log is a mixed one: of twelve lines, three are of other identifiers, two are ticks, and the rest are tester present, a read that
+A log is a mixed one: of twelve lines, three are of other identifiers, two are ticks, and the rest are TesterPresent, a read that
 is answered in one frame, a read of the identification with its flow control, a write in two frames, and a functional request.
 """
 import os

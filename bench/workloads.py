@@ -25,10 +25,13 @@ import tempfile
 import time
 
 sys.dont_write_bytecode = True
+from bus import moment_of
 from runs import NAMES, PROGRAM, TOP, setup, stamped, turn, watched
 
 # the lines of the two short runs whose difference tells the instructions of a line
 SHORT = 3_000
+# the commands whose captures have the unit's own frames
+RECORDINGS = (["verify"], ["compare"])
 # a request of a tester of 29 bits, by normal fixed addressing
 WIDE = "18DA10F1#03220100"
 
@@ -86,8 +89,8 @@ def eight():
 
 
 def asked(texts):
-    """Those that aren't a unit's own."""
-    return [it for it in texts if not it.startswith("7E8")]
+    """Those of a recording's frames that aren't the unit's own."""
+    return [it for it in texts if not it.startswith(("7E8", "tick"))]
 
 
 # ---- files
@@ -136,23 +139,19 @@ def workloads(seed):
         "bus, J1939 beside a tester of 29 bits": (["bus"], 1, [wide], 500),
         "verify, one tester": (["verify"], 1, [asked(turn(0))], 500),
         "verify, eight testers": (["verify"], 8, [asked(eight())], 500),
+        "compare, one tester": (["compare"], 1, [asked(turn(0))], 500),
+        "compare, eight testers": (["compare"], 8, [asked(eight())], 500),
         "replay of reads": (["replay"], 1, [reads()], 500),
         "replay of eight testers": (["replay"], 8, [turn(it) for it in range(8)], 500),
     }
 
 
 def add_replies(program, config, capture):
-    """Puts the frames that the unit sends into a capture, some lines behind those that draw them."""
+    """Puts the frames that the unit sends into a capture, each behind the lines of its millisecond."""
     replies = subprocess.run([program, "bus", "--quiet", config, capture], stdout=subprocess.PIPE, check=True).stdout.decode("ascii").splitlines()
     with open(capture, encoding="ascii") as it:
         lines = it.read().splitlines()
-    done, mixed = 0, []
-    for number, line in enumerate(lines):
-        mixed.append(line)
-        due = max(0, (number - 16) * len(replies) // len(lines))
-        mixed += replies[done:due]
-        done = max(done, due)
-    return written(capture, (f"{it}\n" for it in [*mixed, *replies[done:]]))
+    return written(capture, (f"{it}\n" for it in sorted([*lines, *replies], key=moment_of)))
 
 
 def words_of(room, program, work, lines):
@@ -160,7 +159,7 @@ def words_of(room, program, work, lines):
     command, testers, texts, apart = work
     config = config_of(room, testers, texts[0])
     logs = [written(f"{room}/{NAMES[it]}.log", lines_of(own, lines // len(texts), apart)) for it, own in enumerate(texts)]
-    if command == ["verify"]:
+    if command in RECORDINGS:
         add_replies(program, config, logs[0])
     kind, *flags = command
     if kind != "replay":
@@ -195,7 +194,7 @@ def instructions(program, words):
 
 def count_of(work, words, lines):
     """How many lines a run reads: with the unit's own frames they are more than were asked for."""
-    if work[0] != ["verify"]:
+    if work[0] not in RECORDINGS:
         return lines
     with open(words[-1], "rb") as it:
         return sum(1 for _ in it)

@@ -62,7 +62,7 @@ struct uds_state {
     uint8_t holder;  /* the tester in it, by its place in the setup, from 1; 0 in the default session */
 };
 
-/* A trouble code. */
+/* A DTC. */
 struct uds_code {
     uint32_t code;  /* three bytes */
     uint8_t status; /* statusOfDTC */
@@ -93,7 +93,7 @@ uint32_t uds_unit_due(struct uds_unit *unit, uint64_t *at_us);
 /* The session, and who holds it. */
 uint32_t uds_unit_state(struct uds_unit *unit, struct uds_state *state);
 
-/* The trouble code at a place in rising order, from 0; UDS_NONE behind the last. */
+/* The DTC at a place in rising order, from 0; UDS_NONE behind the last. */
 uint32_t uds_unit_code(struct uds_unit *unit, size_t place, struct uds_code *code);
 
 /* The data identifier at a place in rising order, from 0; UDS_NONE behind the last. */
@@ -104,7 +104,7 @@ uint32_t uds_unit_identifier(struct uds_unit *unit, size_t place, uint16_t *id);
 uint32_t uds_unit_value(struct uds_unit *unit, uint16_t id, uint8_t *value, size_t room, size_t *len);
 
 /* What the ECU's own software changes while it runs: a measured value, of the length that it has (else UDS_LENGTH), whoever
- * may write it; the status of a trouble code. No step of a tester. */
+ * may write it; the status of a DTC. No step of a tester. */
 uint32_t uds_unit_set_value(struct uds_unit *unit, uint16_t id, const uint8_t *value, size_t len);
 uint32_t uds_unit_set_code(struct uds_unit *unit, uint32_t code, uint8_t status);
 

@@ -7,11 +7,14 @@ the difference as the failure's text. It reads standard input and writes standar
 The status is the one that the text tells: 0 where nothing differs, 8 where something does, 9 where nothing was compared,
 3 where the testers' lines are missing, for then the run ended by a fault. With 9 and 3 the report has an error, so it isn't
 green either. An exchange that is ignored is a test case that was skipped. No part of what is proved."""
+import os
 import signal
 import sys
 from typing import Iterable, Optional
 from xml.sax.saxutils import escape, quoteattr
 
+sys.dont_write_bytecode = True
+sys.path.append(os.path.join(os.path.dirname(os.path.abspath(__file__)), "parts"))
 import uds_words
 from uds_compared import FAULT, NOT_COMPARED, NOTHING, Compared, Report, read_report
 

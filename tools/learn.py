@@ -11,13 +11,14 @@ CAPTURE is a recording of `candump -L`, or, where python-can is installed, one o
 the pairs that are given, or those that are found. With `--varies` an identifier that was read with different values, and
 seeds that differ, aren't compared; without it their values come one after the other, round and round.
 
-The judge is `compare` of the program (./uds_play builds it): a setup is made, compared with the recording, and what differs
+The judge is `compare` of the program that ./uds_play starts: a setup is made, compared with the recording, and what differs
 becomes rows of answers, until nothing differs or nothing gets better. The status is 0 where nothing differs; 8 where
 something does, which is told on standard error, exchange by exchange; 9 where nothing was compared; else that of the
 program's fault. No part of what is proved."""
 import argparse
 import os
 import shutil
+import subprocess
 import sys
 import tempfile
 import time
@@ -25,6 +26,7 @@ from dataclasses import replace
 from typing import Iterable, Iterator, Optional
 
 sys.dont_write_bytecode = True
+sys.path.append(os.path.join(os.path.dirname(os.path.abspath(__file__)), "parts"))
 from learn_bus import MOST_TESTERS, Pair, Sending, functional_of, look, pair_of, pairs_of, sending_of
 from learn_judge import AGREES, DIFFERS, NOTHING, Judge, Program, Refused, Verdict
 from learn_model import learn_model
@@ -197,12 +199,23 @@ def unit_of(path: str, given: list[Pair], functional: Optional[int], varies: boo
     return Unit(pairs, narrow, sending, varies=varies, functional_29=wide)
 
 
+def program() -> str:
+    """The program that ./uds_play would start now; where it would build one, that one."""
+    start = f"{TOP}/uds_play"
+    told = subprocess.run([start, "--origin"], stdin=subprocess.DEVNULL, stdout=subprocess.PIPE, stderr=subprocess.DEVNULL, text=True)
+    if told.returncode != 0:
+        # it is the program itself
+        return start
+    path = told.stdout.split(":")[0]
+    return PROGRAM if path == "none" else f"{TOP}/{path}"
+
+
 def arguments(given: Optional[list[str]]) -> argparse.Namespace:
     words = argparse.ArgumentParser(description=__doc__, formatter_class=argparse.RawDescriptionHelpFormatter)
     words.add_argument("--pair", action="append", default=[], metavar="REQUEST:RESPONSE[=NAME]", help="a tester; may stand several times")
     words.add_argument("--functional", type=lambda it: int(it, 16), metavar="ID", help="the functional identifier, in hex")
     words.add_argument("--varies", action="store_true", help="values and seeds that change aren't compared")
-    words.add_argument("--program", default=PROGRAM, help=argparse.SUPPRESS)
+    words.add_argument("--program", help=argparse.SUPPRESS)
     words.add_argument("capture", metavar="CAPTURE")
     return words.parse_args(given)
 
@@ -210,6 +223,7 @@ def arguments(given: Optional[list[str]]) -> argparse.Namespace:
 def main(given: Optional[list[str]] = None) -> int:
     """Runs the tool by these words, or by those of the command line; returns its status."""
     words, progress = arguments(given), Progress()
+    words.program = words.program or program()
     if not os.access(words.program, os.X_OK):
         say(f"{words.program} isn't built: ./uds_play builds it")
         return 2

@@ -18,6 +18,8 @@ import sys
 from bisect import bisect_left
 from dataclasses import dataclass
 
+sys.dont_write_bytecode = True
+sys.path.append(os.path.join(os.path.dirname(os.path.abspath(__file__)), "parts"))
 from uds_compared import is_report, read_report
 from uds_names import service_name
 from uds_rules import pending
@@ -25,7 +27,7 @@ from uds_run import Held, Session, Wrong, messages, read_run, read_setup, waits
 from uds_words import answer_words, changes, due_words, held_words, message_words, request_words, seconds
 from view_exchanges import exchanges_data, exchanges_text
 
-PARTS = os.path.join(os.path.dirname(os.path.abspath(__file__)), "view")
+PAGE = os.path.join(os.path.dirname(os.path.abspath(__file__)), "parts", "view")
 KINDS = {"T": 0, "P": 1, "F": 2}
 OUTCOMES = {"passed": 0, "done": 1, "refused": 2, "suppressed": 3, "silent": 4, "empty": 5}
 # a message of more bytes has several frames
@@ -266,7 +268,7 @@ def page_data(setup, run, title):
 
 
 def part(name):
-    with open(os.path.join(PARTS, name), encoding="ascii") as it:
+    with open(os.path.join(PAGE, name), encoding="ascii") as it:
         return it.read()
 
 

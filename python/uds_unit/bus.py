@@ -78,7 +78,7 @@ class UnitBus:
 
     @property
     def codes(self) -> Mapping[int, int]:
-        """The trouble codes with their status, as they are now."""
+        """The DTCs with their status, as they are now."""
         with self._lock:
             return dict(self._unit.codes)
 
@@ -94,7 +94,7 @@ class UnitBus:
             self._unit.values[id] = value
 
     def set_code(self, code: int, status: int) -> None:
-        """Sets the status of a trouble code, as the ECU's own software does."""
+        """Sets the status of a DTC, as the ECU's own software does."""
         with self._lock:
             self._unit.codes[code] = status
 

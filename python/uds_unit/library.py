@@ -30,7 +30,7 @@ class State(Structure):
 
 
 class Code(Structure):
-    """A trouble code with its status."""
+    """A DTC with its status."""
 
     _fields_ = [("code", c_uint32), ("status", c_uint8)]
 

@@ -71,7 +71,7 @@ class Unit:
         self.testers: tuple[str, ...] = tuple(tester["name"] for tester in tree["tester"])
         """The testers' names, in the order of the setup."""
         self.codes: Codes = Codes(self)
-        """The trouble codes: a mapping from code to status."""
+        """The DTCs: a mapping from code to status."""
         self.values: Values = Values(self)
         """The values of the data identifiers: a mapping from identifier to bytes."""
 
@@ -210,7 +210,7 @@ class Values(MutableMapping[int, bytes]):
 
 
 class Codes(MutableMapping[int, int]):
-    """The trouble codes of a unit with their status, in rising order. A status can be set, as the ECU's own software does
+    """The DTCs of a unit with their status, in rising order. A status can be set, as the ECU's own software does
     while it runs; no code can be added or removed."""
 
     def __init__(self, unit: Unit) -> None:

@@ -26,7 +26,7 @@ bus_order : written order ≡
 unfolding hex_on_literals digits wire sendings grant course cut open_at kind gives pendings
 bus_order = refl
 
--- A reads 17 bytes, with 10 ms between Consecutive frames: a frame is written at the first line that comes when it has
+-- A reads 17 bytes, with 10 ms between ConsecutiveFrames: a frame is written at the first line that comes when it has
 -- gone, with its own moment
 abbrev separation : List ℕ
 separation =

@@ -53,7 +53,7 @@ agree_told : agreed whole ≡ codes "A 2 frames agree\nB 2 frames agree\n"
 unfolding hex_on_literals digits wire sendings grant course cut open_at kind gives pendings
 agree_told = refl
 
--- a frame that differs in its last byte, a filling
+-- a frame that differs in its last byte, padding
 filling : told (codes "(100.000000) can0 7E0#021003\n(100.001000) can0 7E8#065003003201F4AA\n")
     ≡ codes "line 2: A sent 065003003201F4AA, expected 065003003201F4CC"
 unfolding hex_on_literals digits wire sendings grant course cut open_at kind gives pendings
@@ -67,7 +67,7 @@ nothing : told (
 unfolding hex_on_literals digits wire sendings grant course cut open_at kind gives pendings
 nothing = refl
 
--- by its stamp in milliseconds the second Consecutive frame comes before the server sends it, and a later line settles it
+-- by its stamp in milliseconds the second ConsecutiveFrame comes before the server sends it, and a later line settles it
 abbrev early : List ℕ
 early =
     codes "(100.000900) can0 7E0#0322F190\n"

@@ -161,7 +161,7 @@ impl<S: Sink> Bus<S> {
         self.ids.known()
     }
 
-    /// Whether to some tester a Consecutive frame of a reply is still to go, behind its separation time.
+    /// Whether to some tester a ConsecutiveFrame of a reply is still to go, behind its separation time.
     pub fn is_in_block(&self) -> bool
         ensures { result ≡ some_in_block self.now.server.ports }
     {

@@ -9,6 +9,7 @@ use Rattle.diag_can.specs.Bus.{HasNoFeed}
 use Rattle.diag_can.specs.HasRead.{AreRead, HasLines}
 use Rattle.diag_can.specs.Line.{event_for, frame_moment, known_to, line_event, line_says, moment_for}
 use Rattle.diag_can.specs.Log.{event_list, lines_of, without_return, reference, silence, line_gives, events_after, fault_after, first_fault, unless_fault, log_events, events}
+use Rattle.diag_can.specs.Growing.{GivesMore, HasEvent}
 use Rattle.diag_can.specs.Reading.{later, fault_with, given_at}
 use Rattle.diag_can.specs.declared.bus.BusLine.{BusLine}
 use Rattle.diag_can.specs.declared.fault.LogFault.{LogFault}
@@ -108,6 +109,15 @@ module _ {ids : Ids} {timing : Timing} {old : LogReader} {past : List (List ℕ)
       let gives = gives-same timing ids line old.reading.reference (reference ids past) h.reference_is in
       rw (below, events-more timing ids [] past line, ← h.events_are, ← gives, ← h.count) refl
 
+  -- it gives an event for which there is room
+  pub gives_more : old.lines < 1000000 → length old.reading.events.items < 1000000
+      → (line_gives timing old.reading.reference ids line ≡ [] → ⊥) → GivesMore timing ids past line
+  gives_more room few gives = record {
+    lines = let c = h.count in omega arith;
+    room = let e = ap length h.events_are in omega arith;
+    gives = λ none. gives (gives-same timing ids line old.reading.reference (reference ids past) h.reference_is ∙ none);
+  }
+
   pub too_many : 1000000 ≤ old.lines → fault_after timing ids past line ≡ Some TooManyLines
   too_many full =
       let over : nat_le 1000000 (length past) ≡ true = let c = h.count in grind (arith, nat_tests) in
@@ -149,6 +159,18 @@ module _ {ids : Ids} {timing : Timing} {r : LogReader} {seen : List ℕ} (h : Ha
       ap (log_events timing ids) all
       ∙ ap (unless_fault (events_after timing ids [] (lines_of seen ++ line ∷ lines))) (faults_behind timing ids [] (lines_of seen) (line ∷ lines) h.read.well
       ∙ ap (λ (found : Option LogFault). option_or found (first_fault timing ids (lines_of seen ++ line ∷ []) lines)) at)
+
+  -- the line behind them gives an event
+  pub more_next : (line more : List ℕ) (lines : List (List ℕ)) → lines_of more ≡ line ∷ lines → GivesMore timing ids (lines_of seen) line
+      → HasEvent timing ids (seen ++ more)
+  more_next line more lines begins gives = record {
+    past = lines_of seen;
+    line = line;
+    rest = lines;
+    lines = lines_of-more seen more h.whole ∙ ap (λ (ls : List (List ℕ)). lines_of seen ++ ls) begins;
+    well = h.read.well;
+    more = gives;
+  }
 
   -- one line more
   pub one_more : (new : LogReader) (line : List ℕ) → HasNoFeed line → AreRead ids timing new (lines_of seen ++ without_return line ∷ [])

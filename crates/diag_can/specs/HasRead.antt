@@ -1,8 +1,9 @@
 -- What a reader has read of a log.
-use Rattle.std.specs.Prelude.{◌≡◌, ℕ, ◌≤◌, List, [], ◌++◌, length, None, Some, Err}
+use Rattle.std.specs.Prelude.{◌≡◌, ◌≢◌, ℕ, ◌≤◌, List, [], ◌++◌, length, None, Some, Err}
 use Rattle.diag_can.specs.Bus.{begun_line}
 use Rattle.diag_can.specs.Log.{lines_of, reference, events_after, first_fault, events, most_events}
 use Rattle.diag_can.specs.declared.fault.LogFault.{LogFault}
+use Rattle.diag_can.specs.declared.fault.LogFault.TheVariants.{Memory}
 use Rattle.diag_can.specs.declared.frame.Ids.{Ids}
 use Rattle.diag_can.specs.declared.log.Timing.{Timing}
 use Rattle.diag_can.specs.declared.log.Timing.TheVariants.{Stamps}
@@ -25,3 +26,4 @@ pub record HasLines (ids : Ids) (timing : Timing) (r : LogReader) (seen : List �
 pub record HasRead (ids : Ids) (timing : Timing) (r : LogReader) (seen : List ℕ) : Type 0 where
   pub well : r.fault ≡ None → HasLines ids timing r seen
   pub fault : (fault : LogFault) → r.fault ≡ Some fault → (more : List ℕ) → events (seen ++ more) ids timing ≡ Err fault
+  pub told : r.fault ≢ Some Memory

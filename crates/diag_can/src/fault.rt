@@ -1,7 +1,7 @@
 //! What is wrong with a line, and with a log.
 
 ghost use Rattle.std.specs.Prelude.{Some};
-ghost use Rattle.diag_can.specs.Fault.{line_fault_text};
+ghost use Rattle.diag_can.specs.Fault.{line_fault_text, log_fault_text};
 
 use std::error::Error;
 use std::fmt;
@@ -32,18 +32,29 @@ impl fmt::Display for LineFault {
 impl Error for LineFault {}
 
 /// Why a log can't be read: the first fault in the order of its lines, or want of memory.
-#[derive(Clone, Copy, Debug, PartialEq, Eq, thiserror::Error)]
+#[derive(Clone, Copy, Debug, PartialEq, Eq)]
 pub enum LogFault {
     /// The line of that number, counted from 1.
-    #[error("line {0}: {1}")]
     Line(u32, LineFault),
     /// More than 1,000,000 lines.
-    #[error("too many lines")]
     TooManyLines,
     /// Memory is refused.
-    #[error("memory")]
     Memory,
     /// More than 1,000,000 events.
-    #[error("too many events")]
     TooManyEvents,
 }
+
+impl fmt::Display for LogFault {
+    ghost output = { λ x. Some (log_fault_text x) };
+
+    fn fmt<W: fmt::Write>(&self, f: &mut fmt::Formatter<W>) -> fmt::Result {
+        match self {
+            LogFault::Line(n, fault) => write!(f, "line {n}: {fault}"),
+            LogFault::TooManyLines => write!(f, "too many lines"),
+            LogFault::Memory => write!(f, "memory"),
+            LogFault::TooManyEvents => write!(f, "too many events"),
+        }
+    }
+}
+
+impl Error for LogFault {}

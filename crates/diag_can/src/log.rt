@@ -1,8 +1,8 @@
 //! What the lines of a log give, one after the other.
 
-ghost use Rattle.std.specs.Prelude.{◌≡◌, ◌≢◌, ◌<◌, ◌≤◌, ◌⊎◌, [], ◌∷◌, ◌++◌, length, Ok, Some, IfErr, OnOk};
+ghost use Rattle.std.specs.Prelude.{◌≡◌, ◌≢◌, ◌<◌, ◌≤◌, ◌⊎◌, [], ◌∷◌, ◌++◌, length, Ok, Err, Some, IfErr, OnOk, OnErr};
 ghost use Rattle.diag_can.specs.Line.{event_for, moment_for};
-ghost use Rattle.diag_can.specs.Log.{event_list, without_return, waited, most_events};
+ghost use Rattle.diag_can.specs.Log.{event_list, line_gives, without_return, waited, most_events};
 ghost use Rattle.diag_can.specs.Reading.{fault_with, given_at};
 
 use crate::bus::BusLine;
@@ -42,13 +42,13 @@ pub fn without_return(line: &[u8]) -> &[u8]
     }
 }
 
-/// Adds an event.
+/// Adds an event. That there are 1,000,000 is looked at first.
 fn push_event(events: &mut Vec<Event>, event: Event) -> Result<(), LogFault>
     ensures ok { OnOk result (events.new.items ≡ events.old.items ++ event ∷ []) }
     ensures room { OnOk result (length events.old.items < most_events) }
     ensures err { IfErr result (λ fault.
         ((fault ≡ LogFault.TooManyEvents) × (most_events ≤ length events.old.items))
-        ⊎ (fault ≡ LogFault.Memory)) }
+        ⊎ ((fault ≡ LogFault.Memory) × (length events.old.items < most_events))) }
 {
     if events.len() >= MAX_EVENTS {
         return Err(LogFault::TooManyEvents);
@@ -66,7 +66,8 @@ fn push_time(events: &mut Vec<Event>, ms: u64) -> Result<(), LogFault>
     ensures few { OnOk result (length events.new.items ≤ most_events) }
     ensures err { IfErr result (λ fault.
         ((fault ≡ LogFault.TooManyEvents) × (most_events < length (events.old.items ++ waited ms)))
-        ⊎ (fault ≡ LogFault.Memory)) }
+        ⊎ ((fault ≡ LogFault.Memory) × (length events.old.items < most_events))) }
+    ensures some { OnErr result (ms ≢ 0) }
 {
     if ms == 0 {
         return Ok(());
@@ -91,7 +92,7 @@ impl Reading {
         ensures err { IfErr result (λ fault.
             ((fault ≡ LogFault.TooManyEvents) × (most_events < length (self.old.events.items
             ++ given_at timing self.old.reference (Some moment.now) [])))
-            ⊎ (fault ≡ LogFault.Memory)) }
+            ⊎ ((fault ≡ LogFault.Memory) × (length self.old.events.items < most_events))) }
     {
         match timing {
             Timing::Lines => Ok(()),
@@ -107,7 +108,7 @@ impl Reading {
         ensures err { IfErr result (λ fault.
             ((fault ≡ LogFault.TooManyEvents) × (most_events < length (self.old.events.items
             ++ given_at Timing.Stamps self.old.reference (Some moment) [])))
-            ⊎ (fault ≡ LogFault.Memory)) }
+            ⊎ ((fault ≡ LogFault.Memory) × (length self.old.events.items < most_events))) }
     {
         let reference = self.reference.unwrap_or(moment);
         push_time(&mut self.events, moment.saturating_sub(reference))?;
@@ -124,7 +125,9 @@ impl Reading {
         ensures err { IfErr result (λ fault.
             ((fault ≡ LogFault.TooManyEvents) × (most_events < length (self.old.events.items
             ++ given_at timing self.old.reference (moment_for ids.now (Ok said.now)) (event_list (Ok (event_for ids.now said.now))))))
-            ⊎ (fault ≡ LogFault.Memory)) }
+            ⊎ ((fault ≡ LogFault.Memory)
+            × (length self.old.events.items < most_events)
+            × (given_at timing self.old.reference (moment_for ids.now (Ok said.now)) (event_list (Ok (event_for ids.now said.now))) ≢ []))) }
     {
         match said {
             BusLine::Empty => Ok(()),
@@ -153,6 +156,9 @@ impl Reading {
         ensures fault { IfErr result (λ fault. fault ≢ LogFault.Memory
             → fault_with timing ids.now self.old.events.items self.old.reference number line.now
             ≡ Some fault) }
+        ensures memory { result ≡ Err LogFault.Memory
+            → (length self.old.events.items < most_events)
+            × (line_gives timing self.old.reference ids.now line.now ≢ []) }
     {
         match line_says(&ids.all(), line) {
             Ok(said) => self.take(timing, ids, &said),

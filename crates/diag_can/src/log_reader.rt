@@ -1,7 +1,8 @@
 //! The log of a tester's link, whole or as its lines come.
 
-ghost use Rattle.std.specs.Prelude.{◌≡◌, ◌≢◌, ◌<◌, ◌≤◌, ◌+◌, ℕ, List, [], ◌∷◌, ◌++◌, length, Some, Ok, Err, IfOk, IfSome, IfErr, OnOk};
+ghost use Rattle.std.specs.Prelude.{◌≡◌, ◌≢◌, ◌<◌, ◌≤◌, ◌+◌, ℕ, List, [], ◌∷◌, ◌++◌, length, Some, Ok, Err, IfOk, IfSome, IfErr, OnOk, OnErr};
 ghost use Rattle.diag_can.specs.Bus.{HasNoFeed, bus_line};
+ghost use Rattle.diag_can.specs.Growing.{GivesMore, HasEvent};
 ghost use Rattle.diag_can.specs.HasRead.{AreRead, HasLines, HasRead};
 ghost use Rattle.diag_can.specs.Log.{events, fault_after, most_events, most_lines, without_return};
 ghost use Rattle.diag_can.specs.Pieces.{TakesLines};
@@ -58,7 +59,7 @@ impl LogReader {
     /// them. Behind a fault nothing is looked at, and all is taken.
     ///
     /// # Errors
-    /// `AllocError` where memory is refused: the reader can take no more then.
+    /// `AllocError` where memory is refused, which is asked for an event alone: the reader can take no more then.
     pub fn take_lines<'a>(
         &mut self,
         ids: &Ids,
@@ -66,8 +67,11 @@ impl LogReader {
         text: &'a [u8],
     ) -> Result<&'a [u8], AllocError>
         requires { (seen : List ℕ) × HasRead ids.now timing self.old seen }
-        ensures { IfOk result (λ rest. TakesLines (HasRead ids.now timing self.old)
+        ensures took { IfOk result (λ rest. TakesLines (HasRead ids.now timing self.old)
             (HasRead ids.now timing self.new) text.now rest.now) }
+        ensures memory { OnErr result ((seen more : List ℕ)
+            → HasRead ids.now timing self.old seen
+            → HasEvent timing ids.now (seen ++ (text.now ++ more))) }
     {
         if self.fault.is_some() {
             return Ok(&[]);
@@ -97,6 +101,9 @@ impl LogReader {
         ensures fault { IfErr result (λ fault. fault ≢ LogFault.Memory → (seen more : List ℕ)
             → HasLines ids.now timing self.old seen
             → events (seen ++ (text.now ++ more)) ids.now timing ≡ Err fault) }
+        ensures memory { result ≡ Err LogFault.Memory → (seen more : List ℕ)
+            → HasLines ids.now timing self.old seen
+            → HasEvent timing ids.now (seen ++ (text.now ++ more)) }
         ensures still { self.new.fault ≡ self.old.fault }
     {
         let mut rest = text;
@@ -125,6 +132,9 @@ impl LogReader {
         ensures fault { IfErr result (λ fault. fault ≢ LogFault.Memory → (past : List (List ℕ))
             → AreRead ids.now timing self.old past
             → fault_after timing ids.now past (without_return line.now) ≡ Some fault) }
+        ensures memory { result ≡ Err LogFault.Memory → (past : List (List ℕ))
+            → AreRead ids.now timing self.old past
+            → GivesMore timing ids.now past (without_return line.now) }
         ensures still { self.new.fault ≡ self.old.fault }
     {
         match said {
@@ -167,6 +177,9 @@ impl LogReader {
         ensures err { IfErr result (λ fault. fault ≢ LogFault.Memory → (seen : List ℕ)
             → HasRead ids.now timing self seen
             → events (seen ++ begun.now) ids.now timing ≡ Err fault) }
+        ensures memory { result ≡ Err LogFault.Memory → (seen : List ℕ)
+            → HasRead ids.now timing self seen
+            → HasEvent timing ids.now (seen ++ begun.now) }
         ensures few { IfOk result (λ log. length log.items ≤ most_events) }
     {
         if let Some(fault) = self.fault {
@@ -187,7 +200,7 @@ impl LogReader {
 /// # Errors
 /// The first of these in the order of the lines: `Line`, the line's number from 1 and its fault; `TooManyEvents`, at a
 /// line with whose events there are more than 1,000,000; `TooManyLines`, where a line follows the 1,000,000th. `Memory`
-/// where memory is refused.
+/// where memory is refused: it is asked for an event alone, once its line is found well.
 pub fn read_log(
     alloc: Global,
     text: &[u8],
@@ -197,23 +210,24 @@ pub fn read_log(
     ensures ok { IfOk result (λ log. events text.now ids.now timing ≡ Ok log.items) }
     ensures err { IfErr result (λ fault.
         fault ≢ LogFault.Memory → events text.now ids.now timing ≡ Err fault) }
+    ensures memory { result ≡ Err LogFault.Memory → HasEvent timing ids.now text.now }
     ensures few { IfOk result (λ log. length log.items ≤ most_events) }
 {
-    let mut reader = LogReader::with_events(with_room(alloc, text)?);
+    let mut reader = LogReader::with_events(with_room(alloc, text));
     match reader.take_lines(ids, timing, text) {
         Ok(begun) => reader.finish(ids, timing, begun),
         Err(_) => Err(LogFault::Memory),
     }
 }
 
-/// No events, and room for those of a text of usual lines: where there are more, the list grows.
-fn with_room(alloc: Global, text: &[u8]) -> Result<Vec<Event>, LogFault>
-    ensures ok { IfOk result (λ events. events.items ≡ []) }
-    ensures err { IfErr result (λ fault. fault ≡ LogFault.Memory) }
+/// No events, and room for those of a text of usual lines: where there are more, or there isn't so much room at once, the
+/// list grows.
+fn with_room(alloc: Global, text: &[u8]) -> Vec<Event>
+    ensures { result.items ≡ [] }
 {
     let room = (text.len() / SHORT_LINE).min(MAX_EVENTS);
     match Vec::with_capacity(alloc, room) {
-        Ok(events) => Ok(events),
-        Err(_) => Err(LogFault::Memory),
+        Ok(events) => events,
+        Err(_) => Vec::new(alloc),
     }
 }

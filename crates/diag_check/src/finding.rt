@@ -151,7 +151,7 @@ fn write_letters<W: fmt::Write>(f: &mut fmt::Formatter<W>, text: &str) -> fmt::R
     Ok(())
 }
 
-/// The number of a trouble code that stands by its name (ISO 15031-6), with the failure type 00.
+/// The number of a DTC that stands by its name (ISO 15031-6), with the failure type 00.
 fn code_of(kind: Kind, text: &str) -> Option<u32> {
     let can_be_code = match kind {
         Kind::Identifier(most) => most > 0xFFFF,

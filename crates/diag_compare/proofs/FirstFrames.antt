@@ -2,15 +2,13 @@
 use Rattle.std.proofs.Common.{◌≡◌, ◌≤◌, ◌<◌, ℕ, ◌*◌, ◌+◌, ◌/◌, ◌%◌, Bool, true, false, List, [], ◌∷◌, length, length-drop, length-take, take, drop, refl, arith}
 use Rattle.std.proofs.lemmas.Bool.Decides.{nat_tests}
 use Rattle.std.specs.Prelude.{if◌then◌else◌, nat_le, nat_lt, slice_index, ◌==◌, ◌&&◌}
-use Rattle.diag_pdu.specs.Kind.{escape_kind, escape_length, first_kind, flow_kind, kind, single_kind}
-use Rattle.diag_pdu.specs.declared.pci.Pci.{Pci}
-use Rattle.diag_pdu.specs.declared.pci.Pci.TheVariants.{Single, First, Overflow, Consecutive, FlowControl, Ignored}
+use Rattle.diag_pdu.specs.Kind.{escape_kind, escape_length, first_kind, flow_kind, kind, single_kind, Kind, Single, First, Overflow, Consecutive, FlowControl, Ignored}
 
 pub record HasHead (len : ℕ) (head : List ℕ) : Type 0 where
   pub some : 2 ≤ length head
   pub long : 8 ≤ len
 
-abbrev pub IsFirst : Pci → Type 0
+abbrev pub IsFirst : Kind → Type 0
 IsFirst (Single payload) = Unit {0}
 IsFirst (First len head) = HasHead len head
 IsFirst Overflow = Unit {0}
@@ -18,7 +16,7 @@ IsFirst (Consecutive number part) = Unit {0}
 IsFirst (FlowControl status block gap) = Unit {0}
 IsFirst Ignored = Unit {0}
 
-first_if : (b : Bool) (x y : Pci) → (b ≡ true → IsFirst x) → (b ≡ false → IsFirst y) → IsFirst (if b then x else y)
+first_if : (b : Bool) (x y : Kind) → (b ≡ true → IsFirst x) → (b ≡ false → IsFirst y) → IsFirst (if b then x else y)
 first_if true x y f g = f refl
 first_if false x y f g = g refl
 

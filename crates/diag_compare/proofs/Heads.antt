@@ -6,9 +6,7 @@ use Rattle.std.specs.List.{All, filter, flat_map}
 use Rattle.std.specs.Prelude.{if◌then◌else◌, nat_lt, option_and_then, slice_get, slice_index}
 use Rattle.diag_can.specs.declared.frame.Event.{Event}
 use Rattle.diag_can.specs.declared.frame.Event.TheVariants.{Physical, Functional, Ticks}
-use Rattle.diag_pdu.specs.Kind.{kind}
-use Rattle.diag_pdu.specs.declared.pci.Pci.{Pci}
-use Rattle.diag_pdu.specs.declared.pci.Pci.TheVariants.{Single, First, Overflow, Consecutive, FlowControl, Ignored}
+use Rattle.diag_pdu.specs.Kind.{kind, Kind, Single, First, Overflow, Consecutive, FlowControl, Ignored}
 use Rattle.diag_pdu.specs.declared.setup.LinkSetup.{LinkSetup}
 use Rattle.diag_pdu.specs.declared.step.Step.{Step}
 use Rattle.diag_pdu.specs.declared.step.Step.TheVariants as step
@@ -128,14 +126,14 @@ part_heads c (Some r) t number part b k = next_case (is_next r number part)
 
 module _ (s : LinkSetup) (at : Place) (E : List Event) (c : Option Start) (known : Known c (open_at s (history E))) where
   module _ (bytes : List ℕ) where
-    open_is : (k : Pci) → kind bytes s.max_request ≡ k → open_at s (history (E ++ Physical bytes ∷ [])) ≡ with_frame (now (history E)) k (open_at s (history E))
+    open_is : (k : Kind) → kind bytes s.max_request ≡ k → open_at s (history (E ++ Physical bytes ∷ [])) ≡ with_frame (now (history E)) k (open_at s (history E))
     unfolding open_at
     open_is k is = ap (open_at s) (history-more E (Physical bytes) tt) ∙ ap (λ k. with_frame (now (history E)) k (open_at s (history E))) is
 
     abbrev Then : List Happening → Type 0
     Then hs = Heads c hs (open_at s (history (E ++ Physical bytes ∷ [])))
 
-    by_kind : (hs : List Happening) (k : Pci) → kind bytes s.max_request ≡ k → Heads c hs (with_frame (now (history E)) k (open_at s (history E))) → Then hs
+    by_kind : (hs : List Happening) (k : Kind) → kind bytes s.max_request ≡ k → Heads c hs (with_frame (now (history E)) k (open_at s (history E))) → Then hs
     by_kind hs k is h = subst (Heads c hs) (sym (open_is k is)) h
 
     gives_is : (number : ℕ) (part : List ℕ) → kind bytes s.max_request ≡ Consecutive number part
@@ -144,7 +142,7 @@ module _ (s : LinkSetup) (at : Place) (E : List Event) (c : Option Start) (known
     gives_is number part is =
         ap (physical_step s (Physical bytes ∷ history E)) is ∙ ap (λ k. completed (with_frame (now (history E)) k (open_at s (history E)))) is
 
-    frame_heads : (k : Pci) → kind bytes s.max_request ≡ k → Then (frame_happens s at E bytes k)
+    frame_heads : (k : Kind) → kind bytes s.max_request ≡ k → Then (frame_happens s at E bytes k)
     frame_heads (Single payload) is = by_kind _ (Single payload) is (single_heads c (receives s E) at payload)
     frame_heads (First len head) is =
         by_kind _ (First len head) is (began_heads c (receives s E) at len (now (history E)) head (subst IsFirst is (first_of_kind bytes s.max_request)))

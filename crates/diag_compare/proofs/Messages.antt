@@ -15,10 +15,8 @@ use Rattle.diag_can.specs.declared.frame.Event.TheVariants.{Physical, Functional
 use Rattle.diag_can.specs.declared.frame.Frame.{Frame}
 use Rattle.diag_can.specs.declared.log.Timing.TheVariants.{Stamps}
 use Rattle.diag_pdu.specs.Cut.{consecutive_count}
-use Rattle.diag_pdu.specs.Kind.{kind}
+use Rattle.diag_pdu.specs.Kind.{kind, Kind, Single, First, Overflow, Consecutive, FlowControl, Ignored}
 use Rattle.diag_pdu.specs.Request.{request_of}
-use Rattle.diag_pdu.specs.declared.pci.Pci.{Pci}
-use Rattle.diag_pdu.specs.declared.pci.Pci.TheVariants.{Single, First, Overflow, Consecutive, FlowControl, Ignored}
 use Rattle.diag_pdu.specs.declared.setup.LinkSetup.{LinkSetup}
 use Rattle.diag_pdu.specs.declared.step.Step.{Step}
 use Rattle.diag_pdu.specs.declared.step.Step.TheVariants as step
@@ -149,24 +147,24 @@ module _ (s : LinkSetup) (at : Place) (E : List Event) (c : Option Start) (own :
   Steps e hs = Gives c hs (gives s E e) (receives s (E ++ e ∷ []))
 
   module _ (bytes : List ℕ) where
-    gives_is : (k : Pci) → kind bytes s.max_request ≡ k → gives s E (Physical bytes) ≡ physical_step s (Physical bytes ∷ history E) k
+    gives_is : (k : Kind) → kind bytes s.max_request ≡ k → gives s E (Physical bytes) ≡ physical_step s (Physical bytes ∷ history E) k
     unfolding gives
     gives_is k is = ap (physical_step s (Physical bytes ∷ history E)) is
 
-    open_is : (k : Pci) → kind bytes s.max_request ≡ k → open_at s (Physical bytes ∷ history E) ≡ with_frame (now (history E)) k (open_at s (history E))
+    open_is : (k : Kind) → kind bytes s.max_request ≡ k → open_at s (Physical bytes ∷ history E) ≡ with_frame (now (history E)) k (open_at s (history E))
     unfolding open_at
     open_is k is = ap (λ k. with_frame (now (history E)) k (open_at s (history E))) is
 
-    receives_is : (k : Pci) → kind bytes s.max_request ≡ k → receives s (E ++ Physical bytes ∷ []) ≡ is_unfinished
+    receives_is : (k : Kind) → kind bytes s.max_request ≡ k → receives s (E ++ Physical bytes ∷ []) ≡ is_unfinished
         (with_frame (now (history E)) k (open_at s (history E)))
     receives_is k is = ap (λ h. is_unfinished (open_at s h)) (history-more E (Physical bytes) tt) ∙ ap is_unfinished (open_is k is)
 
-    by_values : (hs : List Happening) (k : Pci) → kind bytes s.max_request ≡ k
+    by_values : (hs : List Happening) (k : Kind) → kind bytes s.max_request ≡ k
         → Gives c hs (physical_step s (Physical bytes ∷ history E) k) (is_unfinished (with_frame (now (history E)) k (open_at s (history E)))) → Steps
         (Physical bytes) hs
     by_values hs k is g = (g.0 ∙ ap (λ o. flat_map message_given (option_to_list o)) (sym (gives_is k is)), g.1 ∙ sym (receives_is k is))
 
-    frame_gives : (k : Pci) → kind bytes s.max_request ≡ k → Steps (Physical bytes) (frame_happens s at E bytes k)
+    frame_gives : (k : Kind) → kind bytes s.max_request ≡ k → Steps (Physical bytes) (frame_happens s at E bytes k)
     frame_gives (Single payload) is = by_values (frame_happens s at E bytes (Single payload)) (Single payload) is (lost_single c (receives s E) at payload)
     frame_gives (First len head) is =
         let long : nat_lt 0 (consecutive_count len) ≡ true = some_parts len (subst IsFirst is (first_of_kind bytes s.max_request)).long in

@@ -6,9 +6,7 @@ use Rattle.std.specs.List.{filter, flat_map, list_any}
 use Rattle.std.specs.Prelude.{if◌then◌else◌}
 use Rattle.diag_can.specs.declared.frame.Event.{Event}
 use Rattle.diag_can.specs.declared.frame.Event.TheVariants.{Physical, Functional, Ticks}
-use Rattle.diag_pdu.specs.Kind.{kind}
-use Rattle.diag_pdu.specs.declared.pci.Pci.{Pci}
-use Rattle.diag_pdu.specs.declared.pci.Pci.TheVariants.{Single, First, Overflow, Consecutive, FlowControl, Ignored}
+use Rattle.diag_pdu.specs.Kind.{kind, Kind, Single, First, Overflow, Consecutive, FlowControl, Ignored}
 use Rattle.diag_pdu.specs.declared.setup.LinkSetup.{LinkSetup}
 use Rattle.diag_pdu.specs.declared.step.Step.{Step}
 use Rattle.diag_pdu.specs.declared.step.Step.TheVariants as step
@@ -102,7 +100,7 @@ came_asks None b = lost_asks b
 came_asks (Some (step.Request r)) b = refl
 came_asks (Some (step.Ticks n)) b = lost_asks b
 
-frame_asks : (s : LinkSetup) (at : Place) (E : List Event) (bytes : List ℕ) (pci : Pci) → questions (frame_happens s at E bytes pci) ≡ []
+frame_asks : (s : LinkSetup) (at : Place) (E : List Event) (bytes : List ℕ) (pci : Kind) → questions (frame_happens s at E bytes pci) ≡ []
 frame_asks s at E bytes (Single payload) = flat_append asked_one (lost_if (receives s E)) _ ∙ ap (λ w. w ++ []) (lost_asks (receives s E))
 frame_asks s at E bytes (First len head) = flat_append asked_one (lost_if (receives s E)) _ ∙ ap (λ w. w ++ []) (lost_asks (receives s E))
 frame_asks s at E bytes Overflow = lost_asks (receives s E)

@@ -1,10 +1,13 @@
 -- A fault that a first step answers is what the whole chain answers.
-use Rattle.std.proofs.Common.{◌≡◌, ℕ, List, Option, Some, None, Result, Ok, refl}
+use Rattle.std.proofs.Common.{◌≡◌, ℕ, List, Option, Some, None, Result, Ok, Err, refl}
 use Rattle.std.specs.Option.{option_and_then}
 use Rattle.diag_config.specs.declared.fault.KeyFault.{KeyFault}
 use Rattle.diag_config.specs.declared.fault.KeyFault.TheVariants.{Missing, BadValue, Memory}
 use Rattle.diag_config.specs.Key.{Fault, bad_value, ◌>>=◌, KeyFails}
-use Rattle.diag_config.specs.Setup.{or_bad_value}
+use Rattle.diag_config.specs.Setup.{or_bad_value, or_refused}
+use Rattle.diag_config.specs.Fault.{Gives, or_setup_fault}
+use Rattle.diag_setup.specs.declared.fault.SetupFault.{SetupFault}
+use Rattle.diag_setup.specs.declared.raw.RawSetup.{RawSetup}
 
 module _ {A B : Type 0} where
   pub Fails-bind : (e : KeyFault) (said : Result A Fault) (next : A → Result B Fault) → KeyFails e said → KeyFails e (said >>= next)
@@ -26,3 +29,8 @@ module _ {A B : Type 0} where
   read_fails key next (Some x) Memory h = tt
   read_fails key next (Some x) (Missing name) h = cc
   read_fails key next (Some x) (BadValue name) h = cc
+
+-- a checked setup, or its fault
+pub Gives-checked : (r : Result RawSetup SetupFault) → Gives (or_setup_fault r) (or_refused r)
+Gives-checked (Ok setup) = refl
+Gives-checked (Err fault) = refl

@@ -1,5 +1,6 @@
 -- Why the keys of a setup could not be read, and what a reader returns beside what a definition says.
-use Rattle.std.specs.Prelude.{◌≡◌, ℕ, List, Result, Ok, Err}
+use Rattle.std.specs.Prelude.{◌≡◌, ℕ, Bool, true, false, List, Option, Some, None, Result, Ok, Err}
+use Rattle.toml.specs.Data.{Data, string, array}
 use Rattle.diag_setup.specs.declared.fault.SetupFault.{SetupFault}
 use Rattle.diag_config.specs.declared.fault.KeyFault.{KeyFault}
 use Rattle.diag_config.specs.declared.fault.KeyFault.TheVariants.{Missing, BadValue, Memory}
@@ -16,6 +17,26 @@ infixl 10 ◌>>=◌
 abbrev pub ◌>>=◌ : {A B E : Type 0} → Result A E → (A → Result B E) → Result B E
 (Ok x) >>= f = f x
 (Err e) >>= f = Err e
+
+-- ---- what takes memory: a text and a list, where they are asked for
+
+abbrev pub nothing : Data → Bool
+nothing _ = false
+
+abbrev pub is_text : Data → Bool
+is_text (string s) = true
+is_text _ = false
+
+abbrev pub is_list : Data → Bool
+is_list (array ds) = true
+is_list _ = false
+
+-- the key is given, with a value that takes memory
+abbrev pub is_taken : (Data → Bool) → Option Data → Bool
+is_taken takes None = false
+is_taken takes (Some d) = takes d
+
+-- ---- what a reader returns
 
 -- the fault is the one that the definition answers, unless memory ran out
 abbrev pub KeyFails : {Y : Type 0} → KeyFault → Result Y Fault → Type 0

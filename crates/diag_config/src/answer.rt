@@ -1,10 +1,10 @@
 //! The texts of patterns and templates.
 
-ghost use Rattle.std.specs.Prelude.{ℕ, ◌≡◌, ◌≤◌, List, Result, Option, IfSome};
+ghost use Rattle.std.specs.Prelude.{ℕ, ◌≡◌, ◌≤◌, List, Result, Err, Option, IfSome, IsTrue};
 ghost use Rattle.hex.specs.Hex.{hex_digit_value};
 ghost use Rattle.toml.specs.View.{view, items_view};
 ghost use Rattle.diag_config.specs.Answer.{byte_of, pattern_item, template_item, items_of, pattern_of, template_of};
-ghost use Rattle.diag_config.specs.Key.{KeyGives};
+ghost use Rattle.diag_config.specs.Key.{KeyGives, is_list, is_text};
 ghost use Rattle.diag_config.specs.Setup.{each, list, or_bad_value, pattern, template};
 
 use crate::fault::KeyFault;
@@ -98,6 +98,8 @@ impl FromValue for RawPattern {
 
     ghost kind = { pattern };
 
+    ghost takes = { is_text };
+
     fn from_value(alloc: Global, key: &'static str, value: &Value) -> Result<RawPattern, KeyFault> {
         pattern(alloc, key, value)
     }
@@ -105,7 +107,8 @@ impl FromValue for RawPattern {
 
 /// What a pattern says.
 fn pattern(alloc: Global, key: &'static str, value: &Value) -> Result<RawPattern, KeyFault>
-    ensures { KeyGives (λ p. p) result (pattern key.now (view value.now)) }
+    ensures gives { KeyGives (λ p. p) result (pattern key.now (view value.now)) }
+    ensures memory { result ≡ Err KeyFault.Memory → IsTrue (is_text (view value.now)) }
 {
     match value {
         Value::String(s) => read_pattern(alloc, key, s.as_bytes()),
@@ -141,6 +144,8 @@ impl FromValue for Patterns {
     ghost said = { λ p. p.0 };
 
     ghost kind = { list pattern };
+
+    ghost takes = { is_list };
 
     fn from_value(alloc: Global, key: &'static str, value: &Value) -> Result<Patterns, KeyFault> {
         match value {
@@ -186,7 +191,8 @@ fn template(
     key: &'static str,
     value: &Value,
 ) -> Result<Items<TemplateItem>, KeyFault>
-    ensures { KeyGives (λ items. items) result (template key.now (view value.now)) }
+    ensures gives { KeyGives (λ items. items) result (template key.now (view value.now)) }
+    ensures memory { result ≡ Err KeyFault.Memory → IsTrue (is_text (view value.now)) }
 {
     match value {
         Value::String(s) => read_template(alloc, key, s.as_bytes()),
@@ -222,6 +228,8 @@ impl FromValue for Reply {
     ghost said = { λ t. t.0 };
 
     ghost kind = { list template };
+
+    ghost takes = { is_list };
 
     fn from_value(alloc: Global, key: &'static str, value: &Value) -> Result<Reply, KeyFault> {
         match value {

@@ -2,6 +2,7 @@
 
 ghost use Rattle.std.specs.Prelude.{◌≡◌, Some};
 ghost use Rattle.diag_config.specs.declared.fault.KeyFault.TheVariants.{Memory};
+ghost use Rattle.diag_config.specs.Fault.{config_fault};
 ghost use Rattle.diag_config.specs.Text.{config_fault_text};
 
 use diag_setup::SetupFault;
@@ -29,6 +30,18 @@ pub enum KeyFault {
     Missing(&'static str),
     BadValue(&'static str),
     Memory,
+}
+
+impl From<KeyFault> for ConfigFault {
+    ghost from_gives = { λ fault e. e ≡ config_fault fault };
+
+    fn from(fault: KeyFault) -> ConfigFault {
+        match fault {
+            KeyFault::Missing(key) => ConfigFault::Missing(key),
+            KeyFault::BadValue(key) => ConfigFault::BadValue(key),
+            KeyFault::Memory => ConfigFault::Memory,
+        }
+    }
 }
 
 impl From<AllocError> for KeyFault {

@@ -1,9 +1,9 @@
 //! The keys of a table.
 
-ghost use Rattle.std.specs.Prelude.{◌≡◌, option_map, Option, Result};
+ghost use Rattle.std.specs.Prelude.{◌≡◌, option_map, Err, IsTrue, Option, Result};
 ghost use Rattle.toml.specs.Data.{get_member, Members};
 ghost use Rattle.toml.specs.View.{view, table_view, items_view};
-ghost use Rattle.diag_config.specs.Key.{Fault, KeyGives};
+ghost use Rattle.diag_config.specs.Key.{Fault, KeyGives, is_list, is_taken};
 ghost use Rattle.diag_config.specs.Setup.{at_top, each, list, optional, required, row, with_default};
 
 use crate::fault::KeyFault;
@@ -27,8 +27,10 @@ pub fn optional<K: FromValue>(
     name: &str,
     key: &'static str,
 ) -> Result<Option<K>, KeyFault>
-    ensures { KeyGives (option_map K.said) result
+    ensures gives { KeyGives (option_map K.said) result
         (optional K.kind (table_view table.now) name.now key.now) }
+    ensures memory { result ≡ Err KeyFault.Memory
+        → IsTrue (is_taken K.takes (get_member name.now (table_view table.now))) }
 {
     match find(table, name) {
         None => Ok(None),
@@ -45,8 +47,10 @@ pub fn with_default<K: FromValue>(
     key: &'static str,
     default: K,
 ) -> Result<K, KeyFault>
-    ensures { KeyGives K.said result
+    ensures gives { KeyGives K.said result
         (with_default K.kind (table_view table.now) name.now key.now (K.said default)) }
+    ensures memory { result ≡ Err KeyFault.Memory
+        → IsTrue (is_taken K.takes (get_member name.now (table_view table.now))) }
 {
     match find(table, name) {
         None => Ok(default),
@@ -61,7 +65,9 @@ pub fn at_top<K: FromValue>(
     key: &'static str,
     default: K,
 ) -> Result<K, KeyFault>
-    ensures { KeyGives K.said result (at_top K.kind (table_view table.now) key.now (K.said default)) }
+    ensures gives { KeyGives K.said result (at_top K.kind (table_view table.now) key.now (K.said default)) }
+    ensures memory { result ≡ Err KeyFault.Memory
+        → IsTrue (is_taken K.takes (get_member key.now (table_view table.now))) }
 {
     with_default(alloc, table, key, key, default)
 }
@@ -74,7 +80,9 @@ pub fn required<K: FromValue>(
     name: &str,
     key: &'static str,
 ) -> Result<K, KeyFault>
-    ensures { KeyGives K.said result (required K.kind (table_view table.now) name.now key.now) }
+    ensures gives { KeyGives K.said result (required K.kind (table_view table.now) name.now key.now) }
+    ensures memory { result ≡ Err KeyFault.Memory
+        → IsTrue (is_taken K.takes (get_member name.now (table_view table.now))) }
 {
     match find(table, name) {
         None => Err(KeyFault::Missing(key)),
@@ -124,6 +132,8 @@ impl<R: FromTable> FromValue for Items<R> {
     ghost said = { λ rows. rows };
 
     ghost kind = { list (row R.at) };
+
+    ghost takes = { is_list };
 
     fn from_value(alloc: Global, key: &'static str, value: &Value) -> Result<Items<R>, KeyFault> {
         match value {

@@ -1,9 +1,9 @@
 //! Kinds of TOML value, each read in one way.
 
-ghost use Rattle.std.specs.Prelude.{ℕ, Bool, List, Result};
+ghost use Rattle.std.specs.Prelude.{◌≡◌, ℕ, Bool, List, Result, Err, IsTrue};
 ghost use Rattle.toml.specs.Data.{Data};
 ghost use Rattle.toml.specs.View.{view};
-ghost use Rattle.diag_config.specs.Key.{Fault, KeyGives};
+ghost use Rattle.diag_config.specs.Key.{Fault, KeyGives, is_text, nothing};
 ghost use Rattle.diag_config.specs.Setup.{number, truth, text, hex};
 
 use crate::fault::KeyFault;
@@ -19,9 +19,12 @@ pub trait FromValue: Sized + Drop {
     ghost said: { Self → Said };
     // what a value says, or that its key holds a bad one
     ghost kind: { List ℕ → Data → Result Said Fault };
+    // whether a value takes memory
+    ghost takes: { Data → Bool };
 
     fn from_value(alloc: Global, key: &'static str, value: &Value) -> Result<Self, KeyFault>
-        ensures { KeyGives said result (kind key.now (view value.now)) };
+        ensures gives { KeyGives said result (kind key.now (view value.now)) }
+        ensures memory { result ≡ Err KeyFault.Memory → IsTrue (takes (view value.now)) };
 }
 
 impl FromValue for u32 {
@@ -30,6 +33,8 @@ impl FromValue for u32 {
     ghost said = { λ n. n };
 
     ghost kind = { number };
+
+    ghost takes = { nothing };
 
     fn from_value(_alloc: Global, key: &'static str, value: &Value) -> Result<u32, KeyFault> {
         match value {
@@ -45,6 +50,8 @@ impl FromValue for bool {
     ghost said = { λ b. b };
 
     ghost kind = { truth };
+
+    ghost takes = { nothing };
 
     fn from_value(_alloc: Global, key: &'static str, value: &Value) -> Result<bool, KeyFault> {
         match value {
@@ -64,6 +71,8 @@ impl FromValue for Text {
     ghost said = { λ t. t.0 };
 
     ghost kind = { text };
+
+    ghost takes = { is_text };
 
     fn from_value(alloc: Global, key: &'static str, value: &Value) -> Result<Text, KeyFault> {
         match value {
@@ -86,6 +95,8 @@ impl FromValue for Hex {
     ghost said = { λ t. t.0 };
 
     ghost kind = { hex };
+
+    ghost takes = { is_text };
 
     fn from_value(alloc: Global, key: &'static str, value: &Value) -> Result<Hex, KeyFault> {
         let Value::String(s) = value else {

@@ -14,13 +14,13 @@ use Rattle.diag_desk.specs.declared.following.Follower.{Follower}
 use Rattle.diag_desk.specs.declared.following.TextReplay.{TextReplay}
 use Rattle.diag_desk.specs.Cut.{begun, cut}
 use Rattle.diag_desk.specs.Fault.{FaultAt, IsTextOf}
-use Rattle.diag_desk.specs.Following.{Followed, FollowedIn, Follows, HasFollowed, HasTaken, read_so_far}
+use Rattle.diag_desk.specs.Following.{AsksEcu, Followed, FollowedIn, Follows, HasFollowed, HasRequest, HasTaken, read_so_far}
 use Rattle.diag_desk.specs.PartRead.{HasNoNext}
 use Rattle.diag_can.specs.Pieces.{TakesLines}
 use Rattle.diag_can.proofs.Pieces.{all_taken}
 use Rattle.diag_desk.specs.Text.{ended, header, line_after, text_of}
 use Rattle.diag_desk.proofs.CutText.{back, cut-joins, front, one_cut}
-use Rattle.diag_desk.proofs.ReadLemmas.{header_fault, stuck_at_end, stuck_at_line, stuck_fault, text_begins, text_one}
+use Rattle.diag_desk.proofs.ReadLemmas.{header_fault, stuck_at_end, stuck_at_line, stuck_fault, text_begins, text_more, text_one}
 
 -- ---- cutting a text
 
@@ -135,6 +135,38 @@ front_taken setup old f new text rest same follows none so_far = record {
       record { past = at.past; follows = follows at.past at.follows; is = at.is ∙ ap (λ b. text_of b at.past) (sym same) };
 }
 
+-- the text behind a front
+whole : (setup : RawSetup) (old f new : Follower) (text rest : List ℕ) → new.version ≡ f.version → (so_far : FrontFollowed setup old f text rest)
+    → (seen : List ℕ) → (h : HasFollowed setup old seen) → (more : List ℕ)
+    → seen ++ (text ++ more) ≡ text_of new.version (so_far.2 seen h).past ++ (rest ++ more)
+whole setup old f new text rest same so_far seen h more =
+    let at = so_far.2 seen h in
+    ap (λ t. seen ++ (t ++ more)) so_far.1 ∙ ap (λ t. seen ++ t) (append_assoc so_far.0 rest more) ∙ sym (append_assoc seen so_far.0 (rest ++ more))
+    ∙ ap (λ t. t ++ (rest ++ more)) (at.is ∙ ap (λ b. text_of b at.past) (sym same))
+
+-- a line that the ECU is asked for stands in the text, whatever follows it
+pub line_asks : (setup : RawSetup) (old f new : Follower) (text rest line after : List ℕ) → new.version ≡ f.version
+    → ((past : List Entry) → Follows setup f past → Follows setup new past)
+    → cut 10 rest ≡ Some (line, after) → ((past : List Entry) → Follows setup new past → AsksEcu setup new past line)
+    → FrontFollowed setup old f text rest → (seen more : List ℕ) → HasFollowed setup old seen → HasRequest setup (seen ++ (text ++ more))
+line_asks setup old f new text rest line after same follows cuts asks so_far seen more h =
+    let at = so_far.2 seen h in
+    let now = follows at.past at.follows in
+    let asked = asks at.past now in
+    record {
+      version = new.version;
+      past = at.past;
+      entry = asked.next.entry;
+      rest = after ++ more;
+      journal = now.journal;
+      run = asked.run;
+      is_entry = asked.next.is_entry;
+      tester = asked.tester;
+      request = asked.request;
+      is = text_more new.version at.past asked.next.entry _ (rest ++ more) line (after ++ more) (whole setup old f new text rest same so_far seen h more)
+          (cut-joins 10 (rest ++ more) line (after ++ more) (cut_more 10 rest line after more cuts)) asked.next.line;
+    }
+
 -- a line that is no entry's is the first at fault, whatever follows it
 pub line_fault : (setup : RawSetup) (old f new : Follower) (text rest line after : List ℕ) → new.version ≡ f.version
     → ((past : List Entry) → Follows setup f past → Follows setup new past)
@@ -145,12 +177,10 @@ line_fault setup old f new text rest line after same follows cuts wrong so_far s
     let at = so_far.2 seen h in
     let now = follows at.past at.follows in
     let count = now.count in
-    let whole : seen ++ (text ++ more) ≡ text_of new.version at.past ++ (rest ++ more) =
-    ap (λ t. seen ++ (t ++ more)) so_far.1 ∙ ap (λ t. seen ++ t) (append_assoc so_far.0 rest more) ∙ sym (append_assoc seen so_far.0 (rest ++ more))
-    ∙ ap (λ t. t ++ (rest ++ more)) (at.is ∙ ap (λ b. text_of b at.past) (sym same)) in
     let more_cuts = cut_more 10 rest line after more cuts in
     let some : rest ++ more ≡ [] → ⊥ = λ empty. cc (sym more_cuts ∙ ap (cut 10) empty) in
-    stuck_fault new.version at.past _ (rest ++ more) (new.count + 2) now.journal whole (omega arith)
+    stuck_fault new.version at.past _ (rest ++ more) (new.count + 2) now.journal (whole setup old f new text rest same so_far seen h more)
+    (omega arith)
     (stuck_at_line (read_so_far new.version at.past) (rest ++ more) line (after ++ more) now.journal some more_cuts (wrong at.past now))
 
 -- ---- the replay of a text
@@ -230,6 +260,18 @@ headed_taken setup old mid new text first rest begun cuts head t = record {
       let there = head seen h in
       subst (λ s. HasTaken setup new (s ++ ((first ++ 10 ∷ []) ++ t.front))) (sym there.0) (t.takes (first ++ 10 ∷ []) there.1);
 }
+
+-- the same of a request behind the header
+pub headed_asks : (setup : RawSetup) (old mid : TextReplay) (text first rest : List ℕ) → cut 10 text ≡ Some (first, rest)
+    → ((seen : List ℕ) → HasTaken setup old seen → (seen ≡ []) × HasTaken setup mid (first ++ 10 ∷ []))
+    → ((seen more : List ℕ) → HasTaken setup mid seen → HasRequest setup (seen ++ (rest ++ more)))
+    → (seen more : List ℕ) → HasTaken setup old seen → HasRequest setup (seen ++ (text ++ more))
+headed_asks setup old mid text first rest cuts head asks seen more h =
+    let there = head seen h in
+    let same : (first ++ 10 ∷ []) ++ (rest ++ more) ≡ seen ++ (text ++ more) =
+    append_assoc first (10 ∷ []) (rest ++ more) ∙ sym (append_assoc first (10 ∷ rest) more)
+    ∙ ap (λ t. t ++ more) (sym (cut-joins 10 text first rest cuts)) ∙ ap (λ s. s ++ (text ++ more)) (sym there.0) in
+    subst (HasRequest setup) same (asks (first ++ 10 ∷ []) more there.1)
 
 -- ---- its end
 

@@ -6,6 +6,8 @@ use Rattle.std.proofs.lemmas.Bool.{and_parts}
 use Rattle.diag_desk.specs.declared.entry.Entry.{Entry}
 use Rattle.diag_desk.specs.declared.version.JournalVersion.{JournalVersion}
 use Rattle.diag_desk.specs.declared.version.JournalVersion.TheVariants.{Plain, Stamped}
+use Rattle.diag_desk.specs.declared.next.LineFault.{LineFault}
+use Rattle.diag_desk.specs.declared.next.LineFault.TheVariants as line_fault
 use Rattle.diag_desk.specs.declared.read.JournalFault.{JournalFault}
 use Rattle.diag_desk.specs.declared.read.JournalFault.TheVariants.{Line, Memory}
 use Rattle.diag_desk.specs.Cut.{cut}
@@ -14,7 +16,7 @@ use Rattle.diag_desk.proofs.EntryLemmas.{entries_more}
 use Rattle.std.specs.Prelude.{Result, Ok, Err, IfOk, IfErr, MatchResult}
 use Rattle.diag_desk.specs.Entry.{Kept, AreEntries, IsJournal, IsEntry}
 use Rattle.diag_desk.specs.Fault.{FaultAt, IsTextOf, OneJournalLaw}
-use Rattle.diag_desk.specs.PartRead.{HasNoNext, PartRead}
+use Rattle.diag_desk.specs.PartRead.{HasNoNext, PartRead, fault_at}
 use Rattle.diag_desk.specs.Text.{ended, entry_line, header, journal_text_at, line_after, lines_after, stamped_line, text_of, ticks_in, ticks_of}
 use Rattle.diag_desk.proofs.ClockLemmas.{SmallTicks, small_more, sum_bound, tells_more, ticks_bound}
 use Rattle.diag_desk.proofs.CutText.{Above, Free, above-free, cut-there, one_cut, same_cut}
@@ -269,6 +271,15 @@ one_journal = λ text es ks h k t u.
     let right = k.1 in
     lines_one a.0 [] es ks tt h.0 k.0 (omega arith) (omega arith)
     (sym (append-nil (lines_after a.0 [] es)) ∙ both.1 ∙ append-nil (lines_after b.0 [] ks) ∙ ap (λ s. lines_after s [] ks) (sym same))
+
+-- what became of a line, by the fault of its text
+pub line_wrong : (n m : ℕ) (f : LineFault) → fault_at n f ≡ Line m → (f ≡ line_fault.Wrong) × (n ≡ m)
+line_wrong n m line_fault.Wrong e = (refl, cc e)
+line_wrong n m line_fault.Memory e = cc e
+
+pub line_refused : (n : ℕ) (f : LineFault) → fault_at n f ≡ Memory → f ≡ line_fault.Memory
+line_refused n line_fault.Wrong e = cc e
+line_refused n line_fault.Memory e = refl
 
 -- what a journal was written as is read back as that journal
 pub read_back : (text : List ℕ) (r : Result Kept JournalFault) → IfOk r (λ journal. IsJournal journal.entries × IsTextOf text journal.entries)

@@ -13,8 +13,8 @@ use Rattle.diag_desk.specs.declared.following.TextReplay.{TextReplay}
 use Rattle.diag_desk.specs.Clocks.{Tells}
 use Rattle.diag_desk.specs.Entry.{IsEntry, IsJournal, IsMessage, IsReply, most_entries}
 use Rattle.diag_desk.specs.Fault.{FaultAt, IsTextOf}
-use Rattle.diag_desk.specs.Legal.{after}
-use Rattle.diag_desk.specs.PartRead.{PartRead}
+use Rattle.diag_desk.specs.Legal.{after, is_ticks}
+use Rattle.diag_desk.specs.PartRead.{HasNext, PartRead}
 use Rattle.diag_desk.specs.Replay.{DiffersAt, IsLegalFor}
 use Rattle.diag_desk.specs.Text.{line_after, reply_text, text_of}
 
@@ -59,6 +59,27 @@ pub record Followed (setup : RawSetup) (f new : Follower) (past : List Entry) (t
   pub is_entry : IsEntry entry
   pub line : line_after f.version past entry ≡ text
   pub follows : Follows setup new (past ++ entry ∷ [])
+
+-- the line that comes next is that of a request, which the ECU is asked: its tester is in the setup, and no entry before it
+-- differs
+pub record AsksEcu (setup : RawSetup) (f : Follower) (past : List Entry) (text : List ℕ) : Type 0 where
+  pub next : HasNext (read_so_far f.version past) text
+  pub run : IsLegalFor setup past
+  pub tester : next.entry.who ≤ length setup.testers
+  pub request : is_ticks next.entry.step ≡ false
+
+-- in the text stands such a line, and what is in front of it is that of these entries
+pub record HasRequest (setup : RawSetup) (text : List ℕ) : Type 0 where
+  pub version : JournalVersion
+  pub past : List Entry
+  pub entry : Entry
+  pub rest : List ℕ
+  pub journal : IsJournal past
+  pub run : IsLegalFor setup past
+  pub is_entry : IsEntry entry
+  pub tester : entry.who ≤ length setup.testers
+  pub request : is_ticks entry.step ≡ false
+  pub is : text ≡ text_of version (past ++ entry ∷ []) ++ rest
 
 -- a request and its reply at the front of a text, which are the ECU's, and what follows their line
 pub record Answered (s new : State) (who : ℕ) (functional : Bool) (text rest : List ℕ) : Type 0 where

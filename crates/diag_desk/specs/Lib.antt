@@ -3,6 +3,7 @@ pub mod Entries
 pub mod Flat
 pub mod Text
 pub mod Fault
+pub mod FaultText
 pub mod Cut
 pub mod Line
 pub mod Clocks

@@ -1,6 +1,10 @@
 -- What was read so far of a journal's text.
 use Rattle.std.specs.Prelude.{◌≡◌, ◌≢◌, ◌<◌, ℕ, List, ◌++◌, ◌∷◌, [], length}
 use Rattle.diag_desk.specs.declared.entry.Entry.{Entry}
+use Rattle.diag_desk.specs.declared.next.LineFault.{LineFault}
+use Rattle.diag_desk.specs.declared.next.LineFault.TheVariants as line_fault
+use Rattle.diag_desk.specs.declared.read.JournalFault.{JournalFault}
+use Rattle.diag_desk.specs.declared.read.JournalFault.TheVariants as journal
 use Rattle.diag_desk.specs.declared.version.JournalVersion.{JournalVersion}
 use Rattle.diag_desk.specs.Entry.{IsEntry, most_entries}
 use Rattle.diag_desk.specs.Text.{line_after}
@@ -32,3 +36,8 @@ pub record Took (r n : PartRead) (text : List ℕ) : Type 0 where
   pub line : line_after r.version r.entries entry ≡ text
   pub version : n.version ≡ r.version
   pub entries : n.entries ≡ r.entries ++ entry ∷ []
+
+-- the fault of a text whose line of this number is not taken
+abbrev pub fault_at : ℕ → LineFault → JournalFault
+fault_at n line_fault.Wrong = journal.Line n
+fault_at n line_fault.Memory = journal.Memory

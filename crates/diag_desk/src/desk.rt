@@ -1,9 +1,10 @@
 //! The desk: the ECU with its journal.
-ghost use Rattle.std.specs.Prelude.{◌≡◌, ◌<◌, ◌≤◌, ◌↔◌, [], length, IsTrue, OnOk, OnErr, IfOk, IfErr, Err, None};
+ghost use Rattle.std.specs.Prelude.{◌≡◌, ◌<◌, ◌≤◌, ◌↔◌, [], length, IsTrue, OnOk, OnErr, IfOk, IfErr, Err, None, Some};
 ghost use Rattle.diag_pdu.specs.declared.step.Step.{Step as AStep};
 ghost use Rattle.diag_ecu.specs.State.{opening};
 ghost use Rattle.diag_desk.specs.Entries.{asks, entry};
 ghost use Rattle.diag_desk.specs.Entry.{IsJournal, most_entries};
+ghost use Rattle.diag_desk.specs.FaultText.{step_fault_text};
 ghost use Rattle.diag_desk.specs.Legal.{IsOpening, Legal, after, entered, is_ticks};
 ghost use Rattle.diag_desk.specs.Timed.{last_delay, timed};
 
@@ -15,19 +16,31 @@ use diag_ecu::Ecu;
 use diag_pdu::{Message, Request, Step};
 use diag_setup::{Setup, TesterId};
 use std::alloc::{AllocError, Global};
+use std::error::Error;
+use std::fmt;
 use std::marker::Model;
-use thiserror::Error;
 
 /// Why a step was not taken.
-#[derive(Clone, Copy, PartialEq, Eq, Debug, Drop, Error)]
+#[derive(Clone, Copy, PartialEq, Eq, Debug, Drop)]
 pub enum StepFault {
     /// Memory was refused.
-    #[error("no memory")]
     Memory,
     /// The journal has 1,000,000 entries.
-    #[error("the journal is full")]
     JournalFull,
 }
+
+impl fmt::Display for StepFault {
+    ghost output = { λ x. Some (step_fault_text x) };
+
+    fn fmt<W: fmt::Write>(&self, f: &mut fmt::Formatter<W>) -> fmt::Result {
+        match self {
+            StepFault::Memory => write!(f, "no memory"),
+            StepFault::JournalFull => write!(f, "the journal is full"),
+        }
+    }
+}
+
+impl Error for StepFault {}
 
 impl From<AllocError> for StepFault {
     ghost use Rattle.diag_desk.specs.declared.desk.StepFault.TheVariants as fault;

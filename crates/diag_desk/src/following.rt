@@ -1,5 +1,5 @@
 //! Replaying a journal's text as it is read, entry by entry; none is kept.
-ghost use Rattle.std.specs.Prelude.{◌≡◌, ◌+◌, ◌++◌, ◌∷◌, ◌≤◌, ◌↔◌, ◌≢◌, [], true, ℕ, List, length, Err, None, IfOk, IfErr, IfSome, IfNone, OnOk, IsTrue, option_copied, option_map};
+ghost use Rattle.std.specs.Prelude.{◌≡◌, ◌+◌, ◌++◌, ◌∷◌, ◌≤◌, ◌↔◌, ◌≢◌, [], true, false, ℕ, List, length, Err, None, Some, IfOk, IfErr, IfSome, IfNone, OnOk, OnErr, IsTrue, option_copied, option_map};
 ghost use Rattle.std.specs.Bool.{OnTrue, OnFalse};
 ghost use Rattle.hex.specs.Hex.{encode_upper};
 ghost use Rattle.diag_setup.specs.declared.raw.RawSetup.{RawSetup};
@@ -8,11 +8,12 @@ ghost use Rattle.diag_ecu.specs.Respond as ecu;
 ghost use Rattle.diag_desk.specs.declared.entry.Entry.{Entry};
 ghost use Rattle.diag_desk.specs.Entry.{IsEntry, IsMessage};
 ghost use Rattle.diag_desk.specs.Fault.{FaultAt};
-ghost use Rattle.diag_desk.specs.Following.{Answered, Followed, FollowedIn, Follows, HasFollowed, HasTaken, IsReplayed, IsUsual, Plays, TextDiffers, read_so_far};
-ghost use Rattle.diag_desk.specs.Legal.{after_step, reply_to};
+ghost use Rattle.diag_desk.specs.FaultText.{text_fault_text};
+ghost use Rattle.diag_desk.specs.Following.{Answered, AsksEcu, Followed, FollowedIn, Follows, HasFollowed, HasRequest, HasTaken, IsReplayed, IsUsual, Plays, TextDiffers, read_so_far};
+ghost use Rattle.diag_desk.specs.Legal.{after_step, is_ticks, reply_to};
 ghost use Rattle.diag_desk.specs.Line.{HasHex, IsHex, IsHexReply, decoded, fronted, kind_code, line_entry, request_kind};
 ghost use Rattle.diag_desk.specs.declared.line.Kind.TheVariants as kind;
-ghost use Rattle.diag_desk.specs.PartRead.{HasNext, HasNoNext};
+ghost use Rattle.diag_desk.specs.PartRead.{HasNoNext};
 ghost use Rattle.diag_can.specs.Pieces.{TakesLines};
 ghost use Rattle.diag_can.specs.Bus.{HasNoFeed};
 
@@ -31,7 +32,8 @@ use diag_ecu::{Decision, Ecu, Effect};
 use diag_pdu::Message;
 use diag_setup::{Setup, TesterId};
 use std::alloc::{AllocError, Global};
-use thiserror::Error;
+use std::error::Error;
+use std::fmt;
 
 /// What the replay of a text leaves.
 #[derive(Drop)]
@@ -43,16 +45,27 @@ pub struct Replayed {
 }
 
 /// Why a text is not replayed to its end.
-#[derive(Clone, Copy, PartialEq, Eq, Debug, Drop, Error)]
+#[derive(Clone, Copy, PartialEq, Eq, Debug, Drop)]
 pub enum TextFault {
     /// The first line at fault, counted from 1.
-    #[error("journal line {0}")]
     Line(usize),
     /// No line is at fault. The first entry, counted from 1, whose tester isn't in the setup or whose reply isn't the
     /// ECU's.
-    #[error("entry {0} differs")]
     Differs(usize),
 }
+
+impl fmt::Display for TextFault {
+    ghost output = { λ x. Some (text_fault_text x) };
+
+    fn fmt<W: fmt::Write>(&self, f: &mut fmt::Formatter<W>) -> fmt::Result {
+        match self {
+            TextFault::Line(n) => write!(f, "journal line {n}"),
+            TextFault::Differs(n) => write!(f, "entry {n} differs"),
+        }
+    }
+}
+
+impl Error for TextFault {}
 
 /// The ECU that plays the entries, up to the first that differs.
 #[derive(Drop)]
@@ -84,10 +97,13 @@ impl Play {
     ) -> Result<(), AllocError>
         requires hex { HasHex line.now.step }
         requires entry { IsEntry (line_entry line.now) }
-        ensures { OnOk result ((past : List Entry)
+        ensures ok { OnOk result ((past : List Entry)
             → number ≡ length past + 1
             → Plays setup.now self.old past
             → Plays setup.now self.new (past ++ line_entry line.now ∷ [])) }
+        ensures memory { OnErr result ((self.old.differs ≡ None)
+            × (line.now.who ≤ length setup.now.testers)
+            × (is_ticks (line_entry line.now).step ≡ false)) }
     {
         if self.differs.is_some() {
             return Ok(());
@@ -112,6 +128,8 @@ impl Play {
             e.who ≤ length setup.now.testers
             → e.reply ≡ reply_to self.old.ecu e.who e.step
             → ⊥)) }
+        ensures memory { OnErr result ((line.now.who ≤ length setup.now.testers)
+            × (is_ticks (line_entry line.now).step ≡ false)) }
     {
         if setup.testers() < usize::from(line.who.place()) {
             return Ok(false);
@@ -436,7 +454,7 @@ impl Follower {
         ensures memory { IfErr result (λ fault. fault ≡ LineFault.Memory
             → (past : List Entry)
             → Follows setup.now self.old past
-            → HasNext (read_so_far self.old.version past) line.now) }
+            → AsksEcu setup.now self.old past line.now) }
     {
         let Some(entry) = next_line(self.version, &self.clocks, line) else {
             return Err(LineFault::Wrong);
@@ -469,6 +487,9 @@ impl Follower {
             (n : ℕ) → fault ≡ JournalFault.Line n
             → (seen : List ℕ) → HasFollowed setup.now self.old seen
             → (more : List ℕ) → FaultAt (seen ++ (text.now ++ more)) n) }
+        ensures memory { result ≡ Err JournalFault.Memory
+            → (seen more : List ℕ) → HasFollowed setup.now self.old seen
+            → HasRequest setup.now (seen ++ (text.now ++ more)) }
     {
         let mut rest = text;
         while !rest.is_empty() {
@@ -482,8 +503,7 @@ impl Follower {
             };
             match self.take(alloc, setup, line) {
                 Ok(()) => {}
-                Err(LineFault::Wrong) => return Err(JournalFault::Line(number)),
-                Err(LineFault::Memory) => return Err(JournalFault::Memory),
+                Err(fault) => return Err(fault.at(number)),
             }
             rest = after;
         }
@@ -524,7 +544,8 @@ impl TextReplay {
     /// at fault nothing is looked at, and all is taken.
     ///
     /// # Errors
-    /// `AllocError` where memory is refused: the replay can't go on then.
+    /// `AllocError` where memory is refused, which is asked for a request alone, before which no entry differs: the replay
+    /// can't go on then.
     pub fn take_lines<'a>(
         &mut self,
         alloc: Global,
@@ -532,8 +553,11 @@ impl TextReplay {
         text: &'a [u8],
     ) -> Result<&'a [u8], AllocError>
         requires { (seen : List ℕ) × HasTaken setup.now self.old seen }
-        ensures { IfOk result (λ rest. TakesLines (HasTaken setup.now self.old)
+        ensures took { IfOk result (λ rest. TakesLines (HasTaken setup.now self.old)
             (HasTaken setup.now self.new) text.now rest.now) }
+        ensures memory { OnErr result ((seen more : List ℕ)
+            → HasTaken setup.now self.old seen
+            → HasRequest setup.now (seen ++ (text.now ++ more))) }
     {
         if self.fault.is_some() {
             return Ok(&[]);
@@ -563,8 +587,11 @@ impl TextReplay {
         requires headed { self.old.headed ≡ true }
         requires well { self.old.fault ≡ None }
         requires taken { (seen : List ℕ) × HasTaken setup.now self.old seen }
-        ensures { IfOk result (λ rest. TakesLines (HasTaken setup.now self.old)
+        ensures took { IfOk result (λ rest. TakesLines (HasTaken setup.now self.old)
             (HasTaken setup.now self.new) text.now rest.now) }
+        ensures memory { OnErr result ((seen more : List ℕ)
+            → HasTaken setup.now self.old seen
+            → HasRequest setup.now (seen ++ (text.now ++ more))) }
     {
         match self.follower.take_lines(alloc, setup, text) {
             Ok(rest) => Ok(rest),

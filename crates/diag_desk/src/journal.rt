@@ -1,7 +1,8 @@
 //! The journal: the steps of all testers in their order, with the replies.
-ghost use Rattle.std.specs.Prelude.{◌≡◌, ◌≢◌, ◌↔◌, ◌≤◌, ◌+◌, ◌++◌, ◌∷◌, [], length, unwrap_or, IsTrue, OnOk, OnErr, IfSome, Err, option_map, option_copied, slice_get};
+ghost use Rattle.std.specs.Prelude.{◌≡◌, ◌≢◌, ◌↔◌, ◌≤◌, ◌+◌, ◌++◌, ◌∷◌, [], length, unwrap_or, IsTrue, OnOk, OnErr, IfSome, Err, Some, option_map, option_copied, slice_get};
 ghost use Rattle.diag_desk.specs.Entries.{entry};
 ghost use Rattle.diag_desk.specs.Entry.{entry_seen, step_seen, HasNoReply, HasRoom, HasRoomFor, IsEntry, IsJournal, IsStep, step_len, most_entries};
+ghost use Rattle.diag_desk.specs.FaultText.{push_fault_text};
 ghost use Rattle.diag_desk.specs.Line.{HasHex, line_entry};
 
 use crate::desk::StepFault;
@@ -12,8 +13,9 @@ use crate::version::JournalVersion;
 use diag_pdu::{Message, Step};
 use diag_setup::TesterId;
 use std::alloc::{AllocError, Global};
+use std::error::Error;
+use std::fmt;
 use std::marker::Model;
-use thiserror::Error;
 
 /// The bytes of a text's first line with its LF, as `diag-journal 1`.
 const HEADER: usize = 15;
@@ -25,15 +27,26 @@ const LINE: usize = 10;
 const STAMP: usize = 12;
 
 /// Why an entry was not added.
-#[derive(Clone, Copy, PartialEq, Eq, Debug, Drop, Error)]
+#[derive(Clone, Copy, PartialEq, Eq, Debug, Drop)]
 pub enum JournalPush {
     /// There are 1,000,000 entries.
-    #[error("the journal is full")]
     Full,
     /// Memory was refused.
-    #[error("no memory")]
     Memory,
 }
+
+impl fmt::Display for JournalPush {
+    ghost output = { λ x. Some (push_fault_text x) };
+
+    fn fmt<W: fmt::Write>(&self, f: &mut fmt::Formatter<W>) -> fmt::Result {
+        match self {
+            JournalPush::Full => write!(f, "the journal is full"),
+            JournalPush::Memory => write!(f, "no memory"),
+        }
+    }
+}
+
+impl Error for JournalPush {}
 
 /// The steps of all testers in their order, with the replies: at most 1,000,000 entries.
 ///

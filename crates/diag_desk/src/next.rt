@@ -5,11 +5,12 @@ ghost use Rattle.diag_desk.specs.Clocks.{Tells};
 ghost use Rattle.diag_desk.specs.Entry.{IsJournal, IsEntry};
 ghost use Rattle.diag_desk.specs.Following.{AreTold, read_so_far};
 ghost use Rattle.diag_desk.specs.Line.{HasHex, line_entry};
-ghost use Rattle.diag_desk.specs.PartRead.{IsNoNext};
+ghost use Rattle.diag_desk.specs.PartRead.{IsNoNext, fault_at};
 ghost use Rattle.diag_desk.specs.Text.{line_after, ticks_in, ticks_of};
 
 use crate::clocks::Clocks;
 use crate::line::{Line, LineStep, cut, entry_in, is_decimal};
+use crate::read::JournalFault;
 use crate::version::JournalVersion;
 
 /// Why a line was not taken.
@@ -17,6 +18,18 @@ use crate::version::JournalVersion;
 pub(crate) enum LineFault {
     Wrong,
     Memory,
+}
+
+impl LineFault {
+    /// The fault of a text whose line of this number, from 1, is not taken.
+    pub(crate) fn at(self, number: usize) -> JournalFault
+        ensures { result ≡ fault_at number self }
+    {
+        match self {
+            LineFault::Wrong => JournalFault::Line(number),
+            LineFault::Memory => JournalFault::Memory,
+        }
+    }
 }
 
 /// The ticks of a line's tester up to and with it.

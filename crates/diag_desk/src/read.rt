@@ -1,8 +1,9 @@
 //! Reading a journal's text.
-ghost use Rattle.std.specs.Prelude.{◌≡◌, ◌≢◌, [], ℕ, IfOk, IfErr, IfSome, IfNone, OnOk, List, MatchResult};
+ghost use Rattle.std.specs.Prelude.{◌≡◌, ◌≢◌, [], ℕ, IfOk, IfErr, IfSome, IfNone, OnOk, List, MatchResult, Some};
 ghost use Rattle.diag_desk.specs.declared.entry.Entry.{Entry};
 ghost use Rattle.diag_desk.specs.declared.version.JournalVersion.{JournalVersion};
 ghost use Rattle.diag_desk.specs.Fault.{FaultAt, HasEntries, IsTextOf};
+ghost use Rattle.diag_desk.specs.FaultText.{journal_fault_text};
 ghost use Rattle.diag_desk.specs.Entry.{IsJournal};
 ghost use Rattle.diag_desk.specs.PartRead.{HasNext, HasNoNext, Took};
 ghost use Rattle.diag_desk.specs.Text.{header};
@@ -13,19 +14,31 @@ use crate::line::cut;
 use crate::next::{LineFault, clock_with, next_line};
 use crate::version::JournalVersion;
 use std::alloc::Global;
+use std::error::Error;
+use std::fmt;
 use std::marker::Model;
-use thiserror::Error;
 
 /// Why a text gives no journal.
-#[derive(Clone, Copy, PartialEq, Eq, Debug, Drop, Error)]
+#[derive(Clone, Copy, PartialEq, Eq, Debug, Drop)]
 pub enum JournalFault {
     /// The first line at fault, counted from 1.
-    #[error("journal line {0}")]
     Line(usize),
     /// Memory was refused.
-    #[error("no memory")]
     Memory,
 }
+
+impl fmt::Display for JournalFault {
+    ghost output = { λ x. Some (journal_fault_text x) };
+
+    fn fmt<W: fmt::Write>(&self, f: &mut fmt::Formatter<W>) -> fmt::Result {
+        match self {
+            JournalFault::Line(n) => write!(f, "journal line {n}"),
+            JournalFault::Memory => write!(f, "no memory"),
+        }
+    }
+}
+
+impl Error for JournalFault {}
 
 /// What was read so far.
 #[derive(Drop)]
@@ -144,8 +157,7 @@ fn read_lines(alloc: Global, text: &[u8]) -> Result<Journal, JournalFault>
         };
         match reader.take(line) {
             Ok(()) => {}
-            Err(LineFault::Wrong) => return Err(JournalFault::Line(number)),
-            Err(LineFault::Memory) => return Err(JournalFault::Memory),
+            Err(fault) => return Err(fault.at(number)),
         }
         rest = after;
         number += 1;

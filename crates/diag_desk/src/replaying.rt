@@ -1,8 +1,9 @@
 //! Replaying a journal.
-ghost use Rattle.std.specs.Prelude.{◌≡◌, ◌↔◌, ℕ, IfOk, IfErr, IsTrue, option_copied};
+ghost use Rattle.std.specs.Prelude.{◌≡◌, ◌↔◌, ℕ, IfOk, IfErr, IsTrue, Some, option_copied};
 ghost use Rattle.std.specs.Bool.{OnTrue};
 ghost use Rattle.diag_ecu.specs.State.{opening};
 ghost use Rattle.diag_desk.specs.Entry.{IsEntry, entry_seen, step_seen};
+ghost use Rattle.diag_desk.specs.FaultText.{replay_fault_text};
 ghost use Rattle.diag_desk.specs.Legal.{after, after_step, reply_to};
 ghost use Rattle.diag_desk.specs.Replay.{DiffersAt, IsLegalFor};
 
@@ -12,18 +13,30 @@ use diag_ecu::Ecu;
 use diag_pdu::Message;
 use diag_setup::Setup;
 use std::alloc::{AllocError, Global};
-use thiserror::Error;
+use std::error::Error;
+use std::fmt;
 
 /// Why a journal is not replayed to its end.
-#[derive(Clone, Copy, PartialEq, Eq, Debug, Drop, Error)]
+#[derive(Clone, Copy, PartialEq, Eq, Debug, Drop)]
 pub enum ReplayFault {
     /// The first entry, counted from 1, whose tester isn't in the setup or whose reply isn't the ECU's.
-    #[error("entry {0} differs")]
     Differs(usize),
     /// Memory was refused.
-    #[error("no memory")]
     Memory,
 }
+
+impl fmt::Display for ReplayFault {
+    ghost output = { λ x. Some (replay_fault_text x) };
+
+    fn fmt<W: fmt::Write>(&self, f: &mut fmt::Formatter<W>) -> fmt::Result {
+        match self {
+            ReplayFault::Differs(n) => write!(f, "entry {n} differs"),
+            ReplayFault::Memory => write!(f, "no memory"),
+        }
+    }
+}
+
+impl Error for ReplayFault {}
 
 /// The ECU of a setup after all entries, where each tester is in the setup and each reply is the ECU's.
 ///

@@ -109,7 +109,7 @@ impl Ecu {
         self.holder
     }
 
-    /// The trouble codes with their status.
+    /// The DTCs with their status.
     pub fn dtcs(&self) -> &DtcMemory
         ensures { result.now ≡ self.now.dtcs }
     {

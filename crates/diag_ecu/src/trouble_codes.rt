@@ -1,4 +1,4 @@
-//! Trouble codes: clearing them, reading them, and the setting of their status bits (ISO 14229-1:2013, 11.2, 11.3 and
+//! DTCs: clearing them, reading them, and the setting of their status bits (ISO 14229-1:2013, 11.2, 11.3 and
 //! 9.9).
 ghost use Rattle.std.specs.Prelude.{◌<◌, drop, ◌∷◌, [], ◌≡◌, ◌≤◌, ◌+◌, ◌++◌, ◌==◌, length, flat_map, OnOk, IfOk};
 ghost use Rattle.diag_setup.specs.Setup.{first_holding};

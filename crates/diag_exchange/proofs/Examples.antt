@@ -105,7 +105,7 @@ vin = 0x62 ∷ 0xF1 ∷ 0x90 ∷ 0x31 ∷ 0x32 ∷ 0x33 ∷ 0x34 ∷ 0x35 ∷ []
 abbrev pending : ℕ → List ℕ
 pending k = 0x7F ∷ k ∷ 0x78 ∷ []
 
--- tester present, of which no answer is wanted
+-- TesterPresent, of which no answer is wanted
 abbrev silent : List ℕ
 silent = 0x3E ∷ 0x80 ∷ []
 

@@ -28,7 +28,7 @@ marks (Some bytes) = bytes
 
 -- ---- records in any order
 
--- a list of trouble codes, or of those that are supported (ISO 14229-1:2013, 11.3)
+-- a list of DTCs, or of those that are supported (ISO 14229-1:2013, 11.3)
 abbrev pub lists_records : List ℕ → Bool
 lists_records reply = (slice_index reply 0 == 0x59)
     && ((slice_index reply 1 == 0x02) || (slice_index reply 1 == 0x0A))

@@ -13,7 +13,7 @@ pub record SameBytes (marks sent reply : List ℕ) : Type 0 where
   pub as_many : length sent ≡ length reply
   pub each : (i : ℕ) → i < length reply → slice_index marks i ≡ 0 → slice_index sent i ≡ slice_index reply i
 
--- the model's own list of trouble codes, its records in some order
+-- the model's own list of DTCs, its records in some order
 pub record SameList (expected : Expected) (sent reply : List ℕ) : Type 0 where
   pub own : expected.own ≡ true
   pub lists : lists_records reply ≡ true

@@ -107,6 +107,7 @@ fn hear_no_more(live: &mut Vec<Open>)
 }
 
 /// The message that was coming in is complete: the exchange that heard it has it; where there is none, it is given back.
+#[inline(always)]
 fn answer(live: &mut Vec<Open>, heard: Heard) -> Result<Option<Heard>, AllocError>
     ensures ok { OnOk result (live.new.items ≡ finish (Some heard) live.old.items) }
     ensures unasked { IfOk result (λ unasked. unasked
@@ -138,6 +139,7 @@ impl Exchanges {
     ///
     /// # Errors
     /// `AllocError` where memory is refused, and then nothing has changed.
+    #[inline(always)]
     pub fn ask(&mut self, request: Request, over: &mut Vec<Over>) -> Result<(), AllocError>
         ensures ok { OnOk result (Took self.old self.new over.old.items over.new.items
             (Asked request)) }
@@ -154,6 +156,7 @@ impl Exchanges {
     }
 
     /// A message of the unit begins; nothing is over with it.
+    #[inline(always)]
     pub fn begin(&mut self, start: Start)
         requires { self.old.coming ≡ None }
         ensures took { TookSilently self.old self.new (Began start) }
@@ -167,6 +170,7 @@ impl Exchanges {
     ///
     /// # Errors
     /// `AllocError` where memory is refused, and then nothing has changed.
+    #[inline(always)]
     pub fn come(&mut self, bytes: Message, over: &mut Vec<Over>) -> Result<(), AllocError>
         requires { IsSome self.old.coming }
         ensures ok { OnOk result (Took self.old self.new over.old.items over.new.items

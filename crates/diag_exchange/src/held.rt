@@ -64,6 +64,7 @@ fn fits(start: &Start, request: &Request) -> bool
 
 impl Open {
     /// A request of which nothing was heard.
+    #[inline(always)]
     pub fn new(request: Request) -> Open
         ensures { result ≡ opened request }
     {
@@ -77,6 +78,7 @@ impl Open {
     }
 
     /// Whether it is over, where the newest happening is a request or not.
+    #[inline(always)]
     pub fn is_done(&self, asked: bool) -> bool
         ensures { result ≡ is_done asked self.now }
     {
@@ -84,6 +86,7 @@ impl Open {
     }
 
     /// What is told of it.
+    #[inline(always)]
     pub fn tell(self) -> Over
         ensures { result ≡ told self }
     {
@@ -140,6 +143,7 @@ impl Open {
     ///
     /// # Errors
     /// `AllocError` where response pending came 2^64 - 1 times before, and then nothing has changed.
+    #[inline(always)]
     pub fn take(&mut self, heard: Heard) -> Result<(), AllocError>
         ensures ok { OnOk result (self.new ≡ with_message heard self.old) }
         ensures err { OnErr result (self.new ≡ self.old) }
@@ -161,6 +165,7 @@ impl Open {
     }
 
     /// A request is complete behind it.
+    #[inline(always)]
     pub fn ask_again(&mut self, request: &Request)
         ensures { self.new ≡ asked_again request.now self.old }
     {

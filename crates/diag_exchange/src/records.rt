@@ -1,11 +1,11 @@
-//! Records of trouble codes, whose order isn't given.
+//! Records of DTCs, whose order isn't given.
 
 ghost use Rattle.std.specs.Prelude.{◌≡◌, ◌≤◌, ◌<◌, ◌∷◌, length, map, take, drop, IfOk};
 ghost use Rattle.diag_exchange.specs.Agreeing.{lists_records, records, same_in_any_order, same_records};
 
 use std::alloc::{AllocError, Global};
 
-/// Whether a reply lists trouble codes, of which no order is given (ISO 14229-1:2013, 11.3).
+/// Whether a reply lists DTCs, of which no order is given (ISO 14229-1:2013, 11.3).
 fn lists_records(reply: &[u8]) -> bool
     ensures { result ≡ lists_records reply.now }
 {
@@ -60,7 +60,7 @@ fn parts(list: &[u8]) -> (&[u8], &[u8])
     list.split_at(list.len().min(3))
 }
 
-/// Whether a message has the records of a list of trouble codes, in whatever order.
+/// Whether a message has the records of a list of DTCs, in whatever order.
 ///
 /// # Errors
 /// `AllocError` where memory is refused.

@@ -37,6 +37,7 @@ impl Entered {
     ///
     /// # Errors
     /// `AllocError` where memory is refused.
+    #[inline(always)]
     pub fn of(
         alloc: Global,
         ecu: &Ecu,
@@ -62,6 +63,7 @@ impl Entered {
     ///
     /// # Errors
     /// `AllocError` where memory is refused.
+    #[inline(always)]
     pub fn into_request(
         self,
         alloc: Global,
@@ -88,6 +90,7 @@ impl Entered {
 }
 
 /// Of what a reply is made that the items of a template make, or the services.
+#[inline(always)]
 fn source_of(alloc: Global, items: Option<&[TemplateItem]>) -> Result<Source, AllocError>
     requires { IfSome items (λ items. length items.now ≤ 4095) }
     ensures { IfOk result (λ source. source ≡ source_of (option_map (λ items. items.now) items.entry)) }
@@ -98,6 +101,7 @@ fn source_of(alloc: Global, items: Option<&[TemplateItem]>) -> Result<Source, Al
     }
 }
 
+#[inline(always)]
 fn copy_of(alloc: Global, message: Option<&Message>) -> Result<Option<Message>, AllocError>
     ensures { IfOk result (λ copy. copy ≡ option_copied message.entry) }
 {
@@ -108,6 +112,7 @@ fn copy_of(alloc: Global, message: Option<&Message>) -> Result<Option<Message>, 
 }
 
 /// The marks of a reply, where some bytes vary.
+#[inline(always)]
 fn marks_of(
     alloc: Global,
     setup: &Setup,

@@ -2,3 +2,4 @@ pub mod Views
 pub mod Rule
 pub mod Plays
 pub mod Seats
+pub mod Fault

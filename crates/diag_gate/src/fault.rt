@@ -1,19 +1,19 @@
 //! Why a step was not made.
+ghost use Rattle.std.specs.Prelude.{Some};
+ghost use Rattle.diag_gate.specs.Fault.{try_fault_text};
+
 use diag_pdu::Step;
+use std::error::Error;
 use std::fmt::{self, Debug, Formatter};
-use thiserror::Error;
 
 /// Why a step that doesn't wait was not made.
-#[derive(Drop, Error)]
+#[derive(Drop)]
 pub enum TryFault {
     /// Memory was refused.
-    #[error("no memory")]
     Memory,
     /// The journal has 1,000,000 entries.
-    #[error("the journal is full")]
     JournalFull,
     /// Another seat has the desk. The step comes back.
-    #[error("another tester has the desk")]
     Busy(Step),
 }
 
@@ -27,3 +27,17 @@ impl Debug for TryFault {
         }
     }
 }
+
+impl fmt::Display for TryFault {
+    ghost output = { λ x. Some (try_fault_text x) };
+
+    fn fmt<W: fmt::Write>(&self, f: &mut Formatter<W>) -> fmt::Result {
+        match self {
+            TryFault::Memory => write!(f, "no memory"),
+            TryFault::JournalFull => write!(f, "the journal is full"),
+            TryFault::Busy(_) => write!(f, "another tester has the desk"),
+        }
+    }
+}
+
+impl Error for TryFault {}

@@ -1,5 +1,5 @@
 //! The door over a lock.
-ghost use Rattle.std.specs.Prelude.{◌≡◌, ◌++◌, ◌∷◌, [], length, true, false, None, Err, IfOk, OnOk, MatchResult};
+ghost use Rattle.std.specs.Prelude.{◌≡◌, ◌↔◌, ◌++◌, ◌∷◌, [], length, true, false, None, Err, IfOk, OnOk, MatchResult};
 ghost use Rattle.diag_desk.specs.Entry.{HasNoReply, most_entries};
 ghost use Rattle.diag_gate.specs.Views.{HasNoDelay, IsLawful, timed_answer};
 
@@ -116,7 +116,7 @@ impl<'a, R: Wait> Door for LockDoor<'a, R> {
     }
 }
 
-/// A desk's step, whose reply and delay are lawful behind the desk's journal.
+/// A desk's step, whose reply and delay are lawful behind the desk's journal. That this is full is looked at first.
 fn lawful_step(
     desk: &mut Desk,
     who: TesterId,
@@ -125,6 +125,7 @@ fn lawful_step(
     ensures lawful { IfOk result (λ r. IsLawful who step.now r.0 r.1) }
     ensures ticks_unanswered { IfOk result (λ r. HasNoReply step.now r.0) }
     ensures ticks_at_once { IfOk result (λ r. HasNoDelay step.now r.1) }
+    ensures full { (result ≡ Err StepFault.JournalFull) ↔ (length desk.old.journal ≡ most_entries) }
 {
     let reply = desk.step(who, step)?;
     // (for its contract: a desk's journal is legal, from the opening of a checked setup)

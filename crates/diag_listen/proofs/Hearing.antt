@@ -6,9 +6,7 @@ use Rattle.std.specs.Prelude.{if◌then◌else◌, is_some, min, nat_lt, not, op
 use Rattle.diag_can.specs.Log.{waited}
 use Rattle.diag_can.specs.declared.frame.Event.{Event}
 use Rattle.diag_can.specs.declared.frame.Event.TheVariants.{Physical, Functional, Ticks}
-use Rattle.diag_pdu.specs.Kind.{IsRead, kind}
-use Rattle.diag_pdu.specs.declared.pci.Pci.{Pci}
-use Rattle.diag_pdu.specs.declared.pci.Pci.TheVariants.{Single, First, Overflow, Consecutive, FlowControl, Ignored}
+use Rattle.diag_pdu.specs.Kind.{IsRead, kind, Kind, Single, First, Overflow, Consecutive, FlowControl, Ignored}
 use Rattle.diag_pdu.specs.declared.setup.LinkSetup.{LinkSetup}
 use Rattle.diag_sides.specs.Receiver.{Partial, ask_of, completed_by, one_tick_later, open_after, ticks_later}
 use Rattle.diag_tp.specs.Gives.{gives}
@@ -74,13 +72,13 @@ pub kind_is : (s : LinkSetup) (at : Place) (E : List Event) (bytes : List ℕ) �
     → unit_happens s at E (Physical bytes) ≡ kind_happens (partial_of s E) at (kind bytes s.max_request)
 kind_is s at E bytes read = of_kind (kind bytes s.max_request) refl
   where
-    of_kind : (k : Pci) → kind bytes s.max_request ≡ k → frame_happens s at E bytes k ≡ kind_happens (partial_of s E) at k
+    of_kind : (k : Kind) → kind bytes s.max_request ≡ k → frame_happens s at E bytes k ≡ kind_happens (partial_of s E) at k
     of_kind (Single payload) e = ap (λ b. lost_if b ++ began at payload ∷ Came payload ∷ []) (kept s E)
     of_kind (First len head) e = ap (λ b. lost_if b ++ began at head ∷ []) (kept s E)
     of_kind Overflow e = ap lost_if (kept s E)
     of_kind (Consecutive number part) e =
         let k = Consecutive number part in
-        let step = gives-more s E (Physical bytes) ∙ ap (λ (k : Pci). asked_of (ask_of false (completed_by (partial_of s E) k))) e in
+        let step = gives-more s E (Physical bytes) ∙ ap (λ (k : Kind). asked_of (ask_of false (completed_by (partial_of s E) k))) e in
         let later = frame_more s E bytes read ∙ ap (open_after (partial_of s E)) e in
         ap₂ came step (broken s E (Physical bytes) (open_after (partial_of s E) k) later) ∙ came_so (completed_by (partial_of s E) k) _
     of_kind (FlowControl status block gap) e = refl
@@ -158,13 +156,13 @@ with_nil new out out' E hs xs h =
     let n = sym (append-nil xs) in (subst (λ w. Listens new E (hs ++ w)) n h.0, h.1 ∙ ap (λ w. out ++ over_after hs w) n)
 
 -- it heard a frame of this kind
-pub hears_frame : (old new : Listener) (out out' : List Over) (at : Place) (bytes : List ℕ) (k : Pci) → k ≡ kind bytes old.side.max_request
+pub hears_frame : (old new : Listener) (out out' : List Over) (at : Place) (bytes : List ℕ) (k : Kind) → k ≡ kind bytes old.side.max_request
     → IsRead old.side.max_request k → new.side ≡ old.side
     → Moves old new out out' (kind_happens old.receiver.partial at k) (open_after old.receiver.partial k) → Hears old new out out' at (Physical bytes ∷ [])
 hears_frame old new out out' at bytes k is read side moves E hs l =
     let s = old.side in
     let whole : IsRead s.max_request (kind bytes s.max_request) = subst (IsRead s.max_request) is read in
-    let happened = ap₂ (λ (o : Option Partial) (k : Pci). kind_happens o at k) l.partial is ∙ sym (kind_is s at E bytes whole) in
+    let happened = ap₂ (λ (o : Option Partial) (k : Kind). kind_happens o at k) l.partial is ∙ sym (kind_is s at E bytes whole) in
     let kept = ap₂ open_after l.partial is ∙ sym (frame_more s E bytes whole) in
     with_nil new out out' (E ++ Physical bytes ∷ []) hs (unit_happens s at E (Physical bytes))
     (hears_one old new out out' at (Physical bytes) E hs (kind_happens old.receiver.partial at k) (open_after old.receiver.partial k) l side moves happened kept)

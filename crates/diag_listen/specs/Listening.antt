@@ -3,9 +3,7 @@ use Rattle.std.specs.Prelude.{◌≡◌, ℕ, ◌&&◌, nat_lt, not, Bool, true,
 use Rattle.diag_can.specs.declared.frame.Event.{Event}
 use Rattle.diag_can.specs.declared.frame.Event.TheVariants.{Physical, Functional, Ticks}
 use Rattle.diag_pdu.specs.Cut.{consecutive_count}
-use Rattle.diag_pdu.specs.Kind.{kind}
-use Rattle.diag_pdu.specs.declared.pci.Pci.{Pci}
-use Rattle.diag_pdu.specs.declared.pci.Pci.TheVariants.{Single, First, Overflow, Consecutive, FlowControl, Ignored}
+use Rattle.diag_pdu.specs.Kind.{kind, Kind, Single, First, Overflow, Consecutive, FlowControl, Ignored}
 use Rattle.diag_pdu.specs.declared.setup.LinkSetup.{LinkSetup}
 use Rattle.diag_pdu.specs.declared.step.Step.{Step}
 use Rattle.diag_pdu.specs.declared.step.Step.TheVariants as step
@@ -51,7 +49,7 @@ began at bytes = Began (record { at = at; first = slice_index bytes 0; second = 
 abbrev pub breaks : LinkSetup → List Event → Event → Bool
 breaks s E e = receives s E && not (receives s (E ++ e ∷ []))
 
-abbrev pub frame_happens : LinkSetup → Place → List Event → List ℕ → Pci → List Happening
+abbrev pub frame_happens : LinkSetup → Place → List Event → List ℕ → Kind → List Happening
 frame_happens s at E bytes (Single payload) = lost_if (receives s E) ++ began at payload ∷ Came payload ∷ []
 frame_happens s at E bytes (First len head) = lost_if (receives s E) ++ began at head ∷ []
 frame_happens s at E bytes Overflow = lost_if (receives s E)
@@ -77,11 +75,11 @@ came_by (Some message) broken = Came message ∷ []
 came_by None broken = lost_if broken
 
 -- what a ConsecutiveFrame is
-abbrev pub part_happens : Option Partial → Pci → List Happening
+abbrev pub part_happens : Option Partial → Kind → List Happening
 part_happens o k = came_by (completed_by o k) (is_some o && not (is_some (open_after o k)))
 
 -- what a frame of this kind is
-abbrev pub kind_happens : Option Partial → Place → Pci → List Happening
+abbrev pub kind_happens : Option Partial → Place → Kind → List Happening
 kind_happens o at (Single payload) = lost_if (is_some o) ++ began at payload ∷ Came payload ∷ []
 kind_happens o at (First len head) = lost_if (is_some o) ++ began at head ∷ []
 kind_happens o at Overflow = lost_if (is_some o)

@@ -3,7 +3,7 @@
 ghost use Rattle.std.specs.Prelude.{◌≡◌, ◌≤◌, [], ◌∷◌, ◌++◌, length, is_some, None, Some, IsSome, OnOk};
 ghost use Rattle.diag_can.specs.declared.frame.Event.{Event as AnEvent};
 ghost use Rattle.diag_can.specs.Log.{waited};
-ghost use Rattle.diag_pdu.specs.Kind.{IsRead};
+ghost use Rattle.diag_pdu.specs.Kind.{Consecutive, IsRead, says};
 ghost use Rattle.diag_pdu.specs.Cut.{head_size};
 ghost use Rattle.diag_sides.specs.Receiver.{begun_partial, open_after};
 ghost use Rattle.diag_exchange.specs.Taking.{Ended};
@@ -106,14 +106,14 @@ impl Listener {
             (AnEvent.Physical frame.now ∷ [])) }
         ensures side { self.new.side ≡ self.old.side }
     {
-        let kind = Pci::of_frame(frame, self.side.max_request);
-        self.take_kind(at, &kind, over)
+        self.take_kind(at, Pci::read(frame.as_slice(), self.side.max_request), over)
     }
 
     /// Hears a request of the tester, complete.
     ///
     /// # Errors
     /// As `wait`.
+    #[inline(always)]
     pub fn ask(&mut self, request: Request, over: &mut Vec<Over>) -> Result<(), AllocError>
         ensures heard { OnOk result
             (HearsRequest self.old self.new over.old.items over.new.items request) }
@@ -133,21 +133,26 @@ impl Listener {
     }
 
     /// Hears a frame of this kind.
-    fn take_kind(&mut self, at: Place, kind: &Pci, over: &mut Vec<Over>) -> Result<(), AllocError>
-        requires { IsRead self.old.side.max_request kind.now }
+    fn take_kind(
+        &mut self,
+        at: Place,
+        kind: Pci<'_>,
+        over: &mut Vec<Over>,
+    ) -> Result<(), AllocError>
+        requires { IsRead self.old.side.max_request (says kind) }
         ensures moves { OnOk result (Moves self.old self.new over.old.items over.new.items
-            (kind_happens self.old.receiver.partial at kind.now)
-            (open_after self.old.receiver.partial kind.now)) }
+            (kind_happens self.old.receiver.partial at (says kind.entry))
+            (open_after self.old.receiver.partial (says kind.entry))) }
         ensures side { self.new.side ≡ self.old.side }
     {
         match kind {
             Pci::Single(payload) => self.take_single(at, payload, over),
-            Pci::First { len, head } => self.take_first(at, *len, head.as_slice(), over),
+            Pci::First { len, head } => self.take_first(at, len, head, over),
             Pci::Overflow => self.lose(over),
             Pci::Consecutive {
                 sequence_number,
                 part,
-            } => self.take_part(kind, *sequence_number, part.as_slice(), over),
+            } => self.take_part(kind, sequence_number, part, over),
             Pci::FlowControl { .. } | Pci::Ignored => Ok(()),
         }
     }
@@ -156,17 +161,18 @@ impl Listener {
     fn take_single(
         &mut self,
         at: Place,
-        payload: &FrameBytes,
+        payload: &[u8],
         over: &mut Vec<Over>,
     ) -> Result<(), AllocError>
-        requires { 1 ≤ length payload.now }
+        requires { (1 ≤ length payload.now) × (length payload.now ≤ 7) }
         ensures moves { OnOk result (Moves self.old self.new over.old.items over.new.items
             (lost_if (is_some self.old.receiver.partial) ++ began at payload.now ∷ Came payload.now ∷ []) None) }
         ensures side { self.new.side ≡ self.old.side }
     {
         self.lose(over)?;
-        self.exchanges.begin(start_of(at, payload.as_slice()));
-        self.exchanges.come(Message::in_place(payload.copy()), over)
+        self.exchanges.begin(start_of(at, payload));
+        self.exchanges
+            .come(Message::in_place(FrameBytes::from_slice(payload)), over)
     }
 
     /// The first frame of a message of several frames.
@@ -193,16 +199,16 @@ impl Listener {
     /// A ConsecutiveFrame: it completes the message, or goes on with it, or breaks it off.
     fn take_part(
         &mut self,
-        kind: &Pci,
+        kind: Pci<'_>,
         number: u8,
         part: &[u8],
         over: &mut Vec<Over>,
     ) -> Result<(), AllocError>
-        requires kind { kind.now ≡ Pci.Consecutive number part.now }
+        requires kind { says kind ≡ Consecutive number part.now }
         requires few { length part.now ≤ 7 }
         ensures moves { OnOk result (Moves self.old self.new over.old.items over.new.items
-            (part_happens self.old.receiver.partial (Pci.Consecutive number part.now))
-            (open_after self.old.receiver.partial (Pci.Consecutive number part.now))) }
+            (part_happens self.old.receiver.partial (Consecutive number part.now))
+            (open_after self.old.receiver.partial (Consecutive number part.now))) }
         ensures side { self.new.side ≡ self.old.side }
     {
         let message = self.receiver.complete(kind);

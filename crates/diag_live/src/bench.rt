@@ -24,7 +24,7 @@ pub trait Bench {
     ghost remaining: { Self → Option (List ℕ) } = { λ _. None };
 
     /// What comes next, or silence once the clock tells this moment, in milliseconds; with 2^64 - 1, however long it takes.
-    /// While a block is under way, a Consecutive frame may fall due at that moment: the clock is to stop there, and to go on
+    /// While a block is under way, a ConsecutiveFrame may fall due at that moment: the clock is to stop there, and to go on
     /// once the frame was written, so that the next one comes a separation time behind it (ISO 15765-2:2016, 9.6.5.4).
     fn hear(&mut self, until: u64, in_block: bool) -> Heard
         ensures { Hears (remaining self.old) (remaining self.new) result };

@@ -55,7 +55,7 @@ impl Serving {
         self.told.saturating_add(self.capture.quiet())
     }
 
-    /// Whether a block is under way: to some tester a Consecutive frame of a reply is still to go, behind its separation
+    /// Whether a block is under way: to some tester a ConsecutiveFrame of a reply is still to go, behind its separation
     /// time.
     pub(crate) fn is_in_block(&self) -> bool
         ensures { result ≡ some_in_block self.now.capture.bus.server.ports }

@@ -5,8 +5,7 @@ use Rattle.std.specs.Prelude.{Option, Some, None, slice_get, nat_le, min, slice_
 use Rattle.std.proofs.lemmas.List.{take_all, length-take-le, append-nil, length-map, drop-take, set_split, take_rest}
 use Rattle.std.proofs.Math.Seq.{take-append_seam}
 use Rattle.std.proofs.lemmas.Bool.Decides.{nat_tests}
-use Rattle.diag_pdu.specs.declared.pci.Pci.TheVariants.{Single, First, Consecutive, FlowControl}
-use Rattle.diag_pdu.specs.Kind.{kind}
+use Rattle.diag_pdu.specs.Kind.{Single, First, Consecutive, FlowControl, kind}
 use Rattle.diag_pdu.specs.Cut.{counted_from, head_size, consecutive_count, filled, single_bytes, long_length, first_bytes, consecutive_bytes, flow_bytes, part_of, cut, frames_of}
 use Rattle.diag_pdu.proofs.Lists.{map-at}
 use Rattle.std.specs.Array.{IsFirstChunk}

@@ -1,11 +1,29 @@
 -- ISO 15765-2:2016, 9.6, protocol control information: what the first bytes of a frame say.
-use Rattle.std.specs.Prelude.{◌≡◌, ◌≤◌, ℕ, ◌+◌, ◌*◌, ◌/◌, ◌%◌, ◌^◌, ◌==◌, nat_le, nat_lt, Bool, true, false, ◌&&◌, if◌then◌else◌, List, [], ◌∷◌, length, take, drop, slice_index}
+use Rattle.std.specs.Prelude.{◌≡◌, ◌≤◌, ℕ, ◌+◌, ◌*◌, ◌/◌, ◌%◌, ◌^◌, ◌==◌, nat_le, nat_lt, ◌&&◌, if◌then◌else◌, List, [], ◌∷◌, length, take, drop, slice_index}
 use Rattle.diag_pdu.specs.declared.pci.Pci.{Pci}
-use Rattle.diag_pdu.specs.declared.pci.Pci.TheVariants.{Single, First, Overflow, Consecutive, FlowControl, Ignored}
+use Rattle.diag_pdu.specs.declared.pci.Pci.TheVariants as lent
 use Rattle.diag_pdu.specs.Cut.{head_size}
 
+-- what a frame is
+pub data Kind : Type 0 where
+  Single : (payload : List ℕ) → Kind
+  First : (len : ℕ) → (head : List ℕ) → Kind
+  Overflow : Kind
+  Consecutive : (number : ℕ) → (part : List ℕ) → Kind
+  FlowControl : (status block gap : ℕ) → Kind
+  Ignored : Kind
+
+-- the same, lent from a frame's bytes
+abbrev pub says : Pci → Kind
+says (lent.Single payload) = Single payload.now
+says (lent.First len head) = First len head.now
+says lent.Overflow = Overflow
+says (lent.Consecutive number part) = Consecutive number part.now
+says (lent.FlowControl status block gap) = FlowControl status block gap
+says lent.Ignored = Ignored
+
 -- a Single of n bytes, 1 to 7, which are there
-abbrev pub single_kind : ℕ → List ℕ → Pci
+abbrev pub single_kind : ℕ → List ℕ → Kind
 single_kind n bytes =
     if nat_le 1 n && nat_le n 7 && nat_lt n (length bytes)
     then Single (take n (drop 1 bytes))
@@ -18,14 +36,14 @@ escape_length bytes =
     + slice_index bytes 5
 
 -- a First whose length of 32 bits is above what 12 bits hold
-abbrev pub escape_kind : ℕ → List ℕ → ℕ → Pci
+abbrev pub escape_kind : ℕ → List ℕ → ℕ → Kind
 escape_kind len bytes max =
     if nat_le len 4095 then Ignored
     else if nat_lt max len then Overflow
     else First len (take 2 (drop 6 bytes))
 
 -- a First of 12 bits of length; a length of 0 is the escape to 32 bits
-abbrev pub first_kind : ℕ → List ℕ → ℕ → Pci
+abbrev pub first_kind : ℕ → List ℕ → ℕ → Kind
 first_kind len bytes max =
     if nat_lt (length bytes) 8 then Ignored
     else if len == 0 then escape_kind (escape_length bytes) bytes max
@@ -34,14 +52,14 @@ first_kind len bytes max =
     else First len (take 6 (drop 2 bytes))
 
 -- a FlowControl has status, block size and separation time
-abbrev pub flow_kind : ℕ → List ℕ → Pci
+abbrev pub flow_kind : ℕ → List ℕ → Kind
 flow_kind status bytes =
     if nat_lt (length bytes) 3
     then Ignored
     else FlowControl status (slice_index bytes 1) (slice_index bytes 2)
 
 -- the high nibble of byte 0 decides
-unfoldable pub kind : List ℕ → ℕ → Pci
+unfoldable pub kind : List ℕ → ℕ → Kind
 kind [] max = Ignored
 kind (control ∷ rest) max =
     let bytes = control ∷ rest in
@@ -54,7 +72,7 @@ kind (control ∷ rest) max =
     else Ignored
 
 -- of a functional frame a Single alone counts
-abbrev pub single_only : Pci → Pci
+abbrev pub single_only : Kind → Kind
 single_only (Single payload) = Single payload
 single_only (First len head) = Ignored
 single_only Overflow = Ignored
@@ -62,38 +80,8 @@ single_only (Consecutive number part) = Ignored
 single_only (FlowControl status block gap) = Ignored
 single_only Ignored = Ignored
 
-abbrev pub is_consecutive : Pci → Bool
-is_consecutive (Single payload) = false
-is_consecutive (First len head) = false
-is_consecutive Overflow = false
-is_consecutive (Consecutive number part) = true
-is_consecutive (FlowControl status block gap) = false
-is_consecutive Ignored = false
-
-abbrev pub is_flow_control : Pci → Bool
-is_flow_control (Single payload) = false
-is_flow_control (First len head) = false
-is_flow_control Overflow = false
-is_flow_control (Consecutive number part) = false
-is_flow_control (FlowControl status block gap) = true
-is_flow_control Ignored = false
-
--- a First whose length stands in 12 bits
-abbrev pub is_short_first : Pci → Bool
-is_short_first (Single payload) = false
-is_short_first (First len head) = nat_le len 4095
-is_short_first Overflow = false
-is_short_first (Consecutive number part) = false
-is_short_first (FlowControl status block gap) = false
-is_short_first Ignored = false
-
--- the high nibble of byte 0 is none of the four
-abbrev pub begins_no_kind : List ℕ → Bool
-begins_no_kind [] = true
-begins_no_kind (control ∷ rest) = nat_le 64 control
-
 -- how many bytes of memory a frame needs for its message; a message of one frame needs none
-abbrev pub needed_for : Pci → ℕ
+abbrev pub needed_for : Kind → ℕ
 needed_for (Single payload) = 0
 needed_for (First len head) = len
 needed_for Overflow = 0
@@ -102,7 +90,7 @@ needed_for (FlowControl status block gap) = 0
 needed_for Ignored = 0
 
 -- what is read of a frame of at most 8 bytes
-abbrev pub IsRead : ℕ → Pci → Type 0
+abbrev pub IsRead : ℕ → Kind → Type 0
 IsRead max (Single payload) = (1 ≤ length payload) × (length payload ≤ 7)
 IsRead max (First len head) = (8 ≤ len) × (len ≤ max) × (length head ≡ head_size len)
 IsRead max Overflow = Unit {0}

@@ -1,4 +1,5 @@
 pub mod Message
+pub mod Fault
 pub mod Bytes
 pub mod Cut
 pub mod Kind

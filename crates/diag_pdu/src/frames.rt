@@ -1,8 +1,7 @@
 //! Writing of frames (ISO 15765-2:2016, 9.6), before padding, and the frames of a message (9.2 and 9.3).
 
 ghost use Rattle.std.specs.Prelude.{◌≡◌, ℕ, ◌≤◌, ◌<◌, ◌+◌, ◌↔◌, [], ◌∷◌, Some, IfSome, IsSome, length, slice_get};
-ghost use Rattle.diag_pdu.specs.declared.pci.Pci.{Pci};
-ghost use Rattle.diag_pdu.specs.Kind.{kind};
+ghost use Rattle.diag_pdu.specs.Kind.{Single, First, Consecutive, FlowControl, kind};
 ghost use Rattle.diag_pdu.specs.Cut.{head_size, filled, single_bytes, first_bytes, consecutive_bytes, flow_bytes, part_of, cut, frames_of};
 
 use crate::kind::{consecutive_count, head_size};
@@ -14,7 +13,7 @@ use diag_can::FrameBytes;
 pub fn single_frame(payload: &[u8]) -> FrameBytes
     requires few { (1 ≤ length payload.now) × (length payload.now ≤ 7) }
     ensures bytes { result ≡ single_bytes payload.now }
-    ensures read { (max : ℕ) → kind result max ≡ Pci.Single payload.now }
+    ensures read { (max : ℕ) → kind result max ≡ Single payload.now }
 {
     let mut frame = FrameBytes::new();
     frame.push(payload.len() as u8);
@@ -29,7 +28,7 @@ pub fn first_frame(len: u16, head: &[u8]) -> FrameBytes
     requires long { 8 ≤ len }
     requires whole { length head.now ≡ head_size len }
     ensures bytes { result ≡ first_bytes len head.now }
-    ensures read { (max : ℕ) → len ≤ max → kind result max ≡ Pci.First len head.now }
+    ensures read { (max : ℕ) → len ≤ max → kind result max ≡ First len head.now }
 {
     first_of(len, head)
 }
@@ -57,7 +56,7 @@ pub fn consecutive_frame(number: u8, part: &[u8]) -> FrameBytes
     requires nibble { number < 16 }
     requires few { length part.now ≤ 7 }
     ensures bytes { result ≡ consecutive_bytes number part.now }
-    ensures read { (max : ℕ) → kind result max ≡ Pci.Consecutive number part.now }
+    ensures read { (max : ℕ) → kind result max ≡ Consecutive number part.now }
 {
     let mut frame = FrameBytes::new();
     frame.push(0x20 + number);
@@ -70,7 +69,7 @@ pub fn consecutive_frame(number: u8, part: &[u8]) -> FrameBytes
 pub fn flow_frame(status: u8, block: u8, gap: u8) -> FrameBytes
     requires nibble { status < 16 }
     ensures bytes { result ≡ flow_bytes status block gap }
-    ensures read { (max : ℕ) → kind result max ≡ Pci.FlowControl status block gap }
+    ensures read { (max : ℕ) → kind result max ≡ FlowControl status block gap }
 {
     FrameBytes::made_of(&[0x30 + status, block, gap])
 }

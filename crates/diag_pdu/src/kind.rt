@@ -1,41 +1,31 @@
 //! The kinds of frames (ISO 15765-2:2016, 9.6), and the lengths that they imply.
 
 ghost use Rattle.std.specs.Prelude.{◌≡◌, ℕ, ◌<◌, ◌≤◌, ◌+◌, length, take, drop, slice_index, ◌*◌};
-ghost use Rattle.diag_pdu.specs.Kind.{kind, single_kind, first_kind, escape_kind, flow_kind, escape_length, IsRead};
+ghost use Rattle.diag_pdu.specs.Kind.{says, kind, single_kind, first_kind, escape_kind, flow_kind, escape_length, IsRead};
 ghost use Rattle.diag_pdu.specs.Cut.{head_size, consecutive_count};
 
 use crate::pci::Pci;
-use diag_can::FrameBytes;
 
-impl Pci {
+impl Pci<'_> {
     /// What a frame of these bytes, at most eight, is, where messages of up to `max` bytes are taken. The high half
     /// of the first byte tells the kind.
-    pub fn read(bytes: &[u8], max: u16) -> Pci
-        requires { length bytes.now ≤ 8 }
-        ensures kind { result ≡ kind bytes.now max }
-        ensures read { IsRead max result }
-    {
-        Pci::of_frame(&FrameBytes::from_slice(bytes), max)
-    }
-
-    /// The same of a frame's bytes, of which a part is moved to the front at once.
     #[tactic(auto, unfolding(crate::specs::Kind::kind))]
-    #[inline]
-    pub fn of_frame(frame: &FrameBytes, max: u16) -> Pci
-        ensures kind { result ≡ kind frame.now max }
-        ensures read { IsRead max result }
+    #[inline(always)]
+    pub fn read(bytes: &[u8], max: u16) -> Pci<'_>
+        requires { length bytes.now ≤ 8 }
+        ensures kind { says result ≡ kind bytes.now max }
+        ensures read { IsRead max (kind bytes.now max) }
     {
-        let bytes = frame.as_slice();
         let Some((control, rest)) = bytes.split_first() else {
             return Pci::Ignored;
         };
         let low = *control % 16;
         match *control / 16 {
-            0 => single(low, frame),
+            0 => single(low, bytes),
             1 => first(low, bytes, max),
             2 => Pci::Consecutive {
                 sequence_number: low,
-                part: frame.part(1, rest.len()),
+                part: rest,
             },
             3 => flow(low, bytes),
             _ => Pci::Ignored,
@@ -43,23 +33,30 @@ impl Pci {
     }
 }
 
-#[inline]
-fn single(count: u8, frame: &FrameBytes) -> Pci
-    ensures { result ≡ single_kind count frame.now }
+#[inline(always)]
+fn single(count: u8, bytes: &[u8]) -> Pci<'_>
+    requires some { 1 ≤ length bytes.now }
+    requires few { length bytes.now ≤ 8 }
+    ensures kind { says result ≡ single_kind count bytes.now }
+    ensures read { (max : ℕ) → IsRead max (single_kind count bytes.now) }
 {
     let count = usize::from(count);
-    if count >= 1 && count <= 7 && count < frame.len() {
-        Pci::Single(frame.part(1, count))
+    if count >= 1 && count <= 7 && count < bytes.len() {
+        Pci::Single(&bytes[1..1 + count])
     } else {
         Pci::Ignored
     }
 }
 
-fn first(high: u8, bytes: &[u8], max: u16) -> Pci
+#[inline(always)]
+fn first(high: u8, bytes: &[u8], max: u16) -> Pci<'_>
     requires few { length bytes.now ≤ 8 }
     requires nibble { high < 16 }
     requires some { 1 ≤ length bytes.now }
-    ensures { result ≡ first_kind (high * 256 + slice_index bytes.now 1) bytes.now max }
+    ensures kind { says result
+        ≡ first_kind (high * 256 + slice_index bytes.now 1) bytes.now max }
+    ensures read { IsRead max
+        (first_kind (high * 256 + slice_index bytes.now 1) bytes.now max) }
 {
     if bytes.len() < 8 {
         return Pci::Ignored;
@@ -74,14 +71,16 @@ fn first(high: u8, bytes: &[u8], max: u16) -> Pci
     } else {
         Pci::First {
             len,
-            head: FrameBytes::from_slice(&bytes[2..8]),
+            head: &bytes[2..8],
         }
     }
 }
 
-fn escape(bytes: &[u8], max: u16) -> Pci
+#[inline(never)]
+fn escape(bytes: &[u8], max: u16) -> Pci<'_>
     requires { length bytes.now ≡ 8 }
-    ensures { result ≡ escape_kind (escape_length bytes.now) bytes.now max }
+    ensures kind { says result ≡ escape_kind (escape_length bytes.now) bytes.now max }
+    ensures read { IsRead max (escape_kind (escape_length bytes.now) bytes.now max) }
 {
     let len = u32::from_be_bytes([bytes[2], bytes[3], bytes[4], bytes[5]]);
     if len <= 4095 {
@@ -91,13 +90,15 @@ fn escape(bytes: &[u8], max: u16) -> Pci
     } else {
         Pci::First {
             len: len as u16,
-            head: FrameBytes::from_slice(&bytes[6..8]),
+            head: &bytes[6..8],
         }
     }
 }
 
-fn flow(status: u8, bytes: &[u8]) -> Pci
-    ensures { result ≡ flow_kind status bytes.now }
+#[inline(always)]
+fn flow(status: u8, bytes: &[u8]) -> Pci<'_>
+    ensures kind { says result ≡ flow_kind status bytes.now }
+    ensures read { (max : ℕ) → IsRead max (flow_kind status bytes.now) }
 {
     if bytes.len() < 3 {
         return Pci::Ignored;

@@ -5,7 +5,6 @@ mod frames;
 mod kind;
 mod message;
 mod pci;
-mod reading;
 mod setup;
 mod step;
 
@@ -16,8 +15,5 @@ pub use frames::{
 pub use kind::{consecutive_count, head_size};
 pub use message::{Message, MessageFault};
 pub use pci::Pci;
-pub use reading::{
-    consecutive_part, first_parts, first_size, flow_parts, is_of_no_kind, single_size,
-};
 pub use setup::LinkSetup;
 pub use step::{Request, Step};

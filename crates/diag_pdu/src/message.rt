@@ -1,23 +1,36 @@
 //! Messages of the transport: requests and replies of a diagnostic service.
 
-ghost use Rattle.std.specs.Prelude.{◌≡◌, ◌<◌, ◌≤◌, ◌⊎◌, ◌↔◌, ◌-◌, ◌++◌, length, take, OnOk, IfOk, IsOk, IfSome, IsSome, Err};
+ghost use Rattle.std.specs.Prelude.{◌≡◌, ◌<◌, ◌≤◌, ◌⊎◌, ◌↔◌, ◌-◌, ◌++◌, length, take, OnOk, IfOk, IsOk, IfSome, IsSome, Some, Err};
+ghost use Rattle.diag_pdu.specs.Fault.{message_fault_text};
 ghost use Rattle.diag_pdu.specs.Message.{IsInRange};
 
 use diag_can::FrameBytes;
 use std::alloc::{AllocError, Global};
+use std::error::Error;
+use std::fmt;
 use std::marker::Model;
-use thiserror::Error;
 
 /// Why there is no message.
-#[derive(Clone, Copy, Debug, PartialEq, Eq, Error)]
+#[derive(Clone, Copy, Debug, PartialEq, Eq)]
 pub enum MessageFault {
     /// There are no bytes, or more than 65535.
-    #[error("a message has 1 to 65535 bytes")]
     Length,
     /// Memory was refused.
-    #[error("no memory for a message")]
     Memory,
 }
+
+impl fmt::Display for MessageFault {
+    ghost output = { λ x. Some (message_fault_text x) };
+
+    fn fmt<W: fmt::Write>(&self, f: &mut fmt::Formatter<W>) -> fmt::Result {
+        match self {
+            MessageFault::Length => write!(f, "a message has 1 to 65535 bytes"),
+            MessageFault::Memory => write!(f, "no memory for a message"),
+        }
+    }
+}
+
+impl Error for MessageFault {}
 
 /// The most bytes that a message keeps in place: those of a frame.
 const IN_PLACE: usize = 8;

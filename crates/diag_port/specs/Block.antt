@@ -3,6 +3,6 @@ use Rattle.std.specs.Prelude.{Bool}
 use Rattle.diag_tp.specs.Block.{link_in_block}
 use Rattle.diag_port.specs.Port.{PortState}
 
--- a Consecutive frame of a reply is still to go, behind its separation time
+-- a ConsecutiveFrame of a reply is still to go, behind its separation time
 abbrev pub port_in_block : PortState → Bool
 port_in_block port = link_in_block port.link

@@ -98,13 +98,13 @@ fn send_frames(link: &mut Link, out: &mut Vec<Sent>)
 fn receive_alone(
     link: &mut Link,
     event: &Event,
-    taken: &Taken,
+    taken: Taken<'_>,
     reply: &mut Option<Message>,
     out: &mut Vec<Sent>,
 )
-    requires taken { IsTaken link.old.state event.now taken.now }
+    requires taken { IsTaken link.old.state event.now taken }
     requires drained { pending link.old.state ≡ 0 }
-    requires fits { FitsIn link.old taken.now }
+    requires fits { FitsIn link.old taken }
     requires reply_room { IsTrue (has_reply_room link.old) }
     requires room { vec_len out.old + unsent link.old.state + 2 ≤ vec_capacity out.old }
     ensures received { Grew out.old.items out.new.items (λ more. AreWithin link.old.state.now link.new.state.now more
@@ -233,13 +233,13 @@ fn pass_quiet(port: &mut Port, count: TickCount)
 pub(crate) fn receive_at_once(
     port: &mut Port,
     event: &Event,
-    taken: &Taken,
+    taken: Taken<'_>,
     reply: &mut Option<Message>,
     out: &mut Vec<Sent>,
 )
-    requires taken { IsTaken port.old.link.state event.now taken.now }
+    requires taken { IsTaken port.old.link.state event.now taken }
     requires rest { IsAtRest port.old }
-    requires fits { FitsIn port.old.link taken.now }
+    requires fits { FitsIn port.old.link taken }
     requires reply_room { IsTrue (has_reply_room port.old.link) }
     requires room { vec_len out.old + unsent port.old.link.state + 2 ≤ vec_capacity out.old }
     requires none_held { port.old.held.messages ≡ [] }
@@ -259,15 +259,15 @@ pub(crate) fn receive_at_once(
 pub(crate) fn receive_held(
     port: &mut Port,
     event: &Event,
-    taken: &Taken,
+    taken: Taken<'_>,
     reply: &mut Option<Message>,
     after: u32,
     sid: u8,
     out: &mut Vec<Sent>,
 )
-    requires taken { IsTaken port.old.link.state event.now taken.now }
+    requires taken { IsTaken port.old.link.state event.now taken }
     requires rest { IsAtRest port.old }
-    requires fits { FitsIn port.old.link taken.now }
+    requires fits { FitsIn port.old.link taken }
     requires can { CanHold port.old (vec_len out.old) (vec_capacity out.old) }
     ensures received { Grew out.old.items out.new.items
         (Received (port_of port.old) (port_of port.new) event.now after sid reply.old) }

@@ -81,7 +81,7 @@ impl Port {
         self.link.quiet_after(passed).min(self.held.until_due(then))
     }
 
-    /// Whether a Consecutive frame of a reply is still to go, behind its separation time.
+    /// Whether a ConsecutiveFrame of a reply is still to go, behind its separation time.
     #[inline(always)]
     pub fn is_in_block(&self) -> bool
         ensures { result ≡ port_in_block (port_of self.now) }

@@ -65,13 +65,13 @@ pub fn take<T: TakeSteps>(
     }
     let delays = taker.can_delay();
     let taken = prepare(port, event, delays, out)?;
-    match &taken {
+    match taken {
         Taken::Ignored | Taken::Read(_) => {
-            take_silent(port, event, &taken, out);
+            take_silent(port, event, taken, out);
             Ok(())
         }
         Taken::Functional | Taken::Single | Taken::Last => {
-            take_request(port, who, event, &taken, taker, out)
+            take_request(port, who, event, taken, taker, out)
         }
     }
 }
@@ -114,12 +114,12 @@ fn make_tick_room(port: &Port, out: &mut Vec<Sent>) -> Result<(), AllocError>
 /// Reads a frame, and makes room for it and for what it may draw; where a reply may go later, or something is held, for all
 /// messages of one more reply. Nothing else changes, whatever the answer.
 #[inline(always)]
-fn prepare(
+fn prepare<'f>(
     port: &mut Port,
-    event: &Event,
+    event: &'f Event,
     delays: bool,
     out: &mut Vec<Sent>,
-) -> Result<Taken, AllocError>
+) -> Result<Taken<'f>, AllocError>
     requires rest { IsAtRest port.old }
     requires frame { IsTrue (is_frame event.now) }
     ensures same { port_of port.new ≡ port_of port.old }
@@ -164,10 +164,10 @@ fn make_hold_room(port: &mut Port, out: &mut Vec<Sent>) -> Result<(), AllocError
 /// Takes a frame that was read and has room, and asks nothing.
 #[cold]
 #[inline(never)]
-fn take_silent(port: &mut Port, event: &Event, taken: &Taken, out: &mut Vec<Sent>)
+fn take_silent(port: &mut Port, event: &Event, taken: Taken<'_>, out: &mut Vec<Sent>)
     requires prepared { IsPrepared
-        port.old event.now taken.now (vec_len out.old) (vec_capacity out.old) }
-    requires silent { asked_in port.old.link taken.now ≡ None }
+        port.old event.now taken (vec_len out.old) (vec_capacity out.old) }
+    requires silent { asked_in port.old.link taken ≡ None }
     ensures took { (who : ℕ) → Grew out.old.items out.new.items (λ more.
         PortTook (port_of port.old) (port_of port.new) who event.now None more) }
     ensures rest { IsAtRest port.new }
@@ -186,12 +186,12 @@ fn take_request<T: TakeSteps>(
     port: &mut Port,
     who: TesterId,
     event: &Event,
-    taken: &Taken,
+    taken: Taken<'_>,
     taker: &mut T,
     out: &mut Vec<Sent>,
 ) -> Result<(), StepFault>
     requires prepared { IsPrepared
-        port.old event.now taken.now (vec_len out.old) (vec_capacity out.old) }
+        port.old event.now taken (vec_len out.old) (vec_capacity out.old) }
     requires delays { T.can_delay taker.old ≡ true
         → CanHold port.old (vec_len out.old) (vec_capacity out.old) }
     requires allows { T.allows taker.old who port.old.link.state.now }

@@ -98,7 +98,7 @@ impl<S: Ending> Capture<S> {
         self.bus.quiet()
     }
 
-    /// Whether to some tester a Consecutive frame of a reply is still to go, behind its separation time.
+    /// Whether to some tester a ConsecutiveFrame of a reply is still to go, behind its separation time.
     pub fn is_in_block(&self) -> bool
         ensures { result ≡ some_in_block self.now.bus.server.ports }
     {

@@ -2,7 +2,7 @@
 //! flush fails, faults that no file brings about, calls for who embeds the crates (a play that is kept, a bus that is given
 //! its lines, and runs that take no handles), a capture of more than two million lines, and live runs on a scripted bench
 //! with a clock of its own, with devices that fail and the record run again.
-//! (The program makes a run's text and writes it by calls of its own: `tools/devices.py` lets its reads and writes fail.)
+//! (The program makes a run's text and writes it by calls of its own: `test/devices.py` lets its reads and writes fail.)
 #![tactic(auto)]
 
 #[cfg(test)]

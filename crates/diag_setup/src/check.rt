@@ -20,7 +20,7 @@ const MOST_TESTERS: usize = 8;
 /// The most data identifiers.
 const MOST_DIDS: usize = 1024;
 
-/// The most trouble codes.
+/// The most DTCs.
 const MOST_DTCS: usize = 4096;
 
 /// The most routines.

@@ -15,7 +15,7 @@ pub enum SetupFault {
     Empty,
     /// Two testers of one name, two equal identifiers on the bus, or two rows of one key.
     DuplicateId,
-    /// A routine names a trouble code that is not in the list.
+    /// A routine names a DTC that is not in the list.
     UnknownCode,
     /// A data identifier, a routine or a row of answers names a security level that is not in the list.
     UnknownLevel,

@@ -40,7 +40,7 @@ pub struct RawSetup {
     pub testers: Items<RawTester>,
     /// Up to 1024 data identifiers, no two equal.
     pub dids: Items<RawDid>,
-    /// Up to 4096 trouble codes, no two equal.
+    /// Up to 4096 DTCs, no two equal.
     pub dtcs: Items<RawCode>,
     /// Up to 256 routines, no two of one identifier.
     pub routines: Items<RawRoutine>,
@@ -85,7 +85,7 @@ pub struct RawDid {
     pub varies: bool,
 }
 
-/// A trouble code with its status.
+/// A DTC with its status.
 #[derive(Clone, Copy, PartialEq, Eq, Debug, Drop)]
 pub struct RawCode {
     /// The code of three bytes, 0 to 0xFFFFFE.

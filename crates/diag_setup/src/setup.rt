@@ -187,7 +187,7 @@ impl Setup {
         self.raw.dids.as_slice()
     }
 
-    /// The trouble codes in rising order.
+    /// The DTCs in rising order.
     #[tactic(auto, using(crate::proofs::FitLemmas::codes_fit, crate::proofs::FitLemmas::codes_few, crate::proofs::FitLemmas::codes_rise))]
     pub fn dtcs(&self) -> &[RawCode]
         ensures same { result.now ≡ self.now.dtcs }

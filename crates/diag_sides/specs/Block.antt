@@ -8,7 +8,7 @@ abbrev pub waits_for_gap : Phase → Bool
 waits_for_gap (AwaitsFlow ticks) = false
 waits_for_gap (InBlock rest gap ticks) = true
 
--- a Consecutive frame of the current message is still to go, behind its separation time
+-- a ConsecutiveFrame of the current message is still to go, behind its separation time
 abbrev pub is_in_block : Option Sending → Bool
 is_in_block None = false
 is_in_block (Some c) = waits_for_gap c.phase

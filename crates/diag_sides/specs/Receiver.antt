@@ -1,7 +1,6 @@
 -- What a receiver keeps of the events: of an open reception no more than the next frames need.
 use Rattle.std.specs.Prelude.{ℕ, ◌+◌, ◌-◌, ◌*◌, ◌%◌, ◌==◌, nat_le, nat_lt, min, Bool, ◌&&◌, if◌then◌else◌, List, ◌++◌, length, take, Option, Some, None, option_and_then}
-use Rattle.diag_pdu.specs.declared.pci.Pci.{Pci}
-use Rattle.diag_pdu.specs.declared.pci.Pci.TheVariants.{Single, First, Overflow, Consecutive, FlowControl, Ignored}
+use Rattle.diag_pdu.specs.Kind.{Kind, Single, First, Overflow, Consecutive, FlowControl, Ignored}
 use Rattle.diag_pdu.specs.declared.setup.LinkSetup.{LinkSetup}
 use Rattle.diag_pdu.specs.declared.step.Request.{Request}
 use Rattle.diag_pdu.specs.Request.{request_of}
@@ -64,7 +63,7 @@ if_complete None = None
 if_complete (Some p) = if is_complete p then Some p.bytes else None
 
 -- the reception after a frame
-abbrev pub open_after : Option Partial → Pci → Option Partial
+abbrev pub open_after : Option Partial → Kind → Option Partial
 open_after o (Single payload) = None
 open_after o (First len head) = Some (begun_partial len head)
 open_after o Overflow = None
@@ -73,7 +72,7 @@ open_after o (FlowControl status block gap) = o
 open_after o Ignored = o
 
 -- the message that a frame completes
-abbrev pub completed_by : Option Partial → Pci → Option (List ℕ)
+abbrev pub completed_by : Option Partial → Kind → Option (List ℕ)
 completed_by o (Single payload) = Some payload
 completed_by o (First len head) = None
 completed_by o Overflow = None
@@ -95,7 +94,7 @@ block_answer s None = None
 block_answer s (Some p) = if ends_block s p then Some (go_on s) else None
 
 -- the flow control that answers a frame
-abbrev pub granted_by : LinkSetup → Option Partial → Pci → Option (List ℕ)
+abbrev pub granted_by : LinkSetup → Option Partial → Kind → Option (List ℕ)
 granted_by s o (Single payload) = None
 granted_by s o (First len head) = Some (go_on s)
 granted_by s o Overflow = Some (filled s.pad (flow_bytes 2 0 0))

@@ -1,7 +1,6 @@
 //! The receiving side of a link: messages of one frame and of several (ISO 15765-2:2016, 9.2, 9.3, 9.6.4 and 9.8.3).
 
 ghost use Rattle.std.specs.Prelude.{◌≡◌, ◌≤◌, ◌<◌, ◌+◌, ◌%◌, ◌++◌, [], false, length, min, Some, None, take, vec_capacity, OnOk, IfOk, IfSome, IfNone, IsSome, option_and_then, option_copied, is_some, if◌then◌else◌, ◌&&◌, ◌==◌, nat_lt, IsTrue, IsFalse};
-ghost use Rattle.diag_pdu.specs.declared.pci.Pci.{Pci};
 ghost use Rattle.diag_pdu.specs.declared.setup.LinkSetup.{LinkSetup as ALinkSetup};
 ghost use Rattle.diag_sides.specs.Quiet.{reception_quiet, reception_later};
 ghost use Rattle.diag_pdu.specs.Cut.{head_size, consecutive_count};
@@ -9,7 +8,7 @@ ghost use Rattle.diag_sides.specs.Held.{IsHeld};
 ghost use Rattle.diag_sides.specs.declared.reception.Held.{Held};
 ghost use Rattle.diag_sides.specs.Receiver.{ask_of, kept_bytes, begun_partial, expects, with_bytes, ends_block, ticks_later, open_after, completed_by, granted_by, go_on};
 ghost use Rattle.diag_pdu.specs.Request.{request_of};
-ghost use Rattle.diag_pdu.specs.Kind.{IsRead, needed_for};
+ghost use Rattle.diag_pdu.specs.Kind.{Consecutive, IsRead, says, needed_for};
 
 use diag_can::FrameBytes;
 use diag_pdu::{
@@ -244,12 +243,12 @@ impl Receiver {
     }
 
     /// Takes a frame whose message, if it completes one, was handed over, and answers the flow control that it draws.
-    pub fn take(&mut self, setup: &LinkSetup, kind: &Pci) -> Option<FrameBytes>
-        requires read { IsRead setup.now.max_request kind.now }
-        requires room { needed_for kind.now ≤ self.old.room }
-        ensures partial { self.new.partial ≡ open_after self.old.partial kind.now }
-        ensures grant { result ≡ granted_by setup.now self.old.partial kind.now }
-        ensures kept { needed_for kind.now ≡ 0 → self.old.room ≤ self.new.room }
+    pub fn take(&mut self, setup: &LinkSetup, kind: Pci<'_>) -> Option<FrameBytes>
+        requires read { IsRead setup.now.max_request (says kind) }
+        requires room { needed_for (says kind) ≤ self.old.room }
+        ensures partial { self.new.partial ≡ open_after self.old.partial (says kind.entry) }
+        ensures grant { result ≡ granted_by setup.now self.old.partial (says kind.entry) }
+        ensures kept { needed_for (says kind.entry) ≡ 0 → self.old.room ≤ self.new.room }
     {
         match kind {
             Pci::Single(_) => {
@@ -257,7 +256,7 @@ impl Receiver {
                 None
             }
             Pci::First { len, head } => {
-                self.begin(*len, head.as_slice());
+                self.begin(len, head);
                 Some(go_on(setup))
             }
             Pci::Overflow => {
@@ -267,32 +266,32 @@ impl Receiver {
             Pci::Consecutive {
                 sequence_number,
                 part,
-            } if self.consecutive(setup, *sequence_number, part.as_slice()) => Some(go_on(setup)),
+            } if self.consecutive(setup, sequence_number, part) => Some(go_on(setup)),
             Pci::Consecutive { .. } | Pci::FlowControl { .. } | Pci::Ignored => None,
         }
     }
 
     /// The message that this frame completes, taken out of the reception, which it ends.
-    pub fn complete(&mut self, kind: &Pci) -> Option<Message>
-        requires read { IsRead 65535 kind.now }
-        ensures message { result ≡ completed_by self.old.partial kind.now }
-        ensures partial { open_after self.new.partial kind.now
-            ≡ open_after self.old.partial kind.now }
-        ensures grant { (s : ALinkSetup) → granted_by s self.new.partial kind.now
-            ≡ granted_by s self.old.partial kind.now }
+    pub fn complete(&mut self, kind: Pci<'_>) -> Option<Message>
+        requires read { IsRead 65535 (says kind) }
+        ensures message { result ≡ completed_by self.old.partial (says kind.entry) }
+        ensures partial { open_after self.new.partial (says kind.entry)
+            ≡ open_after self.old.partial (says kind.entry) }
+        ensures grant { (s : ALinkSetup) → granted_by s self.new.partial (says kind.entry)
+            ≡ granted_by s self.old.partial (says kind.entry) }
         ensures same { IfNone result (self.new ≡ self.old) }
         ensures room { self.new.room ≡ self.old.room }
     {
         match kind {
-            Pci::Single(payload) => Some(Message::in_place(payload.copy())),
+            Pci::Single(payload) => Some(Message::in_place(FrameBytes::from_slice(payload))),
             Pci::Consecutive {
                 sequence_number,
                 part,
-            } if self.completes(*sequence_number, part.as_slice()) => {
+            } if self.completes(sequence_number, part) => {
                 let Some(mut whole) = self.partial.take() else {
                     return None;
                 };
-                whole.stage(part.as_slice());
+                whole.stage(part);
                 whole.into_message()
             }
             _ => None,
@@ -303,7 +302,7 @@ impl Receiver {
     #[inline(always)]
     pub fn completes(&self, number: u8, part: &[u8]) -> bool
         ensures { result
-            ≡ is_some (completed_by self.now.partial (Pci.Consecutive number part.now)) }
+            ≡ is_some (completed_by self.now.partial (Consecutive number part.now)) }
     {
         match &self.partial {
             Some(partial) => partial.is_completed_by(number, part.len()),
@@ -312,18 +311,18 @@ impl Receiver {
     }
 
     /// The message that this frame would complete.
-    pub fn peek(&self, kind: &Pci) -> Result<Option<Message>, AllocError>
-        requires read { IsRead 65535 kind.now }
-        ensures { IfOk result (λ message. message ≡ completed_by self.now.partial kind.now) }
+    pub fn peek(&self, kind: Pci<'_>) -> Result<Option<Message>, AllocError>
+        requires read { IsRead 65535 (says kind) }
+        ensures { IfOk result (λ message. message ≡ completed_by self.now.partial (says kind.entry)) }
     {
         match kind {
-            Pci::Single(payload) => Ok(Some(Message::in_place(payload.copy()))),
+            Pci::Single(payload) => Ok(Some(Message::in_place(FrameBytes::from_slice(payload)))),
             Pci::Consecutive {
                 sequence_number,
                 part,
             } => match &self.partial {
-                Some(partial) if partial.is_completed_by(*sequence_number, part.len()) => {
-                    Ok(Some(partial.copy_with(self.alloc, part.as_slice())?))
+                Some(partial) if partial.is_completed_by(sequence_number, part.len()) => {
+                    Ok(Some(partial.copy_with(self.alloc, part)?))
                 }
                 _ => Ok(None),
             },
@@ -336,9 +335,9 @@ impl Receiver {
     pub fn stage(&mut self, number: u8, part: &[u8]) -> bool
         requires few { length part.now ≤ 7 }
         ensures is { result
-            ≡ is_some (completed_by self.old.partial (Pci.Consecutive number part.now)) }
+            ≡ is_some (completed_by self.old.partial (Consecutive number part.now)) }
         ensures staged { IsTrue result → self.new.staged
-            ≡ ask_of false (completed_by self.old.partial (Pci.Consecutive number part.now)) }
+            ≡ ask_of false (completed_by self.old.partial (Consecutive number part.now)) }
         ensures partial { self.new.partial ≡ self.old.partial }
         ensures room { self.new.room ≡ self.old.room }
         ensures same { IsFalse result → self.new ≡ self.old }
@@ -431,9 +430,9 @@ impl Receiver {
     pub fn consecutive(&mut self, setup: &LinkSetup, number: u8, part: &[u8]) -> bool
         requires few { length part.now ≤ 7 }
         ensures partial { self.new.partial
-            ≡ open_after self.old.partial (Pci.Consecutive number part.now) }
+            ≡ open_after self.old.partial (Consecutive number part.now) }
         ensures grant { (if result then Some (go_on setup.now) else None)
-            ≡ granted_by setup.now self.old.partial (Pci.Consecutive number part.now) }
+            ≡ granted_by setup.now self.old.partial (Consecutive number part.now) }
         ensures room { self.old.room ≤ self.new.room }
     {
         let Some(partial) = &mut self.partial else {

@@ -226,7 +226,7 @@ impl Sender {
         }
     }
 
-    /// Whether a Consecutive frame of the current message is still to go, behind its separation time.
+    /// Whether a ConsecutiveFrame of the current message is still to go, behind its separation time.
     #[inline(always)]
     pub fn is_in_block(&self) -> bool
         ensures { result ≡ is_in_block self.now.current }

@@ -1,5 +1,6 @@
 pub mod Rows
 pub mod Dids
+pub mod Fault
 pub mod Dtcs
 pub mod Routines
 pub mod Security

@@ -1,7 +1,8 @@
 //! The data identifiers (ISO 14229-1:2013, 10.2 and 10.7).
 
-ghost use Rattle.std.specs.Prelude.{◌≡◌, ◌≤◌, true, OnOk, OnErr, IfOk, IsTrue, option_copied, position, length};
+ghost use Rattle.std.specs.Prelude.{◌≡◌, ◌≤◌, true, OnOk, OnErr, IfOk, IsTrue, option_copied, position, length, Some};
 ghost use Rattle.diag_store.specs.Dids.{id_of, has_id, row_of, value_of, rule_of, write_answer, with_value};
+ghost use Rattle.diag_store.specs.Fault.{did_fault_text};
 ghost use Rattle.diag_setup.specs.Fits.{DidFits};
 ghost use Rattle.diag_setup.specs.Rows.{is_rising};
 ghost use Rattle.diag_store.specs.Opening.{opening_dids, did_row};
@@ -11,8 +12,9 @@ use crate::search::{find_place, find_row};
 use arrayvec::ArrayVec;
 use diag_setup::{Keyed, RawDid, Setup};
 use std::alloc::{AllocError, Global};
+use std::error::Error;
+use std::fmt;
 use std::marker::Model;
-use thiserror::Error;
 
 /// Who may read and write a data identifier.
 #[derive(Clone, Copy, PartialEq, Eq, Debug, Drop)]
@@ -37,15 +39,26 @@ pub struct DidRow {
 }
 
 /// Why a value was not written.
-#[derive(Clone, Copy, PartialEq, Eq, Debug, Drop, Error)]
+#[derive(Clone, Copy, PartialEq, Eq, Debug, Drop)]
 pub enum DidFault {
     /// No such identifier.
-    #[error("no such identifier")]
     Unknown,
     /// Another length than the value kept.
-    #[error("another length than the value kept")]
     Length,
 }
+
+impl fmt::Display for DidFault {
+    ghost output = { λ x. Some (did_fault_text x) };
+
+    fn fmt<W: fmt::Write>(&self, f: &mut fmt::Formatter<W>) -> fmt::Result {
+        match self {
+            DidFault::Unknown => write!(f, "no such identifier"),
+            DidFault::Length => write!(f, "another length than the value kept"),
+        }
+    }
+}
+
+impl Error for DidFault {}
 
 impl Keyed for DidRow {
     ghost key_of = { id_of };

@@ -1,4 +1,4 @@
-//! The trouble codes (ISO 14229-1:2013, 11.2 and 11.3).
+//! The DTCs (ISO 14229-1:2013, 11.2 and 11.3).
 
 ghost use Rattle.std.specs.Prelude.{IsTrue, ◌≡◌, ◌≤◌, ℕ, true, IfOk, is_some, option_map, length, map, slice_get};
 ghost use Rattle.std.specs.Bool.{OnFalse};
@@ -11,7 +11,7 @@ use diag_setup::{Keyed, RawCode, Setup};
 use std::alloc::{AllocError, Global};
 use std::marker::Model;
 
-/// A trouble code with its status byte.
+/// A DTC with its status byte.
 #[derive(Clone, Copy, PartialEq, Eq, Debug, Drop)]
 pub struct Dtc {
     /// The code of three bytes.
@@ -28,7 +28,7 @@ impl Keyed for Dtc {
     }
 }
 
-/// The trouble codes, in rising order.
+/// The DTCs, in rising order.
 #[derive(Drop)]
 pub struct DtcMemory {
     rows: Vec<Dtc>,

@@ -1,4 +1,4 @@
-//! The tables of the ECU: data identifiers, trouble codes, routines and security levels.
+//! The tables of the ECU: data identifiers, DTCs, routines and security levels.
 #![tactic(auto)]
 
 mod answers;

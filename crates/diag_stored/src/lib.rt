@@ -6,7 +6,7 @@ mod setup;
 
 pub use setup::{raw_two_testers, two_testers};
 
-/// The setup file: two testers, an identifier that a level guards, a trouble code and a routine that gives it.
+/// The setup file: two testers, an identifier that a level guards, a DTC and a routine that gives it.
 pub const CONFIG: &str = "\
 delay_ms = 2000
 

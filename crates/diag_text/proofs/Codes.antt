@@ -1,4 +1,4 @@
--- The lines of trouble codes, one after the other.
+-- The lines of DTCs, one after the other.
 use Rattle.std.proofs.Common.{◌≡◌, ℕ, ◌+◌, ◌<◌, ◌++◌, ◌∷◌, List, Option, Some, None, get_or, drop, refl, ap, ap₂, ◌∙◌, option_map}
 use Rattle.std.specs.Prelude.{slice_get}
 use Rattle.std.proofs.lemmas.List.{drop_more}

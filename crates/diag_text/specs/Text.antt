@@ -52,7 +52,7 @@ abbrev pub holder_lines : RawSetup → State → Option ℕ → List ℕ
 holder_lines setup s None = codes "session default\nholder none\n"
 holder_lines setup s (Some who) = held_lines setup who (session_of s who)
 
--- a trouble code in three bytes, and its status
+-- a DTC in three bytes, and its status
 abbrev pub code_line : ℕ → ℕ → List ℕ
 code_line code status =
     codes "code "

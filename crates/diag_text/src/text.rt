@@ -271,7 +271,7 @@ pub fn journal_part(alloc: Global, timing: Timing, journal: &Journal) -> Result<
     }
 }
 
-/// The end of a run: the session, its holder, and each trouble code with its status as kept.
+/// The end of a run: the session, its holder, and each DTC with its status as kept.
 ///
 /// # Errors
 /// `AllocError` where memory is refused.
@@ -332,7 +332,7 @@ fn add_name(text: &mut Vec<u8>, setup: &Setup, who: TesterId) -> Result<(), Allo
     }
 }
 
-/// Adds a line for each trouble code.
+/// Adds a line for each DTC.
 fn add_codes(text: &mut Vec<u8>, dtcs: &DtcMemory) -> Result<(), AllocError>
     ensures { OnOk result (text.new.items ≡ text.old.items ++ code_lines dtcs.now) }
 {
@@ -345,7 +345,7 @@ fn add_codes(text: &mut Vec<u8>, dtcs: &DtcMemory) -> Result<(), AllocError>
     Ok(())
 }
 
-/// Adds the line of one trouble code.
+/// Adds the line of one DTC.
 fn add_code(text: &mut Vec<u8>, code: u32, status: u8) -> Result<(), AllocError>
     ensures { OnOk result (text.new.items ≡ text.old.items ++ code_line code status) }
 {

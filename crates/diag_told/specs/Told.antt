@@ -20,6 +20,11 @@ place_told (Unasked heard) = heard.start.at
 abbrev pub stamp_text : ℕ → List ℕ
 stamp_text at = zero_filled 10 (decimal (at / 1000)) ++ codes "." ++ zero_filled 3 (decimal (at % 1000)) ++ codes "000"
 
+-- the bytes of a message, where there is one
+abbrev pub message_text : Option (List ℕ) → List ℕ
+message_text None = dash
+message_text (Some bytes) = encode_upper bytes
+
 abbrev pub kind_text : Over → List ℕ
 kind_text (Exchange request pendings answer) = if request.functional then codes "F" else codes "P"
 kind_text (Unasked heard) = codes "U"

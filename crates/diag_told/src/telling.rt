@@ -1,15 +1,26 @@
 //! The line of an exchange.
 
-ghost use Rattle.std.specs.Prelude.{◌≡◌, ◌/◌, ◌%◌, ◌++◌, codes, decimal, length, drop, option_copied, OnOk};
+ghost use Rattle.std.specs.Prelude.{◌≡◌, ◌<◌, ◌≤◌, ◌+◌, ◌/◌, ◌%◌, ◌^◌, ◌∷◌, [], ◌++◌, codes, decimal, length, drop, option_copied, vec_len, vec_capacity, OnOk};
 ghost use Rattle.hex.specs.Hex.{encode_upper};
 ghost use Rattle.diag_can.specs.Reply.{zero_filled};
 ghost use Rattle.diag_exchange.specs.Agreeing.{marks, waited};
-ghost use Rattle.diag_told.specs.Told.{byte_text, bytes_text, expected_text, kind_text, pendings_told, place_told, reply_text, request_text, sent_text, stamp_text, time_text, told_text};
+ghost use Rattle.diag_told.specs.Told.{byte_text, bytes_text, expected_text, kind_text, message_text, pendings_told, place_told, reply_text, request_text, sent_text, stamp_text, time_text, told_text};
 
-use diag_can::write_hex;
+use diag_can::{add_bytes, add_hex, decimal_pair, write_hex};
 use diag_exchange::{Expected, Over, Place};
+use diag_pdu::Message;
 use itoa::Buffer;
 use std::alloc::AllocError;
+use std::mem;
+
+/// More bytes than line, stamp and kind have, with the spaces behind them.
+const HEAD_ROOM: usize = 80;
+
+/// More bytes than the numbers at a line's end have.
+const NUMBERS_ROOM: usize = 48;
+
+/// The first number of more than ten digits.
+const TEN_DIGITS: u64 = 10_000_000_000;
 
 /// Adds the line of an exchange of a tester of this name, by the bus's time of its line, in milliseconds; `same` says whether
 /// it agrees.
@@ -25,36 +36,51 @@ pub fn tell(
 ) -> Result<(), AllocError>
     ensures { OnOk result (text.new.items ≡ text.old.items ++ told_text name.now moment same over.now) }
 {
-    add_head(text, name, moment, over)?;
-    add_messages(text, over, same)?;
+    add_front(text, name, moment, over)?;
+    add_expected(text, over, same)?;
     add_numbers(text, over)
 }
 
-/// Adds line, stamp, tester and kind.
-fn add_head(text: &mut Vec<u8>, name: &[u8], moment: u64, over: &Over) -> Result<(), AllocError>
+/// Adds line, stamp, tester, kind, request and what the unit sent, each before a space. It makes room for all of them once.
+fn add_front(text: &mut Vec<u8>, name: &[u8], moment: u64, over: &Over) -> Result<(), AllocError>
     ensures { OnOk result (text.new.items ≡ text.old.items ++ (decimal (place_told over.now).line ++ codes " "
-        ++ stamp_text moment ++ codes " " ++ name.now ++ codes " " ++ kind_text over.now)) }
+        ++ stamp_text moment ++ codes " " ++ name.now ++ codes " " ++ kind_text over.now ++ codes " "
+        ++ request_text over.now ++ codes " " ++ sent_text over.now ++ codes " ")) }
 {
-    add_number(text, place(over).line)?;
-    add_word(text, b" ")?;
-    add_stamp(text, moment)?;
-    add_word(text, b" ")?;
-    add_word(text, name)?;
-    add_word(text, b" ")?;
-    add_word(text, kind(over))
+    let (request, sent) = (request(over), sent(over));
+    let messages = count_of(request) + count_of(sent);
+    let room = name
+        .len()
+        .checked_add(messages + HEAD_ROOM)
+        .ok_or(AllocError)?;
+    text.reserve(room)?;
+    let alloc = *text.allocator();
+    // (in a variable of its own, so that the text's place and length stay in registers)
+    let mut line = mem::replace(text, Vec::new(alloc));
+    add_head(&mut line, name, moment, place(over).line, kind(over));
+    add_message(&mut line, request);
+    line.push_reserved(b' ');
+    add_message(&mut line, sent);
+    line.push_reserved(b' ');
+    *text = line;
+    Ok(())
 }
 
-/// Adds the request, what the unit sent, and what was expected, each behind a space.
-fn add_messages(text: &mut Vec<u8>, over: &Over, same: bool) -> Result<(), AllocError>
-    ensures { OnOk result (text.new.items ≡ text.old.items
-        ++ (codes " " ++ request_text over.now ++ codes " " ++ sent_text over.now ++ codes " " ++ expected_text same over.now)) }
+/// Adds line, stamp, tester and kind, each before a space, where there is room.
+#[inline(always)]
+fn add_head(text: &mut Vec<u8>, name: &[u8], moment: u64, line: u64, kind: u8)
+    requires { vec_len text.old + (length name.now + 78) ≤ vec_capacity text.old }
+    ensures items { text.new.items ≡ text.old.items ++ (decimal line ++ codes " " ++ stamp_text moment ++ codes " "
+        ++ name.now ++ codes " " ++ kind ∷ codes " ") }
+    ensures len { vec_len text.new ≤ vec_len text.old + (length name.now + 78) }
+    ensures capacity { vec_capacity text.new ≡ vec_capacity text.old }
 {
-    add_word(text, b" ")?;
-    add_request(text, over)?;
-    add_word(text, b" ")?;
-    add_sent(text, over)?;
-    add_word(text, b" ")?;
-    add_expected(text, over, same)
+    add_number(text, line);
+    text.push_reserved(b' ');
+    add_stamp(text, moment);
+    text.push_reserved(b' ');
+    add_bytes(text, name);
+    add_bytes(text, &[b' ', kind, b' ']);
 }
 
 /// Adds the time until the answer, and how often response pending came, each behind a space, and ends the line.
@@ -62,14 +88,27 @@ fn add_numbers(text: &mut Vec<u8>, over: &Over) -> Result<(), AllocError>
     ensures { OnOk result (text.new.items ≡ text.old.items
         ++ (codes " " ++ time_text (waited over.now) ++ codes " " ++ decimal (pendings_told over.now) ++ codes "\n")) }
 {
-    add_word(text, b" ")?;
-    match over.waited() {
-        Some(ms) => add_number(text, ms)?,
-        None => add_word(text, b"-")?,
+    text.reserve(NUMBERS_ROOM)?;
+    text.push_reserved(b' ');
+    add_time(text, over.waited());
+    text.push_reserved(b' ');
+    add_number(text, pendings(over));
+    text.push_reserved(b'\n');
+    Ok(())
+}
+
+/// Adds the time until the answer, where there is one, and where there is room.
+#[inline(always)]
+fn add_time(text: &mut Vec<u8>, waited: Option<u64>)
+    requires { vec_len text.old + 20 ≤ vec_capacity text.old }
+    ensures items { text.new.items ≡ text.old.items ++ time_text waited }
+    ensures len { vec_len text.new ≤ vec_len text.old + 20 }
+    ensures capacity { vec_capacity text.new ≡ vec_capacity text.old }
+{
+    match waited {
+        Some(ms) => add_number(text, ms),
+        None => text.push_reserved(b'-'),
     }
-    add_word(text, b" ")?;
-    add_number(text, pendings(over))?;
-    add_word(text, b"\n")
 }
 
 /// The line that an exchange is told by: the request's, or that of the first frame of a message that none asked.
@@ -82,12 +121,12 @@ pub fn place(over: &Over) -> Place
     }
 }
 
-fn kind(over: &Over) -> &'static [u8]
-    ensures { result.now ≡ kind_text over.now }
+fn kind(over: &Over) -> u8
+    ensures { result ∷ [] ≡ kind_text over.now }
 {
     match over {
-        Over::Exchange { request, .. } => { if request.functional { b"F" } else { b"P" } }
-        Over::Unasked(_) => b"U",
+        Over::Exchange { request, .. } => { if request.functional { b'F' } else { b'P' } }
+        Over::Unasked(_) => b'U',
     }
 }
 
@@ -100,25 +139,52 @@ fn pendings(over: &Over) -> u64
     }
 }
 
-fn add_request(text: &mut Vec<u8>, over: &Over) -> Result<(), AllocError>
-    ensures { OnOk result (text.new.items ≡ text.old.items ++ request_text over.now) }
+/// The request; none of a message that no request asked.
+fn request(over: &Over) -> Option<&Message>
+    ensures { message_text (option_copied result) ≡ request_text over.now }
 {
     match over {
-        Over::Exchange { request, .. } => write_hex(text, request.bytes.bytes()),
-        Over::Unasked(_) => add_word(text, b"-"),
+        Over::Exchange { request, .. } => Some(&request.bytes),
+        Over::Unasked(_) => None,
     }
 }
 
-fn add_sent(text: &mut Vec<u8>, over: &Over) -> Result<(), AllocError>
-    ensures { OnOk result (text.new.items ≡ text.old.items ++ sent_text over.now) }
+/// What the unit sent.
+fn sent(over: &Over) -> Option<&Message>
+    ensures { message_text (option_copied result) ≡ sent_text over.now }
 {
     match over {
         Over::Exchange {
             answer: Some(heard),
             ..
-        } => write_hex(text, heard.bytes.bytes()),
-        Over::Exchange { answer: None, .. } => add_word(text, b"-"),
-        Over::Unasked(heard) => write_hex(text, heard.bytes.bytes()),
+        } => Some(&heard.bytes),
+        Over::Exchange { answer: None, .. } => None,
+        Over::Unasked(heard) => Some(&heard.bytes),
+    }
+}
+
+/// By how many bytes a message is told.
+fn count_of(message: Option<&Message>) -> usize
+    ensures count { result ≡ length (message_text (option_copied message.entry)) }
+    ensures most { result ≤ 131070 }
+{
+    match message {
+        Some(message) => 2 * message.bytes().len(),
+        None => 1,
+    }
+}
+
+/// Adds a message, where there is one, and where there is room.
+#[inline(always)]
+fn add_message(text: &mut Vec<u8>, message: Option<&Message>)
+    requires { vec_len text.old + length (message_text (option_copied message)) ≤ vec_capacity text.old }
+    ensures items { text.new.items ≡ text.old.items ++ message_text (option_copied message.entry) }
+    ensures len { vec_len text.new ≡ vec_len text.old + length (message_text (option_copied message.entry)) }
+    ensures capacity { vec_capacity text.new ≡ vec_capacity text.old }
+{
+    match message {
+        Some(message) => add_hex(text, message.bytes()),
+        None => text.push_reserved(b'-'),
     }
 }
 
@@ -174,33 +240,78 @@ fn add_byte(text: &mut Vec<u8>, mark: u8, byte: u8) -> Result<(), AllocError>
     write_hex(text, &[byte])
 }
 
-/// Adds a moment: seconds with ten digits, and microseconds with six.
-fn add_stamp(text: &mut Vec<u8>, at: u64) -> Result<(), AllocError>
-    ensures { OnOk result (text.new.items ≡ text.old.items ++ stamp_text at) }
+/// Adds a moment, where there is room: seconds with ten digits, and microseconds with six.
+#[inline(always)]
+fn add_stamp(text: &mut Vec<u8>, at: u64)
+    requires { vec_len text.old + 44 ≤ vec_capacity text.old }
+    ensures items { text.new.items ≡ text.old.items ++ stamp_text at }
+    ensures len { vec_len text.new ≤ vec_len text.old + 44 }
+    ensures capacity { vec_capacity text.new ≡ vec_capacity text.old }
 {
-    add_filled(text, 10, at / 1000)?;
-    add_word(text, b".")?;
-    add_filled(text, 3, at % 1000)?;
-    add_word(text, b"000")
+    add_seconds(text, at / 1000);
+    text.push_reserved(b'.');
+    add_three(text, at % 1000);
+    add_bytes(text, b"000");
 }
 
-/// Adds a number with so many digits at least.
-fn add_filled(text: &mut Vec<u8>, width: usize, number: u64) -> Result<(), AllocError>
-    ensures { OnOk result (text.new.items ≡ text.old.items ++ zero_filled width (decimal number)) }
+/// Adds a number with ten digits at least, where there is room.
+#[inline(always)]
+fn add_seconds(text: &mut Vec<u8>, number: u64)
+    requires { vec_len text.old + 20 ≤ vec_capacity text.old }
+    ensures items { text.new.items ≡ text.old.items ++ zero_filled 10 (decimal number) }
+    ensures len { vec_len text.new ≤ vec_len text.old + 20 }
+    ensures capacity { vec_capacity text.new ≡ vec_capacity text.old }
 {
-    let mut buffer = Buffer::new();
-    let digits = buffer.format(number);
-    for made in 0..width.saturating_sub(digits.len()) {
-        text.push(b'0')?;
+    if number < TEN_DIGITS {
+        add_ten(text, number);
+    } else {
+        add_number(text, number);
     }
-    add_word(text, digits.as_bytes())
 }
 
-fn add_number(text: &mut Vec<u8>, number: u64) -> Result<(), AllocError>
-    ensures { OnOk result (text.new.items ≡ text.old.items ++ decimal number) }
+/// Adds the ten digits of a number, where there is room.
+#[inline(always)]
+fn add_ten(text: &mut Vec<u8>, number: u64)
+    requires few { number < 10 ^ 10 }
+    requires room { vec_len text.old + 10 ≤ vec_capacity text.old }
+    ensures items { text.new.items ≡ text.old.items ++ zero_filled 10 (decimal number) }
+    ensures len { vec_len text.new ≡ vec_len text.old + 10 }
+    ensures capacity { vec_capacity text.new ≡ vec_capacity text.old }
 {
+    add_bytes(text, &decimal_pair(number / 100_000_000));
+    add_bytes(text, &decimal_pair(number / 1_000_000 % 100));
+    add_bytes(text, &decimal_pair(number / 10_000 % 100));
+    add_bytes(text, &decimal_pair(number / 100 % 100));
+    add_bytes(text, &decimal_pair(number % 100));
+}
+
+/// Adds the three digits of a number, where there is room.
+#[inline(always)]
+fn add_three(text: &mut Vec<u8>, number: u64)
+    requires few { number < 1000 }
+    requires room { vec_len text.old + 3 ≤ vec_capacity text.old }
+    ensures items { text.new.items ≡ text.old.items ++ zero_filled 3 (decimal number) }
+    ensures len { vec_len text.new ≡ vec_len text.old + 3 }
+    ensures capacity { vec_capacity text.new ≡ vec_capacity text.old }
+{
+    text.push_reserved(b'0' + (number / 100) as u8);
+    add_bytes(text, &decimal_pair(number % 100));
+}
+
+/// Adds a number, where there is room.
+#[tactic(auto, using(crate::proofs::Marked::decimal_digit))]
+fn add_number(text: &mut Vec<u8>, number: u64)
+    requires { vec_len text.old + 20 ≤ vec_capacity text.old }
+    ensures items { text.new.items ≡ text.old.items ++ decimal number }
+    ensures len { vec_len text.new ≤ vec_len text.old + 20 }
+    ensures capacity { vec_capacity text.new ≡ vec_capacity text.old }
+{
+    if number < 10 {
+        text.push_reserved(b'0' + number as u8);
+        return;
+    }
     let mut buffer = Buffer::new();
-    add_word(text, buffer.format(number).as_bytes())
+    add_bytes(text, buffer.format(number).as_bytes());
 }
 
 fn add_word(text: &mut Vec<u8>, word: &[u8]) -> Result<(), AllocError>

@@ -9,9 +9,8 @@ use Rattle.std.proofs.lemmas.Simd.{map-map}
 use Rattle.std.proofs.lemmas.Bool.Decides.{nat_tests}
 use Rattle.diag_can.specs.declared.frame.Event.{Event}
 use Rattle.diag_can.specs.declared.frame.Event.TheVariants.{Physical}
-use Rattle.diag_pdu.specs.declared.pci.Pci.TheVariants.{First}
+use Rattle.diag_pdu.specs.Kind.{First, kind}
 use Rattle.diag_pdu.specs.declared.setup.LinkSetup.{LinkSetup}
-use Rattle.diag_pdu.specs.Kind.{kind}
 use Rattle.diag_pdu.specs.Cut.{counted_from, head_size, consecutive_count, filled, single_bytes, first_bytes, consecutive_bytes, part_of, cut}
 use Rattle.diag_tp.specs.Moments.{after, history, now}
 use Rattle.diag_tp.specs.Reception.{Reception, open_at, with_frame, message_of}

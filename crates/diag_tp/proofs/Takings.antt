@@ -1,23 +1,21 @@
 -- What is left of a frame does what the frame does.
-use Rattle.std.proofs.Common.{◌≡◌, ℕ, ◌+◌, List, [], ◌∷◌, ◌++◌, length, refl, ◌∙◌, ap, arith, false}
+use Rattle.std.proofs.Common.{◌≡◌, ℕ, ◌+◌, List, [], ◌∷◌, ◌++◌, length, refl, ◌∙◌, ap, arith}
 use Rattle.std.specs.Prelude.{Bool, Option, None, IsTrue, sum_by, is_some, if◌then◌else◌}
 use Rattle.std.proofs.lemmas.Bool.Decides.{nat_tests}
 use Rattle.diag_can.specs.declared.frame.Event.{Event}
 use Rattle.diag_can.specs.declared.frame.Event.TheVariants.{Physical, Functional, Ticks}
-use Rattle.diag_pdu.specs.declared.pci.Pci.{Pci}
+use Rattle.diag_pdu.specs.Kind.{Kind, kind, single_only}
 use Rattle.diag_pdu.specs.declared.setup.LinkSetup.{LinkSetup}
 use Rattle.diag_tp.specs.declared.taken.Taken.{Taken}
-use Rattle.diag_tp.specs.declared.taken.Taken.TheVariants as left
 use Rattle.diag_tp.specs.declared.sent.Sent.{Sent}
 use Rattle.diag_sides.specs.declared.sending.Sending.{Sending}
-use Rattle.diag_pdu.specs.Kind.{kind, single_only, is_consecutive}
 use Rattle.diag_sides.specs.Receiver.{Partial, if_open, if_complete, completed_by, block_answer}
 use Rattle.diag_tp.specs.Kept.{sender_event}
 use Rattle.diag_sides.specs.Sender.{frame_count, current_left}
 use Rattle.diag_tp.specs.State.{LinkState}
 use Rattle.diag_tp.specs.Wire.{Placed}
-use Rattle.diag_tp.specs.Link.{is_frame, partial_after, grant_after, IsReadHere, pending, StandsFor}
-use Rattle.diag_tp.specs.Taken.{IsTaken, left_of_kind, taken_of, reception_after, granted_after, sender_after, once_settled}
+use Rattle.diag_tp.specs.Link.{is_frame, partial_after, grant_after, pending, StandsFor}
+use Rattle.diag_tp.specs.Taken.{Left, OfFunctional, OfIgnored, OfKind, left_in, IsTaken, left_of_kind, left_of, reception_after, granted_after, sender_after, once_settled}
 use Rattle.diag_tp.proofs.Numbers.{IsWithin}
 use Rattle.diag_tp.proofs.History.{stands_fed}
 use Rattle.diag_tp.proofs.Views.{Numbers, within_numbers, grant_few}
@@ -26,31 +24,26 @@ use Rattle.diag_tp.proofs.Views.{Numbers, within_numbers, grant_few}
 last-ends : (s : LinkSetup) (o : Option Partial) → IsTrue (is_some (if_complete o)) → (if_open o ≡ None) × (block_answer s o ≡ None)
 last-ends s o h = grind (arith, nat_tests)
 
--- what is no Consecutive completes what a Single does
-pub completes_alone : (o : Option Partial) (k : Pci) → is_consecutive k ≡ false → completed_by o k ≡ completed_by None (single_only k)
-completes_alone o k h = grind arith
-
--- a frame that completes nothing is left as its bytes
-pub taken_read : (link : LinkState) (bytes : List ℕ) → IsReadHere link.setup (Physical bytes) → completed_by link.partial (kind bytes link.setup.max_request) ≡ None
-    → IsTaken link (Physical bytes) (left.Read bytes)
-taken_read link bytes read none = grind arith
+-- a frame that completes nothing is left as its kind
+pub taken_read : (o : Option Partial) (k : Kind) → completed_by o k ≡ None → left_of_kind o k ≡ OfKind k
+taken_read o k none = grind arith
 
 -- what is left of an event does what the event does
-record Does (s : LinkSetup) (o : Option Partial) (taken : Taken) (e : Event) (current : Option Sending) (W : List (List ℕ)) : Type 0 where
-  reception : reception_after s o taken ≡ partial_after s o e
-  granted : granted_after s o taken ≡ grant_after s o e
-  sender : sender_after s taken current W ≡ sender_event s e current W
+record Does (s : LinkSetup) (o : Option Partial) (l : Left) (e : Event) (current : Option Sending) (W : List (List ℕ)) : Type 0 where
+  reception : reception_after o l ≡ partial_after s o e
+  granted : granted_after s o l ≡ grant_after s o e
+  sender : sender_after s l current W ≡ sender_event s e current W
 
-frame-does : (s : LinkSetup) (o : Option Partial) (bytes : List ℕ) (k : Pci) (current : Option Sending) (W : List (List ℕ)) → kind bytes s.max_request ≡ k
-    → Does s o (left_of_kind o bytes k) (Physical bytes) current W
+frame-does : (s : LinkSetup) (o : Option Partial) (bytes : List ℕ) (k : Kind) (current : Option Sending) (W : List (List ℕ)) → kind bytes s.max_request ≡ k
+    → Does s o (left_of_kind o k) (Physical bytes) current W
 frame-does s o bytes k current W e = grind (arith, last-ends)
 
 functional-does : (s : LinkSetup) (o : Option Partial) (bytes : List ℕ) (single : Bool) (current : Option Sending) (W : List (List ℕ))
-    → Does s o (if single then left.Functional else left.Ignored) (Functional bytes) current W
+    → Does s o (if single then OfFunctional else OfIgnored) (Functional bytes) current W
 functional-does s o bytes single current W = grind arith
 
 does : (s : LinkSetup) (o : Option Partial) (e : Event) (current : Option Sending) (W : List (List ℕ)) → IsTrue (is_frame e)
-    → Does s o (taken_of s o e) e current W
+    → Does s o (left_of s o e) e current W
 does s o (Physical bytes) current W h = frame-does s o bytes (kind bytes s.max_request) current W refl
 does s o (Functional bytes) current W h = functional-does s o bytes (is_some (completed_by None (single_only (kind bytes s.max_request)))) current W
 does s o (Ticks n) current W h = cc
@@ -62,15 +55,15 @@ settles s link E A Q e taken here drained h =
     let did = does link.setup link.partial e link.sender.current link.sender.waiting here.frame in
     stands_fed s link (once_settled taken link) E A Q e here.frame here.read drained
     (λ none. ap (granted_after link.setup link.partial) here.is ∙ did.granted)
-    (ap (reception_after link.setup link.partial) here.is ∙ did.reception)
+    (ap (reception_after link.partial) here.is ∙ did.reception)
     refl refl
-    (ap (λ t. sender_after link.setup t link.sender.current link.sender.waiting) here.is ∙ did.sender)
+    (ap (λ l. sender_after link.setup l link.sender.current link.sender.waiting) here.is ∙ did.sender)
     h
 
-within-taken : (s : LinkSetup) (taken : Taken) (current : Option Sending) (W : List (List ℕ)) →
-    IsWithin s (sender_after s taken current W) (current_left s current + sum_by (frame_count s) W) (length W)
-within-taken s taken current W = grind arith
+within-left : (s : LinkSetup) (l : Left) (current : Option Sending) (W : List (List ℕ)) →
+    IsWithin s (sender_after s l current W) (current_left s current + sum_by (frame_count s) W) (length W)
+within-left s l current W = grind arith
 
 pub settled-numbers : (link : LinkState) (taken : Taken) → pending link ≡ 0 → Numbers link (once_settled taken link) 1
 settled-numbers link taken drained =
-    within_numbers link (once_settled taken link) _ 1 drained (grant_few _) refl refl (within-taken link.setup taken link.sender.current link.sender.waiting)
+    within_numbers link (once_settled taken link) _ 1 drained (grant_few _) refl refl (within-left link.setup (left_in taken) link.sender.current link.sender.waiting)

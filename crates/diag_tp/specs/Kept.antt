@@ -2,10 +2,8 @@
 use Rattle.std.specs.Prelude.{◌≡◌, ◌<◌, ◌≤◌, max, map, ℕ, ◌+◌, ◌-◌, List, [], ◌∷◌, length, Option, Some, None}
 use Rattle.diag_can.specs.declared.frame.Event.{Event}
 use Rattle.diag_can.specs.declared.frame.Event.TheVariants.{Physical, Functional, Ticks}
-use Rattle.diag_pdu.specs.declared.pci.Pci.{Pci}
-use Rattle.diag_pdu.specs.declared.pci.Pci.TheVariants.{Single, First, Overflow, Consecutive, FlowControl, Ignored}
+use Rattle.diag_pdu.specs.Kind.{Kind, Single, First, Overflow, Consecutive, FlowControl, Ignored, kind}
 use Rattle.diag_pdu.specs.declared.setup.LinkSetup.{LinkSetup}
-use Rattle.diag_pdu.specs.Kind.{kind}
 use Rattle.diag_sides.specs.declared.sending.Phase.TheVariants.{AwaitsFlow, InBlock}
 use Rattle.diag_sides.specs.declared.sending.Sending.{Sending}
 use Rattle.diag_sides.specs.Flow.{Decision, flow_decision}
@@ -24,7 +22,7 @@ sender_ticks s n current W = kept_as (ticked_fields s n current) W
 abbrev pub no_flow : Option Sending → List (List ℕ) → SenderState
 no_flow current W = kept_as current W
 
-abbrev pub sender_frame : LinkSetup → Pci → Option Sending → List (List ℕ) → SenderState
+abbrev pub sender_frame : LinkSetup → Kind → Option Sending → List (List ℕ) → SenderState
 sender_frame s (FlowControl status block st) current W =
     sender_flow s (flow_decision status block st) current W
 sender_frame s (Single payload) current W = no_flow current W

@@ -4,24 +4,20 @@ ghost use Rattle.std.specs.Prelude.{◌≡◌, ◌↔◌, ◌≤◌, ◌+◌, []
 ghost use Rattle.diag_can.specs.declared.frame.Event.{Event as AnEvent};
 ghost use Rattle.diag_pdu.specs.Request.{request_of};
 ghost use Rattle.diag_pdu.specs.Cut.{cut};
-ghost use Rattle.diag_pdu.specs.Kind.{kind, IsRead, single_only, needed_for};
+ghost use Rattle.diag_pdu.specs.Kind.{kind, says, IsRead, single_only, needed_for};
 ghost use Rattle.diag_tp.specs.Gives.{is_request};
 ghost use Rattle.diag_sides.specs.Sender.{settled};
 ghost use Rattle.diag_tp.specs.Kept.{sender_event, sender_frame, sender_ticks};
 ghost use Rattle.diag_sides.specs.Receiver.{open_after, completed_by, granted_by, ticks_later, ask_of};
 ghost use Rattle.diag_tp.specs.State.{due};
-ghost use Rattle.diag_tp.specs.Taken.{IsTaken, FitsIn, asked_in, once_settled};
+ghost use Rattle.diag_tp.specs.Taken.{IsTaken, FitsIn, asked_in, left_in, left_of_kind, once_settled};
 ghost use Rattle.diag_sides.specs.Quiet.{reception_quiet, sender_quiet, reception_later, current_later};
 ghost use Rattle.diag_tp.specs.Link.{is_frame, last_tick, needed, asked_of, partial_after, grant_after, step_after, IsReadHere, IsIdle};
 
 use crate::link::Link;
 use crate::taken::Taken;
 use diag_can::{Event, FrameBytes};
-use diag_pdu::{
-    Message, Pci, Request, consecutive_part, first_parts, first_size, flow_parts, is_of_no_kind,
-    lone_frame, single_size,
-};
-use diag_sides::go_on;
+use diag_pdu::{Message, Pci, Request, lone_frame};
 use std::alloc::AllocError;
 
 impl Link {
@@ -68,19 +64,31 @@ impl Link {
         self.grant.is_none() && self.sender.is_drained()
     }
 
+    /// What a frame is to this side.
+    #[inline(always)]
+    fn read<'f>(&self, frame: &'f FrameBytes) -> Pci<'f>
+        ensures kind { says result ≡ kind frame.now self.now.state.setup.max_request }
+        ensures read { IsRead self.now.state.setup.max_request (says result) }
+    {
+        Pci::read(frame.as_slice(), self.setup.max_request)
+    }
+
     /// Whether the event completes a request, from the fields.
-    #[tactic(auto, using(crate::proofs::Takings::completes_alone))]
     pub(crate) fn gives_request(&self, event: &Event) -> bool
         ensures value { result
             ≡ is_request (step_after self.now.state.setup self.now.state.partial event.now) }
         ensures ticks { IsTrue result → IsTrue (is_frame event.now) }
     {
         match event {
-            Event::Physical(bytes) => match consecutive_part(bytes) {
-                Some((number, part)) => self.receiver.completes(number, part),
-                None => single_size(bytes) > 0,
+            Event::Physical(bytes) => match self.read(bytes) {
+                Pci::Single(_) => true,
+                Pci::Consecutive {
+                    sequence_number,
+                    part,
+                } => self.receiver.completes(sequence_number, part),
+                _ => false,
             },
-            Event::Functional(bytes) => single_size(bytes) > 0,
+            Event::Functional(bytes) => matches!(self.read(bytes), Pci::Single(_)),
             Event::Ticks(_) => false,
         }
     }
@@ -92,21 +100,15 @@ impl Link {
             asked_of request ≡ step_after self.now.state.setup self.now.state.partial event.now) }
     {
         match event {
-            Event::Physical(bytes) => {
-                let kind = Pci::of_frame(bytes, self.setup.max_request);
-                Ok(asked(false, self.receiver.peek(&kind)?))
-            }
-            Event::Functional(bytes) => Ok(asked(
-                true,
-                single_of(Pci::of_frame(bytes, self.setup.max_request)),
-            )),
+            Event::Physical(bytes) => Ok(asked(false, self.receiver.peek(self.read(bytes))?)),
+            Event::Functional(bytes) => Ok(asked(true, single_of(self.read(bytes)))),
             Event::Ticks(_) => Ok(None),
         }
     }
 
     /// Reads a frame and makes room for it, from the fields.
     #[inline(always)]
-    pub(crate) fn take_up(&mut self, event: &Event) -> Result<Taken, AllocError>
+    pub(crate) fn take_up<'f>(&mut self, event: &'f Event) -> Result<Taken<'f>, AllocError>
         requires frame { IsTrue (is_frame event.now) }
         ensures same { self.new.state ≡ self.old.state }
         ensures room { OnOk result (0 < self.new.reply_room) }
@@ -119,42 +121,48 @@ impl Link {
     {
         self.sender.make_room()?;
         match event {
-            Event::Physical(bytes) => self.take_up_own(bytes),
-            Event::Functional(bytes) => {
-                let size = single_size(bytes);
-                if size == 0 {
-                    return Ok(Taken::Ignored);
-                }
-                self.note(true, bytes.part(1, size));
-                Ok(Taken::Functional)
+            Event::Physical(bytes) => {
+                let pci = self.read(bytes);
+                self.take_up_own(pci)
             }
+            Event::Functional(bytes) => match self.read(bytes) {
+                Pci::Single(payload) => {
+                    self.note(true, payload);
+                    Ok(Taken::Functional)
+                }
+                _ => Ok(Taken::Ignored),
+            },
             Event::Ticks(_) => unreachable!(),
         }
     }
 
-    /// Reads a frame with the tester's own identifier and makes room for its message. No `Pci` is made but of a FirstFrame.
-    #[tactic(auto, using(crate::proofs::Takings::taken_read, crate::proofs::Takings::completes_alone))]
+    /// Makes room for the message of a frame with the tester's own identifier, and notes or stages what it completes.
+    #[tactic(auto, using(crate::proofs::Takings::taken_read))]
     #[inline(always)]
-    fn take_up_own(&mut self, bytes: &FrameBytes) -> Result<Taken, AllocError>
+    fn take_up_own<'f>(&mut self, pci: Pci<'f>) -> Result<Taken<'f>, AllocError>
+        requires read { IsRead self.old.state.setup.max_request (says pci) }
         ensures same { self.new.state ≡ self.old.state }
-        ensures request { IfOk result (λ taken. asked_of (asked_in self.new taken)
-            ≡ step_after self.old.state.setup self.old.state.partial (AnEvent.Physical bytes.now)) }
-        ensures taken { IfOk result (λ taken.
-            IsTaken self.old.state (AnEvent.Physical bytes.now) taken) }
+        ensures request { IfOk result (λ taken. asked_in self.new taken
+            ≡ ask_of false (completed_by self.old.state.partial (says pci.entry))) }
+        ensures taken { IfOk result (λ taken. left_in taken
+            ≡ left_of_kind self.old.state.partial (says pci.entry)) }
         ensures fits { IfOk result (λ taken. FitsIn self.new taken) }
         ensures kept { self.old.room ≤ self.new.room }
         ensures reply_room { self.new.reply_room ≡ self.old.reply_room }
     {
-        let size = single_size(bytes);
-        if size > 0 {
-            self.note(false, bytes.part(1, size));
-            return Ok(Taken::Single);
+        match pci {
+            Pci::Single(payload) => {
+                self.note(false, payload);
+                return Ok(Taken::Single);
+            }
+            Pci::First { len, .. } => self.receiver.reserve(len)?,
+            Pci::Consecutive {
+                sequence_number,
+                part,
+            } if self.receiver.stage(sequence_number, part) => return Ok(Taken::Last),
+            _ => {}
         }
-        self.make_room_for(bytes)?;
-        match consecutive_part(bytes) {
-            Some((number, part)) if self.receiver.stage(number, part) => Ok(Taken::Last),
-            _ => Ok(Taken::Read(bytes.copy())),
-        }
+        Ok(Taken::Read(pci))
     }
 
     /// Makes room for the message of a frame with the tester's own identifier: a FirstFrame alone needs some.
@@ -167,31 +175,33 @@ impl Link {
         ensures same { self.new.state ≡ self.old.state }
         ensures reply_room { self.new.reply_room ≡ self.old.reply_room }
     {
-        let len = first_size(bytes, self.setup.max_request);
-        if len > 0 {
-            return self.receiver.reserve(len);
+        match self.read(bytes) {
+            Pci::First { len, .. } => self.receiver.reserve(len),
+            _ => Ok(()),
         }
-        Ok(())
     }
 
     /// Notes the request of one frame, in the place of the one before.
     #[inline(always)]
-    fn note(&mut self, functional: bool, payload: FrameBytes)
-        requires { 1 ≤ length payload }
-        ensures noted { self.new.noted ≡ request_of functional payload }
+    fn note(&mut self, functional: bool, payload: &[u8])
+        requires some { 1 ≤ length payload.now }
+        requires few { length payload.now ≤ 7 }
+        ensures noted { self.new.noted ≡ request_of functional payload.now }
         ensures same { self.new.state ≡ self.old.state }
         ensures room { self.new.room ≡ self.old.room }
         ensures reply_room { self.new.reply_room ≡ self.old.reply_room }
     {
         self.noted.functional = functional;
-        self.noted.message.set_in_place(payload);
+        self.noted
+            .message
+            .set_in_place(FrameBytes::from_slice(payload));
     }
 
     /// Takes what is left of a frame, field by field.
     #[inline(always)]
-    pub(crate) fn finish(&mut self, taken: &Taken)
-        requires fits { FitsIn self.old taken.now }
-        ensures state { self.new.state ≡ once_settled taken.now self.old.state }
+    pub(crate) fn finish(&mut self, taken: Taken<'_>)
+        requires fits { FitsIn self.old taken }
+        ensures state { self.new.state ≡ once_settled taken.entry self.old.state }
         ensures reply_room { self.new.reply_room ≡ self.old.reply_room }
     {
         match taken {
@@ -200,30 +210,7 @@ impl Link {
                 self.receiver.end();
                 self.grant = None;
             }
-            Taken::Read(bytes) => match consecutive_part(bytes) {
-                Some((number, part)) => {
-                    let grants = self.receiver.consecutive(&self.setup, number, part);
-                    self.grant = if grants {
-                        Some(go_on(&self.setup))
-                    } else {
-                        None
-                    };
-                }
-                None if is_of_no_kind(bytes) => self.grant = None,
-                None => match flow_parts(bytes) {
-                    Some((status, block, gap)) => {
-                        self.sender.flow(&self.setup, status, block, gap);
-                        self.grant = None;
-                    }
-                    None => match first_parts(bytes, self.setup.max_request) {
-                        Some((len, head)) => {
-                            self.receiver.begin(len, head);
-                            self.grant = Some(go_on(&self.setup));
-                        }
-                        None => self.take_kind(&Pci::of_frame(bytes, self.setup.max_request)),
-                    },
-                },
-            },
+            Taken::Read(pci) => self.take_kind(pci),
         }
     }
 
@@ -247,43 +234,42 @@ impl Link {
     {
         match event {
             Event::Physical(bytes) => {
-                let kind = Pci::of_frame(bytes, self.setup.max_request);
-                let message = self.receiver.complete(&kind);
-                self.take_kind(&kind);
+                let pci = self.read(bytes);
+                let message = self.receiver.complete(pci);
+                self.take_kind(pci);
                 asked(false, message)
             }
-            Event::Functional(bytes) => asked(
-                true,
-                single_of(Pci::of_frame(bytes, self.setup.max_request)),
-            ),
+            Event::Functional(bytes) => asked(true, single_of(self.read(bytes))),
             Event::Ticks(_) => None,
         }
     }
 
     /// Takes a frame of this kind with the tester's own identifier, whose message, if any, was handed over.
-    #[inline(never)]
-    fn take_kind(&mut self, kind: &Pci)
-        requires read { IsRead self.old.state.setup.max_request kind.now }
-        requires room { needed_for kind.now ≤ self.old.room }
-        ensures partial { self.new.state.partial ≡ open_after self.old.state.partial kind.now }
+    #[inline(always)]
+    fn take_kind(&mut self, pci: Pci<'_>)
+        requires read { IsRead self.old.state.setup.max_request (says pci) }
+        requires room { needed_for (says pci) ≤ self.old.room }
+        ensures partial { self.new.state.partial
+            ≡ open_after self.old.state.partial (says pci.entry) }
         ensures grant { self.new.state.grant
-            ≡ granted_by self.old.state.setup self.old.state.partial kind.now }
+            ≡ granted_by self.old.state.setup self.old.state.partial (says pci.entry) }
         ensures reply_room { self.new.reply_room ≡ self.old.reply_room }
         ensures setup { self.new.state.setup ≡ self.old.state.setup }
         ensures now { self.new.state.now ≡ self.old.state.now }
-        ensures sender { self.new.state.sender ≡ sender_frame self.old.state.setup kind.now
+        ensures sender { self.new.state.sender
+            ≡ sender_frame self.old.state.setup (says pci.entry)
             self.old.state.sender.current self.old.state.sender.waiting }
     {
         if let Pci::FlowControl {
             flow_status,
             block_size,
             st_min,
-        } = kind
+        } = pci
         {
             self.sender
-                .flow(&self.setup, *flow_status, *block_size, *st_min);
+                .flow(&self.setup, flow_status, block_size, st_min);
         }
-        self.grant = self.receiver.take(&self.setup, kind);
+        self.grant = self.receiver.take(&self.setup, pci);
     }
 
     /// So many ticks, before the last of which nothing falls due.
@@ -308,12 +294,12 @@ impl Link {
 }
 
 /// The message of a SingleFrame: of a functional frame nothing else counts.
-fn single_of(kind: Pci) -> Option<Message>
-    requires { IsRead 65535 kind }
-    ensures { result ≡ completed_by None (single_only kind) }
+fn single_of(pci: Pci<'_>) -> Option<Message>
+    requires { IsRead 65535 (says pci) }
+    ensures { result ≡ completed_by None (single_only (says pci.entry)) }
 {
-    match kind {
-        Pci::Single(payload) => Some(Message::in_place(payload)),
+    match pci {
+        Pci::Single(payload) => Some(Message::in_place(FrameBytes::from_slice(payload))),
         _ => None,
     }
 }

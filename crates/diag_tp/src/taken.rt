@@ -1,10 +1,10 @@
 //! A frame between the two halves in which a link takes it.
 
-use diag_can::FrameBytes;
+use diag_pdu::Pci;
 
 /// A frame that a link has read and made room for: where its request stands, and what the link has still to do with it.
-#[derive(Debug, Drop)]
-pub enum Taken {
+#[derive(Clone, Copy)]
+pub enum Taken<'a> {
     /// A functional SingleFrame, whose request its link has noted. Nothing is left to do.
     Functional,
     /// Any other functional frame. Nothing is left to do.
@@ -14,6 +14,6 @@ pub enum Taken {
     Single,
     /// The ConsecutiveFrame that completes a message, which its link has staged. It ends the reception.
     Last,
-    /// Any other frame with the tester's own identifier: its bytes.
-    Read(FrameBytes),
+    /// Any other frame with the tester's own identifier: what it is.
+    Read(Pci<'a>),
 }

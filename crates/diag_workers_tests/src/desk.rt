@@ -7,8 +7,8 @@ use diag_desk::{Desk, MOST_ENTRIES, StepFault};
 use diag_pdu::{Message, Request, Step};
 use diag_setup::TesterId;
 
-/// Takes so many steps of one tick.
-fn fill(desk: &mut Desk, who: TesterId) -> Result<(), Trouble> {
+/// Takes as many steps of one tick as a journal holds.
+pub(crate) fn fill(desk: &mut Desk, who: TesterId) -> Result<(), Trouble> {
     let step = Step::Ticks(TickCount::new(1).ok_or(Trouble::Wrong)?);
     for _ in 0..MOST_ENTRIES {
         desk.step(who, &step)?;

@@ -56,7 +56,7 @@ impl LazyLink {
         self.port.quiet_after(passed - self.taken)
     }
 
-    /// Whether a Consecutive frame of a reply is still to go, behind its separation time; the ticks that it hasn't taken leave that so.
+    /// Whether a ConsecutiveFrame of a reply is still to go, behind its separation time; the ticks that it hasn't taken leave that so.
     #[inline(always)]
     pub(crate) fn is_in_block(&self) -> bool
         ensures { result ≡ port_in_block (port_of self.now.port) }

@@ -188,7 +188,7 @@ impl Server {
         least
     }
 
-    /// Whether to some tester a Consecutive frame of a reply is still to go, behind its separation time.
+    /// Whether to some tester a ConsecutiveFrame of a reply is still to go, behind its separation time.
     pub fn is_in_block(&self) -> bool
         ensures { result ≡ some_in_block (server_of self.now).ports }
     {
@@ -228,7 +228,7 @@ impl Server {
         self.ecu.set_value(id, value)
     }
 
-    /// Gives a trouble code another status, as the ECU's own software does; whether the code is known. As `set_value` it is
+    /// Gives a DTC another status, as the ECU's own software does; whether the code is known. As `set_value` it is
     /// no step of a tester.
     pub fn set_status(&mut self, code: u32, status: u8) -> bool
         ensures known { result ≡ is_some (status_of self.old.ecu.dtcs code) }
@@ -240,7 +240,7 @@ impl Server {
     }
 }
 
-/// Whether at one of these links a Consecutive frame of a reply is still to go.
+/// Whether at one of these links a ConsecutiveFrame of a reply is still to go.
 fn some_in_block(links: &[LazyLink]) -> bool
     ensures { result ≡ list_any (λ lazy. port_in_block (port_of lazy.port)) links.now }
 {

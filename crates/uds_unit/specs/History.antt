@@ -24,7 +24,7 @@ use Rattle.uds_unit.specs.Moments.{clock_at, reference_of}
 use Rattle.uds_unit.specs.declared.clock.Clock.{Clock}
 
 -- A call that changes a unit: a moment in milliseconds with the frame then, if any; or what the ECU's own software sets, a
--- value of an identifier or the status of a trouble code.
+-- value of an identifier or the status of a DTC.
 pub data Call : Type 0 where
   At : ℕ → Option Frame → Call
   SetValue : ℕ → List ℕ → Call

@@ -52,7 +52,7 @@ pub struct Session {
     pub holder: u8,
 }
 
-/// A trouble code.
+/// A DTC.
 #[repr(C)]
 #[derive(Drop)]
 pub struct Code {
@@ -370,7 +370,7 @@ pub extern "C" fn uds_unit_state(alloc: Global, unit: &mut Handle, state: &mut S
     DONE
 }
 
-/// A trouble code with its status, by its place in rising order, from 0.
+/// A DTC with its status, by its place in rising order, from 0.
 #[unsafe(no_mangle)]
 pub extern "C" fn uds_unit_code(
     alloc: Global,
@@ -499,7 +499,7 @@ pub extern "C" fn uds_unit_set_value(alloc: Global, unit: &mut Handle, id: u16, 
     status
 }
 
-/// Gives a trouble code another status, and tells whether it is known.
+/// Gives a DTC another status, and tells whether it is known.
 fn set_code(device: &mut Device, code: u32, status: u8) -> u32
     ensures status { result ≡ code_status (status_of device.old.server.ecu.dtcs code) }
     ensures set { Sets device.old device.new (SetStatus code status) }
@@ -510,7 +510,7 @@ fn set_code(device: &mut Device, code: u32, status: u8) -> u32
     UNKNOWN
 }
 
-/// Gives a trouble code another status, as the ECU's own software does; where there is no such code nothing is set.
+/// Gives a DTC another status, as the ECU's own software does; where there is no such code nothing is set.
 #[unsafe(no_mangle)]
 pub extern "C" fn uds_unit_set_code(alloc: Global, unit: &mut Handle, code: u32, status: u8) -> u32
     ensures closed { unit.old.unit ≡ None → result ≡ 16 }

@@ -71,7 +71,7 @@ const SESSIONS: [Session; 8] = [
         "(0.000000) can0 7E0#021003\ntick 5000\n(0.000000) can0 7E1#021003\n",
         "(0000000000.000000) A 7E8#065003003201F4CC\n(0000000005.000000) B 7E9#065003003201F4CC\n",
     ),
-    // Consecutive frames go by the separation time that the tester wants, while nothing is heard
+    // ConsecutiveFrames go by the separation time that the tester wants, while nothing is heard
     Session(
         steps![
             (700, Comes::Bytes("(1.000000) can0 7E0#0322F190\n")),

@@ -2,10 +2,11 @@
 
 ghost use Rattle.std.specs.Prelude.{◌≡◌};
 
+use crate::desk::fill;
 use crate::gate::given::{and, desk_of_two, request, says, tester};
 use crate::gate::seating::{gate_of_two, seat_of, tries};
 use crate::trouble::{Trouble, holds};
-use diag_desk::{Desk, StepFault};
+use diag_desk::{Desk, MOST_ENTRIES, StepFault};
 use diag_gate::{Door, Gate, GateDoor, Host, LockDoor};
 use diag_pdu::Step;
 use std::alloc::Global;
@@ -105,4 +106,30 @@ fn locked_room<R: Wait>(rt: &R, alloc: Global) -> Result<bool, Trouble> {
 #[test]
 fn lock_door_makes_room_first(rt: HostRuntime) -> Result<(), Trouble> {
     holds(locked_room(&rt, rt.alloc()))
+}
+
+/// Whether a door tells that the journal is full.
+fn tells_full<D: Door>(door: &mut D, step: &Step) -> Result<bool, Trouble> {
+    match door.step(step) {
+        Ok(_) => Ok(false),
+        Err(StepFault::JournalFull) => Ok(true),
+        Err(StepFault::Memory) => Err(Trouble::Memory),
+    }
+}
+
+/// Whether a door over a lock, which has answered nothing, tells that the desk's journal is full, and adds nothing.
+fn full_behind_a_lock<R: Wait>(rt: &R, alloc: Global) -> Result<bool, Trouble> {
+    let who = tester(1)?;
+    let mut desk = desk_of_two(alloc)?;
+    fill(&mut desk, who)?;
+    let desk = Mutex::new(desk);
+    let step = request(alloc, &[0x3E, 0x00])?;
+    let mut door = LockDoor::new(rt, alloc, &desk, who);
+    let told = tells_full(&mut door, &step)?;
+    Ok(told && entries(rt, &desk) == MOST_ENTRIES)
+}
+
+#[test]
+fn lock_door_tells_a_full_desk(rt: HostRuntime) -> Result<(), Trouble> {
+    holds(full_behind_a_lock(&rt, rt.alloc()))
 }

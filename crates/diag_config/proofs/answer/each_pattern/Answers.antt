@@ -18,5 +18,5 @@ loop-value-preserved c =
     drop-cons values i v c.loop-value-test.true ∙ ap₂ (λ x (n : ℕ). x ∷ drop n values) (sym c.value-item.is) (sym (add-one i)) in
     let pushed : c.push.new.self ≡ read ++ x ∷ [] = rw c.in_ok-push.was at c.push.ensures in
     ap (λ (r : List RawPattern). with_front r (each kind (items_view (drop (i + 1) values)))) pushed
-    ∙ (sym (read_more kind read (view v) (items_view (drop (i + 1) values)) x c.in_ok-pattern.ensures)
+    ∙ (sym (read_more kind read (view v) (items_view (drop (i + 1) values)) x c.in_ok-pattern.ensures.gives)
     ∙ (ap (λ l. with_front read (each kind (items_view l))) (sym next) ∙ c.loop-value.invariant))

@@ -7,4 +7,4 @@ pub returns-in_err-max_request : goal.returns-in_err-max_request
 unfolding transport_at
 returns-in_err-max_request c =
     let p = err_from_is_err_and c.from_residual-in_err-max_request.result c.from_residual-in_err-max_request.ensures.1 in
-    rw (p.1, p.2, c.in_ok-block_size.ensures, c.in_ok-st_min.ensures) (Fails-bind c.in_err-max_request.field-0.0 _ _ c.in_err-max_request.ensures)
+    rw (p.1, p.2, c.in_ok-block_size.ensures.gives, c.in_ok-st_min.ensures.gives) (Fails-bind c.in_err-max_request.field-0.0 _ _ c.in_err-max_request.ensures.gives)

@@ -3,7 +3,7 @@ use Rattle.diag_desk.specs.Fault.{FaultAt}
 use Rattle.diag_desk.specs.Text.{text_of}
 use Rattle.diag_desk.proofs.CutText.{cut-joins, one_cut}
 use Rattle.diag_desk.proofs.EntryLemmas.{journal_more}
-use Rattle.diag_desk.proofs.ReadLemmas.{header_fault, stuck_at_end, stuck_at_line, stuck_fault, text_begins, text_more}
+use Rattle.diag_desk.proofs.ReadLemmas.{header_fault, line_refused, line_wrong, stuck_at_end, stuck_at_line, stuck_fault, text_begins, text_more}
 use Rattle.diag_desk.proofs.read.read_lines.Goals as goal
 
 pub returns-in_default-version_of-clause-line : goal.returns-in_default-version_of-clause-line
@@ -26,13 +26,14 @@ returns-in_default-cut-clause-line c = λ n e.
     (stuck_at_end c.loop-rest.reader.version c.loop-rest.reader.entries c.loop-rest.rest.now inv.journal
     (λ empty. let none = ap length empty in search rules) c.in_default-cut.ensures))
 
-pub returns-in-Err-Wrong-clause-line : goal.returns-in-Err-Wrong-clause-line
-returns-in-Err-Wrong-clause-line c = λ n e.
+pub returns-in-Err-clause-line : goal.returns-in-Err-clause-line
+returns-in-Err-clause-line c = λ n e.
     let inv = c.loop-rest.invariant in
-    subst (FaultAt c.args.text.now) (cc e)
+    let wrong = line_wrong _ n c.in-Err.fault (sym c.at.ensures ∙ e) in
+    subst (FaultAt c.args.text.now) wrong.1
     (stuck_fault c.loop-rest.reader.version c.loop-rest.reader.entries c.args.text.now c.loop-rest.rest.now c.loop-rest.number inv.journal inv.text inv.number
     (stuck_at_line c.loop-rest.reader c.loop-rest.rest.now c.in-Some-cut.line.now c.in-Some-cut.after.now inv.journal
-    (λ empty. let none = ap length empty in search rules) c.in-Some-cut.ensures (c.in-Err-Wrong.ensures.wrong c.in-Err-Wrong.field-0-is)))
+    (λ empty. let none = ap length empty in search rules) c.in-Some-cut.ensures (c.in-Err.ensures.wrong wrong.0)))
 
 pub loop-rest-smaller : goal.loop-rest-smaller
 loop-rest-smaller c =
@@ -52,11 +53,11 @@ loop-rest-preserved c =
       number = omega (arith, inv.number, ap length took.entries, length-append c.loop-rest.reader.entries (took.entry ∷ []));
     }
 
-pub returns-in-Err-Memory-clause-memory : goal.returns-in-Err-Memory-clause-memory
-returns-in-Err-Memory-clause-memory c = λ e.
+pub returns-in-Err-clause-memory : goal.returns-in-Err-clause-memory
+returns-in-Err-clause-memory c = λ e.
     let inv = c.loop-rest.invariant in
     let old = c.loop-rest.reader in
-    let next = c.in-Err-Memory.ensures.memory c.in-Err-Memory.field-0-is in
+    let next = c.in-Err.ensures.memory (line_refused _ c.in-Err.fault (sym c.at.ensures ∙ e)) in
     let room = next.room in
     let text = text_more old.version old.entries next.entry c.args.text.now c.loop-rest.rest.now c.in-Some-cut.line.now
     c.in-Some-cut.after.now inv.text

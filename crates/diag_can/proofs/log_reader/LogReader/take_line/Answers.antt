@@ -31,5 +31,5 @@ returns-in_ok-self-in-Some-clause-fault c =
     let says = bus_line-says (known_to c.args.ids.now) c.args.line.now c.in-Some.said (search rules) in
     IfErr-weaker c.take.result _ _ (λ fault at known past h. elim at [
       | inl many ↦ next_fault h line c.in_ok-self-in-Some.ensures.room ∙ said_fault c.args.timing c.args.ids.now c.args.self.now.reading _ line _ says many.1 ∙ ap (λ (f : LogFault). Some f) (sym many.0)
-      | inr memory ↦ absurd (known memory)
+      | inr memory ↦ absurd (known memory.0)
     ]) c.take.ensures.err

@@ -1,6 +1,7 @@
-use Rattle.std.proofs.Common.{◌∙◌, refl}
+use Rattle.std.proofs.Common.{◌∙◌, Err, ap, refl}
 use Rattle.std.proofs.lemmas.Result.{err_from_is_err_and}
-use Rattle.diag_can.proofs.Pieces.{front_taken, line_fault, line_more, none_read}
+use Rattle.diag_can.specs.declared.fault.LogFault.{LogFault}
+use Rattle.diag_can.proofs.Pieces.{front_taken, line_fault, line_gives_more, line_more, none_read}
 use Rattle.diag_can.proofs.log_reader.LogReader.take_well.Goals as goal
 
 pub loop-first-init : goal.loop-first-init
@@ -13,6 +14,11 @@ pub returns-in_err-take_line-clause-fault : goal.returns-in_err-take_line-clause
 returns-in_err-take_line-clause-fault c =
     let p = err_from_is_err_and c.from_residual.result c.from_residual.ensures.1 in
     rw (p.1, p.2) (λ known. line_fault c.loop-first.invariant.0 _ _ c.in-Some.ensures _ (c.in_err-take_line.ensures.fault known))
+
+pub returns-in_err-take_line-clause-memory : goal.returns-in_err-take_line-clause-memory
+returns-in_err-take_line-clause-memory c =
+    let p = err_from_is_err_and c.from_residual.result c.from_residual.ensures.1 in
+    rw (p.1, p.2) (λ is. line_gives_more c.loop-first.invariant.0 _ _ c.in-Some.ensures (c.in_err-take_line.ensures.memory (ap (λ (fault : LogFault). Err fault) (cc is))))
 
 pub loop-first-preserved : goal.loop-first-preserved
 loop-first-preserved c = (

@@ -18,16 +18,22 @@ returns-clause-ok c = λ past f.
         clocks = clocks_more past (past ++ entry ∷ []) entry c.args.self.now.clocks.ticks c.set.new.self.ticks c.clock_with-clock.result
             c.in-Some.ensures.entry f.clocks refl (c.clock_with-clock.ensures past f.clocks) c.set.ensures;
         count = omega (arith, length-append past (entry ∷ []));
-        play = c.in-Ok.ensures past number f.play;
+        play = c.in-Ok.ensures.ok past number f.play;
       };
     }
 
 pub returns-in-Err-clause-memory : goal.returns-in-Err-clause-memory
 returns-in-Err-clause-memory c = λ e past f.
     let count = f.count in
+    let asks = c.in-Err.ensures.memory in
     record {
-      entry = line_entry c.in-Some.entry;
-      is_entry = c.in-Some.ensures.entry;
-      room = omega arith;
-      line = c.in-Some.ensures.some past f.clocks;
+      next = record {
+        entry = line_entry c.in-Some.entry;
+        is_entry = c.in-Some.ensures.entry;
+        room = omega arith;
+        line = c.in-Some.ensures.some past f.clocks;
+      };
+      run = (f.play.run asks.0).0;
+      tester = asks.1;
+      request = asks.2;
     }

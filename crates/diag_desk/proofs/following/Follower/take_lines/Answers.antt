@@ -1,6 +1,7 @@
-use Rattle.std.proofs.Common.{◌∙◌, arith, subst}
+use Rattle.std.proofs.Common.{◌∙◌, arith, subst, sym}
 use Rattle.diag_desk.specs.Fault.{FaultAt}
-use Rattle.diag_desk.proofs.Pieces.{cut_followed, front_more, front_taken, is_shorter, line_fault}
+use Rattle.diag_desk.proofs.Pieces.{cut_followed, front_more, front_taken, is_shorter, line_asks, line_fault}
+use Rattle.diag_desk.proofs.ReadLemmas.{line_refused, line_wrong}
 use Rattle.diag_desk.proofs.following.Follower.take_lines.Goals as goal
 
 pub loop-alloc-smaller-in-Some : goal.loop-alloc-smaller-in-Some
@@ -29,12 +30,19 @@ take-requires c =
     let at = c.loop-alloc.invariant.2 c.requires.0 c.requires.1 in
     (at.past, c.in_default.ensures.none at.past at.follows)
 
-pub returns-in-Err-Wrong-clause-line : goal.returns-in-Err-Wrong-clause-line
-returns-in-Err-Wrong-clause-line c = λ n is seen h more.
-    subst (FaultAt _) (cc is)
+pub returns-in-Err-clause-memory : goal.returns-in-Err-clause-memory
+returns-in-Err-clause-memory c = λ is seen more h.
+    line_asks c.args.setup.now c.args.self.now c.loop-alloc.self c.take_usual.new.self c.args.text.now c.loop-alloc.rest.now c.in-Some-cut.line.now
+    c.in-Some-cut.after.now c.in_default.ensures.version c.in_default.ensures.none c.in-Some-cut.ensures
+    (c.in-Err.ensures.memory (line_refused _ c.in-Err.fault (sym c.at.ensures ∙ cc is))) c.loop-alloc.invariant seen more h
+
+pub returns-in-Err-clause-line : goal.returns-in-Err-clause-line
+returns-in-Err-clause-line c = λ n is seen h more.
+    let wrong = line_wrong _ n c.in-Err.fault (sym c.at.ensures ∙ is) in
+    subst (FaultAt _) wrong.1
     (line_fault c.args.setup.now c.args.self.now c.loop-alloc.self c.take_usual.new.self c.args.text.now c.loop-alloc.rest.now c.in-Some-cut.line.now
     c.in-Some-cut.after.now c.in_default.ensures.version c.in_default.ensures.none c.in-Some-cut.ensures
-    (c.in-Err-Wrong.ensures.wrong c.in-Err-Wrong.field-0-is) c.loop-alloc.invariant seen h more)
+    (c.in-Err.ensures.wrong wrong.0) c.loop-alloc.invariant seen h more)
 
 pub loop-alloc-smaller : goal.loop-alloc-smaller
 loop-alloc-smaller c =

@@ -1,8 +1,14 @@
+use Rattle.std.proofs.Common.{◌≡◌, ℕ, List, ap, sym, subst, ◌∙◌}
+use Rattle.diag_pdu.specs.Kind.{IsRead, kind, says}
 use Rattle.diag_listen.proofs.Hearing.{hears_frame, then_ok}
 use Rattle.diag_listen.proofs.listener.Listener.take.Goals as goal
 
 pub returns-clause-heard : goal.returns-clause-heard
 returns-clause-heard c =
+    let max = c.args.self.now.side.max_request in
+    let k = says c.read.result in
+    let is : k ≡ kind c.args.frame.now max = c.read.ensures.kind ∙ ap (λ (b : List ℕ). kind b max) c.as_slice.ensures.bytes in
+    let whole : IsRead max k = subst (IsRead max) (sym c.read.ensures.kind) c.read.ensures.read in
     then_ok c.take_kind.result _ _ c.take_kind.ensures.moves (λ moves.
-    hears_frame c.args.self.now c.take_kind.new.self c.args.over.now.items c.take_kind.new.over.items c.args.at c.args.frame.now c.of_frame-kind.result
-    c.of_frame-kind.ensures.kind c.of_frame-kind.ensures.read c.take_kind.ensures.side moves)
+    hears_frame c.args.self.now c.take_kind.new.self c.args.over.now.items c.take_kind.new.over.items c.args.at c.args.frame.now k
+    is whole c.take_kind.ensures.side moves)

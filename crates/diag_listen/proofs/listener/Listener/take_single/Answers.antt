@@ -20,8 +20,8 @@ returns-clause-moves c =
     let start = c.start_of.result in
     let message = c.in_place.result in
     let new : Listener = record { side = c.lose.new.self.side; receiver = c.lose.new.self.receiver; exchanges = last } in
-    let first : Began start ≡ began c.args.at c.args.payload.now = c.start_of.ensures ∙ ap (began c.args.at) c.as_slice.ensures.bytes in
-    let whole : message ≡ c.args.payload.now = c.in_place.ensures ∙ c.copy.ensures in
+    let first : Began start ≡ began c.args.at c.args.payload.now = c.start_of.ensures in
+    let whole : message ≡ c.args.payload.now = c.in_place.ensures ∙ c.from_slice.ensures in
     both_ok c.come.result _ _ _ c.come.ensures.ok c.come.ensures.coming (λ came none hs s e.
     has_moved old.exchanges new out all (lost_if (is_some old.exchanges.coming) ++ Began start ∷ Came message ∷ [])
     (lost_if (is_some old.receiver.partial) ++ began c.args.at c.args.payload.now ∷ Came c.args.payload.now ∷ []) None

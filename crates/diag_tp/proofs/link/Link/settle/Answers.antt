@@ -7,9 +7,9 @@ pub returns : goal.returns
 returns c =
     let done = c.finish.ensures in
     let old = c.args.self.now.state in
-    let numbers = settled-numbers old c.args.taken.now c.requires.drained in
+    let numbers = settled-numbers old c.args.taken c.requires.drained in
     record {
-      stands = λ s E A Q h event is. rw done.state (settles s old E A Q event c.args.taken.now is c.requires.drained h);
+      stands = λ s E A Q h event is. rw done.state (settles s old E A Q event c.args.taken is c.requires.drained h);
       reply_room = λ h. reply_room_made c.finish.new.self (rw done.reply_room (reply_room c.args.self.now h));
       reply_rooms = rw done.reply_room (omega arith);
       unsent = rw done.state numbers.frames;

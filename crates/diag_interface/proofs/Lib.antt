@@ -1,0 +1,4 @@
+mod Outlooks
+mod Texts
+mod Times
+mod Windows

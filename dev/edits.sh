@@ -1,0 +1,30 @@
+#!/usr/bin/env bash
+# Tries the wrong edits that stand outside the gate, those of crates/NAME/edits/: the prover must refuse each. Run it for a
+# crate whose contracts, definitions or proofs you changed, and look at what it says of each edit.
+# Usage: dev/edits.sh [CRATE..]     these crates, or all that have such edits
+# Works on a copy in which they stand under must-fail/, and begins with what `rt check` kept of the crate.
+# The last line is 'N passed, M failed'; the status is 0 where M is 0.
+set -uo pipefail
+cd "$(dirname "$0")/.." || exit 2
+for crate in "$@"; do
+  [ -d "crates/$crate/edits" ] || { echo "edits: crates/$crate/edits isn't there" >&2; exit 2; }
+done
+copy=$(mktemp -d)
+trap 'rm -rf "$copy"' EXIT
+tar -c --exclude=out --exclude=must-fail crates crates.txt HANDLES | tar -x -C "$copy" && git init -q "$copy" || exit 2
+crates=()
+for folder in "$copy"/crates/*/edits/; do
+  crate=$(basename "$(dirname "$folder")")
+  if [ $# = 0 ] || [[ " $* " = *" $crate "* ]]; then
+    mv "$folder" "${folder%edits/}must-fail"
+    crates+=("$crate")
+  fi
+done
+
+said=$(cd "$copy" && rt must-fail "${crates[@]}" 2>&1)
+status=$?
+echo "$said"
+wanted=$(find "$copy"/crates -path '*/must-fail/*.edit' | wc -l)
+refused=$(grep -c ': refused, as it must be' <<< "$said")
+echo "$refused passed, $((wanted - refused)) failed"
+[ "$status" = 0 ] && [ "$refused" = "$wanted" ]

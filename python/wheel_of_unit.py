@@ -1,0 +1,72 @@
+"""Makes the wheel for `pip install ./python` (PEP 517), with the shared library that was built of the sources beside it, or
+that release/ has of them. It wants neither a compiler nor another package, and so no network."""
+import base64
+import hashlib
+import subprocess
+import tomllib
+import zipfile
+from pathlib import Path
+from typing import Any
+
+HERE = Path(__file__).resolve().parent
+LIBRARY = "libuds_unit.so"
+TAG = "py3-none-linux_x86_64"
+FIRST = (1980, 1, 1, 0, 0, 0)
+
+
+def project() -> dict[str, Any]:
+    with open(HERE / "pyproject.toml", "rb") as it:
+        return tomllib.load(it)["project"]
+
+
+def library() -> Path:
+    """The shared library: beside the package's files, else where tools/release.sh tells. OSError where there is none."""
+    beside = HERE / "uds_unit" / LIBRARY
+    if beside.exists():
+        return beside
+    told = subprocess.run([HERE.parent / "tools/release.sh", "--files"], capture_output=True, text=True)
+    if told.returncode != 0:
+        raise FileNotFoundError(f"there is no {LIBRARY} here: {told.stderr.strip()}")
+    return HERE.parent / told.stdout.split()[-1]
+
+
+def metadata(about: dict[str, Any]) -> str:
+    lines = ["Metadata-Version: 2.1", f"Name: {about['name']}", f"Version: {about['version']}", f"Summary: {about['description']}"]
+    lines += [f"Classifier: {it}" for it in about["classifiers"]] + [f"Requires-Python: {about['requires-python']}"]
+    for extra, wanted in about["optional-dependencies"].items():
+        lines += [f"Provides-Extra: {extra}", *(f'Requires-Dist: {it} ; extra == "{extra}"' for it in wanted)]
+    return "\n".join(lines) + "\n"
+
+
+def entry_points(about: dict[str, Any]) -> str:
+    groups = {"console_scripts": about["scripts"], **about["entry-points"]}
+    return "\n".join("\n".join([f"[{group}]", *(f"{name} = {at}" for name, at in points.items()), ""]) for group, points in groups.items())
+
+
+def files(about: dict[str, Any]) -> dict[str, bytes]:
+    """What the wheel has, by its path there."""
+    package = [it for it in sorted((HERE / "uds_unit").iterdir()) if it.suffix == ".py" or it.name == "py.typed"]
+    told = f"{about['name']}-{about['version']}.dist-info"
+    return {
+        **{f"uds_unit/{it.name}": it.read_bytes() for it in package},
+        f"uds_unit/{LIBRARY}": library().read_bytes(),
+        f"{told}/METADATA": metadata(about).encode(),
+        f"{told}/WHEEL": f"Wheel-Version: 1.0\nGenerator: wheel_of_unit\nRoot-Is-Purelib: false\nTag: {TAG}\n".encode(),
+        f"{told}/entry_points.txt": entry_points(about).encode(),
+    }
+
+
+def build_wheel(wheel_directory: str, config_settings: Any = None, metadata_directory: Any = None) -> str:
+    about = project()
+    has, record = files(about), f"{about['name']}-{about['version']}.dist-info/RECORD"
+    sums = {path: base64.urlsafe_b64encode(hashlib.sha256(text).digest()).decode().rstrip("=") for path, text in has.items()}
+    lines = [f"{path},sha256={sums[path]},{len(text)}\n" for path, text in has.items()] + [f"{record},,\n"]
+    name = f"{about['name']}-{about['version']}-{TAG}.whl"
+    with zipfile.ZipFile(Path(wheel_directory) / name, "w", zipfile.ZIP_DEFLATED) as wheel:
+        for path, text in {**has, record: "".join(lines).encode()}.items():
+            wheel.writestr(zipfile.ZipInfo(path, FIRST), text, zipfile.ZIP_DEFLATED)
+    return name
+
+
+def build_sdist(sdist_directory: str, config_settings: Any = None) -> str:
+    raise NotImplementedError("the sources are the repository")

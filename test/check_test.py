@@ -1,0 +1,232 @@
+#!/usr/bin/env python3
+"""Holds `uds_play check` against the program's runs: setups with one thing wrong, each in turn, and with several, of a
+seed. The first line of `check` begins with the fault that a run tells, and names a place; where a run takes the setup
+`check` finds no fault, and its status says which. The last line is 'N passed, M failed'."""
+import copy
+import os
+import random
+import subprocess
+import sys
+import tempfile
+
+from harness import PROGRAM, Tally
+
+FAULTS = ("syntax", "missing ", "bad value ", "range", "empty", "duplicate", "unknown code", "unknown level", "too long")
+UNIT = (
+    "p2_ms", "p2_star_10ms", "s3_ms", "n_bs_ms", "n_cr_ms", "block_size", "st_min", "max_request", "pad", "pad_byte", "availability", "functional",
+    "attempts", "delay_ms", "ignore",
+)
+ROWS = ("seed", "key")
+LISTS = {
+    "tester": ("name", "request", "response", "extended", "functional"),
+    "did": ("id", "value", "read_level", "write", "write_level", "varies"),
+    "code": ("code", "status"),
+    "routine": ("id", "time_ms", "result", "level", "code", "status"),
+    "level": ("sub", "any_key", "varies"),
+    "answer": ("request", "reply", "session", "level", "enter", "after_ms"),
+}
+MOST_ROWS = {"tester": 8, "did": 1024, "code": 4096, "routine": 256, "level": 4, "level.row": 64, "answer": 1024}
+UNPLACED = "the look at the setup found another first"
+SEVERAL = 400
+GOOD = {
+    "s3_ms": 4000,
+    "pad": True,
+    "ignore": ["3E80", "28..*"],
+    "tester": [
+        {"name": "A", "request": 0x7E0, "response": 0x7E8},
+        {"name": "B", "request": 0x7E1, "response": 0x7E9},
+        {"name": "C", "extended": True, "request": 0x18DA10F1, "response": 0x18DAF110},
+    ],
+    "did": [{"id": 0xF190, "value": "4142", "read_level": 1, "write": True, "write_level": 3, "varies": True}, {"id": 1, "value": "00"}],
+    "code": [{"code": 0x012345, "status": 0x2F}, {"code": 5, "status": 0}],
+    "routine": [{"id": 0x0203, "time_ms": 100, "result": "01", "level": 1, "code": 0x012345, "status": 1}, {"id": 4, "time_ms": 1}],
+    "level": [
+        {"sub": 1, "any_key": True, "varies": True, "row": [{"seed": "11", "key": "2222"}, {"seed": "33", "key": "4444"}]},
+        {"sub": 3, "row": [{"seed": "1100", "key": "22"}]},
+    ],
+    "answer": [
+        {"request": "28..*", "reply": ["68$1", "7F$078", "??", ""], "session": 3, "level": 1, "enter": 2, "after_ms": 3000},
+        {"request": "3E00", "after_ms": 1},
+        {"request": "22F40C", "reply": ["62F40C0b"]},
+    ],
+}
+# the number of a table in `places`: a level with two rows of seeds and keys, and the rows of answers
+LEVEL, ANSWER, PLAIN_ANSWER = 10, 15, 16
+# values of a wrong kind, and numbers at the borders of the ranges
+ODD = (-1, 4294967296, 1.5, "text", "0", "0 ", True, [], [1], {"a": 1})
+BORDERS = (0, 1, 2, 7, 8, 64, 65, 66, 67, 126, 127, 128, 240, 241, 249, 250, 255, 256, 2047, 2048, 60000, 60001, 65535, 65536, 600000, 600001, 16777214, 16777215, 536870911, 536870912, 4294967295)
+# spoilt as texts: what stands before the good setup
+BEFORE = {
+    "a byte order mark": b"\xef\xbb\xbf",
+    "two byte order marks": b"\xef\xbb\xbf" * 2,
+    "no toml": b"a = \n",
+    "no UTF-8": b"# \xff\n",
+    "too long": b"#" * (1 << 20) + b"\n",
+    "too long, and no toml": b"a = " * (1 << 18) + b"\n",
+    "the least number": b"a = -9223372036854775808\n",
+    "a number below it": b"a = -9223372036854775809\n",
+    "the greatest number": b"a = [{ a = 9223372036854775807 }]\n",
+    "a number above it": b"a = [{ a = 9223372036854775808 }]\n",
+    "a number above it, in hex": b"a = 0x8000000000000000\n",
+    "a number above it, of a known key": b"p2_ms = 9223372036854775808\n",
+    "a number of 5,000 digits": b"a = " + b"9" * 5000 + b"\n",
+    "a number of 5,000 digits, in hex": b"a = 0x" + b"F" * 5000 + b"\n",
+    "a great number under 2,000 keys": b"a" + b".a" * 1999 + b" = 9223372036854775808\n",
+    "a great number with an exponent": b"a = 1e400\n",
+    "infinity": b"a = -inf\n",
+    "80 lists": b"a = " + b"[" * 80 + b"]" * 80 + b"\n",
+    "400,000 lists": b"a = " + b"[" * 400_000,
+    "a line end in an inline table": b"a = {\na = 1 }\n",
+    "a comma at its end": b"a = { a = 1, }\n",
+    "an escape": b'a = "\\e"\n',
+    "a byte in hex": b'a = "\\x41"\n',
+    "a time without seconds": b"a = 07:32\n",
+    "a leap second": b"a = 23:59:60\n",
+    "81 lists": b"a = " + b"[" * 81 + b"]" * 81 + b"\n",
+    "a key of 81 parts": b"a" + b".a" * 80 + b" = 1\n",
+}
+TEXTS = ("", "A", "a_1", "a b", "é", "abcdefghijklmnop", "abcdefghijklmnopq", "00", "00" * 16, "01" * 16, "01" * 17, "01" * 32, "01" * 33, "01" * 255, "01" * 256, "Ff", "0g")
+# patterns and templates, well or not
+PATTERNS = (
+    "", "*", "2", "2*2", "2G", "$1", "??", ".", "....", "..*", "22.", "22*..", "22**", "22 F1", "2é", "ff", "28.._", "..\\n",
+    ".." * 64, ".." * 64 + "*", ".." * 65, "00" * 65 + "*", "00" * 65 + "0",
+)
+REPLIES = (
+    "", "68", [""], ["", ""], ["6"], ["$G"], ["$"], ["?"], ["..", "00"], ["00", "0"], ["*"], ["00", 1], [["00"]], [{"a": 1}], ["$0$1"], ["$2"],
+    ["00", "$2"], ["$F"], ["$a"], ["7F$078??"], ["$1é"], ["00\\n"], ["00" * 4095], ["$0" * 4095], ["??" * 4096], ["00"] * 4096, ["00"] * 4097,
+)
+# lists of patterns, well or not
+IGNORED = (
+    "", "3E80", [], ["3E80"], ["3E80", "3E80"], [""], ["*"], ["3E80", "3"], ["2G"], ["3E80", 1], [["3E80"]], [{"a": 1}], ["$1"], ["??"],
+    [".." * 64], [".." * 65 + "*"], ["3E80", "00" * 65], ["3E*"] * 256, ["3E*"] * 257, ["3E*"] * 257 + ["3"],
+)
+# the values of a key that isn't a number
+VALUES = {
+    **dict.fromkeys(("name", "value", "seed", "key", "result"), TEXTS), "request": PATTERNS, "reply": REPLIES, "ignore": IGNORED,
+}
+# several keys that are well or not by each other
+TOGETHER = {
+    "after_ms at its most": [(0, "p2_star_10ms", 0), (ANSWER, "after_ms", 305)],
+    "after_ms above it": [(0, "p2_star_10ms", 0), (ANSWER, "after_ms", 306)],
+    "after_ms at its most, no p2_ms": [(0, "p2_star_10ms", 1), (0, "p2_ms", 0), (ANSWER, "after_ms", 2550)],
+    "after_ms above it, no p2_ms": [(0, "p2_star_10ms", 1), (0, "p2_ms", 0), (PLAIN_ANSWER, "after_ms", 2551)],
+    "enter without reply": [(PLAIN_ANSWER, "enter", 2)],
+    "enter 0 without reply": [(PLAIN_ANSWER, "enter", 0)],
+    "enter beside a bad reply": [(PLAIN_ANSWER, "enter", 2), (PLAIN_ANSWER, "reply", "68")],
+    "a session and a level that never meet": [(ANSWER, "session", 1), (ANSWER, "level", 3)],
+    "the last byte that a template may name": [(ANSWER, "request", "28" + ".." * 15), (ANSWER, "reply", ["$F"])],
+    "one beyond it": [(ANSWER, "request", "28" + ".." * 14 + "*"), (ANSWER, "reply", ["$f"])],
+    "level 0 without levels": [(0, "level", []), (0, "answer", [{"request": "00", "level": 0}])],
+    "a level of a routine and one of an answer": [(8, "level", 5), (ANSWER, "level", 7)],
+    "a bad pattern behind a bad template": [(ANSWER, "reply", ["6"]), (PLAIN_ANSWER, "request", "6")],
+    "a bad pattern and a bad template": [(ANSWER, "reply", ["6"]), (ANSWER, "request", "6")],
+    "a pattern that isn't there, and a bad one": [(ANSWER, "request", None), (PLAIN_ANSWER, "request", "6")],
+    "the functional identifier of 29 bits": [(3, "request", 0x18DB33F1)],
+    "the same of a tester's own": [(3, "functional", 0x18DB33F2), (3, "response", 0x18DB33F2)],
+    "another where that one is a request": [(3, "functional", 0x18DB33F2), (3, "request", 0x18DB33F1)],
+    "a number of both kinds": [(3, "request", 0x7E0), (3, "response", 0x7E8)],
+    "the functional number of 11 bits, of 29": [(3, "request", 0x7DF)],
+    "a tester's own functional identifier, another's request": [(1, "functional", 0x7E1)],
+    "the shared one that nobody has": [(0, "functional", 0x7E0), (1, "functional", 0x700), (2, "functional", 0x700)],
+    "a request of 29 bits without saying so": [(1, "request", 0x18DA11F1)],
+    "a bad pattern to ignore and a key that isn't there": [(0, "ignore", ["2G"]), (1, "name", None)],
+    "the most templates": [(0, "answer", [{"request": "00", "reply": [""] * 4096}] * 16)],
+    "one more": [(0, "answer", [{"request": "00", "reply": [""] * 4096}] * 16 + [{"request": "00", "reply": [""]}])],
+}
+told = Tally("setup", most=5000, quiet=True)
+
+
+def value_text(value):
+    if isinstance(value, bool):
+        return str(value).lower()
+    if isinstance(value, dict):
+        return "{ " + ", ".join(f"{key} = {value_text(it)}" for key, it in value.items()) + " }"
+    if isinstance(value, list):
+        return "[" + ", ".join(map(value_text, value)) + "]"
+    return '"' + value + '"' if isinstance(value, str) else str(value)
+
+
+def toml_of(tree):
+    return "".join(f"{key} = {value_text(value)}\n" for key, value in tree.items()).encode()
+
+
+def places(tree):
+    """Each table of a setup, with its keys."""
+    yield tree, [*UNIT, *LISTS]
+    for path, keys in LISTS.items():
+        for table in tree[path]:
+            yield table, [*keys, "row"] if path == "level" else list(keys)
+            for row in table.get("row", []):
+                yield row, list(ROWS)
+
+
+def changes():
+    """Each way to spoil a setup: the number of a table, a key, and its new value; None leaves the key out."""
+    for at, (_, keys) in enumerate(places(GOOD)):
+        for key in keys:
+            for value in (None, *ODD, *(VALUES.get(key, BORDERS) if at >= ANSWER or key != "request" else BORDERS)):
+                yield at, key, value
+        yield at, "other", 1
+    for path in LISTS:
+        for count in (0, 1, MOST_ROWS[path], MOST_ROWS[path] + 1):
+            yield 0, path, [other_row(path, n) for n in range(count)]
+    for count in (0, 1, 64, 65):
+        yield LEVEL, "row", [{"seed": "01", "key": "00"}] * count
+
+
+def other_row(path, n):
+    row = {key: value for key, value in GOOD[path][-1].items() if key not in ("read_level", "write_level", "level")}
+    row.update({"tester": {"name": f"T{n}", "request": 2 * n, "response": 2 * n + 1}, "did": {"id": n}, "code": {"code": n}, "routine": {"id": n}, "level": {"sub": 2 * n + 1}, "answer": {}}[path])
+    return row
+
+
+def spoilt(changes):
+    """The good setup with these changes."""
+    tree = copy.deepcopy(GOOD)
+    tables = [table for table, _ in places(tree)]
+    for at, key, value in changes:
+        if value is None:
+            tables[at].pop(key, None)
+        else:
+            tables[at][key] = value
+    return toml_of(tree)
+
+
+def ran(*words):
+    return subprocess.run([PROGRAM, *words], capture_output=True, timeout=60, text=True)
+
+
+def compare(folder, name, data):
+    """Whether a run and the look at the setup say the same."""
+    path = os.path.join(folder, "setup.toml")
+    with open(path, "wb") as file:
+        file.write(data)
+    run = ran("--quiet", "bus", path, os.devnull).stderr.strip().removeprefix("uds_play: config: ")
+    check = ran("check", path)
+    lines = [line for line in check.stdout.splitlines() if line.startswith(FAULTS)]
+    first, _, place = lines[0].partition(": ") if lines else ("", "", "")
+    good = run == first and check.stderr == "" and check.returncode == (2 if run else 0)
+    good = good and check.stdout != "" and UNPLACED not in check.stdout and bool(place) == bool(run)
+    told(good, name, f"a run says {run!r}, the look at it {check.stdout[:300]!r}\n{data.decode(errors='replace')}")
+
+
+def main():
+    told.needs_program()
+    every = list(changes())
+    chance = random.Random(7)
+    with tempfile.TemporaryDirectory() as folder:
+        compare(folder, "good", toml_of(GOOD))
+        for name, before in BEFORE.items():
+            compare(folder, name, before + toml_of(GOOD))
+        for name, some in TOGETHER.items():
+            compare(folder, name, spoilt(some))
+        for change in every:
+            compare(folder, change, spoilt([change]))
+        for _ in range(SEVERAL):
+            some = chance.sample(every, 3)
+            compare(folder, some, spoilt(some))
+    return told.ended()
+
+
+if __name__ == "__main__":
+    sys.exit(main())

@@ -1,0 +1,151 @@
+#!/usr/bin/env python3
+"""Tests tools/junit.py: what it makes of texts of `compare`, read back as XML by the rules of JUnit's schema, and by
+junitparser (Debian's python3-junitparser) where that is there; the statuses; and what the program writes over the captures of runs/.
+The last line is 'N passed, M failed'."""
+import io
+import os
+import subprocess
+import sys
+import xml.etree.ElementTree as ElementTree
+from typing import Iterator
+
+from harness import DEBIAN, PROGRAM, TOP, Tally, cases
+import packages
+
+TOOL = f"{TOP}/tools/junit.py"
+# JUnit's schema, as build servers read it: of each element the attributes that it has to have, those that it may have,
+# and what may stand in it
+SCHEMA = {
+    "testsuites": ({"name"}, {"tests", "failures", "errors", "time"}, {"testsuite"}),
+    "testsuite": ({"name", "tests"}, {"failures", "errors", "skipped", "time", "timestamp"}, {"testcase"}),
+    "testcase": ({"name", "classname"}, {"time"}, {"skipped", "error", "failure"}),
+    "failure": (set(), {"type", "message"}, set()),
+    "error": (set(), {"type", "message"}, set()),
+    "skipped": (set(), {"message"}, set()),
+}
+AGREES = "1 0000000100.000000 A P 1003 5003003201F4 = 12 0\n"
+BUSY = "3 0000000100.010000 B P 1003 - 7F1021 - 2\n"
+IGNORED = "4 0000000100.020000 A F 22F190 7F2231 ~ 3 0\n"
+UNASKED = "7 0000000100.040000 B U - 7E00 - - 0\n"
+HIDDEN = "9 0000000100.050000 A P 2301 63AA12 63??11 1 0\n"
+LONG = f"12 0000000100.060000 A P 2E{'AB' * 300} 6EABAB 7F2E31 1 0\n"
+SILENT = "13 0000000100.070000 B F 3E80 7E00 - 1 0\n"
+told = Tally("junit", most=1500)
+
+
+def report(text: str) -> tuple[str, int, str]:
+    """What the tool makes of a text, and its status."""
+    ran = subprocess.run([sys.executable, TOOL], input=text.encode(), capture_output=True, timeout=60)
+    return ran.stdout.decode(), ran.returncode, ran.stderr.decode()
+
+
+def faults_of(element: ElementTree.Element) -> Iterator[str]:
+    """What in an element isn't by the schema."""
+    must, may, inner = SCHEMA.get(element.tag, (set(), set(), set()))
+    if element.tag not in SCHEMA:
+        yield f"an element {element.tag}"
+    if not must <= set(element.attrib) <= must | may:
+        yield f"attributes {sorted(element.attrib)} of {element.tag}"
+    for it in element:
+        if it.tag not in inner:
+            yield f"{it.tag} in {element.tag}"
+        yield from faults_of(it)
+
+
+def numbers(root: ElementTree.Element) -> list[tuple[str, list[int], list[int]]]:
+    """Each suite's name with the counts that it tells, and those of what is in it."""
+    found = []
+    for it in root.iter("testsuite"):
+        told_of = [int(it.get(key)) for key in ("tests", "failures", "errors", "skipped")]
+        found.append((it.get("name"), told_of, [len(list(it.iter(key))) for key in ("testcase", "failure", "error", "skipped")]))
+    return found
+
+
+# ---- the texts: name, text, status, the counts of each suite
+
+TEXTS = [
+    ("all agree", AGREES + "A 1 exchanges, 0 differ\nB 0 exchanges, 0 differ\n", 0, {"A": [1, 0, 0, 0], "B": [0, 0, 0, 0]}),
+    ("some differ", AGREES + BUSY + IGNORED + UNASKED + HIDDEN + LONG + SILENT + "A 4 exchanges, 2 differ\nB 3 exchanges, 3 differ\n", 8,
+     {"A": [4, 2, 0, 1], "B": [3, 3, 0, 0]}),
+    ("the differences alone", BUSY + "A 40 exchanges, 0 differ\nB 50 exchanges, 1 differ\n", 8, {"A": [0, 0, 0, 0], "B": [1, 1, 0, 0]}),
+    ("nothing compared", IGNORED + "A 1 exchanges, 0 differ\nB 0 exchanges, 0 differ\nnothing compared\n", 9,
+     {"A": [1, 0, 0, 1], "B": [0, 0, 0, 0], "compare": [1, 0, 1, 0]}),
+    ("a run that ended by a fault", AGREES + BUSY, 3, {"A": [1, 0, 0, 0], "B": [1, 1, 0, 0], "compare": [1, 0, 1, 0]}),
+    ("no text", "", 3, {"compare": [1, 0, 1, 0]}),
+    ("another text", AGREES + 'uds_play: <"&> \x01\u20ac\nA 1 exchanges, 0 differ\n', 3, {"A": [1, 0, 0, 0], "compare": [1, 0, 1, 0]}),
+]
+
+
+def by_schema() -> None:
+    for name, text, status, wanted in TEXTS:
+        xml, ended, tells = report(text)
+        told(ended == status, f"the status: {name}", f"{ended}, {tells}")
+        root = ElementTree.fromstring(xml)
+        wrong = list(faults_of(root))
+        told(not wrong and root.tag == "testsuites", f"by the schema: {name}", wrong)
+        found = numbers(root)
+        good = all(said == has for _, said, has in found) and {suite: said for suite, said, _ in found} == wanted
+        told(good, f"its numbers: {name}", found)
+        sums = [sum(said[at] for _, said, _ in found) for at in range(3)]
+        told([int(root.get(key)) for key in ("tests", "failures", "errors")] == sums, f"the sums: {name}", root.attrib)
+
+
+def words() -> None:
+    """What a failure says, and when an exchange was."""
+    root = ElementTree.fromstring(report(TEXTS[1][1])[0])
+    cases = {it.get("name"): it for it in root.iter("testcase")}
+    texts = {name: it.find("failure").text for name, it in cases.items() if it.find("failure") is not None}
+    for name, text in {
+        "line 3: 1003 DiagnosticSessionControl extendedDiagnosticSession": "line 3: the unit sent B nothing, expected 7F1021",
+        "line 7: unasked 7E00": "line 7: the unit sent B 7E00, expected nothing",
+        "line 9: 2301 ReadMemoryByAddress": "line 9: the unit sent A 63AA12, expected 63??11",
+        "line 13: 3E80 TesterPresent zeroSubFunction, functional": "line 13: the unit sent B 7E00, expected nothing",
+    }.items():
+        told(texts.get(name) == text, f"the words of {name}", texts)
+    seconds = cases["line 1: 1003 DiagnosticSessionControl extendedDiagnosticSession"].get("time")
+    told(seconds == "0.012", "the time of an exchange", seconds)
+
+
+def of_program() -> None:
+    """What the program writes is taken as it comes, and the report has the program's status."""
+    for case in cases():
+        words = next((it for it in case.commands if it[0] == "compare"), None)
+        if words is None or case.has_notes or case.name.startswith("cli/"):
+            continue
+        ran = subprocess.run([PROGRAM, "--quiet", *words], cwd=case.folder, stdin=subprocess.DEVNULL, capture_output=True, timeout=60)
+        xml, ended, tells = report(ran.stdout.decode())
+        wrong = list(faults_of(ElementTree.fromstring(xml)))
+        # where nothing was written, or not all, the report tells of a fault, whichever it was
+        told(ended == (3 if ran.stderr else ran.returncode) and not wrong and not tells, f"of the program: {case.name}", f"{ended}, {tells}, {ran}, {wrong}")
+
+
+def by_parser() -> None:
+    """The same by junitparser, as a build server's script would read it."""
+    if DEBIAN not in sys.path:
+        sys.path.append(DEBIAN)
+    try:
+        import junitparser
+    except ImportError:
+        if packages.install("python3-junitparser", "junit: junitparser is installed for the test of reports"):
+            return by_parser()
+        print("junit: there is no junitparser here, and it can't be installed: reports are read by the schema alone", flush=True)
+        return None
+    for name, text, _, wanted in TEXTS:
+        xml = junitparser.JUnitXml.fromroot(junitparser.junitparser.etree.parse(io.BytesIO(report(text)[0].encode())).getroot())
+        found = {it.name: [it.tests, it.failures, it.errors, it.skipped] for it in xml}
+        told(found == wanted, f"junitparser reads: {name}", found)
+        results = [type(result).__name__ for suite in xml for case in suite for result in case.result]
+        kinds = [results.count(kind) for kind in ("Failure", "Error", "Skipped")]
+        told(kinds == [sum(it[at] for it in wanted.values()) for at in (1, 2, 3)], f"junitparser counts: {name}", results)
+    return None
+
+
+def main() -> int:
+    told.needs_program()
+    for group in (by_schema, words, of_program, by_parser):
+        group()
+    return told.ended()
+
+
+if __name__ == "__main__":
+    sys.exit(main())

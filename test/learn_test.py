@@ -1,0 +1,807 @@
+#!/usr/bin/env python3
+"""Tests tools/learn.py by recordings of a small unit of its own: sessions, security, measured values, response pending, long
+answers, services that the server's model lacks. The setup that is learned from each has to agree with it. The demo's
+recordings, one that can't be explained, other forms of pairs, and how long a million lines take. The recordings are the
+same each time. The last line is 'N passed, M failed'.
+Usage: test/learn_test.py [--program PROGRAM] [RUNS [FIRST]]
+  RUNS, FIRST    so many recordings (default 200), the first with this seed (default 1)"""
+import argparse
+import io
+import os
+import random
+import re
+import sys
+import tempfile
+import time
+import tomllib
+import unittest
+from contextlib import redirect_stderr, redirect_stdout
+from dataclasses import dataclass, field
+from typing import Callable, Iterator, Optional
+
+from harness import DEBIAN, TOP, Tally
+import learn
+import learn_bus
+import live
+from learn_judge import Exchange
+from learn_model import Held, one_round, s3_of
+from learn_rows import Case, pattern_of, shortened, template_of
+from learn_setup import between, code_name
+from uds_link import Setup as LinkSetup
+from uds_link import cut
+
+LONG = 1_000_000
+MOST_SECONDS = 20
+# the seed of a recording that is played on a bus: of two testers, with long messages and response pending, of some seconds
+ON_A_BUS = 87
+OTHERS = ["0C9#0021C07F0A00", "3A0#4E0080FFFF000064", "18FEF100#FFFFFF00FFFFFFFF", "123#0322F190AAAAAAAA", "7FF#"]
+
+
+# ---- a small unit, which is no uds_play
+
+
+@dataclass
+class Answer:
+    """What the unit sends to a request: the message, None for nothing; after how many milliseconds; and how often it says
+    before that it isn't ready."""
+
+    data: Optional[bytes]
+    after: int = 3
+    pendings: int = 0
+
+
+class Refusal(Exception):
+    def __init__(self, code: int):
+        super().__init__(code)
+        self.code = code
+
+
+@dataclass
+class UnitModel:
+    """A unit with values of its own; what it does beside the server's model depends on its seed."""
+
+    chance: random.Random
+    session: int = 1
+    holder: Optional[int] = None
+    level: int = 0
+    until: int = 0
+    seed: Optional[bytes] = None
+    wrong: int = 0
+    deaf: int = -1
+    block: int = 0
+    now: int = 0
+    values: dict = field(default_factory=dict)
+    codes: dict = field(default_factory=dict)
+    begun: dict = field(default_factory=dict)
+
+    def __post_init__(self) -> None:
+        chance = self.chance
+        self.values = {
+            0xF190: b"WVWZZZ1KZ%08d" % chance.randrange(10**8),
+            0xF18C: chance.randbytes(chance.choice([4, 8, 20])),
+            0x0100: chance.randbytes(1),
+            0x0101: chance.randbytes(60),
+            0x0102: chance.randbytes(2),
+        }
+        self.codes = {chance.randrange(1, 0xFFFFFE): chance.choice([0x09, 0x2F, 0x08, 0x24]) for _ in range(chance.randint(0, 9))}
+        self.availability = chance.choice([0xFF, 0x7F, 0x2F])
+        self.p2, self.p2_star = chance.choice([(50, 500), (25, 500), (20, 200)])
+        self.s3 = chance.choice([5000, 5000, 3000])
+        # what it does otherwise than the server
+        self.always_new_seed = chance.random() < 0.3
+        self.has_busy = chance.random() < 0.5
+        self.codes_after = chance.choice([0x50, 0x00])
+        self.reset_time = chance.random() < 0.3
+        self.routine_info = chance.random() < 0.3
+        self.reads_locked = chance.random() < 0.5
+        self.tells_times = chance.random() < 0.8
+        self.minds_bit = chance.random() < 0.9
+        self.hears_all = chance.random() < 0.7
+
+    # ---- the session
+
+    def end(self) -> None:
+        self.session, self.holder, self.level, self.seed = 1, None, 0, None
+
+    def session_of(self, tester: int) -> int:
+        return self.session if tester == self.holder else 1
+
+    def want_session(self, tester: int, *sessions: int) -> None:
+        if self.session_of(tester) not in sessions:
+            raise Refusal(0x7F)
+
+    def want_level(self, tester: int) -> None:
+        if tester != self.holder or not self.level:
+            raise Refusal(0x33)
+
+    # ---- requests
+
+    def answer(self, tester: int, request: bytes, is_functional: bool, now: int) -> Answer:
+        """Answers a request at a moment in milliseconds."""
+        self.now = now
+        if self.holder is not None and now - self.until >= self.s3:
+            self.end()
+        service = SERVED.get(request[0])
+        try:
+            if service is None:
+                raise Refusal(0x11)
+            found = service(self, tester, request)
+            found = found if isinstance(found, Answer) else Answer(found)
+            if len(request) > 1 and request[1] & 0x80 and request[0] in WITH_SUB and not found.pendings and self.minds_bit:
+                found.data = None
+        except Refusal as it:
+            hidden = is_functional and it.code in (0x11, 0x12, 0x31, 0x7F)
+            found = Answer(None if hidden else bytes([0x7F, request[0], it.code]))
+        if tester == self.holder:
+            self.until = max(self.until, now + found.after)
+        return found
+
+    def control_session(self, tester: int, request: bytes) -> bytes:
+        if len(request) != 2:
+            raise Refusal(0x13)
+        sub = request[1] & 0x7F
+        if sub not in (1, 2, 3):
+            raise Refusal(0x12)
+        if sub > 1 and self.holder not in (None, tester) and self.has_busy:
+            raise Refusal(0x21)
+        if sub == 2 and self.session_of(tester) not in (2, 3):
+            raise Refusal(0x7E)
+        if sub == 1:
+            if tester == self.holder:
+                self.end()
+        else:
+            self.end()
+            self.session, self.holder, self.until = sub, tester, self.now
+        times = self.p2.to_bytes(2, "big") + self.p2_star.to_bytes(2, "big")
+        return bytes([0x50, sub]) + (times if self.tells_times else b"")
+
+    def reset(self, tester: int, request: bytes) -> Answer:
+        if self.holder not in (None, tester) and self.has_busy:
+            raise Refusal(0x21)
+        self.end()
+        self.begun.clear()
+        return Answer(bytes([0x51, request[1] & 0x7F]) + (b"\x0a" if self.reset_time else b""), 10)
+
+    def clear(self, tester: int, request: bytes) -> Answer:
+        if len(request) != 4:
+            raise Refusal(0x13)
+        if request[1:] != b"\xff\xff\xff":
+            raise Refusal(0x31)
+        self.codes = {it: self.codes_after for it in self.codes}
+        return Answer(b"\x54", 300, 1)
+
+    def read_codes(self, tester: int, request: bytes) -> bytes:
+        sub = request[1] & 0x7F
+        if sub == 2 and len(request) == 3:
+            listed = [(code, status & self.availability) for code, status in self.codes.items() if status & request[2] & self.availability]
+        elif sub == 0x0A and len(request) == 2:
+            listed = [(code, status & self.availability) for code, status in self.codes.items()]
+        elif sub == 1 and len(request) == 3:
+            count = sum(bool(status & request[2] & self.availability) for status in self.codes.values())
+            return bytes([0x59, 1, self.availability, 1]) + count.to_bytes(2, "big")
+        elif sub == 6 and len(request) == 6:
+            return b"\x59\x06" + request[2:5] + b"\x2f\x01\x02"
+        else:
+            raise Refusal(0x12 if sub not in (1, 2, 6, 0x0A) else 0x13)
+        return bytes([0x59, sub, self.availability]) + b"".join(code.to_bytes(3, "big") + bytes([status]) for code, status in listed)
+
+    def read(self, tester: int, request: bytes) -> bytes:
+        found = b"\x62"
+        for at in range(1, len(request) - 1, 2):
+            number = int.from_bytes(request[at : at + 2], "big")
+            if number == 0x0102 and self.reads_locked:
+                self.want_level(tester)
+            value = self.value(tester, number)
+            found += request[at : at + 2] + value if value is not None else b""
+        if len(found) == 1 or len(request) % 2 == 0:
+            raise Refusal(0x31 if len(request) % 2 else 0x13)
+        return found
+
+    def value(self, tester: int, number: int) -> Optional[bytes]:
+        """The value of an identifier: the session, one that is measured, one that counts, or one that is kept."""
+        if number == 0xF186:
+            return bytes([self.session_of(tester)])
+        if number == 0xF40C:
+            return self.chance.randbytes(2)
+        if number == 0xF40D:
+            self.block = (self.block + 1) % 3
+            return bytes([self.block])
+        return self.values.get(number)
+
+    def write(self, tester: int, request: bytes) -> bytes:
+        self.want_session(tester, 2, 3)
+        number = int.from_bytes(request[1:3], "big")
+        if number not in (0xF190, 0x0100):
+            raise Refusal(0x31)
+        if number == 0xF190:
+            self.want_level(tester)
+        if len(request) - 3 != len(self.values[number]):
+            raise Refusal(0x13)
+        self.values[number] = request[3:]
+        return b"\x6e" + request[1:3]
+
+    def unlock(self, tester: int, request: bytes) -> bytes:
+        self.want_session(tester, 2, 3)
+        sub = request[1] & 0x7F
+        if self.now < self.deaf:
+            raise Refusal(0x37)
+        if sub == 1:
+            if self.level:
+                return b"\x67\x01\0\0\0\0"
+            if self.seed is None or self.always_new_seed:
+                self.seed = self.chance.randbytes(4).replace(b"\0", b"\1")
+            return b"\x67\x01" + self.seed
+        if sub != 2:
+            raise Refusal(0x12)
+        return self.key(request[2:])
+
+    def key(self, key: bytes) -> bytes:
+        if self.seed is None:
+            raise Refusal(0x24)
+        if len(key) != 4:
+            raise Refusal(0x13)
+        seed, self.seed = self.seed, None
+        if key == key_of(seed):
+            self.level, self.wrong = 1, 0
+            return b"\x67\x02"
+        self.wrong += 1
+        if self.wrong < 3:
+            raise Refusal(0x35)
+        self.wrong, self.deaf = 0, self.now + 2000
+        raise Refusal(0x36)
+
+    def routine(self, tester: int, request: bytes) -> Answer:
+        self.want_session(tester, 2, 3)
+        number, sub = request[2:4], request[1] & 0x7F
+        if number not in (b"\x02\x03", b"\xff\x00"):
+            raise Refusal(0x31)
+        if number == b"\xff\x00":
+            self.want_level(tester)
+            return Answer(b"\x71\x01\xff\x00", 1800, 3)
+        if sub == 1:
+            if self.now < self.begun.get(number, -1000) + 250:
+                raise Refusal(0x22)
+            self.begun[number] = self.now
+            return Answer(b"\x71\x01\x02\x03" + (b"\x77" if self.routine_info else b""))
+        if sub != 3:
+            raise Refusal(0x12)
+        if number not in self.begun:
+            raise Refusal(0x24)
+        runs = self.now < self.begun[number] + 250
+        return Answer(b"\x71\x03\x02\x03" + (b"\x01" if runs else b"\x00\xAB\xCD"))
+
+    def control_communication(self, tester: int, request: bytes) -> bytes:
+        self.want_session(tester, 3)
+        return bytes([0x68, request[1] & 0x7F])
+
+    def control_io(self, tester: int, request: bytes) -> bytes:
+        self.want_session(tester, 3)
+        return b"\x6f" + request[1:4] + b"\x00"
+
+    def download(self, tester: int, request: bytes) -> Answer:
+        self.want_session(tester, 2)
+        self.want_level(tester)
+        return Answer({0x34: b"\x74\x20\x00\x82", 0x36: b"\x76" + request[1:2], 0x37: b"\x77"}[request[0]], 20)
+
+    def present(self, tester: int, request: bytes) -> bytes:
+        if request[1] & 0x7F:
+            raise Refusal(0x12)
+        return b"\x7e\x00"
+
+    def set_codes(self, tester: int, request: bytes) -> bytes:
+        self.want_session(tester, 2, 3)
+        return bytes([0xC5, request[1] & 0x7F])
+
+
+def key_of(seed: bytes) -> bytes:
+    return bytes(it ^ 0x5A for it in seed)
+
+
+SERVED: dict[int, Callable] = {
+    0x10: UnitModel.control_session,
+    0x11: UnitModel.reset,
+    0x14: UnitModel.clear,
+    0x19: UnitModel.read_codes,
+    0x22: UnitModel.read,
+    0x27: UnitModel.unlock,
+    0x28: UnitModel.control_communication,
+    0x2E: UnitModel.write,
+    0x2F: UnitModel.control_io,
+    0x31: UnitModel.routine,
+    0x34: UnitModel.download,
+    0x36: UnitModel.download,
+    0x37: UnitModel.download,
+    0x3E: UnitModel.present,
+    0x85: UnitModel.set_codes,
+}
+WITH_SUB = (0x10, 0x11, 0x19, 0x28, 0x31, 0x3E, 0x85)
+
+
+# ---- a recording of it
+
+
+@dataclass
+class Bus:
+    """A bus that is recorded: the frames with their moments in milliseconds."""
+
+    chance: random.Random
+    pad: Optional[int]
+    flow: tuple[int, int]
+    frames: list = field(default_factory=list)
+    ms: int = 1_000_000
+    numbers: list = field(default_factory=lambda: [(0x7E0, 0x7E8), (0x7E1, 0x7E9)])
+    everyone: int = 0x7DF
+
+    def link(self) -> LinkSetup:
+        return LinkSetup([], 0x7DF, 0, 0, 65535, self.pad, 1000, 1000, None)
+
+    def put(self, identifier: int, data: bytes) -> None:
+        self.frames.append((self.ms, f"{identifier:0{8 if identifier > 0x7FF else 3}X}#{data.hex().upper()}"))
+
+    def send(self, identifier: int, back: int, message: bytes, flow: bytes) -> None:
+        """A message in frames, with the flow control of the other side."""
+        frames = cut(self.link(), message)
+        for number, frame in enumerate(frames):
+            self.put(identifier, frame)
+            block = flow[1]
+            if number == 0 and len(frames) > 1 or (block and number and number % block == 0 and number < len(frames) - 1):
+                self.ms += 1
+                self.put(back, flow if self.pad is None else flow.ljust(8, bytes([self.pad])))
+            self.ms += 1 if number else 0
+
+    def ask(self, unit: UnitModel, tester: int, request: bytes, wait: int = 0) -> Answer:
+        """A physical request, and its answer; `wait` milliseconds before it."""
+        own, back = self.numbers[tester]
+        self.ms += wait
+        self.send(own, back, request, bytes([0x30, *self.flow]))
+        found = unit.answer(tester, request, False, self.ms)
+        self.reply(tester, request, found)
+        return found
+
+    def ask_all(self, unit: UnitModel, testers: int, request: bytes) -> None:
+        """A functional request: each tester's connection has it."""
+        self.put(self.everyone, cut(self.link(), request)[0])
+        at = self.ms
+        for tester in range(testers if unit.hears_all else 1):
+            self.reply(tester, request, unit.answer(tester, request, True, at))
+
+    def reply(self, tester: int, request: bytes, found: Answer) -> None:
+        own, back = self.numbers[tester]
+        if found.data is None:
+            return
+        for _ in range(found.pendings):
+            self.ms += found.after // (found.pendings + 1)
+            self.put(back, cut(self.link(), bytes([0x7F, request[0], 0x78]))[0])
+        self.ms += max(1, found.after // (found.pendings + 1))
+        self.send(back, own, found.data, b"\x30\0\0")
+
+    def text(self) -> str:
+        lines, us = [], 0
+        for ms, frame in self.frames:
+            if self.chance.random() < 0.2:
+                lines.append((ms * 1000, self.chance.choice(OTHERS)))
+            lines.append((ms * 1000 + min(us, 999), frame))
+        lines.append((lines[-1][0] + 2_000_000 if lines else 0, OTHERS[0]))
+        return "".join(f"({us // 1_000_000:010d}.{us % 1_000_000:06d}) can0 {frame}\n" for us, frame in lines)
+
+
+# what testers do, each as a list of requests; a key is put in where `KEY` or `WRONG` stands
+KEY, WRONG, SLEEP = b"KEY", b"WRONG", b"SLEEP"
+UNLOCK = [b"\x27\x01", KEY]
+SCRIPTS: list[list[bytes]] = [
+    [b"\x22\xf1\x90", b"\x22\xf1\x8c", b"\x22\xf1\x86"],
+    [b"\x22\xf4\x0c", b"\x22\xf4\x0c", b"\x22\xf4\x0d", b"\x22\xf4\x0c"],
+    [b"\x22\xf1\x90\xf1\x8c", b"\x22\x01\x00\xf4\x0c", b"\x22\xff\xff\x01\x00", b"\x22\xff\xff"],
+    [b"\x22\x01\x01", b"\x22\x01\x02"],
+    [b"\x19\x02\xff", b"\x19\x0a", b"\x19\x01\x08", b"\x19\x02\x08", b"\x19\x06\x12\x34\x56\x01"],
+    [b"\x14\xff\xff\xff", b"\x19\x02\xff", b"\x14\x00\x00\x01"],
+    [b"\x10\x03", *UNLOCK, b"\x2e\xf1\x90WVWZZZ1KZ00000001", b"\x22\xf1\x90", b"\x22\x01\x02", b"\x22\xf1\x86"],
+    [b"\x10\x03", b"\x2e\xf1\x90WVWZZZ1KZ00000002", b"\x2e\x01\x00\x11", b"\x22\x01\x00", b"\x2e\x01\x00\x11\x22", b"\x2e\x55\x55\x11"],
+    [b"\x10\x03", b"\x31\x01\x02\x03", b"\x31\x03\x02\x03", SLEEP, b"\x31\x03\x02\x03", b"\x31\x01\x55\x55", b"\x31\x02\x02\x03"],
+    [b"\x10\x03", b"\x31\x01\xff\x00", *UNLOCK, b"\x31\x01\xff\x00", b"\x22\xf1\x86"],
+    [b"\x28\x03\x01", b"\x10\x03", b"\x28\x03\x01", b"\x28\x00\x01", b"\x28\x83\x01", b"\x2f\x01\x00\x03\x05", b"\x2f\x01\x02\x00"],
+    [b"\x10\x02", b"\x10\x03", b"\x10\x02", *UNLOCK, b"\x34\x00\x44\0\0\x80\0\0\0\x10\0", b"\x36\x01" + b"\xa5" * 40, b"\x36\x02" + b"\x5a" * 30, b"\x37", b"\x11\x01"],
+    [b"\x10\x03", b"\x27\x01", WRONG, b"\x27\x01", WRONG, b"\x27\x01", WRONG, b"\x27\x01", SLEEP, b"\x27\x01", KEY, b"\x27\x01"],
+    [b"\x10\x03", b"\x27\x01", b"\x27\x01", KEY, b"\x27\x02\x00\x00\x00\x00", b"\x27\x05"],
+    [b"\x3e\x00", b"\x3e\x80", b"\x10\x83", b"\x85\x02", b"\x85\x01", b"\x3e\x80", b"\x10\x01"],
+    [b"\x39\x11", b"\xba\x00", b"\x3e\x01", b"\x10\x55", b"\x22\xf1", b"\x11\x81"],
+    [b"\x10\x03", SLEEP, SLEEP, SLEEP, b"\x85\x02", b"\x10\x01"],
+]
+
+
+def recording(seed: int, scripts: int = 12) -> str:
+    """The recording of a unit and of one or two testers."""
+    chance = random.Random(seed)
+    unit, testers = UnitModel(chance), chance.choice([1, 1, 2])
+    bus = Bus(chance, chance.choice([0xCC, 0xAA, 0x00, None]), chance.choice([(0, 0), (8, 5), (2, 0)]))
+    if chance.random() < 0.2:
+        bus.numbers = [(0x710, 0x77A), (0x711, 0x77B)]
+    if seed % 4 == 2:
+        bus.numbers, bus.everyone = [(0x18DA10F1, 0x18DAF110), (0x18DA10F2, 0x18DAF210)], 0x18DB33F1
+    for _ in range(scripts):
+        tester = chance.randrange(testers)
+        for request in chance.choice(SCRIPTS):
+            play(bus, unit, tester, request, chance)
+            if chance.random() < 0.15:
+                bus.ask_all(unit, testers, chance.choice([b"\x3e\x80", b"\x3e\x80", b"\x22\xf1\x86", b"\x10\x81"]))
+    return bus.text()
+
+
+def play(bus: Bus, unit: UnitModel, tester: int, request: bytes, chance: random.Random) -> None:
+    """One step of a script."""
+    if request == SLEEP:
+        bus.ms += chance.choice([400, 1500, 2500])
+        return
+    if request in (KEY, WRONG):
+        seed = unit.seed or b"\1\2\3\4"
+        request = b"\x27\x02" + (key_of(seed) if request == KEY else bytes(4))
+    bus.ask(unit, tester, request, chance.choice([1, 10, 30, 100]))
+
+
+# ---- what the parts do
+
+
+class OfTheBus(unittest.TestCase):
+    """Which identifiers belong together, and how the unit sends."""
+
+    @staticmethod
+    def lines(*frames: str) -> list[str]:
+        return [f"(0000000100.{at * 10:03d}000) can0 {it}\n" for at, it in enumerate(frames)]
+
+    def pairs(self, *frames: str) -> list[str]:
+        return [it.shown() for it in learn_bus.pairs_of(learn_bus.look(self.lines(*frames)))]
+
+    def test_a_usual_pair_is_seen_once(self) -> None:
+        self.assertEqual(["7E0:7E8"], self.pairs("7E0#023E00", "7E8#027E00"))
+
+    def test_another_pair_is_seen_several_times(self) -> None:
+        once = ["710#023E00", "77A#027E00"]
+        self.assertEqual([], self.pairs(*once))
+        self.assertEqual(["710:77A"], self.pairs(*once, "710#021003", "77A#037F1012"))
+
+    def test_pairs_of_29_bits(self) -> None:
+        self.assertEqual(["18DA10F1:18DAF110"], self.pairs("18DA10F1#023E00", "18DAF110#027E00"))
+
+    def test_a_unit_that_is_asked_functionally_alone(self) -> None:
+        found = learn_bus.look(self.lines("7DF#02010C", "7E8#04410C1AF8", "123#02010C", "124#04410C1AF8", "123#02010C", "124#04410C1AF8"))
+        pairs = learn_bus.pairs_of(found)
+        self.assertEqual((["7E0:7E8"], 0x7DF), ([it.shown() for it in pairs], learn_bus.functional_of(found, pairs)))
+
+    def test_long_answers_are_answers(self) -> None:
+        self.assertEqual(["7E1:7E9"], self.pairs("7E1#0322F190", "7E9#101462F190000000"))
+
+    def test_a_functional_identifier_is_of_no_pair(self) -> None:
+        frames = ["700#023E00", "77A#027E00", "77B#027E00", "710#023E00", "77A#027E00", "711#023E00", "77B#027E00"] * 2
+        found = learn_bus.look(self.lines(*frames))
+        pairs = learn_bus.pairs_of(found)
+        self.assertEqual({"710:77A", "711:77B"}, {it.shown() for it in pairs})
+        self.assertEqual(0x700, learn_bus.functional_of(found, pairs))
+
+    def test_tester_present_tells_the_functional_identifier(self) -> None:
+        found = learn_bus.look(self.lines("7E0#023E00", "7E8#027E00", "7DF#023E80"))
+        self.assertEqual(0x7DF, learn_bus.functional_of(found, learn_bus.pairs_of(found)))
+
+    def test_how_the_unit_sends(self) -> None:
+        pair = [learn_bus.Pair(0x7E0, 0x7E8)]
+        found = learn_bus.sending_of(self.lines("7E0#1014", "7E8#300805AAAAAAAAAA", "7E0#21", "7E8#037F2E31AAAAAAAA"), pair)
+        self.assertEqual((0xAA, 8, 5, 20, 20), (found.pad, found.block_size, found.st_min, found.longest, found.n_cr))
+        self.assertIsNone(learn_bus.sending_of(self.lines("7E8#037F2E31", "7E8#027E00"), pair).pad)
+
+    def test_pairs_of_the_command_line(self) -> None:
+        self.assertEqual(learn_bus.Pair(0x7E0, 0x7E8, False, "shop"), learn_bus.pair_of("7E0:7E8=shop"))
+        for text in ("7E0", "7E0:18DAF110", "7E0:x", "7:8", "7E0:7E8:fd", "7E0:7E8=a b", f"7E0:7E8={'a' * 17}"):
+            self.assertRaises(ValueError, learn_bus.pair_of, text)
+
+
+def exchange(at: int, request: str, sent: str, place: int = 0, pendings: int = 0) -> Exchange:
+    answer = bytes.fromhex(sent) if sent else None
+    return Exchange(at, at, place, "A", "P", bytes.fromhex(request), answer, "-", 3, pendings)
+
+
+class OfTheParts(unittest.TestCase):
+    def test_times_between(self) -> None:
+        self.assertEqual([5000, 6001, 3500, 5000], [between(*it, 5000) for it in ((0, None), (6000, None), (3000, 4000), (4999, 5000))])
+
+    def test_one_round(self) -> None:
+        self.assertEqual([[1], [1, 2], [1, 2, 1], [1, 2, 2], []], [one_round(it) for it in ([1, 1], [1, 2, 1, 2, 1], [1, 2, 1], [1, 2, 2], [])])
+
+    def test_s3(self) -> None:
+        alive = [exchange(0, "1003", "5003003201F4"), exchange(6000, "8501", "C501")]
+        self.assertEqual(6001, s3_of(alive))
+        self.assertEqual(1500, s3_of([exchange(0, "1003", "5003003201F4"), exchange(3000, "8501", "7F857F")]))
+
+    def test_code_names(self) -> None:
+        self.assertEqual(["P0562-00", "U0100-11", "C1234-56", "B2ABC-DE"], [code_name(it) for it in (0x056200, 0xC10011, 0x523456, 0xAABCDE)])
+
+    def test_patterns(self) -> None:
+        self.assertEqual("28..01", pattern_of([b"\x28\x03\x01", b"\x28\x00\x01"]))
+        self.assertEqual("36..*", pattern_of([b"\x36\x03\x01", b"\x36\x00"]))
+        self.assertEqual("AB" * 64 + "*", pattern_of([b"\xab" * 65]))
+
+    def test_short_patterns(self) -> None:
+        self.assertEqual("36..*", shortened("36......*", ["76$1"]))
+        self.assertEqual("36*", shortened("36......*", ["76"]))
+        self.assertEqual(["36....", "36..01*"], [shortened(it, ["76$1"]) for it in ("36....", "36..01*")])
+
+    def test_templates(self) -> None:
+        def template(*pairs: tuple[str, str]) -> Optional[str]:
+            return template_of([Case(Held(), [exchange(0, *it)]) for it in pairs])
+
+        self.assertEqual("68$1", template(("280301", "6803"), ("280001", "6800")))
+        self.assertEqual("6803", template(("280301", "6803")))
+        self.assertIsNone(template(("280301", "6803"), ("280301", "7F2822")))
+        self.assertEqual("", template(("280301", ""), ("280001", "")))
+
+
+class Terminal(io.StringIO):
+    """A standard error that is a terminal."""
+
+    def isatty(self) -> bool:
+        return True
+
+
+class OfTheProgress(unittest.TestCase):
+    @staticmethod
+    def shown(err: io.StringIO, seconds: float) -> str:
+        with redirect_stderr(err):
+            progress = learn.Progress()
+            progress.begun -= seconds
+            progress.at(0.5, "half of it")
+            progress.end()
+        return err.getvalue()
+
+    def test_a_bar_is_for_a_terminal_that_waits(self) -> None:
+        self.assertEqual("", self.shown(io.StringIO(), 5))
+        self.assertEqual("", self.shown(Terminal(), 0.5))
+        self.assertEqual(f"\r\x1b[K{'#' * 15:<30} half of it\r\x1b[K", self.shown(Terminal(), 5))
+
+
+# ---- runs
+
+
+def put(path: str, text: str) -> str:
+    with open(path, "w", encoding="latin-1") as it:
+        it.write(text)
+    return path
+
+
+@dataclass
+class Learned:
+    """What the tool made of a recording: the setup's text, its status, and what it told."""
+
+    text: str
+    status: int
+    told: str
+
+    def tree(self) -> dict:
+        return tomllib.loads(self.text)
+
+
+# what the command line gives: the program, and the seeds
+OPTIONS: list[str] = []
+RUNS = range(1, 201)
+
+
+def learned(*words: str) -> Learned:
+    out, err = io.StringIO(), io.StringIO()
+    with redirect_stdout(out), redirect_stderr(err):
+        status = learn.main([*OPTIONS, *words])
+    return Learned(out.getvalue(), status, err.getvalue())
+
+
+def learned_of(lines: str, *words: str) -> Learned:
+    with tempfile.TemporaryDirectory() as room:
+        return learned(*words, put(f"{room}/capture.log", lines))
+
+
+def frames(*pairs: tuple[int, str]) -> str:
+    """A recording of frames by their milliseconds."""
+    return "".join(f"({100 + ms // 1000:010d}.{ms % 1000:03d}000) can0 {it}\n" for ms, it in pairs)
+
+
+def rows_of(it: Learned) -> dict[str, list[str]]:
+    return {row["request"]: row.get("reply") for row in it.tree().get("answer", [])}
+
+
+class OfRecordings(unittest.TestCase):
+    """The setup that is learned from a recording agrees with it."""
+
+    def test_the_small_unit(self) -> None:
+        for seed in RUNS:
+            with self.subTest(seed=seed):
+                found = learned_of(recording(seed))
+                told = re.sub("learn: .* pairs are taken .*\n", "", found.told)
+                self.assertEqual((0, ""), (found.status, told))
+
+    def test_the_demo(self) -> None:
+        for name in ("bus.log", "other_unit.log"):
+            found = learned("--pair", "7E0:7E8=workshop", "--pair", "7A0:7A8=end_of_line", f"{TOP}/demo/{name}")
+            self.assertEqual((0, ""), (found.status, found.told))
+            self.assertEqual(["workshop", "end_of_line"], [it["name"] for it in found.tree()["tester"]])
+            self.assertEqual([0xF190, 0xF195], [it["id"] for it in found.tree()["did"]])
+        self.assertEqual({"14FFFFFF": ["54"], "31010203": None}, rows_of(found))
+
+    def test_measured_values_come_in_order(self) -> None:
+        reads = [(at, it) for ms, value in enumerate(("0B54", "0B70", "0B2E")) for at, it in ((ms * 100, "7E0#0322F40C"), (ms * 100 + 5, f"7E8#0562F40C{value}"))]
+        found = learned_of(frames(*reads))
+        self.assertEqual((0, {"22F40C": ["62F40C0B54", "62F40C0B70", "62F40C0B2E"]}), (found.status, rows_of(found)))
+        varies = learned_of(frames(*reads), "--varies")
+        self.assertEqual([{"id": 0xF40C, "value": "0B54", "varies": True}], varies.tree()["did"])
+
+    def test_a_slow_answer(self) -> None:
+        found = learned_of(frames((0, "7E0#0414FFFFFF"), (40, "7E8#037F1478"), (700, "7E8#0154")))
+        self.assertEqual([{"request": "14FFFFFF", "after_ms": 700}], found.tree()["answer"])
+        self.assertEqual(0, found.status)
+
+    def test_an_obd_unit(self) -> None:
+        asks = [(0, "7DF#020100"), (9, "7E8#064100BE3EB811"), (20, "7DF#02010C"), (29, "7E8#04410C1AF8"), (40, "7DF#02010C"), (49, "7E8#04410C1B10")]
+        found = learned_of(frames(*asks))
+        self.assertEqual((0, {"0100": ["4100BE3EB811"], "010C": ["410C1AF8", "410C1B10"]}), (found.status, rows_of(found)))
+
+    def test_the_programming_session(self) -> None:
+        found = learned_of(frames((0, "7E0#021002"), (5, "7E8#065002003201F4"), (50, "7E0#0122F1"), (60, "7E0#028502"), (65, "7E8#02C502")))
+        self.assertEqual((0, 2), (found.status, found.tree()["answer"][0]["enter"]))
+
+    def test_what_nobody_asked_is_told(self) -> None:
+        found = learned_of(frames((0, "7E0#023E00"), (5, "7E8#027E00"), (9, "7E8#025003")))
+        self.assertEqual((8, "learn: line 3: tester_7E0 was sent 5003 which nobody asked for\n"), (found.status, found.told))
+
+    def test_a_value_that_depends_on_a_write_elsewhere(self) -> None:
+        """It comes and goes as another identifier is written: more often than a row has templates."""
+        if OPTIONS[1:] != [learn.PROGRAM]:
+            return
+        chance, steps, flag = random.Random(1), [], 0
+        for at in range(2, 4202):
+            if chance.random() < 0.5:
+                flag = 1 - flag
+                steps += [(20 * at, f"7E0#042E0100{flag:02X}"), (20 * at + 3, "7E8#036E0100")]
+            steps += [(20 * at + 6, "7E0#03220200"), (20 * at + 9, f"7E8#04620200{flag:02X}")]
+        found = learned_of(frames((0, "7E0#021003"), (5, "7E8#065003003201F4"), *steps))
+        self.assertEqual(8, found.status)
+        self.assertRegex(found.told, "learn: line [0-9]+: tester_7E0 was sent 6202000[01] to 220200, expected 6202000[01]\n")
+        self.assertEqual({0x0100, 0x0200}, {it["id"] for it in found.tree()["did"]})
+
+    def test_pairs_of_29_bits(self) -> None:
+        lines = frames((0, "18DA10F1#023E00"), (5, "18DAF110#027E00"), (9, "18DBFFF1#023E80"), (20, "7E0#023E00"), (25, "7E8#027E00"))
+        wide = {"name": "shop", "extended": True, "request": 0x18DA10F1, "response": 0x18DAF110, "functional": 0x18DBFFF1}
+        narrow = {"name": "tester_7E0", "request": 0x7E0, "response": 0x7E8}
+        given = learned_of(lines, "--pair", "18DA10F1:18DAF110=shop")
+        self.assertEqual((0, [wide]), (given.status, given.tree()["tester"]))
+        found = learned_of(lines)
+        self.assertEqual((0, [narrow, {**wide, "name": "tester_18DA10F1"}]), (found.status, found.tree()["tester"]))
+
+    def test_an_obd_unit_of_29_bits(self) -> None:
+        asks = [(0, "18DB33F1#020100"), (9, "18DAF110#064100BE3EB811"), (20, "18DB33F1#02010C"), (29, "18DAF110#04410C1AF8")]
+        found = learned_of(frames(*asks))
+        self.assertEqual((0, {"0100": ["4100BE3EB811"], "010C": ["410C1AF8"]}), (found.status, rows_of(found)))
+        tester = {"name": "tester_18DA10F1", "extended": True, "request": 0x18DA10F1, "response": 0x18DAF110}
+        self.assertEqual([tester], found.tree()["tester"])
+
+    def test_faults(self) -> None:
+        self.assertEqual((3, "learn: uds_play: capture line 3: bad line\n"), self.told(frames((0, "7E0#023E00"), (5, "7E8#027E00")) + "x\n"))
+        for line in ("(1,5) can0 7E0#023E00", "(1.500000) can0 7E0#032", "(1.000000) can0 zz#023E00", "can0  7E0   [2]  3E 00", "\0\xff", "7E0#023E00"):
+            self.assertEqual((3, "learn: uds_play: capture line 1: bad line\n"), self.told(f"{line}\n"), line)
+        self.assertEqual(9, self.told("")[0])
+        self.assertEqual(1, self.told("", "--pair", "7E0:7E8=a b")[0])
+        self.assertEqual(7, learned("/none").status)
+
+    @staticmethod
+    def told(lines: str, *words: str) -> tuple[int, str]:
+        found = learned_of(lines, *words)
+        return found.status, found.told
+
+
+class OfOtherForms(unittest.TestCase):
+    """A recording of another tool is learned as one of candump, where python-can is installed."""
+
+    def test_asc_and_blf(self) -> None:
+        sys.path.append(DEBIAN)
+        try:
+            import can  # pylint: disable=import-outside-toplevel
+        except ImportError:
+            print("learn: there is no python-can here: recordings of other tools aren't learned", flush=True)
+            return
+        want = learned(f"{TOP}/demo/bus.log").tree()
+        for form in ("asc", "blf", "csv"):
+            with tempfile.TemporaryDirectory() as room:
+                path = f"{room}/bus.{form}"
+                with can.LogReader(f"{TOP}/demo/bus.log") as messages, can.Logger(path) as out:
+                    for it in messages:
+                        out(it)
+                found = learned(path)
+            self.assertEqual((0, want), (found.status, found.tree()), form)
+
+
+class OnABus(unittest.TestCase):
+    """`live` with a learned setup answers the recorded testers as the recording has it, but for response pending."""
+
+    def play(self, setup: str, lines: list[str]) -> None:
+        """Sends the testers' frames of a recording at their moments, and looks for those of the unit."""
+        begun, first = time.monotonic(), moment_of(lines[0].split()[0])
+        with tempfile.TemporaryDirectory() as room, live.running(room, setup) as run:
+            for stamp, _, frame, *_ in (it.split() for it in lines):
+                identifier, _, data = frame.partition("#")
+                if identifier in ("7E0", "7A0", "7E1", "7DF"):
+                    time.sleep(max(0.0, begun + (moment_of(stamp) - first) / 1000 - time.monotonic()))
+                    run.send(identifier, data)
+                elif identifier in run.came and not says_pending(data):
+                    self.assertEqual(data, self.next(run, identifier), stamp)
+            self.assertEqual("", run.ends_well())
+
+    @staticmethod
+    def next(run: live.Run, identifier: str) -> str:
+        """The next frame of the unit that isn't response pending."""
+        return next(data for data in iter(lambda: run.next(identifier)[1], None) if not says_pending(data))
+
+    def test_the_demo(self) -> None:
+        found = learned("--pair", "7E0:7E8=workshop", "--pair", "7A0:7A8=end_of_line", f"{TOP}/demo/bus.log")
+        with open(f"{TOP}/demo/bus.log", encoding="ascii") as it:
+            self.play(found.text, it.readlines())
+
+    def test_the_small_unit(self) -> None:
+        lines = recording(ON_A_BUS, 5)
+        self.play(learned_of(lines).text, lines.splitlines())
+
+
+def moment_of(stamp: str) -> int:
+    """The moment of a stamp in milliseconds."""
+    seconds, _, parts = stamp[1:-1].partition(".")
+    return int(seconds) * 1000 + int(parts[:3])
+
+
+def says_pending(data: str) -> bool:
+    return re.match("037F..78", data) is not None
+
+
+class OfALongOne(unittest.TestCase):
+    """A million lines are learned in seconds."""
+
+    def test_a_million_lines(self) -> None:
+        if OPTIONS[1:] != [learn.PROGRAM]:
+            return
+        with tempfile.TemporaryDirectory() as room:
+            path, lines = f"{room}/long.log", recording(3).splitlines()
+            with open(path, "w", encoding="ascii") as it:
+                it.writelines(repeated(lines, LONG))
+            begun = processor_time()
+            found = learned(path)
+            took = processor_time() - begun
+        print(f"learn: {LONG} lines in {took:.1f} seconds of processor time", flush=True)
+        self.assertEqual(([], True), (re.findall("learn: [^ln].*", found.told), took < MOST_SECONDS))
+
+
+def processor_time() -> float:
+    """What this process and its children took so far, in seconds, however busy the machine is."""
+    used = os.times()
+    return used.user + used.system + used.children_user + used.children_system
+
+
+def repeated(lines: list[str], most: int) -> Iterator[str]:
+    """The lines again and again, with traffic of others among them, each time behind the last one's end."""
+    stamps = [int(it[1:18].replace(".", "")) for it in lines]
+    rests, span = [it[19:] for it in lines], stamps[-1] - stamps[0] + 60_000_000
+    for number in range(most // 4):
+        us = stamps[number % len(lines)] + number // len(lines) * span
+        stamp = f"({us // 1_000_000:010d}.{us % 1_000_000:06d})"
+        yield f"{stamp} {rests[number % len(lines)]}\n"
+        yield f"{stamp} can0 0C9#0021C07F0A00\n" * 3
+
+
+def main() -> int:
+    words = argparse.ArgumentParser(description=__doc__, formatter_class=argparse.RawDescriptionHelpFormatter)
+    words.add_argument("--program", default=learn.PROGRAM)
+    words.add_argument("runs", type=int, nargs="?", default=200)
+    words.add_argument("first", type=int, nargs="?", default=1)
+    given = words.parse_args()
+    told = Tally("learn")
+    told.needs_program(given.program)
+    OPTIONS[:] = ["--program", given.program]
+    globals()["RUNS"] = range(given.first, given.first + given.runs)
+    ran = unittest.TextTestRunner(sys.stdout, verbosity=1).run(unittest.defaultTestLoader.loadTestsFromModule(sys.modules["__main__"]))
+    told.failed = len(ran.failures) + len(ran.errors)
+    told.passed = ran.testsRun - min(told.failed, ran.testsRun)
+    return told.ended()
+
+
+if __name__ == "__main__":
+    sys.exit(main())

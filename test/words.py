@@ -1,0 +1,169 @@
+#!/usr/bin/env python3
+"""Makes the man page and the completion for bash from what `uds_play --help` and `uds_play COMMAND --help` print, and
+compares them with man/uds_play.1 and completion/uds_play.bash; with --write it writes these. The page is read by man, where
+that is there, and the completion is tried in bash; the example of each command runs over demo/.
+Usage: test/words.py [--write]
+The last line is 'N passed, M failed'."""
+import os
+import re
+import shutil
+import subprocess
+import sys
+import tempfile
+
+from harness import PROGRAM, TOP, Tally
+
+PAGE, COMPLETION = "man/uds_play.1", "completion/uds_play.bash"
+STATUS = (
+    ("0", "the whole text was written"),
+    ("1", "words that the program doesn't take, or another number of files"),
+    ("2", "a fault of the setup"),
+    ("3", "a fault of a log, of a capture or of a journal"),
+    ("4", "memory was refused"),
+    ("5", "the journal is full"),
+    ("7", "a file can't be read, or the output can't be written"),
+    ("8", "the unit answered otherwise than the server, or an entry differs"),
+    ("9", "nothing was compared"),
+)
+# what a word of the command line may be completed to
+TRIED = (
+    (["uds_play", "b"], ["bus"]),
+    (["uds_play", "--q"], ["--quiet"]),
+    (["uds_play", "bus", "--j"], ["--journal"]),
+    (["uds_play", "compare", "--d"], ["--differences"]),
+    (["uds_play", "--quiet", "live", "--r"], ["--record"]),
+    (["uds_play", "check", ""], ["folder", "unit.toml"]),
+    (["uds_play", "verify", "unit.toml", ""], ["drive.log", "folder"]),
+    (["uds_play", "compare", "--differences", "unit.toml", ""], ["drive.log", "folder"]),
+    (["uds_play", "replay", "unit.toml", ""], ["drive.log", "folder", "journal", "unit.toml"]),
+)
+told = Tally("words")
+
+
+def help_of(*words):
+    texts = [subprocess.run([PROGRAM, *words, it], capture_output=True, text=True, timeout=60, check=True).stdout for it in ("--help", "-h")]
+    told(texts[0] == texts[1], f"help by -h: {' '.join(words)}", texts[1])
+    return re.sub(r"Usage: \S+", "Usage: uds_play", texts[0], count=1)
+
+
+def parts_of(text):
+    """The parts of a text of help: what it is about, its usage, its example, and the rows of each table."""
+    about, usage, *rest = text.rstrip("\n").split("\n\n")
+    parts = {"about": about, "usage": usage.removeprefix("Usage: "), "Example": [], "Commands": [], "Arguments": [], "Options": []}
+    for part in rest:
+        head, _, rows = part.partition(":")
+        if head == "Example":
+            parts[head] = [row.strip() for row in rows.split("\n")]
+        else:
+            parts[head] = [tuple(re.split(r"\s{2,}", row.strip(), maxsplit=1)) for row in rows.strip("\n").split("\n")]
+    return parts
+
+
+def flags_of(parts):
+    """The long flags of a command."""
+    return re.findall(r"--[a-z]+", " ".join(row[0] for row in parts["Options"]))
+
+
+def roff(text):
+    return text.replace("\\", "\\e").replace("-", "\\-")
+
+
+def rows_of(rows):
+    return [line for name, what in rows for line in (".TP", f".B {roff(name)}", roff(what))]
+
+
+def page(whole, commands):
+    lines = ['.TH UDS_PLAY 1 "" "uds_play" "User Commands"', ".SH NAME", f"uds_play \\- {roff(whole['about'][0].lower() + whole['about'][1:])}"]
+    lines += [".SH SYNOPSIS", f".B {roff(whole['usage'])}", ".SH OPTIONS", *rows_of(whole["Options"]), ".SH COMMANDS"]
+    for name, parts in commands.items():
+        lines += [f".SS {roff(name)}", f".B {roff(parts['usage'])}", ".PP", f"{roff(parts['about'])}."]
+        lines += rows_of(parts["Arguments"]) + rows_of(parts["Options"])
+        lines += [".PP", "Example:", ".PP", ".nf", *(f".B {roff(row)}" for row in parts["Example"]), ".fi"]
+    return "\n".join([*lines, ".SH EXIT STATUS", *rows_of(STATUS), ""])
+
+
+def completion(whole, commands):
+    cases = "".join(f"    {name}) flags=\"{' '.join(flags_of(parts))}\" ;;\n" for name, parts in commands.items())
+    return f"""# Completion of uds_play for bash: source this file, or put it into the folder of bash-completion.
+_uds_play() {{
+  local word=${{COMP_WORDS[COMP_CWORD]}} command='' given=0 flags='' pattern='*.log' at
+  for ((at = 1; at < COMP_CWORD; at++)); do
+    case ${{COMP_WORDS[at]}} in
+      -*) ;;
+      *) if [ -z "$command" ]; then command=${{COMP_WORDS[at]}}; else given=$((given + 1)); fi ;;
+    esac
+  done
+  case $command in
+    '') flags="{' '.join([*commands, *flags_of(whole)])}" ;;
+{cases}  esac
+  if [ -z "$command" ] || [[ $word == -* ]]; then
+    mapfile -t COMPREPLY < <(compgen -W "$flags" -- "$word")
+    return
+  fi
+  [ "$given" -gt 0 ] || pattern='*.toml'
+  [ "$command$given" != replay1 ] || pattern='*'
+  mapfile -t COMPREPLY < <(compgen -d -- "$word"; compgen -f -X "!$pattern" -- "$word")
+}}
+complete -o filenames -F _uds_play uds_play
+"""
+
+
+def completed(folder, words):
+    """What bash completes the last of these words to."""
+    script = f'source "{TOP}/{COMPLETION}"; COMP_WORDS=("$@"); COMP_CWORD=$(($# - 1)); _uds_play; printf "%s\\n" "${{COMPREPLY[@]}}"'
+    done = subprocess.run(["bash", "-c", script, "bash", *words], cwd=folder, capture_output=True, text=True, timeout=60)
+    return sorted({it for it in done.stdout.split("\n") if it})
+
+
+def try_completion():
+    with tempfile.TemporaryDirectory() as folder:
+        os.mkdir(f"{folder}/folder")
+        for name in ("unit.toml", "drive.log", "journal"):
+            with open(f"{folder}/{name}", "w"):
+                pass
+        for words, want in TRIED:
+            found = completed(folder, words)
+            told(found == want, f"completed: {' '.join(words)}", found)
+
+
+def try_page():
+    if not shutil.which("man"):
+        print("words: there is no man, so the page isn't read by it")
+        return
+    done = subprocess.run(["man", "--warnings", "-l", f"{TOP}/{PAGE}"], capture_output=True, text=True, timeout=60, env={**os.environ, "MANWIDTH": "100"})
+    told(done.returncode == 0 and not done.stderr and "uds_play verify" in done.stdout, "man reads the page", done.stderr)
+
+
+def try_examples(commands):
+    """The example of each command ends well, or as `verify` and `compare` do over a unit that answers otherwise."""
+    with tempfile.TemporaryDirectory() as folder:
+        os.symlink(f"{TOP}/demo", f"{folder}/demo")
+        os.symlink(PROGRAM, f"{folder}/uds_play")
+        for name, parts in commands.items():
+            lines = "\n".join(parts["Example"])
+            done = subprocess.run(["bash", "-ec", lines], cwd=folder, capture_output=True, text=True, timeout=60, env={**os.environ, "PATH": f"{folder}:{os.environ['PATH']}"})
+            told(parts["Example"] != [] and done.returncode == (8 if name in ("verify", "compare") else 0) and "note:" not in done.stderr, f"the example of {name}", done)
+
+
+def main():
+    told.needs_program()
+    whole = parts_of(help_of())
+    commands = {name: parts_of(help_of(name)) for name, _ in whole["Commands"]}
+    for path, text in ((PAGE, page(whole, commands)), (COMPLETION, completion(whole, commands))):
+        if "--write" in sys.argv[1:]:
+            os.makedirs(os.path.dirname(f"{TOP}/{path}"), exist_ok=True)
+            with open(f"{TOP}/{path}", "w") as file:
+                file.write(text)
+        try:
+            with open(f"{TOP}/{path}") as file:
+                told(file.read() == text, path, "it isn't what the texts of help make: test/words.py --write")
+        except OSError as fault:
+            told(False, path, fault)
+    try_page()
+    try_completion()
+    try_examples(commands)
+    return told.ended()
+
+
+if __name__ == "__main__":
+    sys.exit(main())

@@ -1,0 +1,255 @@
+"""What a recording tells of the bus before any message is looked at: which identifiers belong together, and how the unit
+and its testers send their frames. For tools/learn.py; no part of what is proved."""
+import re
+from collections import Counter, defaultdict
+from dataclasses import dataclass, field
+from typing import Iterable, Iterator, Optional
+
+from uds_names import OTHERS, SERVICES
+
+# a request's answer comes within a second
+ANSWER_MS = 1000
+# an answer has to be seen so often, and to so great a part of the requests, before two identifiers are taken for a pair
+LEAST_ANSWERS, LEAST_PART = 2, 0.5
+# the most testers of a setup
+MOST_TESTERS = 8
+PAIR = re.compile(
+    r"(?P<request>[0-9A-F]{3}|[0-9A-F]{8}):(?P<response>[0-9A-F]{3}|[0-9A-F]{8})(?P<fd>:fd)?(?:=(?P<name>[A-Za-z0-9_]{1,16}))?",
+    re.IGNORECASE,
+)
+REQUESTS = {f"{sid:02X}": f"{sid:02X}" for sid in [*SERVICES, *OTHERS]}
+POSITIVES = {f"{sid + 0x40:02X}": f"{sid:02X}" for sid in [*SERVICES, *OTHERS] if sid < 0xBF}
+# functional identifiers of ISO 15765-4
+FUNCTIONAL, FUNCTIONAL_29 = 0x7DF, 0x18DB33F1
+USUAL_FUNCTIONAL = (f"{FUNCTIONAL:03X}", f"{FUNCTIONAL_29:08X}")
+# services of OBD (ISO 15031-5), which count on the identifiers of ISO 15765-4 alone: other traffic looks like them
+OBD = range(1, 11)
+OBD_REQUESTS = {f"{sid:02X}" for sid in OBD}
+OBD_POSITIVES = {f"{sid + 0x40:02X}": f"{sid:02X}" for sid in OBD}
+USUAL_REQUESTS = {*USUAL_FUNCTIONAL, *(f"{it:03X}" for it in range(0x7E0, 0x7E8)), *(f"18DA{it:02X}F1" for it in range(256))}
+USUAL_RESPONSES = {*(f"{it:03X}" for it in range(0x7E8, 0x7F0)), *(f"18DAF1{it:02X}" for it in range(256))}
+
+
+@dataclass(frozen=True)
+class Pair:
+    """The identifiers of a tester's requests and of the unit's answers to it, and the tester's name. Of 29 bits where
+    `is_extended`."""
+
+    request: int
+    response: int
+    is_extended: bool = False
+    name: str = ""
+
+    def texts(self) -> tuple[str, str]:
+        """Its identifiers as lines have them."""
+        wide = 8 if self.is_extended else 3
+        return f"{self.request:0{wide}X}", f"{self.response:0{wide}X}"
+
+    def shown(self) -> str:
+        return ":".join(self.texts())
+
+    def is_usual(self) -> bool:
+        """Whether it is a pair of ISO 15765-4."""
+        if self.is_extended:
+            # normal fixed addressing: target and source change their places
+            is_fixed = self.request >> 16 == self.response >> 16 == 0x18DA
+            return is_fixed and self.request & 0xFF == self.response >> 8 & 0xFF and self.request >> 8 & 0xFF == self.response & 0xFF
+        return 0x7E0 <= self.request <= 0x7E7 and self.response == self.request + 8
+
+
+def pair_of(text: str) -> Pair:
+    """The pair that the command line gives as REQUEST:RESPONSE=NAME. ValueError where it is none, and where it is one of
+    CAN FD (REQUEST:RESPONSE:fd), which a setup can't have."""
+    found = PAIR.fullmatch(text)
+    if not found or len(found["request"]) != len(found["response"]):
+        raise ValueError(f"{text}: it is REQUEST:RESPONSE=NAME, with identifiers of 3 hex digits, or of 8")
+    if found["fd"]:
+        raise ValueError(f"{text}: CAN FD can't be learned yet")
+    request, response = found["request"], found["response"]
+    return Pair(int(request, 16), int(response, 16), len(request) == 8, found["name"] or "")
+
+
+def frames_of(blocks: Iterable[str], identifiers: str, data: str) -> Iterator[tuple[int, str, str]]:
+    """The classic frames in blocks of whole lines whose identifier and data fit these patterns: each frame's moment in
+    milliseconds, its identifier, and its data, as upper-case digits."""
+    # (a pattern that begins with letters is looked for more quickly than one that begins with a line's start)
+    pattern = re.compile(rf"\n\((\d{{1,12}})\.(\d{{3}})\d*\) +\S+ +((?i:{identifiers}))#((?i:{data})(?:[0-9A-Fa-f]{{2}})*)")
+    for block in blocks:
+        for found in pattern.finditer("\n" + block):
+            seconds, parts, identifier, digits = found.groups()
+            yield int(seconds + parts), identifier.upper(), digits.upper()
+
+
+# ---- which identifiers belong together
+
+
+@dataclass
+class Sight:
+    """What was seen of requests and answers: how often an identifier asked, how often another one answered it, and which
+    identifiers sent TesterPresent without wanting a reply."""
+
+    asked: Counter = field(default_factory=Counter)
+    answered: Counter = field(default_factory=Counter)
+    present: Counter = field(default_factory=Counter)
+
+
+def look(blocks: Iterable[str]) -> Sight:
+    """Looks at all frames that can be a SingleFrame, or the FirstFrame of an answer."""
+    sight, recent = Sight(), defaultdict(dict)
+    for now, identifier, data in frames_of(blocks, "[0-9A-F]{3}|[0-9A-F]{8}", "0[1-7]|1[0-9A-F][0-9A-F]{2}"):
+        at = 2 if data[0] == "0" else 4
+        if at == 2 and len(data) < 2 + 2 * int(data[1]):
+            continue
+        first = data[at : at + 2]
+        if first in REQUESTS or (first in OBD_REQUESTS and identifier in USUAL_REQUESTS):
+            sight.asked[identifier] += 1
+            recent[first][identifier] = now
+            if data[2:6] == "3E80":
+                sight.present[identifier] += 1
+        asking = asked_by(recent.get(service_of(identifier, data[at:])), identifier, now)
+        if asking:
+            sight.answered[asking, identifier] += 1
+    return sight
+
+
+def service_of(identifier: str, message: str) -> Optional[str]:
+    """The service that a message answers, as digits; None where it answers none."""
+    first = message[:2]
+    if first == "7F":
+        return message[2:4]
+    return POSITIVES.get(first) or (OBD_POSITIVES.get(first) if identifier in USUAL_RESPONSES else None)
+
+
+def asked_by(recent: Optional[dict[str, int]], identifier: str, now: int) -> Optional[str]:
+    """The identifier that asked last, and not long ago, what a frame of this one answers."""
+    if not recent:
+        return None
+    found = [(at, asking) for asking, at in recent.items() if asking != identifier and 0 <= now - at <= ANSWER_MS]
+    return max(found)[1] if found else None
+
+
+def pairs_of(sight: Sight) -> list[Pair]:
+    """The pairs, the usual ones first, then by how often they were seen; each identifier is of one pair."""
+    found, taken = [], set()
+    for (request, response), count in sorted(sight.answered.items(), key=rank):
+        it = Pair(int(request, 16), int(response, 16), len(request) == 8)
+        if request in taken or response in taken or len(request) != len(response) or is_functional(sight, request, taken):
+            continue
+        if it.is_usual() or (count >= LEAST_ANSWERS and count >= LEAST_PART * sight.asked[request]):
+            found.append(it)
+            taken |= {request, response}
+    found += [it for it in asked_functionally(sight) if not taken & set(it.texts())]
+    usual = sorted((it for it in found if it.is_usual()), key=lambda it: (it.is_extended, it.request))
+    return usual + [it for it in found if not it.is_usual()]
+
+
+def asked_functionally(sight: Sight) -> list[Pair]:
+    """The usual pairs of those that answered a usual functional identifier."""
+    answers = {asking: sorted(it for other, it in sight.answered if other == asking) for asking in USUAL_FUNCTIONAL}
+    narrow, wide = (answers[it] for it in USUAL_FUNCTIONAL)
+    found = [Pair(int(it, 16) - 8, int(it, 16)) for it in narrow if it in USUAL_RESPONSES]
+    fixed = (int(it, 16) for it in wide if len(it) == 8)
+    return found + [it for it in (Pair(changed_places(response), response, True) for response in fixed) if it.is_usual()]
+
+
+def changed_places(number: int) -> int:
+    """An identifier of normal fixed addressing with its target and its source changed."""
+    return number & 0x1FFF0000 | (number & 0xFF) << 8 | number >> 8 & 0xFF
+
+
+def rank(seen: tuple[tuple[str, str], int]) -> tuple[bool, int, tuple[str, str]]:
+    (request, response), count = seen
+    return not Pair(int(request, 16), int(response, 16), len(request) == 8).is_usual(), -count, (request, response)
+
+
+def is_functional(sight: Sight, request: str, taken: set[str]) -> bool:
+    """Whether several answer an identifier, or one that has a pair of its own: then it asks all."""
+    if int(request, 16) in (FUNCTIONAL, FUNCTIONAL_29):
+        return True
+    answers = {response: count for (asking, response), count in sight.answered.items() if asking == request}
+    most = max(answers.values())
+    return any(it in taken for it, count in answers.items() if count == most) or sum(2 * it > most for it in answers.values()) > 1
+
+
+def functional_of(sight: Sight, pairs: list[Pair], is_extended: bool = False) -> Optional[int]:
+    """The functional identifier of 11 bits, or of 29: of those that are of no pair the one that says TesterPresent to all,
+    or that the unit answers, most often; the usual one first. None where no tester of this kind has one."""
+    own = {it for pair in pairs for it in pair.texts()}
+    responses = {it.texts()[1] for it in pairs if it.is_extended == is_extended}
+    usual = USUAL_FUNCTIONAL[is_extended]
+    count = Counter({it: many for it, many in sight.present.items() if responses and it not in own and len(it) == len(usual)})
+    for (request, response), many in sight.answered.items():
+        if request not in own and response in responses and len(request) == len(usual) and sight.asked[request] <= 2 * many:
+            count[request] += many
+    if usual in count or not count:
+        return int(usual, 16) if usual in count else None
+    return int(max(count, key=lambda it: (count[it], it)), 16)
+
+
+# ---- how they send
+
+
+@dataclass
+class Sending:
+    """How the unit and its testers send: the padding byte, None for none; block size and STmin of the unit's flow control;
+    the longest request; the longest time within a request, and from an answer's FirstFrame to its flow control, in
+    milliseconds."""
+
+    pad: Optional[int] = 0xCC
+    block_size: int = 0
+    st_min: int = 0
+    longest: int = 0
+    n_cr: int = 0
+    n_bs: int = 0
+
+
+def sending_of(blocks: Iterable[str], pairs: list[Pair]) -> Sending:
+    """How the frames of these pairs are sent."""
+    found, fills, flows = Sending(), Counter(), Counter()
+    requests = dict(it.texts() for it in pairs)
+    responses = set(requests.values())
+    last, waits = {}, {}
+    for now, identifier, data in frames_of(blocks, "|".join([*requests, *responses]), ""):
+        kind = data[:1]
+        if identifier in responses:
+            count_filling(fills, data)
+            if kind == "3" and len(data) >= 6:
+                flows[int(data[2:4], 16), int(data[4:6], 16)] += 1
+            elif kind == "1":
+                waits[identifier] = now
+        elif kind == "3" and requests[identifier] in waits:
+            found.n_bs = max(found.n_bs, now - waits.pop(requests[identifier]))
+        elif kind == "1":
+            last[identifier] = now
+            found.longest = max(found.longest, length_of(data))
+        elif kind == "2" and identifier in last:
+            found.n_cr = max(found.n_cr, min(now - last[identifier], 60000))
+            last[identifier] = now
+    settle(found, fills, flows)
+    return found
+
+
+def length_of(data: str) -> int:
+    """The length that a FirstFrame tells."""
+    short = int(data[1:4] or "0", 16)
+    return short or int(data[4:12] or "0", 16)
+
+
+def count_filling(fills: Counter, data: str) -> None:
+    """Counts how a SingleFrame of the unit is filled: by the byte, or None."""
+    length = int(data[:2] or "0", 16)
+    if not 1 <= length <= 6:
+        return
+    if len(data) == 2 + 2 * length:
+        fills[None] += 1
+    elif len(data) == 16:
+        fills[int(data[-2:], 16)] += 1
+
+
+def settle(found: Sending, fills: Counter, flows: Counter) -> None:
+    """What was seen most often counts."""
+    if fills:
+        found.pad = fills.most_common(1)[0][0]
+    known = {it: many for it, many in flows.items() if it[1] <= 127 or 241 <= it[1] <= 249}
+    if known:
+        found.block_size, found.st_min = max(known, key=lambda it: known[it])

@@ -1,0 +1,279 @@
+"""The unit that was learned, and its text as a setup that is read and edited by a person. For tools/learn.py; no part of
+what is proved."""
+import textwrap
+from dataclasses import dataclass, field
+from typing import Iterator, Optional
+
+from learn_bus import FUNCTIONAL, FUNCTIONAL_29, Pair, Sending
+from uds_names import IDENTIFIERS, NEGATIVE, service_name, sub_name
+
+# the times of links that a setup has where it says nothing
+N_CR, N_BS, LONGEST = 1000, 1000, 4095
+
+
+@dataclass
+class Seen:
+    """How often something was seen, and the line where it was seen first."""
+
+    count: int = 0
+    line: int = 0
+
+    def at(self, line: int) -> None:
+        self.line = self.line or line
+        self.count += 1
+
+    def shown(self) -> str:
+        return f"seen {'once' if self.count == 1 else f'{self.count} times'}, first at line {self.line}"
+
+
+@dataclass
+class Did:
+    """An identifier: its value as the recording begins, and as it is now; whether it is written and behind which levels;
+    and whether it was read with other values than it had by then."""
+
+    value: bytes
+    now: bytes
+    seen: Seen
+    is_written: bool = False
+    read_level: int = 0
+    write_level: int = 0
+    changes: bool = False
+
+
+@dataclass
+class Code:
+    status: int
+    seen: Seen
+
+
+@dataclass
+class Routine:
+    """A routine: whether it runs longer and by when it was done, in milliseconds; its result, and its level."""
+
+    seen: Seen
+    least: int = 0
+    most: Optional[int] = None
+    result: bytes = b""
+    level: int = 0
+
+
+@dataclass
+class Key:
+    """A seed, the key that was right for it, and one that was wrong."""
+
+    seed: bytes
+    right: Optional[bytes] = None
+    wrong: Optional[bytes] = None
+
+
+@dataclass
+class Level:
+    """A level: its seeds and keys in their order, and how long a key is."""
+
+    seen: Seen
+    keys: list[Key] = field(default_factory=list)
+    size: int = 4
+
+
+@dataclass
+class Row:
+    """A row of answers: its pattern and templates as they are written, the templates None where the server answers."""
+
+    request: str
+    reply: Optional[list[str]] = None
+    session: int = 0
+    level: int = 0
+    enter: int = 0
+    after: int = 0
+    seen: Seen = field(default_factory=Seen)
+
+
+@dataclass
+class Unit:
+    """All that is learned of a unit. Times are milliseconds."""
+
+    pairs: list[Pair]
+    functional: Optional[int]
+    sending: Sending
+    p2: int = 50
+    p2_star: int = 5000
+    s3: int = 5000
+    availability: int = 255
+    attempts: int = 3
+    delay: int = 10000
+    dids: dict[int, Did] = field(default_factory=dict)
+    codes: dict[int, Code] = field(default_factory=dict)
+    routines: dict[int, Routine] = field(default_factory=dict)
+    levels: dict[int, Level] = field(default_factory=dict)
+    rows: list[Row] = field(default_factory=list)
+    # what changes by itself isn't compared
+    varies: bool = False
+    # the functional identifier of testers with 29 bits; None for the usual one
+    functional_29: Optional[int] = None
+    # the requests of each tester, by its place, and the line that told P2 and P2*
+    asked: dict[int, Seen] = field(default_factory=dict)
+    told: int = 0
+
+
+def between(least: int, most: Optional[int], usual: int) -> int:
+    """A time above the least and at most the most that was seen: the usual one, where it may be, else one between."""
+    if least < usual and (most is None or usual <= most):
+        return usual
+    return least + 1 if most is None else max((least + most + 1) // 2, 1)
+
+
+# ---- the text
+
+
+def commented(text: str) -> str:
+    return "\n".join(f"# {it}" for it in textwrap.wrap(text, 100)) + "\n"
+
+
+def truth(value: bool) -> str:
+    return "true" if value else "false"
+
+
+def as_text(value: bytes) -> str:
+    """Behind a value of four bytes or more that all are printable: as text."""
+    is_text = len(value) >= 4 and all(32 <= it < 127 for it in value)
+    return f'  # "{value.decode("ascii")}"' if is_text else ""
+
+
+def code_name(code: int) -> str:
+    """A DTC as ISO 15031-6 writes it, with its failure type."""
+    return f"{'PCBU'[code >> 22]}{code >> 20 & 3:X}{code >> 16 & 15:X}{code >> 8 & 255:02X}-{code & 255:02X}"
+
+
+def setup_text(unit: Unit, source: str) -> str:
+    """The setup as TOML."""
+    head = f"# The unit of {source}, as tools/learn.py has it.\n\n"
+    tables = (unit_keys, tester_tables, did_tables, code_tables, routine_tables, level_tables, answer_tables)
+    return head + "".join(line for table in tables for line in table(unit))
+
+
+def unit_keys(unit: Unit) -> Iterator[str]:
+    sending = unit.sending
+    yield f"# P2 and P2*: told at line {unit.told}\n" if unit.told else ""
+    yield f"p2_ms = {unit.p2}\np2_star_10ms = {unit.p2_star // 10}\ns3_ms = {unit.s3}\n"
+    yield from waits(sending)
+    yield f"block_size = {sending.block_size}\nst_min = 0x{sending.st_min:02X}\n"
+    if sending.longest > LONGEST:
+        yield f"max_request = {min(sending.longest, 65535)}\n"
+    yield "pad = false\n" if sending.pad is None else f"pad_byte = 0x{sending.pad:02X}\n"
+    yield f"availability = 0x{unit.availability:02X}\n"
+    if unit.functional is not None or any(FUNCTIONAL in (it.request, it.response) for it in unit.pairs if not it.is_extended):
+        yield f"functional = 0x{unit.functional if unit.functional is not None else free_identifier(unit):03X}\n"
+    if unit.levels:
+        yield f"attempts = {unit.attempts}\ndelay_ms = {unit.delay}\n"
+
+
+def waits(sending: Sending) -> Iterator[str]:
+    """The times of the links, where a tester took longer than usual."""
+    if sending.n_bs >= N_BS:
+        yield f"n_bs_ms = {min(sending.n_bs + 500, 60000)}\n"
+    if sending.n_cr >= N_CR:
+        yield f"n_cr_ms = {min(sending.n_cr + 500, 60000)}\n"
+
+
+def free_identifier(unit: Unit) -> int:
+    """An identifier that no tester has."""
+    own = {it for pair in unit.pairs if not pair.is_extended for it in (pair.request, pair.response)}
+    return next(it for it in range(0x7FF, 0, -1) if it not in own)
+
+
+def tester_tables(unit: Unit) -> Iterator[str]:
+    for place, it in enumerate(unit.pairs):
+        yield f"\n{commented(f'requests: {unit.asked[place].shown()}')}" if place in unit.asked else "\n"
+        request, response = it.texts()
+        yield f'[[tester]]\nname = "{it.name}"\n{"extended = true" + chr(10) if it.is_extended else ""}'
+        yield f"request = 0x{request}\nresponse = 0x{response}\n"
+        if it.is_extended and unit.functional_29 not in (None, FUNCTIONAL_29):
+            yield f"functional = 0x{unit.functional_29:08X}\n"
+
+
+def did_tables(unit: Unit) -> Iterator[str]:
+    fitted = {it.request for it in unit.rows if not it.session and not it.level}
+    for number, it in sorted(unit.dids.items()):
+        if it.changes and not it.is_written and f"22{number:04X}" in fitted:
+            # its row says all that it is read with
+            continue
+        name = IDENTIFIERS.get(number, "identifier")
+        yield f"\n{commented(f'{name}: {it.seen.shown()}')}[[did]]\nid = 0x{number:04X}\n"
+        yield f'value = "{it.value.hex().upper()}"{as_text(it.value)}\n'
+        if it.read_level:
+            yield f"read_level = 0x{it.read_level:02X}\n"
+        if it.is_written:
+            yield "write = true\n" + (f"write_level = 0x{it.write_level:02X}\n" if it.write_level else "")
+        if it.changes and unit.varies:
+            yield "varies = true\n"
+
+
+def code_tables(unit: Unit) -> Iterator[str]:
+    for number, it in sorted(unit.codes.items()):
+        yield f"\n{commented(f'{code_name(number)}: {it.seen.shown()}')}[[code]]\n"
+        yield f"code = 0x{number:06X}\nstatus = 0x{it.status:02X}\n"
+
+
+def routine_tables(unit: Unit) -> Iterator[str]:
+    for number, it in sorted(unit.routines.items()):
+        yield f"\n{commented(f'routine: {it.seen.shown()}')}[[routine]]\nid = 0x{number:04X}\n"
+        yield f"time_ms = {min(between(it.least, it.most, 1), 600000)}\n"
+        yield f'result = "{it.result.hex().upper()}"\n' if it.result else ""
+        yield f"level = 0x{it.level:02X}\n" if it.level else ""
+
+
+def level_tables(unit: Unit) -> Iterator[str]:
+    for sub, it in sorted(unit.levels.items()):
+        varies = unit.varies and len({key.seed for key in it.keys}) > 1
+        keys = it.keys[:1] if varies else it.keys[:64]
+        yield f"\n{commented(f'SecurityAccess: {it.seen.shown()}')}[[level]]\nsub = 0x{sub:02X}\n"
+        yield "any_key = true\nvaries = true\n" if varies else ""
+        for key in keys:
+            right, note = key_of(key, it)
+            yield f'\n[[level.row]]\nseed = "{key.seed.hex().upper()}"\nkey = "{right.hex().upper()}"{note}\n'
+
+
+def key_of(key: Key, level: Level) -> tuple[bytes, str]:
+    """The right key; of a seed without one any other than the wrong one, with a word about it."""
+    if key.right is not None:
+        return key.right, ""
+    wrong = (key.wrong or b"").ljust(level.size, b"\0")[: level.size]
+    return bytes(it ^ 0xFF for it in wrong), "  # not in the recording"
+
+
+def answer_tables(unit: Unit) -> Iterator[str]:
+    for it in unit.rows:
+        yield f"\n{commented(f'{row_words(it)}: {it.seen.shown()}')}[[answer]]\n"
+        yield f'request = "{it.request}"\n'
+        yield from reply_lines(it.reply)
+        for key, value in (("session", it.session), ("level", it.level), ("enter", it.enter)):
+            yield f"{key} = 0x{value:02X}\n" if value else ""
+        yield f"after_ms = {it.after}\n" if it.after else ""
+
+
+def row_words(row: Row) -> str:
+    """What a row is for, in words: the service, its sub-function or its identifier, and a negative response."""
+    items = [row.request[at : at + 2] for at in range(0, min(len(row.request), 6), 2)]
+    sid = int(items[0], 16)
+    found = service_name(sid)
+    if len(items) > 1 and items[1].isalnum():
+        found += f" {sub_name(sid, int(items[1], 16))}".rstrip()
+    if sid in (0x22, 0x2E) and len(items) > 2 and (items[1] + items[2]).isalnum():
+        found += f" {IDENTIFIERS.get(int(items[1] + items[2], 16), '')}".rstrip()
+    only = row.reply[0] if row.reply and len(row.reply) == 1 else ""
+    is_negative = len(only) == 6 and only.startswith("7F") and only[4:].isalnum()
+    return f"{found}, {NEGATIVE.get(int(only[4:], 16), 'refused')}" if is_negative else found
+
+
+def reply_lines(reply: Optional[list[str]]) -> Iterator[str]:
+    """The templates: one or two short ones in a line, else a line each."""
+    if reply is None:
+        return
+    if sum(map(len, reply)) <= 80:
+        yield f"reply = [{', '.join(quoted(it) for it in reply)}]\n"
+    else:
+        yield "reply = [\n" + "".join(f"    {quoted(it)},\n" for it in reply) + "]\n"
+
+
+def quoted(text: str) -> str:
+    return f'"{text}"'

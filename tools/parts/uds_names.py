@@ -1,0 +1,140 @@
+"""The names of ISO 14229-1:2013 for services, sub-functions and negative response codes: the one table of them, which
+tools/view.py reads and docs/VIEW.md shows. No part of what is proved.
+
+    python3 tools/parts/uds_names.py     prints the tables as docs/VIEW.md has them
+"""
+from dataclasses import dataclass, field
+
+
+@dataclass(frozen=True)
+class Service:
+    """A service's name, and the names of its sub-functions."""
+
+    name: str
+    subs: dict = field(default_factory=dict)
+
+
+# the services that the unit has, by their identifiers
+SERVICES = {
+    0x10: Service(
+        "DiagnosticSessionControl",
+        {1: "defaultSession", 2: "programmingSession", 3: "extendedDiagnosticSession", 4: "safetySystemDiagnosticSession"},
+    ),
+    0x11: Service("ECUReset", {1: "hardReset", 2: "keyOffOnReset", 3: "softReset"}),
+    0x14: Service("ClearDiagnosticInformation"),
+    0x19: Service(
+        "ReadDTCInformation",
+        {1: "reportNumberOfDTCByStatusMask", 2: "reportDTCByStatusMask", 0x0A: "reportSupportedDTC"},
+    ),
+    0x22: Service("ReadDataByIdentifier"),
+    0x27: Service("SecurityAccess", {sub: "requestSeed" if sub % 2 else "sendKey" for sub in range(1, 67)}),
+    0x2E: Service("WriteDataByIdentifier"),
+    0x31: Service("RoutineControl", {1: "startRoutine", 2: "stopRoutine", 3: "requestRoutineResults"}),
+    0x3E: Service("TesterPresent", {0: "zeroSubFunction"}),
+    0x85: Service("ControlDTCSetting", {1: "on", 2: "off"}),
+}
+# services that a tester may ask for and the unit hasn't
+OTHERS = {
+    0x23: "ReadMemoryByAddress",
+    0x24: "ReadScalingDataByIdentifier",
+    0x28: "CommunicationControl",
+    0x2A: "ReadDataByPeriodicIdentifier",
+    0x2C: "DynamicallyDefineDataIdentifier",
+    0x2F: "InputOutputControlByIdentifier",
+    0x34: "RequestDownload",
+    0x35: "RequestUpload",
+    0x36: "TransferData",
+    0x37: "RequestTransferExit",
+    0x38: "RequestFileTransfer",
+    0x3D: "WriteMemoryByAddress",
+    0x83: "AccessTimingParameter",
+    0x84: "SecuredDataTransmission",
+    0x86: "ResponseOnEvent",
+    0x87: "LinkControl",
+}
+# the identifiers that ISO 14229-1:2013 gives a name to (annex C.1)
+IDENTIFIERS = {
+    0xF180: "bootSoftwareIdentification",
+    0xF181: "applicationSoftwareIdentification",
+    0xF182: "applicationDataIdentification",
+    0xF183: "bootSoftwareFingerprint",
+    0xF184: "applicationSoftwareFingerprint",
+    0xF185: "applicationDataFingerprint",
+    0xF186: "activeDiagnosticSession",
+    0xF187: "vehicleManufacturerSparePartNumber",
+    0xF188: "vehicleManufacturerECUSoftwareNumber",
+    0xF189: "vehicleManufacturerECUSoftwareVersionNumber",
+    0xF18A: "systemSupplierIdentifier",
+    0xF18B: "ECUManufacturingDate",
+    0xF18C: "ECUSerialNumber",
+    0xF18D: "supportedFunctionalUnits",
+    0xF18E: "vehicleManufacturerKitAssemblyPartNumber",
+    0xF190: "VIN",
+    0xF191: "vehicleManufacturerECUHardwareNumber",
+    0xF192: "systemSupplierECUHardwareNumber",
+    0xF193: "systemSupplierECUHardwareVersionNumber",
+    0xF194: "systemSupplierECUSoftwareNumber",
+    0xF195: "systemSupplierECUSoftwareVersionNumber",
+    0xF196: "exhaustRegulationOrTypeApprovalNumber",
+    0xF197: "systemNameOrEngineType",
+    0xF198: "repairShopCodeOrTesterSerialNumber",
+    0xF199: "programmingDate",
+    0xF19A: "calibrationRepairShopCodeOrCalibrationEquipmentSerialNumber",
+    0xF19B: "calibrationDate",
+    0xF19C: "calibrationEquipmentSoftwareNumber",
+    0xF19D: "ECUInstallationDate",
+    0xF19E: "ODXFile",
+}
+# the negative response codes that the unit gives
+NEGATIVE = {
+    0x11: "serviceNotSupported",
+    0x12: "subFunctionNotSupported",
+    0x13: "incorrectMessageLengthOrInvalidFormat",
+    0x14: "responseTooLong",
+    0x21: "busyRepeatRequest",
+    0x22: "conditionsNotCorrect",
+    0x24: "requestSequenceError",
+    0x31: "requestOutOfRange",
+    0x33: "securityAccessDenied",
+    0x35: "invalidKey",
+    0x36: "exceedNumberOfAttempts",
+    0x37: "requiredTimeDelayNotExpired",
+    0x78: "requestCorrectlyReceived-ResponsePending",
+    0x7F: "serviceNotSupportedInActiveSession",
+}
+
+
+def service_name(sid):
+    """The service's name, or what it is called without one."""
+    return SERVICES[sid].name if sid in SERVICES else OTHERS.get(sid, f"service {sid:02X}")
+
+
+def sub_name(sid, sub):
+    """The name of a sub-function, without its bit 7; empty where it has none."""
+    return SERVICES[sid].subs.get(sub & 0x7F, "") if sid in SERVICES else ""
+
+
+def negative_name(code):
+    """A negative response code by its name and number."""
+    return f"{NEGATIVE.get(code, 'negative response')} (0x{code:02X})"
+
+
+def subs_in_words(sid, subs):
+    """The sub-functions of a service as its row of the table has them."""
+    if sid == 0x27:
+        return "odd requestSeed, even sendKey"
+    return ", ".join(f"{sub:02X} {name}" for sub, name in subs.items())
+
+
+def table():
+    """The tables of docs/VIEW.md, as text."""
+    rows = ["| Service | Name | Sub-functions |", "|---|---|---|"]
+    rows += [f"| {sid:02X} | {it.name} | {subs_in_words(sid, it.subs)} |" for sid, it in SERVICES.items()]
+    rows += ["", f"Not in the unit: {', '.join(f'{sid:02X} {name}' for sid, name in OTHERS.items())}."]
+    rows += ["", "| NRC | Name |", "|---|---|"]
+    rows += [f"| 0x{code:02X} | {name} |" for code, name in NEGATIVE.items()]
+    return "".join(f"{it}\n" for it in rows)
+
+
+if __name__ == "__main__":
+    print(table(), end="")
