@@ -36,6 +36,7 @@ impl Serving {
         requires { TookLines any_lines bus [] }
         ensures stands { IfOk result (λ serving. ServingStands serving [] [] []) }
         ensures setup { IfOk result (λ serving. serving.capture.bus.setup ≡ bus.setup) }
+        ensures told { IfOk result (λ serving. serving.told ≡ now) }
     {
         let capture = Capture::begin(alloc, bus)?;
         Ok(Serving {
@@ -119,6 +120,8 @@ impl Serving {
         ensures text { IfOk result (λ ticks. (span : ℕ)
             × (self.new.text.items ≡ record_text (capture_of (passed span)))
             × (ticks ≡ length (passed span))) }
+        ensures span { IfOk result (λ _.
+            self.new.text.items ≡ record_text (capture_of (passed (now - self.old.told)))) }
         ensures told { IfOk result (λ _. self.new.told ≡ max self.old.told now) }
         ensures hearing { self.new.hearing ≡ self.old.hearing }
         ensures capture { self.new.capture ≡ self.old.capture }

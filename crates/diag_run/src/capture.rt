@@ -1,6 +1,6 @@
 //! A capture that comes piece by piece: its lines go to the bus, and what they write goes out.
 
-ghost use Rattle.std.specs.Prelude.{◌≡◌, ◌⊎◌, ◌+◌, ◌<◌, ◌≤◌, ◌^◌, ◌∷◌, [], ◌++◌, ℕ, List, length, vec_len, Ok, IfOk, IfSome, IfErr, OnErr, OnOk};
+ghost use Rattle.std.specs.Prelude.{◌≡◌, ◌⊎◌, ◌+◌, ◌<◌, ◌≤◌, ◌^◌, ◌∷◌, [], ◌++◌, ℕ, List, length, vec_len, Ok, Err, IfOk, IfSome, IfErr, OnErr, OnOk};
 ghost use Rattle.std.specs.Io.KnownBytes.{Appends};
 ghost use Rattle.diag_can.specs.Bus.{HasNoFeed, bus_line, ended_lines};
 ghost use Rattle.diag_bus.specs.Bus.{AnswersLine, TookLines};
@@ -338,7 +338,10 @@ fn give<S: Sink>(
     bus.take(&said, text)
 }
 
-/// Adds bytes to the line that is kept; refuses it where it is longer than a line may be.
+/// Adds bytes to the line that is kept.
+///
+/// # Errors
+/// `Line` exactly where it is longer than a line may be, which is looked at first; `Memory`, where there are bytes.
 fn keep(kept: &mut Vec<u8>, bytes: &[u8]) -> Result<(), BusFault>
     requires { vec_len kept.old ≤ 4096 }
     ensures ok { OnOk result (kept.new.items ≡ kept.old.items ++ bytes.now) }
@@ -346,7 +349,12 @@ fn keep(kept: &mut Vec<u8>, bytes: &[u8]) -> Result<(), BusFault>
     ensures err { IfErr result (λ fault. (fault ≡ BusFault.Memory)
         ⊎ ((fault ≡ BusFault.Line LineFault.BadLine)
         × (4096 < length kept.old.items + length bytes.now))) }
+    ensures long { 4096 < length kept.old.items + length bytes.now → result ≡ Err (BusFault.Line LineFault.BadLine) }
+    ensures some { OnErr result (0 < length bytes.now) }
 {
+    if bytes.is_empty() {
+        return Ok(());
+    }
     if bytes.len() > LONGEST_LINE - kept.len() {
         return Err(BusFault::Line(LineFault::BadLine));
     }
