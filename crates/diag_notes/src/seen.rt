@@ -205,12 +205,12 @@ impl<'a> Recording<'a> {
     fn count(&mut self, line: &Line<'a>) -> Result<(), AllocError> {
         self.interface(line.interface)?;
         if self.choice.counts(line.interface) {
-            self.count_frame(line);
+            return self.count_frame(line);
         }
         Ok(())
     }
 
-    fn count_frame(&mut self, line: &Line<'_>) {
+    fn count_frame(&mut self, line: &Line<'_>) -> Result<(), AllocError> {
         let mut is_named = false;
         let mut is_heard = false;
         for (side, frames) in self.sides.iter_mut() {
@@ -232,6 +232,7 @@ impl<'a> Recording<'a> {
         if is_heard && line.is_spaced() {
             self.spaced = self.spaced.saturating_add(1);
         }
+        Ok(())
     }
 
     /// Counts a frame with a tester's number that is none of its frames.
