@@ -1,5 +1,6 @@
 -- What a run has read, step by step.
-use Rattle.std.proofs.Common.{◌≡◌, ◌≢◌, ◌⊎◌, ℕ, ◌==◌, true, false, length, List, Option, Result, Ok, Err, inl, inr, refl, ap, ◌∙◌, arith}
+use Rattle.std.proofs.Common.{◌≡◌, ◌≢◌, ◌⊎◌, ℕ, ◌==◌, ◌≤◌, true, false, length, List, Option, Result, Ok, Err, inl, inr, refl, ap, ◌∙◌, arith}
+use Rattle.std.specs.Io.KnownBytes.{Keeps}
 use Rattle.std.proofs.lemmas.Bool.Decides.{nat_tests}
 use Rattle.diag_config.specs.declared.fault.ConfigFault.{ConfigFault}
 use Rattle.diag_config.specs.declared.fault.ConfigFault.TheVariants as config
@@ -10,7 +11,7 @@ use Rattle.diag_text.specs.declared.fault.RunFault.TheVariants.{Files, Config, C
 use Rattle.diag_run.specs.declared.file_run.Job.{Job}
 use Rattle.diag_run.specs.declared.file_run.Job.TheVariants.{Serial, Play, Replay}
 use Rattle.diag_run.specs.Files.{Refusal, wrong_count, Fails, ConfigFails, config_of, files_from}
-use Rattle.diag_run.specs.Run.{Inputs, inputs, ReadToEnd, ReadingStops, RunStops, AnswersFault, wanted, limit, read_of, GivesRun}
+use Rattle.diag_run.specs.Run.{Inputs, inputs, ReadToEnd, ReadingStops, RunStops, AnswersFault, IsFaultOf, WhereKnown, WroteFront, wanted, limit, read_of, GivesRun}
 
 -- a fault stays where what is read is only put into another shape
 module _ {A B : Type 0} (f : A → B) where
@@ -92,6 +93,36 @@ answers_fault job said old new (Differs n) h = h
 answers_fault job said old new (Capture n f) h = h
 answers_fault job said old new (Otherwise told) h = h
 answers_fault job said old new Write h = absurd (no_write job said h)
+
+-- what is answered, where it is known of the writing's fault and of every other
+answer_of : (job : Job) (said : Result Inputs Refusal) (old new : Option (List ℕ)) (fault : RunFault) → (fault ≢ Write → GivesRun job said (Err fault))
+    → (fault ≡ Write → WroteFront job said old new) → AnswersFault job said old new fault
+answer_of job said old new (Files w g) given front = given (λ e. cc)
+answer_of job said old new (Config f) given front = given (λ e. cc)
+answer_of job said old new ConfigLong given front = given (λ e. cc)
+answer_of job said old new (Log who f) given front = given (λ e. cc)
+answer_of job said old new (JournalLine n) given front = given (λ e. cc)
+answer_of job said old new (FileLong n) given front = given (λ e. cc)
+answer_of job said old new Memory given front = given (λ e. cc)
+answer_of job said old new JournalFull given front = given (λ e. cc)
+answer_of job said old new (RecordsDisagree who) given front = given (λ e. cc)
+answer_of job said old new (Read n) given front = given (λ e. cc)
+answer_of job said old new (Differs n) given front = given (λ e. cc)
+answer_of job said old new (Capture n f) given front = given (λ e. cc)
+answer_of job said old new (Otherwise told) given front = given (λ e. cc)
+answer_of job said old new Write given front = front refl
+
+pub is_fault_of : {R : Type 0} (remaining : R → Option (List ℕ)) (job : Job) (config : R) (files : List R) (old new : Option (List ℕ)) (fault : RunFault)
+    → (fault ≢ Write → Keeps old new)
+    → ((n : ℕ) → fault ≡ Read n → n ≤ length files)
+    → (fault ≢ Write → WhereKnown remaining job config files (λ said. GivesRun job said (Err fault)))
+    → (fault ≡ Write → WhereKnown remaining job config files (λ said. WroteFront job said old new))
+    → IsFaultOf remaining job config files old new fault
+is_fault_of remaining job config files old new fault nothing device given front = record {
+  nothing = nothing;
+  device = device;
+  answer = λ bytes known is are. answer_of job (read_of job bytes known) old new fault (λ e. given e bytes known is are) (λ e. front e bytes known is are);
+}
 
 -- a run stops where the making of its text does
 pub run_stops : {R : Type 0} (remaining : R → Option (List ℕ)) (job : Job) (config config' : R) (files files' : List R) (old new : Option (List ℕ))

@@ -1,4 +1,6 @@
-use Rattle.std.proofs.Common.{◌≡◌, rules}
+use Rattle.std.proofs.Common.{◌≡◌, ap}
+use Rattle.std.specs.Prelude.{Err}
+use Rattle.diag_run.proofs.Inputs.{is_fault_of}
 use Rattle.diag_run.proofs.Told.{not_done, tells_of}
 use Rattle.diag_run.proofs.file_run.run_and_tell.Goals as goal
 
@@ -13,4 +15,10 @@ returns-in-Err-clause-reads g c = not_done _ c.in-Err.fault c.of.result c.of.ens
 
 pub returns-in-Err-clause-fault : goal.returns-in-Err-clause-fault
 returns-in-Err-clause-fault g c =
-    let stops = c.in-Err.ensures.stops in tells_of _ c.in-Err.fault c.of.result (search rules, stops.0, stops.1, stops.2) c.of.ensures
+    let e = c.in-Err.ensures in
+    let old = g.W.Write.contents c.args.out.now in
+    let new = g.W.Write.contents c.run.new.out in
+    let stops = e.stops in
+    let is = is_fault_of g.R.Read.remaining c.args.job c.args.config c.args.files.items old new c.in-Err.fault e.nothing (λ n h. e.device n (ap Err h)) e.fault
+    (λ h. e.front (ap Err h)) in
+    tells_of _ c.in-Err.fault c.of.result (is, stops.0, stops.1, stops.2) c.of.ensures
