@@ -20,7 +20,7 @@ import time
 
 from harness import PROGRAM, TOP, Tally
 from build_library import SHARED, STATIC, build, how, kit
-from check_test import changes, spoilt
+from check_test import Written, changes, spoilt
 from packages import install
 from twin import Tester, setup_text, stamped_lines
 from uds_link import read_setup
@@ -125,6 +125,13 @@ def line_of(config):
         return f"uds_play: {fault}\n"
 
 
+class Plain(random.Random):
+    """Dice by which a setup is written plainly: Python's tomllib knows no inline table of several lines."""
+
+    def random(self):
+        return 0.5
+
+
 def test_fault_lines(room):
     """A setup's fault is told by the program's line: of texts that are none, and of a setup of which each key is spoilt in turn."""
     sys.path.insert(0, f"{TOP}/python")
@@ -133,7 +140,8 @@ def test_fault_lines(room):
         good = it.read()
     odd = [b"", b"[", b"\xff", b"s3_ms = 1", good + b"[[did]]\nid = 1\n", good.replace(b"0x7E8", b"0x7E0"), good.replace(b'"0203"', b'"02x3"')]
     lines, path = set(), f"{room}/wrong.toml"
-    for config in [*odd, good, *(spoilt([it]) for it in changes())]:
+    plainly = Plain(7)
+    for config in [*odd, good, *(Written(spoilt([it]), plainly).data() for it in changes())]:
         with open(path, "wb") as it:
             it.write(config)
         program, line = run([PROGRAM, "--quiet", "bus", path, "/dev/null"]), line_of(config)
