@@ -1,5 +1,5 @@
 -- What is printed for a fault, and the status that the program ends with.
-use Rattle.std.specs.Prelude.{ℕ, codes, Bool, true, false, List, ◌++◌}
+use Rattle.std.specs.Prelude.{ℕ, codes, List, ◌++◌}
 use Rattle.std.specs.Fmt.{decimal}
 use Rattle.diag_bus.specs.declared.fault.BusFault.{BusFault}
 use Rattle.diag_bus.specs.declared.fault.BusFault.TheVariants as bus
@@ -13,8 +13,6 @@ use Rattle.diag_desk.specs.declared.desk.StepFault.{StepFault}
 use Rattle.diag_desk.specs.declared.desk.StepFault.TheVariants as step
 use Rattle.diag_workers.specs.declared.playing.PlayFault.{PlayFault}
 use Rattle.diag_workers.specs.declared.playing.PlayFault.TheVariants as play
-use Rattle.diag_text.specs.declared.fault.FaultLine.{FaultLine}
-use Rattle.diag_text.specs.declared.fault.FaultLine.TheVariants as line
 use Rattle.diag_text.specs.declared.fault.RunFault.{RunFault}
 use Rattle.diag_text.specs.declared.fault.RunFault.TheVariants.{Files, Config, ConfigLong, Log, JournalLine, FileLong, Memory, JournalFull, RecordsDisagree, Read, Write, Differs, Capture, Otherwise}
 
@@ -102,18 +100,3 @@ status Write = 7
 status (Differs n) = 8
 status (Capture n fault) = bus_status fault
 status (Otherwise told) = 8
-
--- ---- what is told without memory
-
--- the text has no number and no key in it, and memory is not asked for it
-abbrev pub is_fixed : RunFault → Bool
-is_fixed ConfigLong = true
-is_fixed Memory = true
-is_fixed JournalFull = true
-is_fixed Write = true
-is_fixed fault = false
-
--- the bytes of a line
-abbrev pub line_bytes : FaultLine → List ℕ
-line_bytes (line.Fixed bytes) = bytes.now
-line_bytes (line.Made bytes) = bytes.items

@@ -1,6 +1,5 @@
 pub mod Agreed
 pub mod Bytes
-pub mod Devices
 pub mod Faults
 pub mod Taking
 pub mod Text

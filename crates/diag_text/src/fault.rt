@@ -1,7 +1,7 @@
 //! Why a run could not be done, how it is told, and the status that the program ends with.
 
-ghost use Rattle.std.specs.Prelude.{◌≡◌, ◌++◌, codes, true, IfOk, IsOk, Some};
-ghost use Rattle.diag_text.specs.Faults.{is_fixed, line_bytes, run_fault, step_fault, run_fault_text, fault_text, status};
+ghost use Rattle.std.specs.Prelude.{◌≡◌, ◌++◌, codes, IfOk, Some};
+ghost use Rattle.diag_text.specs.Faults.{run_fault, step_fault, run_fault_text, fault_text, status};
 ghost use Rattle.diag_text.specs.declared.fault.RunFault.TheVariants.{Memory};
 
 use diag_bus::BusFault;
@@ -133,44 +133,18 @@ impl fmt::Display for RunFault {
 
 impl Error for RunFault {}
 
-/// The line of a fault.
-#[derive(Debug, PartialEq, Eq, Drop)]
-pub enum FaultLine {
-    /// One that is the same each time, and takes no memory.
-    Fixed(&'static [u8]),
-    /// One with a number, a key or a frame in it.
-    Made(Vec<u8>),
-}
-
-impl FaultLine {
-    /// Its bytes.
-    pub fn as_slice(&self) -> &[u8]
-        ensures { result.now ≡ line_bytes self.now }
-    {
-        match self {
-            FaultLine::Fixed(bytes) => bytes,
-            FaultLine::Made(bytes) => bytes.as_slice(),
-        }
-    }
-}
-
 /// The whole line that is printed for a fault.
 ///
 /// # Errors
-/// `AllocError` where memory is refused, which a fixed text never asks for.
-pub fn fault_text(alloc: Global, fault: &RunFault) -> Result<FaultLine, AllocError>
-    ensures text { IfOk result (λ line. line_bytes line ≡ fault_text fault.now) }
-    ensures fixed { is_fixed fault.now ≡ true → IsOk result }
+/// `AllocError` where memory is refused.
+pub fn fault_text(alloc: Global, fault: &RunFault) -> Result<Vec<u8>, AllocError>
+    ensures { IfOk result (λ t. t.items ≡ fault_text fault.now) }
 {
     match fault {
-        RunFault::ConfigLong => Ok(FaultLine::Fixed(b"uds_play: config: too long\n")),
-        RunFault::Memory => Ok(FaultLine::Fixed(b"uds_play: memory\n")),
-        RunFault::JournalFull => Ok(FaultLine::Fixed(b"uds_play: journal full\n")),
-        RunFault::Write => Ok(FaultLine::Fixed(b"uds_play: cannot write\n")),
-        RunFault::Otherwise(told) => Ok(FaultLine::Made(otherwise_text(alloc, told.as_slice())?)),
+        RunFault::Otherwise(told) => otherwise_text(alloc, told.as_slice()),
         fault => {
             let text = format!(in alloc; "uds_play: {fault}\n")?;
-            Ok(FaultLine::Made(text.into_bytes()))
+            Ok(text.into_bytes())
         }
     }
 }

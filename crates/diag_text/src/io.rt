@@ -1,55 +1,34 @@
 //! Reading a whole file and writing a whole text, by loops of their own.
 
-ghost use Rattle.std.specs.Prelude.{◌≡◌, ◌+◌, ◌++◌, ◌<◌, ◌^◌, ◌≤◌, ℕ, List, length, map, IfOk, IfSome, OnOk, OnErr, IsOk, IsErr, Err, Some};
+ghost use Rattle.std.specs.Prelude.{◌≡◌, ◌+◌, ◌++◌, ◌<◌, ◌^◌, ◌≤◌, ℕ, List, length, map, IfOk, IfSome, OnOk, OnErr, IsOk, IsErr, Err};
 ghost use Rattle.std.specs.Io.KnownBytes.{Appends, Consumes, IsAtEnd};
 ghost use Rattle.std.specs.List.{concat};
 ghost use Rattle.diag_text.specs.Bytes.{AppendsFront, Takes};
-ghost use Rattle.diag_text.specs.Devices.{read_fault_text, write_fault_text};
 
 use crate::taking::TakePieces;
 use std::alloc::Global;
-use std::error::Error;
+use std::io;
 use std::io::{Read, Write};
-use std::{fmt, io};
+use thiserror::Error;
 
 /// Why a file was not read whole.
-#[derive(Clone, Copy, Debug, PartialEq, Eq)]
+#[derive(Clone, Copy, Debug, PartialEq, Eq, Error)]
 pub enum ReadFault {
     /// A read failed.
+    #[error("cannot read")]
     Device,
     /// The file is longer than its limit.
+    #[error("too long")]
     Long,
     /// There was no memory.
+    #[error("memory")]
     Memory,
 }
 
-impl fmt::Display for ReadFault {
-    ghost output = { λ fault. Some (read_fault_text fault) };
-
-    fn fmt<W: fmt::Write>(&self, f: &mut fmt::Formatter<W>) -> fmt::Result {
-        match self {
-            ReadFault::Device => write!(f, "cannot read"),
-            ReadFault::Long => write!(f, "too long"),
-            ReadFault::Memory => write!(f, "memory"),
-        }
-    }
-}
-
-impl Error for ReadFault {}
-
 /// A write or a flush failed, or a write took no byte.
-#[derive(Clone, Copy, Debug, PartialEq, Eq)]
+#[derive(Clone, Copy, Debug, PartialEq, Eq, Error)]
+#[error("cannot write")]
 pub struct WriteFault;
-
-impl fmt::Display for WriteFault {
-    ghost output = { λ _. Some write_fault_text };
-
-    fn fmt<W: fmt::Write>(&self, f: &mut fmt::Formatter<W>) -> fmt::Result {
-        write!(f, "cannot write")
-    }
-}
-
-impl Error for WriteFault {}
 
 /// Has a taker take all that a reader has left, in at most limit + 1 reads.
 ///

@@ -7,7 +7,7 @@ mod taking;
 mod text;
 mod told;
 
-pub use fault::{FaultLine, RunFault, fault_text, status};
+pub use fault::{RunFault, fault_text, status};
 pub use io::{ReadFault, WriteFault, read_into, read_whole, write_text, write_whole};
 pub use taking::{LineTaker, TakeLines, TakePieces};
 pub use text::{

@@ -125,55 +125,17 @@ fn run_words<R: Print + Eprint + Files + Input + AllocGlobal + Clock + Threads +
                 task,
             },
         ) => match task {
-            Task::Files { job, paths } => {
-                let notes = Notes {
-                    quiet,
-                    interface: None,
-                    config,
-                    files: paths.as_slice(),
-                    kind: kind_of(job),
-                };
-                run_files(rt, job, &notes)
-            }
+            Task::Files { job, paths } => over_files(rt, quiet, config, job, paths.as_slice()),
             Task::Bus {
                 output,
                 capture,
                 interface,
-            } => {
-                let path = [capture.unwrap_or("")];
-                let notes = Notes {
-                    quiet,
-                    interface,
-                    config,
-                    files: given(capture, &path),
-                    kind: FileKind::Capture,
-                };
-                run_bus(rt, output, capture, &notes)
-            }
-            Task::Check => {
-                let notes = Notes {
-                    quiet,
-                    interface: None,
-                    config,
-                    files: &[],
-                    kind: FileKind::Journal,
-                };
-                run_check(rt, &notes)
-            }
-            Task::Live { record, interface } => {
-                let path = [record.unwrap_or("")];
-                let notes = Notes {
-                    quiet,
-                    interface,
-                    config,
-                    files: given(record, &path),
-                    kind: FileKind::Record,
-                };
-                match hearing {
-                    Some(hearing) => run_live(rt, record, hearing, &notes),
-                    None => refuse(rt, &Refusal::Usage(String::new(rt.alloc()))),
-                }
-            }
+            } => over_capture(rt, quiet, config, output, capture, interface),
+            Task::Check => over_setup(rt, quiet, config),
+            Task::Live { record, interface } => match hearing {
+                Some(hearing) => over_bus(rt, quiet, config, hearing, record, interface),
+                None => refuse(rt, &Refusal::Usage(String::new(rt.alloc()))),
+            },
         },
         Err(refusal) => {
             let status = refuse(rt, &refusal);
@@ -185,6 +147,82 @@ fn run_words<R: Print + Eprint + Files + Input + AllocGlobal + Clock + Threads +
             status
         }
     }
+}
+
+/// A job over logs or a journal.
+fn over_files<'a, R: Print + Eprint + Files + Input + AllocGlobal + Threads + Wait + Sync>(
+    rt: &R,
+    quiet: bool,
+    config: &'a str,
+    job: Job,
+    files: &'a [&'a str],
+) -> ExitCode {
+    let interface = None;
+    let notes = Notes {
+        quiet,
+        interface,
+        config,
+        files,
+        kind: kind_of(job),
+    };
+    run_files(rt, job, &notes)
+}
+
+/// A run over a capture.
+fn over_capture<R: Print + Eprint + Files + Input + AllocGlobal>(
+    rt: &R,
+    quiet: bool,
+    config: &str,
+    output: Output,
+    capture: Option<&str>,
+    interface: Option<&str>,
+) -> ExitCode {
+    let path = [capture.unwrap_or("")];
+    let notes = Notes {
+        quiet,
+        interface,
+        config,
+        files: given(capture, &path),
+        kind: FileKind::Capture,
+    };
+    run_bus(rt, output, capture, &notes)
+}
+
+/// The look at a setup.
+fn over_setup<'a, R: Print + Eprint + Files + Input + AllocGlobal>(
+    rt: &R,
+    quiet: bool,
+    config: &'a str,
+) -> ExitCode {
+    let interface: Option<&'a str> = None;
+    let notes = Notes {
+        quiet,
+        interface,
+        config,
+        files: &[],
+        kind: FileKind::Journal,
+    };
+    run_check(rt, &notes)
+}
+
+/// A live run.
+fn over_bus<R: Print + Eprint + Files + Input + AllocGlobal + Clock + Wait>(
+    rt: &R,
+    quiet: bool,
+    config: &str,
+    hearing: Hearing,
+    record: Option<&str>,
+    interface: Option<&str>,
+) -> ExitCode {
+    let path = [record.unwrap_or("")];
+    let notes = Notes {
+        quiet,
+        interface,
+        config,
+        files: given(record, &path),
+        kind: FileKind::Record,
+    };
+    run_live(rt, record, hearing, &notes)
 }
 
 /// What the files of a job are.
@@ -325,15 +363,25 @@ fn run_capture<S: Ending, R: Print + Eprint + Files + Input + AllocGlobal>(
         return refuse(rt, &Refusal::Memory);
     };
     let name = notes.interface.map(|name| name.as_bytes());
-    let (Ok(config), Ok(capture)) = (
-        Chosen::new(rt.alloc(), config, None),
-        Chosen::new(rt.alloc(), capture, name),
-    ) else {
-        return refuse(rt, &Refusal::Memory);
-    };
     let mut out = io::writer(rt);
-    let outcome = run_bus_and_tell(rt.alloc(), sink, config, capture, &mut out);
-    finish(rt, notes, &outcome, first.as_slice())
+    match outcome_of(rt.alloc(), sink, config, capture, name, &mut out) {
+        Ok(outcome) => finish(rt, notes, &outcome, first.as_slice()),
+        Err(AllocError) => refuse(rt, &Refusal::Memory),
+    }
+}
+
+/// The outcome of the run over a capture, of which the frames of one interface count where one is named.
+fn outcome_of<S: Ending, F: Read + Drop, W: Write>(
+    alloc: Global,
+    sink: S,
+    config: F,
+    capture: F,
+    interface: Option<&[u8]>,
+    out: &mut W,
+) -> Result<Outcome, AllocError> {
+    let config = Chosen::new(alloc, config, None)?;
+    let capture = Chosen::new(alloc, capture, interface)?;
+    Ok(run_bus_and_tell(alloc, sink, config, capture, out))
 }
 
 /// The live run of a bus: the record is made once the config was read well, and then standard input is heard.
