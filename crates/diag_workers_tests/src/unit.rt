@@ -55,8 +55,8 @@ fn take<D: Driver>(
     ensures refused { OnErr result ((link.new.state ≡ link.old.state) × (ecu.new ≡ ecu.old)) }
 {
     let taken = link.begin(event)?;
-    let reply = reply_to(ecu, who, link.request(&taken))?;
-    link.settle(&taken);
+    let reply = reply_to(ecu, who, link.request(taken))?;
+    link.settle(taken);
     if let Some(reply) = reply {
         link.answer(reply);
     }
