@@ -1,0 +1,35 @@
+-- To which tester a line's frame is, by the table of response identifiers.
+use Rattle.std.proofs.Common.{◌≡◌, ◌≢◌, inl, inr, ℕ, Option, Some, None, List, length, refl, ap, subst, sym, ◌∙◌}
+use Rattle.std.proofs.lemmas.Bool.{cases_eq, eq-eqb, ne_eqb}
+use Rattle.std.proofs.lemmas.Option.{none-some, same_Some}
+use Rattle.std.specs.Prelude.{◌==◌, if◌then◌else◌, IfSome}
+use Rattle.diag_can.specs.declared.frame.Frame.{Frame}
+use Rattle.diag_setup.specs.Setup.{ids_of}
+use Rattle.diag_setup.specs.declared.raw.RawSetup.{RawSetup}
+use Rattle.diag_bus.specs.Requests.{IsResponder, IsWithin}
+use Rattle.diag_comparing.specs.Keeping.{IsUnitFrame, bytes_with}
+use Rattle.diag_comparing.specs.declared.exchange_lines.UnitFrame.{UnitFrame}
+
+module _ (setup : RawSetup) (frame : Frame) (responder : Option ℕ)
+    (h : IsResponder setup frame.id (length setup.testers) responder) where
+  abbrev response : ℕ → ℕ
+  response who = (ids_of setup who).response
+
+  -- it has another identifier
+  other : (who : ℕ) → response who ≢ frame.id → bytes_with (response who) (Some frame) ≡ None
+  other who apart = rw (ne_eqb frame.id (response who) (λ same. apart (sym same))) refl
+
+  -- it has this one
+  own : (who : ℕ) → response who ≡ frame.id → bytes_with (response who) (Some frame) ≡ Some frame.bytes
+  own who same = rw (eq-eqb frame.id (response who) (sym same)) refl
+
+  pub to_nobody : responder ≡ None → IsUnitFrame setup (Some frame) None
+  to_nobody none who within = sym (other who (λ same. none-some who (sym none ∙ h.alone who within same)))
+
+  pub to_one : (sent : UnitFrame) → responder ≡ Some sent.who → sent.bytes ≡ frame.bytes → IsUnitFrame setup (Some frame) (Some sent)
+  to_one sent is bytes who within =
+      let has = subst (λ (r : Option ℕ). IfSome r (λ w. IsWithin (length setup.testers) w × (response w ≡ frame.id))) is h.has in
+      elim (cases_eq sent.who who) [
+        | inl same ↦ rw (eq-eqb sent.who who same) (ap Some bytes ∙ sym (own who (subst (λ w. response w ≡ frame.id) same has.1)))
+        | inr apart ↦ rw (ne_eqb sent.who who apart) (sym (other who (λ found. apart (same_Some _ _ (sym is ∙ h.alone who within found)))))
+      ]
