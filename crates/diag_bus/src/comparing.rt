@@ -12,12 +12,10 @@ ghost use Rattle.diag_setup.specs.declared.raw.RawSetup.{RawSetup};
 use crate::clock::Clock;
 use crate::filled::Filled;
 use crate::line_frames::LineFrames;
+use crate::line_sink::LineSink;
 use crate::response_ids::ResponseIds;
-use crate::sink::Sink;
 use crate::verdict::{Difference, Recorded, Verdict, earlier, same_difference};
-use diag_can::{BusLine, FrameBytes, FrameText, TickCount};
-use diag_ecu::Ecu;
-use diag_pdu::{Message, Request};
+use diag_can::{BusLine, FrameBytes, FrameText};
 use diag_setup::{Setup, TesterId};
 use diag_tp::Sent;
 use std::alloc::{AllocError, Global};
@@ -196,7 +194,7 @@ impl Comparisons {
     /// Takes a line that says this and draws these frames. It looks at the testers alone that these are for, and at the one
     /// that the line's frame is to where it is one of the unit's.
     #[inline(always)]
-    pub fn take_line(
+    fn take_line(
         &mut self,
         setup: &Setup,
         said: &BusLine,
@@ -274,67 +272,26 @@ impl Comparisons {
     }
 }
 
-impl Sink for Comparisons {
-    ghost use Rattle.std.specs.Prelude.{◌≡◌, [], false, length};
+impl LineSink for Comparisons {
+    ghost use Rattle.std.specs.Prelude.{◌≡◌, length, refl};
     ghost use Rattle.diag_bus.specs.Comparing.{ComparesLines};
     ghost use Rattle.diag_bus.specs.Requests.{AreResponsesOf};
 
     ghost is_for = { λ kept setup. (length kept.testers.items ≡ length setup.testers)
         × AreResponsesOf setup kept.responses };
 
-    ghost took = { λ kept setup lines _. ComparesLines setup kept lines };
+    ghost took = { λ kept setup lines. ComparesLines setup kept lines };
 
-    ghost Aim = { Unit {0} };
-
-    ghost aim = { λ _. tt };
-
-    ghost written = { λ _ _ _. [] };
-
-    ghost wants_ticks = { false };
-
-    fn begin(&mut self, alloc: Global, setup: &Setup) -> Result<(), AllocError> {
+    fn begin_lines(&mut self, alloc: Global, setup: &Setup) -> Result<(), AllocError> {
         *self = Comparisons::of(alloc, setup)?;
         Ok(())
     }
 
-    fn write_header(&self, _: &mut Vec<u8>) -> Result<(), AllocError> {
-        Ok(())
-    }
-
     #[inline(always)]
-    fn wants_ticks(&self) -> bool {
-        false
-    }
-
-    #[inline(always)]
-    fn enter_request(
-        &mut self,
-        _: &Ecu,
-        _: u64,
-        _: TesterId,
-        _: &Request,
-        _: Option<&Message>,
-    ) -> Result<(), AllocError> {
-        Ok(())
-    }
-
-    #[inline(always)]
-    fn enter_ticks(
-        &mut self,
-        _: &Ecu,
-        _: u64,
-        _: TesterId,
-        _: TickCount,
-    ) -> Result<(), AllocError> {
-        Ok(())
-    }
-
-    #[inline(always)]
-    fn end_line(
+    fn take_end(
         &mut self,
         setup: &Setup,
         said: &BusLine,
-        _: u64,
         _: &Clock,
         drawn: &LineFrames,
         _: &mut Vec<u8>,
@@ -342,7 +299,7 @@ impl Sink for Comparisons {
         self.take_line(setup, said, drawn)
     }
 
-    ghost skips_ticks = { λ _ _ _ _ _ _ _ took. took };
+    ghost begins_empty = { λ _. refl };
 }
 
 /// Of so many testers nothing was recorded, and nothing sent.

@@ -9,12 +9,10 @@ ghost use Rattle.diag_bus.specs.Text.{drawn_text};
 use crate::clock::Clock;
 use crate::filled::Filled;
 use crate::line_frames::LineFrames;
-use crate::sink::Sink;
+use crate::line_sink::LineSink;
 use crate::writing::{Drawn, is_in_order, write_drawn, write_own, writers_of};
-use diag_can::{BusLine, LineWriter, TickCount};
-use diag_ecu::Ecu;
-use diag_pdu::{Message, Request};
-use diag_setup::{Setup, TesterId};
+use diag_can::{BusLine, LineWriter};
+use diag_setup::Setup;
 use std::alloc::{AllocError, Global};
 
 /// Writes the reply lines that each line draws, in the bus's order.
@@ -65,66 +63,25 @@ impl Replies {
     }
 }
 
-impl Sink for Replies {
-    ghost use Rattle.std.specs.Prelude.{⊤, false};
+impl LineSink for Replies {
+    ghost use Rattle.std.specs.Prelude.{refl};
     ghost use Rattle.diag_bus.specs.Requests.{AreNamesOf};
     ghost use Rattle.diag_bus.specs.Text.{text_of};
 
     ghost is_for = { λ replies setup. AreNamesOf setup replies.writers.items };
 
-    ghost took = { λ _ _ _ _. ⊤ };
+    ghost written = { text_of };
 
-    ghost Aim = { Unit {0} };
-
-    ghost aim = { λ _. tt };
-
-    ghost written = { λ _. text_of };
-
-    ghost wants_ticks = { false };
-
-    fn begin(&mut self, alloc: Global, setup: &Setup) -> Result<(), AllocError> {
+    fn begin_lines(&mut self, alloc: Global, setup: &Setup) -> Result<(), AllocError> {
         self.writers = writers_of(alloc, setup)?;
         Ok(())
     }
 
-    fn write_header(&self, _: &mut Vec<u8>) -> Result<(), AllocError> {
-        Ok(())
-    }
-
     #[inline(always)]
-    fn wants_ticks(&self) -> bool {
-        false
-    }
-
-    #[inline(always)]
-    fn enter_request(
-        &mut self,
-        _: &Ecu,
-        _: u64,
-        _: TesterId,
-        _: &Request,
-        _: Option<&Message>,
-    ) -> Result<(), AllocError> {
-        Ok(())
-    }
-
-    #[inline(always)]
-    fn enter_ticks(
-        &mut self,
-        _: &Ecu,
-        _: u64,
-        _: TesterId,
-        _: TickCount,
-    ) -> Result<(), AllocError> {
-        Ok(())
-    }
-
-    #[inline(always)]
-    fn end_line(
+    fn take_end(
         &mut self,
         setup: &Setup,
         _: &BusLine,
-        _: u64,
         clock: &Clock,
         drawn: &LineFrames,
         text: &mut Vec<u8>,
@@ -132,5 +89,5 @@ impl Sink for Replies {
         self.write(setup, clock, drawn, text)
     }
 
-    ghost skips_ticks = { λ _ _ _ _ _ _ _ _. tt };
+    ghost begins_empty = { λ _. refl };
 }

@@ -3,7 +3,7 @@ use Rattle.std.proofs.lemmas.Result.{on_ok_weaker}
 use Rattle.diag_bus.specs.Batch.{lists_of}
 use Rattle.diag_bus.specs.Text.{drawn_text, text_of}
 use Rattle.diag_bus.proofs.Texts.{line_writes, text_push}
-use Rattle.diag_bus.proofs.replies.RepliesSink.end_line.Goals as goal
+use Rattle.diag_bus.proofs.replies.RepliesLineSink.take_end.Goals as goal
 
 pub returns-clause-ended : goal.returns-clause-ended
 returns-clause-ended c =
@@ -13,7 +13,7 @@ returns-clause-ended c =
     on_ok_weaker c.write.result (λ wrote. record {
       more = drawn_text setup clock.start lists;
       grown = wrote;
-      holds = λ lines line K ends taken. (
+      holds = λ span lines line K ends taken. (
         tt,
         text_push setup lines line ∙ ap (λ w. text_of setup lines ++ w) (sym (line_writes setup lines line ends.server lists clock ends.taken)),
       );
