@@ -58,3 +58,12 @@ EndsLine took aim written setup old new said span clock drawn more = (lines : Li
     → took old setup lines K
     → took new setup (lines ++ line ∷ []) []
     × (written (aim old) setup (lines ++ line ∷ []) ≡ written (aim old) setup lines ++ more)
+
+-- the same of a sink to which the entries of the journal are nothing
+abbrev pub EndsLineAlone : {S : Type 0} → (S → RawSetup → List (List ℕ) → Type 0) → (RawSetup → List (List ℕ) → List ℕ)
+    → RawSetup → S → S → BusLine → Clock → LineFrames → List ℕ → Type 0
+EndsLineAlone took written setup old new said clock drawn more = (span : ℕ) (lines : List (List ℕ)) (line : List ℕ) (K : List Entry)
+    → LineEnds setup lines line said span clock (lists_of drawn) K
+    → took old setup lines
+    → took new setup (lines ++ line ∷ [])
+    × (written setup (lines ++ line ∷ []) ≡ written setup lines ++ more)

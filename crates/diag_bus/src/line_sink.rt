@@ -1,9 +1,9 @@
 //! A sink that is told of lines alone.
 
-ghost use Rattle.std.specs.Prelude.{ℕ, OnOk, OnErr};
+ghost use Rattle.std.specs.Prelude.{◌≡◌, OnOk, OnErr};
 ghost use Rattle.diag_port.specs.Port.{Grew};
 ghost use Rattle.diag_setup.specs.declared.raw.RawSetup.{RawSetup};
-ghost use Rattle.diag_bus.specs.Sink.{EndsLine, IsDrawn};
+ghost use Rattle.diag_bus.specs.Sink.{EndsLineAlone, IsDrawn};
 
 use crate::clock::Clock;
 use crate::line_frames::LineFrames;
@@ -48,9 +48,8 @@ pub trait LineSink: Drop {
     ) -> Result<(), AllocError>
         requires begun { is_for self.old setup.now }
         requires drawn { IsDrawn setup.now clock.now drawn.now }
-        ensures ended { OnOk result (Grew text.old.items text.new.items (λ more. (span : ℕ)
-            → EndsLine (λ own setup lines _. took own setup lines) (λ _. tt) (λ _. written)
-            setup.now self.old self.new said.now span clock.now drawn.now more)) }
+        ensures ended { OnOk result (Grew text.old.items text.new.items
+            (EndsLineAlone took written setup.now self.old self.new said.now clock.now drawn.now)) }
         ensures stays { (setup : RawSetup) → is_for self.old setup → is_for self.new setup }
         ensures err { OnErr result (text.new.items ≡ text.old.items) };
 

@@ -14,10 +14,7 @@ returns-clause-ended c =
     c.take_line.ensures.ok
 
 pub returns-clause-stays : goal.returns-clause-stays
-returns-clause-stays c = (
-  λ setup kept. (
-    c.take_line.ensures.shape ∙ kept.0,
-    subst (λ (ids : ResponseIds). AreResponsesOf setup ids) (sym c.take_line.ensures.responses) kept.1,
-  ),
-  refl,
+returns-clause-stays c = λ setup kept. (
+  c.take_line.ensures.shape ∙ kept.0,
+  subst (λ (ids : ResponseIds). AreResponsesOf setup ids) (sym c.take_line.ensures.responses) kept.1,
 )
