@@ -1,5 +1,5 @@
 -- How the lines that are heard go, piece by piece.
-use Rattle.std.proofs.Common.{◌≡◌, ℕ, ◌+◌, ◌<◌, nat_lt, true, List, [], ◌∷◌, ◌++◌, length, map, Ok, Err, refl, sym, ap, subst, ◌∙◌, append_assoc, length-append, arith}
+use Rattle.std.proofs.Common.{◌≡◌, ℕ, ◌+◌, ◌<◌, ◌^◌, nat_lt, true, List, [], ◌∷◌, ◌++◌, length, map, Result, Ok, Err, refl, sym, ap, subst, ◌∙◌, append_assoc, length-append, arith}
 use Rattle.std.proofs.lemmas.List.{append-nil, map-append}
 use Rattle.std.proofs.lemmas.Bool.Decides.{nat_tests}
 use Rattle.diag_can.specs.Bus.{HasNoFeed, begun_line, bus_line, bus_lines, ended_lines}
@@ -9,7 +9,7 @@ use Rattle.diag_can.specs.declared.fault.LineFault.TheVariants.{BadLine}
 use Rattle.diag_can.proofs.BusLines.{begun_line-begun, begun_line-line, bus_lines-begin, bus_lines-first, bus_lines-more, ended_lines-begun, ended_lines-line, no_feed_in_begun}
 use Rattle.diag_port.specs.Port.{Grew}
 use Rattle.diag_live.specs.Live.{AreGood, Heard, Taken, capture_of, record_text, restamped, with_feed}
-use Rattle.diag_live.specs.Hearing.{EndsBefore, HasHeard, HeardLines, IsNextBad, IsLineTooLong, Refuses}
+use Rattle.diag_live.specs.Hearing.{EndsBefore, HasHeard, HeardLines, IsNextBad, IsLineTooLong, Refuses, SeesBad}
 use Rattle.diag_live.specs.declared.hearing.HearFault.{HearFault}
 use Rattle.diag_live.specs.declared.hearing.HearFault.TheVariants.{Line, Memory}
 use Rattle.diag_live.specs.declared.hearing.Hearing.{Hearing}
@@ -243,3 +243,44 @@ module _ (known : List ℕ) where
     so_far_hears new none kept count =
         subst (λ (p : List ℕ). Grew text text' (HeardLines known old new p)) (sym so_far.is)
         (Grew-hears old mid new so_far.gone rest text text' text' so_far.on (grew_none text' _ (begun_hears mid new rest none kept count)))
+
+  -- ---- a line that is seen to be at fault
+
+  clash_ok : {X : Type 0} (said : BusLine) (fault : LineFault) (bytes : List ℕ) → bus_line known bytes ≡ Ok said → bus_line known bytes ≡ Err fault → X
+  clash_ok said fault bytes ok bad = absurd (let e : (let r : Result BusLine LineFault = Ok said in r) ≡ Err fault = sym ok ∙ bad in cc)
+
+  -- it is told
+  pub sees_told : {X : Type 0} (old : Hearing) (bytes : List ℕ) (n : ℕ) (fault : LineFault) → n ≡ old.lines + 1 → bus_line known bytes ≡ Err fault → old.kept.items ≡ []
+      → SeesBad {X} known old bytes (Err (Line n fault))
+  sees_told {X} old bytes n fault number says none = λ room. (
+    λ other _ bad. told other (sym says ∙ bad),
+    λ long.
+        let whole : 4096 < length bytes = omega (arith, long, ap length none) in
+        told BadLine (sym says ∙ long_is_bad bytes whole),
+  )
+    where
+      told : (other : LineFault) → (let r : Result BusLine LineFault = Err fault in r) ≡ Err other
+          → (let r : Result X HearFault = Err (Line n fault) in r) ≡ Err (Line (old.lines + 1) other)
+      told other same =
+          let is : fault ≡ other = cc in
+          ap (λ (f : LineFault). (let r : Result X HearFault = Err (Line n f) in r)) is
+          ∙ ap (λ (k : ℕ). (let r : Result X HearFault = Err (Line k other) in r)) number
+
+  -- it is none
+  pub sees_none : {X : Type 0} (old : Hearing) (bytes : List ℕ) (said : BusLine) (result : Result X HearFault) → bus_line known bytes ≡ Ok said → old.kept.items ≡ []
+      → SeesBad {X} known old bytes result
+  sees_none {X} old bytes said result says none = λ room. (
+    λ fault _ bad. clash_ok said fault bytes says bad,
+    λ long.
+        let whole : 4096 < length bytes = omega (arith, long, ap length none) in
+        clash_ok said BadLine bytes says (long_is_bad bytes whole),
+  )
+
+  -- of one that was begun before only the length is looked at
+  pub sees_length : {X : Type 0} (old : Hearing) (bytes : List ℕ) (result : Result X HearFault) → 0 < length old.kept.items
+      → (4096 < length old.kept.items + length bytes → old.lines + 1 < 2 ^ 64 → result ≡ Err (Line (old.lines + 1) BadLine))
+      → SeesBad {X} known old bytes result
+  sees_length {X} old bytes result some long = λ room. (
+    λ fault none bad. absurd (let count = ap length none in omega (arith, count, some)),
+    λ whole. long whole room,
+  )

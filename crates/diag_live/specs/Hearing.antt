@@ -1,5 +1,5 @@
 -- What is kept of the lines that are heard, and how a piece of them goes.
-use Rattle.std.specs.Prelude.{◌≡◌, ◌<◌, ℕ, ◌+◌, List, ◌∷◌, ◌++◌, length, map, Err}
+use Rattle.std.specs.Prelude.{◌≡◌, ◌<◌, ℕ, ◌+◌, ◌^◌, List, [], ◌∷◌, ◌++◌, length, map, Result, Err}
 use Rattle.diag_can.specs.Bus.{begun_line, bus_line, bus_lines, ended_lines}
 use Rattle.diag_can.specs.declared.fault.LineFault.{LineFault}
 use Rattle.diag_can.specs.declared.fault.LineFault.TheVariants.{BadLine}
@@ -48,6 +48,13 @@ module _ (known : List ℕ) where
   Refuses old bytes text text' Memory = Unit {0}
   Refuses old bytes text text' (Line n fault) = Grew text text'
       (λ more. (seen : List ℕ) → HasHeard old seen → EndsBefore n fault seen bytes more)
+
+-- A line that is seen to be at fault isn't taken, and that is told by its number, whatever memory there is: one that came as one
+-- piece, or is longer than a line may be. (Lines are counted up to 2^64 - 1.)
+abbrev pub SeesBad : {X : Type 0} → List ℕ → Hearing → List ℕ → Result X HearFault → Type 0
+SeesBad known old bytes result = old.lines + 1 < 2 ^ 64
+    → ((fault : LineFault) → old.kept.items ≡ [] → bus_line known bytes ≡ Err fault → result ≡ Err (Line (old.lines + 1) fault))
+    × (4096 < length old.kept.items + length bytes → result ≡ Err (Line (old.lines + 1) BadLine))
 
 -- the line that is kept is with these bytes longer than a line may be, or memory was refused
 abbrev pub IsLineTooLong : Hearing → List ℕ → HearFault → Type 0

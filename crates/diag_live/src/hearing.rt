@@ -1,6 +1,6 @@
 //! The lines that are heard, piece by piece.
 
-ghost use Rattle.std.specs.Prelude.{◌<◌, ◌↔◌, IsTrue, ◌≡◌, ◌≤◌, ◌∷◌, [], ◌++◌, length, vec_len, IfErr, OnOk};
+ghost use Rattle.std.specs.Prelude.{◌<◌, ◌↔◌, ◌+◌, ◌^◌, IsTrue, ◌≡◌, ◌≤◌, ◌∷◌, [], ◌++◌, length, vec_len, Err, IfErr, OnOk};
 ghost use Rattle.diag_can.specs.Bus.{HasNoFeed};
 ghost use Rattle.diag_port.specs.Port.{Grew};
 
@@ -39,7 +39,7 @@ pub(crate) struct Hearing {
 }
 
 impl Hearing {
-    ghost use Rattle.diag_live.specs.Hearing.{HasHeard, HeardLines, IsLineTooLong, Refuses};
+    ghost use Rattle.diag_live.specs.Hearing.{HasHeard, HeardLines, IsLineTooLong, Refuses, SeesBad};
 
     /// Nothing was heard.
     pub(crate) fn new(alloc: Global) -> Hearing
@@ -98,6 +98,57 @@ impl Hearing {
         ensures kept { OnOk result (self.new.kept.items ≡ []) }
         ensures err { IfErr result
             (Refuses known.now self.old (bytes.now ++ 10 ∷ []) text.old.items text.new.items) }
+        ensures seen { SeesBad known.now self.old bytes.now result }
+    {
+        if self.kept.is_empty() {
+            self.take_whole(known, bytes, text)
+        } else {
+            self.take_kept(known, bytes, text)
+        }
+    }
+
+    /// Takes a line that came as one piece. Whether it is at fault is looked at before memory is asked for.
+    fn take_whole(
+        &mut self,
+        known: &[CanId],
+        bytes: &[u8],
+        text: &mut Vec<u8>,
+    ) -> Result<(), HearFault>
+        requires none { self.old.kept.items ≡ [] }
+        requires line { HasNoFeed bytes.now }
+        ensures ok { OnOk result (Grew text.old.items text.new.items
+            (HeardLines known.now self.old self.new (bytes.now ++ 10 ∷ []))) }
+        ensures kept { OnOk result (self.new.kept.items ≡ []) }
+        ensures err { IfErr result
+            (Refuses known.now self.old (bytes.now ++ 10 ∷ []) text.old.items text.new.items) }
+        ensures seen { SeesBad known.now self.old bytes.now result }
+    {
+        let Some(number) = self.lines.checked_add(1) else {
+            return Err(HearFault::Memory);
+        };
+        if let Err(fault) = read_bus_line(known, bytes) {
+            return Err(HearFault::Line(number, fault));
+        }
+        add_restamped(text, bytes)?;
+        self.lines = number;
+        Ok(())
+    }
+
+    /// Takes the line that is begun, which these bytes and an LF end.
+    fn take_kept(
+        &mut self,
+        known: &[CanId],
+        bytes: &[u8],
+        text: &mut Vec<u8>,
+    ) -> Result<(), HearFault>
+        requires begun { 0 < length self.old.kept.items }
+        requires line { HasNoFeed bytes.now }
+        ensures ok { OnOk result (Grew text.old.items text.new.items
+            (HeardLines known.now self.old self.new (bytes.now ++ 10 ∷ []))) }
+        ensures kept { OnOk result (self.new.kept.items ≡ []) }
+        ensures err { IfErr result
+            (Refuses known.now self.old (bytes.now ++ 10 ∷ []) text.old.items text.new.items) }
+        ensures seen { SeesBad known.now self.old bytes.now result }
     {
         self.keep(bytes)?;
         let Some(number) = self.lines.checked_add(1) else {
@@ -112,11 +163,17 @@ impl Hearing {
         Ok(())
     }
 
-    /// Adds bytes to the line that is kept; refuses it where it is longer than a line may be.
+    /// Adds bytes to the line that is kept.
+    ///
+    /// # Errors
+    /// `Line` exactly where it is longer than a line may be, which is looked at first, and its number is one of 64 bits;
+    /// `Memory`.
     fn keep(&mut self, bytes: &[u8]) -> Result<(), HearFault>
         ensures ok { OnOk result (self.new.kept.items ≡ self.old.kept.items ++ bytes.now) }
         ensures lines { self.new.lines ≡ self.old.lines }
         ensures err { IfErr result (IsLineTooLong self.old bytes.now) }
+        ensures long { 4096 < length self.old.kept.items + length bytes.now → self.old.lines + 1 < 2 ^ 64
+            → result ≡ Err (HearFault.Line (self.old.lines + 1) LineFault.BadLine) }
     {
         if bytes.len() > LONGEST_LINE - self.kept.len() {
             let Some(number) = self.lines.checked_add(1) else {

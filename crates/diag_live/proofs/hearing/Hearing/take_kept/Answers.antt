@@ -3,7 +3,7 @@ use Rattle.std.proofs.lemmas.Result.{err_from_is_err_and}
 use Rattle.diag_can.specs.Bus.{bus_line}
 use Rattle.diag_live.specs.Live.{restamped, with_feed}
 use Rattle.diag_live.proofs.Hearings.{keep_refuses, line_hears, line_refuses}
-use Rattle.diag_live.proofs.hearing.Hearing.take_line.Goals as goal
+use Rattle.diag_live.proofs.hearing.Hearing.take_kept.Goals as goal
 
 pub returns-in_err-keep-clause-err : goal.returns-in_err-keep-clause-err
 returns-in_err-keep-clause-err c =
