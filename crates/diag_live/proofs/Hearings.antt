@@ -251,8 +251,8 @@ module _ (known : List ℕ) where
 
   -- it is told
   pub sees_told : {X : Type 0} (old : Hearing) (bytes : List ℕ) (n : ℕ) (fault : LineFault) → n ≡ old.lines + 1 → bus_line known bytes ≡ Err fault → old.kept.items ≡ []
-      → SeesBad {X} known old bytes (Err (Line n fault))
-  sees_told {X} old bytes n fault number says none = λ room. (
+      → SeesBad {X = X} known old bytes (Err (Line n fault))
+  sees_told {X = X} old bytes n fault number says none = λ room. (
     λ other _ bad. told other (sym says ∙ bad),
     λ long.
         let whole : 4096 < length bytes = omega (arith, long, ap length none) in
@@ -268,19 +268,10 @@ module _ (known : List ℕ) where
 
   -- it is none
   pub sees_none : {X : Type 0} (old : Hearing) (bytes : List ℕ) (said : BusLine) (result : Result X HearFault) → bus_line known bytes ≡ Ok said → old.kept.items ≡ []
-      → SeesBad {X} known old bytes result
-  sees_none {X} old bytes said result says none = λ room. (
+      → SeesBad {X = X} known old bytes result
+  sees_none {X = X} old bytes said result says none = λ room. (
     λ fault _ bad. clash_ok said fault bytes says bad,
     λ long.
         let whole : 4096 < length bytes = omega (arith, long, ap length none) in
         clash_ok said BadLine bytes says (long_is_bad bytes whole),
-  )
-
-  -- of one that was begun before only the length is looked at
-  pub sees_length : {X : Type 0} (old : Hearing) (bytes : List ℕ) (result : Result X HearFault) → 0 < length old.kept.items
-      → (4096 < length old.kept.items + length bytes → old.lines + 1 < 2 ^ 64 → result ≡ Err (Line (old.lines + 1) BadLine))
-      → SeesBad {X} known old bytes result
-  sees_length {X} old bytes result some long = λ room. (
-    λ fault none bad. absurd (let count = ap length none in omega (arith, count, some)),
-    λ whole. long whole room,
   )
