@@ -243,6 +243,7 @@ impl Receiver {
     }
 
     /// Takes a frame whose message, if it completes one, was handed over, and answers the flow control that it draws.
+    #[inline(always)]
     pub fn take(&mut self, setup: &LinkSetup, kind: Pci<'_>) -> Option<FrameBytes>
         requires read { IsRead setup.now.max_request (says kind) }
         requires room { needed_for (says kind) ≤ self.old.room }

@@ -1,10 +1,11 @@
 -- What is left of a frame does what the frame does.
-use Rattle.std.proofs.Common.{◌≡◌, ℕ, ◌+◌, List, [], ◌∷◌, ◌++◌, length, refl, ◌∙◌, ap, arith}
-use Rattle.std.specs.Prelude.{Bool, Option, None, IsTrue, sum_by, is_some, if◌then◌else◌}
+use Rattle.std.proofs.Common.{◌≡◌, ℕ, ◌+◌, ◌*◌, ◌/◌, ◌%◌, ◌≤◌, true, false, List, [], ◌∷◌, ◌++◌, length, take, drop, refl, ◌∙◌, ap, arith}
+use Rattle.std.proofs.lemmas.List.{length-take-le}
+use Rattle.std.specs.Prelude.{Bool, Option, None, IsTrue, ◌==◌, slice_index, sum_by, is_some, if◌then◌else◌}
 use Rattle.std.proofs.lemmas.Bool.Decides.{nat_tests}
 use Rattle.diag_can.specs.declared.frame.Event.{Event}
 use Rattle.diag_can.specs.declared.frame.Event.TheVariants.{Physical, Functional, Ticks}
-use Rattle.diag_pdu.specs.Kind.{Kind, kind, single_only}
+use Rattle.diag_pdu.specs.Kind.{Kind, Single, Consecutive, Ignored, kind, single_kind, first_kind, flow_kind, single_only}
 use Rattle.diag_pdu.specs.declared.setup.LinkSetup.{LinkSetup}
 use Rattle.diag_tp.specs.declared.taken.Taken.{Taken}
 use Rattle.diag_tp.specs.declared.sent.Sent.{Sent}
@@ -27,6 +28,46 @@ last-ends s o h = grind (arith, nat_tests)
 -- a frame that completes nothing is left as its kind
 pub taken_read : (o : Option Partial) (k : Kind) → completed_by o k ≡ None → left_of_kind o k ≡ OfKind k
 taken_read o k none = grind arith
+
+-- a Single's payload stands behind the frame's first byte
+abbrev Stands : List ℕ → List ℕ → Type 0
+Stands bytes payload = (1 + length payload ≤ length bytes) × (take (length payload) (drop 1 bytes) ≡ payload)
+
+either : {P : Type 0} (b : Bool) (x y k : Kind) → (x ≡ k → P) → (y ≡ k → P) → (if b then x else y) ≡ k → P
+either true x y k f g h = f h
+either false x y k f g h = g h
+
+single-stands : (n : ℕ) (bytes payload : List ℕ) → single_kind n bytes ≡ Single payload → Stands bytes payload
+single-stands n [] payload h = grind arith
+single-stands n (control ∷ rest) payload h = grind (arith, nat_tests, length-take-le {A = ℕ})
+
+first-stands : (len max : ℕ) (bytes payload : List ℕ) → first_kind len bytes max ≡ Single payload → Stands bytes payload
+first-stands len max bytes payload h = grind arith
+
+flow-stands : (n : ℕ) (bytes payload : List ℕ) → flow_kind n bytes ≡ Single payload → Stands bytes payload
+flow-stands n bytes payload h = grind arith
+
+consecutive-stands : (n : ℕ) (part bytes payload : List ℕ) → Consecutive n part ≡ Single payload → Stands bytes payload
+consecutive-stands n part bytes payload h = grind arith
+
+ignored-stands : (bytes payload : List ℕ) → Ignored ≡ Single payload → Stands bytes payload
+ignored-stands bytes payload h = grind arith
+
+payload-stands : (bytes payload : List ℕ) (max : ℕ) → kind bytes max ≡ Single payload → Stands bytes payload
+unfolding kind
+payload-stands [] payload max h = ignored-stands [] payload h
+payload-stands (control ∷ rest) payload max h =
+    let bytes = control ∷ rest in
+    either (control / 16 == 0) _ _ (Single payload) (single-stands (control % 16) bytes payload)
+    (either (control / 16 == 1) _ _ (Single payload) (first-stands (control % 16 * 256 + slice_index bytes 1) max bytes payload)
+    (either (control / 16 == 2) _ _ (Single payload) (consecutive-stands (control % 16) rest bytes payload)
+    (either (control / 16 == 3) _ _ (Single payload) (flow-stands (control % 16) bytes payload) (ignored-stands bytes payload)))) h
+
+pub payload_inside : (bytes payload : List ℕ) (max : ℕ) → kind bytes max ≡ Single payload → 1 + length payload ≤ length bytes
+payload_inside bytes payload max h = (payload-stands bytes payload max h).0
+
+pub payload_same : (bytes payload : List ℕ) (max : ℕ) → kind bytes max ≡ Single payload → take (length payload) (drop 1 bytes) ≡ payload
+payload_same bytes payload max h = (payload-stands bytes payload max h).1
 
 -- what is left of an event does what the event does
 record Does (s : LinkSetup) (o : Option Partial) (l : Left) (e : Event) (current : Option Sending) (W : List (List ℕ)) : Type 0 where

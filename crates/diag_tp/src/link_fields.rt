@@ -4,7 +4,7 @@ ghost use Rattle.std.specs.Prelude.{◌≡◌, ◌↔◌, ◌≤◌, ◌+◌, []
 ghost use Rattle.diag_can.specs.declared.frame.Event.{Event as AnEvent};
 ghost use Rattle.diag_pdu.specs.Request.{request_of};
 ghost use Rattle.diag_pdu.specs.Cut.{cut};
-ghost use Rattle.diag_pdu.specs.Kind.{kind, says, IsRead, single_only, needed_for};
+ghost use Rattle.diag_pdu.specs.Kind.{Single, kind, says, IsRead, single_only, needed_for};
 ghost use Rattle.diag_tp.specs.Gives.{is_request};
 ghost use Rattle.diag_sides.specs.Sender.{settled};
 ghost use Rattle.diag_tp.specs.Kept.{sender_event, sender_frame, sender_ticks};
@@ -123,11 +123,11 @@ impl Link {
         match event {
             Event::Physical(bytes) => {
                 let pci = self.read(bytes);
-                self.take_up_own(pci)
+                self.take_up_own(bytes, pci)
             }
             Event::Functional(bytes) => match self.read(bytes) {
                 Pci::Single(payload) => {
-                    self.note(true, payload);
+                    self.note(true, bytes, payload);
                     Ok(Taken::Functional)
                 }
                 _ => Ok(Taken::Ignored),
@@ -139,7 +139,8 @@ impl Link {
     /// Makes room for the message of a frame with the tester's own identifier, and notes or stages what it completes.
     #[tactic(auto, using(crate::proofs::Takings::taken_read))]
     #[inline(always)]
-    fn take_up_own<'f>(&mut self, pci: Pci<'f>) -> Result<Taken<'f>, AllocError>
+    fn take_up_own<'f>(&mut self, bytes: &FrameBytes, pci: Pci<'f>) -> Result<Taken<'f>, AllocError>
+        requires kind { says pci ≡ kind bytes.now self.old.state.setup.max_request }
         requires read { IsRead self.old.state.setup.max_request (says pci) }
         ensures same { self.new.state ≡ self.old.state }
         ensures request { IfOk result (λ taken. asked_in self.new taken
@@ -152,7 +153,7 @@ impl Link {
     {
         match pci {
             Pci::Single(payload) => {
-                self.note(false, payload);
+                self.note(false, bytes, payload);
                 return Ok(Taken::Single);
             }
             Pci::First { len, .. } => self.receiver.reserve(len)?,
@@ -181,11 +182,12 @@ impl Link {
         }
     }
 
-    /// Notes the request of one frame, in the place of the one before.
+    /// Notes the request of a SingleFrame, in the place of the one before. Its bytes are moved together.
+    #[tactic(auto, using(crate::proofs::Takings::payload_inside, crate::proofs::Takings::payload_same))]
     #[inline(always)]
-    fn note(&mut self, functional: bool, payload: &[u8])
+    fn note(&mut self, functional: bool, frame: &FrameBytes, payload: &[u8])
+        requires single { kind frame.now self.old.state.setup.max_request ≡ Single payload.now }
         requires some { 1 ≤ length payload.now }
-        requires few { length payload.now ≤ 7 }
         ensures noted { self.new.noted ≡ request_of functional payload.now }
         ensures same { self.new.state ≡ self.old.state }
         ensures room { self.new.room ≡ self.old.room }
@@ -194,7 +196,7 @@ impl Link {
         self.noted.functional = functional;
         self.noted
             .message
-            .set_in_place(FrameBytes::from_slice(payload));
+            .set_in_place(frame.part(1, payload.len()));
     }
 
     /// Takes what is left of a frame, field by field.
