@@ -24,7 +24,8 @@
 extern "C" {
 #endif
 
-/* What a call answers. 2 and 4 are what the program ends with, too. */
+/* What a call answers. 2 and 4 are what the program ends with, too. Where it is UDS_CLOSED, UDS_NONE or UDS_UNKNOWN the call
+ * wrote nothing. */
 enum uds_status {
     UDS_DONE = 0,
     UDS_SETUP = 2,     /* the setup is at fault */
@@ -83,7 +84,8 @@ uint32_t uds_unit_frame(struct uds_unit *unit, uint64_t at_us, uint32_t id, cons
 /* Lets time pass to a moment, with no frame. */
 uint32_t uds_unit_pass(struct uds_unit *unit, uint64_t to_us);
 
-/* Hands out the next frame that is due up to the latest moment, in the order of the bus; UDS_NONE where there is none. */
+/* Hands out the next frame that is due up to the latest moment, in the order of the bus; UDS_NONE where there is none: the
+ * reply is as it was then. */
 uint32_t uds_unit_next(struct uds_unit *unit, struct uds_reply *reply);
 
 /* The next moment at which a frame may fall due where nothing comes in before, or UINT64_MAX where nothing is waited for.

@@ -13,8 +13,8 @@ use Rattle.diag_desk.specs.Legal.{after, after_step}
 use Rattle.diag_desk.specs.Text.{ticks_of}
 use Rattle.diag_desk.specs.declared.entry.Entry.{Entry}
 use Rattle.diag_port.specs.Standing.{HasKept}
-use Rattle.diag_world.specs.Server.{IsClosed, ServerState, ServerView, Serves, Settled, closing_time, server_of}
-use Rattle.diag_bus.specs.Batch.{Gave, IsEarly, IsRest, Lasts, OneSentIn, SameShape, lists_of}
+use Rattle.diag_world.specs.Server.{ServerState, ServerView, Serves, Settled, closing_time, server_of}
+use Rattle.diag_bus.specs.Batch.{Gave, IsRest, Lasts, OneSentIn, SameShape, lists_of}
 use Rattle.diag_bus.specs.Sink.{Enters, journal_of}
 use Rattle.diag_bus.specs.Requests.{filled_at}
 use Rattle.diag_bus.specs.declared.filled.Filled.{Filled}
@@ -75,12 +75,6 @@ told took setup server M sink sink' past J K now (Some k) served run clock enter
     after_append : (s : State) (A B : List Entry) → after s (A ++ B) ≡ after (after s A) B
     after_append s [] B = refl
     after_append s (a ∷ A) B = after_append (after_step s a.who a.step) A B
-
--- a port that is early isn't closed
-pub never_closed : (server : ServerView) (place : ℕ) → IsEarly server place → IsClosed (server_of server).ports place → ⊥
-never_closed server place early closed =
-    let told = early closed.port closed.found in
-    omega (arith, told, closed.late)
 
 -- a node with another list in its place
 module _ {old : Node} {who i : ℕ} {list : Vec Sent Global} (here : IsListAt old who i list) where

@@ -72,12 +72,6 @@ OneWentOn old new place span = (i : ℕ) (port : PortState)
 abbrev pub Lasts : Event → ℕ → Type 0
 Lasts e span = (now : ℕ) → time_after now e ≤ now + span
 
--- the clock at this place hasn't run out
-abbrev pub IsEarly : ServerView → ℕ → Type 0
-IsEarly server place = (port : PortState)
-    → slice_get (server_of server).ports place ≡ Some port
-    → port.link.now ≤ closing_time
-
 -- no frame of the testers' lists was sent later than this
 abbrev pub AreSentBy : List (List Sent) → ℕ → Type 0
 AreSentBy lists time = (i : ℕ) (frames : List Sent) → slice_get lists i ≡ Some frames → All (λ f. f.at ≤ time) frames

@@ -196,7 +196,7 @@ impl Comparisons {
     /// Takes a line that says this and draws these frames. It looks at the testers alone that these are for, and at the one
     /// that the line's frame is to where it is one of the unit's.
     #[inline(always)]
-    pub fn take_line(
+    fn take_line(
         &mut self,
         setup: &Setup,
         said: &BusLine,

@@ -2,11 +2,11 @@
 
 use crate::sink::Sink;
 use diag_can::TickCount;
-use diag_desk::StepFault;
 use diag_ecu::Ecu;
 use diag_pdu::{Message, Request};
 use diag_setup::TesterId;
 use diag_world::Keeper;
+use std::alloc::AllocError;
 
 /// Has a sink enter what the server takes.
 #[derive(Drop)]
@@ -18,6 +18,8 @@ pub struct Entering<'a, S> {
 impl<'a, S: Sink> Keeper for Entering<'a, S> {
     ghost use Rattle.std.specs.Prelude.{refl};
     ghost use Rattle.diag_bus.specs.Sink.{Enters, StaysFor};
+
+    type Fault = AllocError;
 
     ghost keeps = { λ old ecu before k new. Enters S.took old.sink.now new.sink.now ecu before k
         × StaysFor S.is_for S.aim old.sink.now new.sink.now };
@@ -36,9 +38,8 @@ impl<'a, S: Sink> Keeper for Entering<'a, S> {
         who: TesterId,
         request: &Request,
         reply: Option<&Message>,
-    ) -> Result<(), StepFault> {
-        self.sink.enter_request(ecu, before, who, request, reply)?;
-        Ok(())
+    ) -> Result<(), AllocError> {
+        self.sink.enter_request(ecu, before, who, request, reply)
     }
 
     #[inline(always)]
@@ -48,9 +49,8 @@ impl<'a, S: Sink> Keeper for Entering<'a, S> {
         before: u64,
         who: TesterId,
         count: TickCount,
-    ) -> Result<(), StepFault> {
-        self.sink.enter_ticks(ecu, before, who, count)?;
-        Ok(())
+    ) -> Result<(), AllocError> {
+        self.sink.enter_ticks(ecu, before, who, count)
     }
 
     ghost unkept_same = { λ _. (λ _ h. h, refl) };

@@ -16,7 +16,7 @@ pub enum Filled {
 
 impl Filled {
     /// The same where frames were added to the list at this place, unless it is empty.
-    pub fn after(self, place: usize, is_empty: bool) -> Filled
+    pub(crate) fn after(self, place: usize, is_empty: bool) -> Filled
         ensures { result ≡ (if is_empty then self else filled_at self place) }
     {
         if is_empty {

@@ -17,7 +17,7 @@ use crate::request_ids::{Owner, RequestIds};
 use crate::sink::Sink;
 use diag_can::{BusLine, Event, FrameText, TickCount};
 use diag_setup::{Setup, TesterId};
-use diag_world::{Server, ServerFault};
+use diag_world::Server;
 use std::alloc::AllocError;
 
 /// The most milliseconds that one count of ticks gives.
@@ -35,8 +35,9 @@ pub struct Node {
 }
 
 impl Node {
-    ghost use Rattle.diag_bus.specs.Batch.{Gave, HasTime, IsEarly, IsReady, IsRest, Lasts, OneSentIn, OneWentOn, Passed, SameShape, SentIn, TookTime, lists_of};
+    ghost use Rattle.diag_bus.specs.Batch.{Gave, HasTime, IsReady, IsRest, Lasts, OneSentIn, OneWentOn, Passed, SameShape, SentIn, TookTime, lists_of};
     ghost use Rattle.diag_bus.specs.Sink.{StaysFor};
+    ghost use Rattle.diag_world.specs.Server.{IsEarly};
 
     /// Begins a line: nothing was drawn.
     pub fn begin(&mut self)
@@ -71,16 +72,10 @@ impl Node {
         let index = who.index();
         let out = &mut self.drawn.lists[index];
         let mut entering = Entering { sink: &mut *sink };
-        match self.server.take(who, event, &mut entering, out) {
-            Ok(()) => {
-                self.drawn.filled = self.drawn.filled.after(index, out.is_empty());
-                self.rest = self.rest.min(self.server.quiet_at(who));
-                Ok(())
-            }
-            Err(ServerFault::Memory) => Err(AllocError),
-            Err(ServerFault::Clock) => unreachable!(),
-            Err(ServerFault::JournalFull) => unreachable!(),
-        }
+        self.server.take(who, event, &mut entering, out)?;
+        self.drawn.filled = self.drawn.filled.after(index, out.is_empty());
+        self.rest = self.rest.min(self.server.quiet_at(who));
+        Ok(())
     }
 
     /// For how many ticks no port does anything before the last of them, where these are more than so many, and the sink

@@ -50,7 +50,7 @@ impl RequestIds {
 
     /// The identifiers of 29 bits that are read.
     #[inline(always)]
-    pub fn known(&self) -> &[CanId]
+    pub(crate) fn known(&self) -> &[CanId]
         ensures { (setup : RawSetup) → AreRequestsOf setup self.now → result.now ≡ known_ids setup }
     {
         self.known.as_slice()

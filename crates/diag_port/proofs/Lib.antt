@@ -6,4 +6,5 @@ pub mod Placing
 pub mod Standing
 pub mod AtOnce
 pub mod Examples
+pub mod Faults
 pub mod Quiet

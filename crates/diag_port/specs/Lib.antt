@@ -1,3 +1,4 @@
+pub mod Fault
 pub mod Held
 pub mod Late
 pub mod Port

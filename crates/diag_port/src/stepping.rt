@@ -1,17 +1,22 @@
 //! Who takes the steps that events give.
 
-ghost use Rattle.std.specs.Prelude.{◌≡◌, Err, None, IfOk, OnErr, OnOk, false};
+ghost use Rattle.std.specs.Prelude.{◌≡◌, None, IfErr, IfOk, OnErr, OnOk, false};
+ghost use Rattle.diag_port.specs.Fault.{IsFaultBy};
 ghost use Rattle.diag_port.specs.Standing.{timed_asks, timed_ticks};
 
 use diag_can::TickCount;
 use diag_desk::{Desk, StepFault};
 use diag_pdu::{Message, Request};
 use diag_setup::TesterId;
+use std::alloc::AllocError;
 
 /// Takes the testers' steps and answers them: a desk, a server's ECU with who keeps its journal, or whoever asks a door.
 pub trait TakeSteps {
     ghost use Rattle.std.specs.Prelude.{ℕ, Bool};
     ghost use Rattle.diag_desk.specs.Timed.{Timed};
+
+    /// Why a step isn't taken: memory is refused, or there is no room for an entry more.
+    type Fault: From<AllocError>;
 
     /// It takes the steps of this tester while its clock tells this time.
     ghost allows: { Self → ℕ → ℕ → Type 0 };
@@ -39,21 +44,21 @@ pub trait TakeSteps {
     /// and tells how many ticks later it goes.
     ///
     /// # Errors
-    /// `JournalFull` where there is no room for an entry more, `Memory` where memory is refused. The request isn't taken
-    /// then.
+    /// That of memory where it is refused, and another only where there is no room for an entry more. The request isn't
+    /// taken then.
     fn take_request(
         &mut self,
         before: u64,
         who: TesterId,
         request: &Request,
         reply: &mut Option<Message>,
-    ) -> Result<u32, StepFault>
+    ) -> Result<u32, Self::Fault>
         requires allows { allows self.old who before }
         requires none { reply.old ≡ None }
         ensures took { IfOk result (λ after.
             takes self.old before (timed_asks who request.now reply.new after) self.new) }
         ensures at_once { can_delay self.old ≡ false → IfOk result (λ after. after ≡ 0) }
-        ensures full { result ≡ Err StepFault.JournalFull → is_full self.old }
+        ensures full { IfErr result (IsFaultBy Self.Fault.from_gives (is_full self.old)) }
         ensures refused { OnErr result (refuses self.old self.new) }
         ensures stays { stays self.old self.new };
 
@@ -61,10 +66,15 @@ pub trait TakeSteps {
     ///
     /// # Errors
     /// As `take_request`.
-    fn take_ticks(&mut self, before: u64, who: TesterId, count: TickCount) -> Result<(), StepFault>
+    fn take_ticks(
+        &mut self,
+        before: u64,
+        who: TesterId,
+        count: TickCount,
+    ) -> Result<(), Self::Fault>
         requires allows { allows self.old who before }
         ensures took { OnOk result (takes self.old before (timed_ticks who count) self.new) }
-        ensures full { result ≡ Err StepFault.JournalFull → is_full self.old }
+        ensures full { IfErr result (IsFaultBy Self.Fault.from_gives (is_full self.old)) }
         ensures refused { OnErr result (refuses self.old self.new) }
         ensures stays { stays self.old self.new };
 
@@ -81,6 +91,8 @@ impl TakeSteps for Desk {
     ghost use Rattle.diag_desk.specs.Legal.{after, entered};
     ghost use Rattle.diag_desk.specs.Timed.{timed_entry};
     ghost use Rattle.diag_ecu.specs.Respond.{may_delay};
+
+    type Fault = StepFault;
 
     ghost allows = { λ _ _ _. ⊤ };
 

@@ -7,7 +7,7 @@ ghost use Rattle.std.specs.Prelude.{
   ℕ,
   [],
   true,
-  Err,
+  IfErr,
   IfOk,
   IsTrue,
   None,
@@ -20,6 +20,7 @@ ghost use Rattle.diag_can.specs.declared.frame.Event.{Event as AnEvent};
 ghost use Rattle.diag_pdu.specs.declared.step.Step.{Step as AStep};
 ghost use Rattle.diag_tp.specs.Link.{is_frame, pending};
 ghost use Rattle.diag_tp.specs.Taken.{asked_in};
+ghost use Rattle.diag_port.specs.Fault.{IsFaultBy};
 ghost use Rattle.diag_port.specs.Placing.{sid_of};
 ghost use Rattle.diag_port.specs.Port.{CanHold, Grew, IsAtRest, port_of, unsent_of};
 ghost use Rattle.diag_port.specs.Standing.{GivesStep, IsPrepared, PortTook, RefusedEvent, TookEvent};
@@ -29,7 +30,6 @@ use crate::passing::{pass, receive_at_once, receive_held};
 use crate::port::Port;
 use crate::stepping::TakeSteps;
 use diag_can::{Event, TickCount};
-use diag_desk::StepFault;
 use diag_pdu::Request;
 use diag_setup::TesterId;
 use diag_tp::{Sent, Taken};
@@ -39,8 +39,8 @@ use std::alloc::AllocError;
 /// come before the step. Refused, port and frames are as before.
 ///
 /// # Errors
-/// `JournalFull` where there is no room for an entry more, `Memory` where memory is refused, or where no more replies can
-/// wait.
+/// That of memory where it is refused, or where no more replies can wait; and the taker's own where it has no room for an
+/// entry more.
 #[inline(always)]
 pub fn take<T: TakeSteps>(
     port: &mut Port,
@@ -48,7 +48,7 @@ pub fn take<T: TakeSteps>(
     event: &Event,
     taker: &mut T,
     out: &mut Vec<Sent>,
-) -> Result<(), StepFault>
+) -> Result<(), T::Fault>
     requires rest { IsAtRest port.old }
     requires allows { T.allows taker.old who port.old.link.state.now }
     ensures took { OnOk result (TookEvent T.takes (port_of port.old) (port_of port.new) taker.old taker.new
@@ -56,8 +56,8 @@ pub fn take<T: TakeSteps>(
     ensures rest { IsAtRest port.new }
     ensures refused { OnErr result (RefusedEvent T.refuses (port_of port.old) (port_of port.new)
         taker.old taker.new out.old.items out.new.items) }
-    ensures full { result ≡ Err StepFault.JournalFull
-        → T.is_full taker.old × GivesStep port.old.link.state event.now }
+    ensures full { IfErr result (IsFaultBy T.Fault.from_gives
+        (T.is_full taker.old × GivesStep port.old.link.state event.now)) }
     ensures stays { T.stays taker.old taker.new }
 {
     if let Event::Ticks(count) = event {
@@ -84,7 +84,7 @@ fn take_ticks<T: TakeSteps>(
     count: TickCount,
     taker: &mut T,
     out: &mut Vec<Sent>,
-) -> Result<(), StepFault>
+) -> Result<(), T::Fault>
     requires rest { IsAtRest port.old }
     requires allows { T.allows taker.old who port.old.link.state.now }
     ensures took { OnOk result (TookEvent T.takes (port_of port.old) (port_of port.new) taker.old taker.new
@@ -92,7 +92,7 @@ fn take_ticks<T: TakeSteps>(
     ensures rest { IsAtRest port.new }
     ensures refused { OnErr result (RefusedEvent T.refuses (port_of port.old) (port_of port.new)
         taker.old taker.new out.old.items out.new.items) }
-    ensures full { result ≡ Err StepFault.JournalFull → T.is_full taker.old }
+    ensures full { IfErr result (IsFaultBy T.Fault.from_gives (T.is_full taker.old)) }
     ensures stays { T.stays taker.old taker.new }
 {
     make_tick_room(port, out)?;
@@ -189,7 +189,7 @@ fn take_request<T: TakeSteps>(
     taken: Taken<'_>,
     taker: &mut T,
     out: &mut Vec<Sent>,
-) -> Result<(), StepFault>
+) -> Result<(), T::Fault>
     requires prepared { IsPrepared
         port.old event.now taken (vec_len out.old) (vec_capacity out.old) }
     requires delays { T.can_delay taker.old ≡ true
@@ -200,22 +200,21 @@ fn take_request<T: TakeSteps>(
     ensures rest { IsAtRest port.new }
     ensures refused { OnErr result (RefusedEvent T.refuses (port_of port.old) (port_of port.new)
         taker.old taker.new out.old.items out.new.items) }
-    ensures full { result ≡ Err StepFault.JournalFull
-        → T.is_full taker.old × GivesStep port.old.link.state event.now }
+    ensures full { IfErr result (IsFaultBy T.Fault.from_gives
+        (T.is_full taker.old × GivesStep port.old.link.state event.now)) }
     ensures stays { T.stays taker.old taker.new }
 {
-    match port.link.request(taken) {
-        Some(request) => {
-            let mut reply = None;
-            let after = taker.take_request(port.link.now(), who, request, &mut reply)?;
-            if after == 0 && port.held.is_empty() {
-                receive_at_once(port, event, taken, &mut reply, out);
-            } else {
-                let sid = service_of(request);
-                receive_held(port, event, taken, &mut reply, after, sid, out);
-            }
-        }
-        None => take_silent(port, event, taken, out),
+    let Some(request) = port.link.request(taken) else {
+        take_silent(port, event, taken, out);
+        return Ok(());
+    };
+    let mut reply = None;
+    let after = taker.take_request(port.link.now(), who, request, &mut reply)?;
+    if after == 0 && port.held.is_empty() {
+        receive_at_once(port, event, taken, &mut reply, out);
+    } else {
+        let sid = service_of(request);
+        receive_held(port, event, taken, &mut reply, after, sid, out);
     }
     Ok(())
 }

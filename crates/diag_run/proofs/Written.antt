@@ -30,7 +30,7 @@ use Rattle.diag_port.specs.Late.{pace_of}
 use Rattle.diag_port.specs.Placing.{drawn}
 use Rattle.diag_port.specs.Port.{Grew, PortState}
 use Rattle.diag_port.specs.Standing.{HasKept}
-use Rattle.diag_world.specs.Server.{IsClosed, ServerState, ServerTook, ServerView, Serves, Settled, sent_to, server_of}
+use Rattle.diag_world.specs.Server.{IsEarly, ServerState, ServerTook, ServerView, Serves, Settled, sent_to, server_of}
 use Rattle.diag_world.specs.World.{Stands, WorldState}
 use Rattle.diag_world.proofs.Worlds.{other_place, set_cases}
 use Rattle.diag_bus.specs.Batch.{IsBy}
@@ -87,10 +87,10 @@ paced_more old new who n m e asked more settled by count = λ i port at.
     ]
 
 -- so no clock runs out
-pub not_closed : (server : ServerView) (n i : ℕ) → n ≤ most_entries → IsBy server (60000 * n) → IsClosed (server_of server).ports i → ⊥
-not_closed server n i few by closed =
-    let low = by i closed.port closed.found in
-    absurd (omega (arith, low, few, closed.late))
+pub early_by : (server : ServerView) (n i : ℕ) → n ≤ most_entries → IsBy server (60000 * n) → IsEarly server i
+early_by server n i few by = λ port found.
+    let low = by i port found in
+    omega (arith, low, few)
 
 -- ---- an event
 

@@ -66,6 +66,8 @@ impl Keeper for JournalLines {
     ghost use Rattle.diag_desk.specs.Entry.{most_entries};
     ghost use Rattle.diag_run.specs.Playing.{EntersOne, IsUnkept};
 
+    type Fault = StepFault;
+
     ghost keeps = { λ old _ before k new. EntersOne old before k new };
 
     ghost is_full = { λ lines. most_entries ≤ lines.count };

@@ -11,7 +11,7 @@ use diag_desk::StepFault;
 use diag_setup::{Setup, TesterId};
 use diag_text::end_text;
 use diag_tp::Sent;
-use diag_world::{Server, ServerFault, TakeEvents};
+use diag_world::{Server, TakeEvents};
 use std::alloc::{AllocError, Global};
 
 /// A play between two events: nothing is kept of what was played but its text.
@@ -62,15 +62,8 @@ impl Playing {
         ensures lines { self.new.lines ≡ self.old.lines }
         ensures full { result ≡ Err StepFault.JournalFull → IsFull self.old who event.now }
     {
-        match self
-            .server
+        self.server
             .take(who, event, &mut self.journal, &mut self.out)
-        {
-            Ok(()) => Ok(()),
-            Err(ServerFault::Memory) => Err(StepFault::Memory),
-            Err(ServerFault::JournalFull) => Err(StepFault::JournalFull),
-            Err(ServerFault::Clock) => unreachable!(),
-        }
     }
 
     /// Writes the lines of the frames that a tester's event drew, where its lines are wanted, and lets the frames go.

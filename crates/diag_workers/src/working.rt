@@ -161,6 +161,8 @@ impl<'w, K: Keep, D: Door> TakeSteps for Asking<'w, K, D> {
     ghost use Rattle.std.specs.Prelude.{◌≡◌, ⊤, refl};
     ghost use Rattle.diag_workers.specs.Work.{CanKeep, HasAsked};
 
+    type Fault = StepFault;
+
     ghost allows = { λ asking who _.
         (D.tester asking.door.now ≡ who) × CanKeep K.keeps asking.entries.now };
 

@@ -7,7 +7,7 @@ use diag_can::{CanId, Event, Frame, FrameBytes, Ids, TickCount};
 use diag_setup::{Setup, TesterId};
 use diag_stored::two_testers;
 use diag_tp::Sent;
-use diag_world::{NoJournal, Server, ServerFault};
+use diag_world::{NoJournal, Server};
 use std::alloc::Global;
 
 /// What a frame of the bus is for a tester with these identifiers, if anything.
@@ -21,17 +21,22 @@ fn event_for(ids: &Ids, frame: &Frame) -> Option<Event> {
     }
 }
 
-/// Has the server take an event of a tester; the frames that are to be sent go behind those in `out`.
+/// Has the server take an event of a tester; the frames that are to be sent go behind those in `out`. A link takes no event
+/// past 2^63 ms, which is asked first.
 fn take(
     server: &mut Server,
     who: TesterId,
     event: &Event,
     out: &mut Vec<Sent>,
-) -> Result<(), ServerFault>
+) -> Result<(), Trouble>
     requires { who ≤ length server.old.ports }
     ensures { length server.new.ports ≡ length server.old.ports }
 {
-    server.take(who, event, &mut NoJournal, out)
+    if !server.is_early(who) {
+        return Err(Trouble::Wrong);
+    }
+    server.take(who, event, &mut NoJournal, out)?;
+    Ok(())
 }
 
 /// Takes a frame of the bus, for each tester that it is for.
@@ -40,7 +45,7 @@ fn take_frame(
     setup: &Setup,
     frame: &Frame,
     out: &mut Vec<Sent>,
-) -> Result<(), ServerFault>
+) -> Result<(), Trouble>
     requires { length server.old.ports ≡ length setup.now.testers }
     ensures { length server.new.ports ≡ length server.old.ports }
 {
@@ -61,7 +66,7 @@ fn pass(
     setup: &Setup,
     count: TickCount,
     out: &mut Vec<Sent>,
-) -> Result<(), ServerFault>
+) -> Result<(), Trouble>
     requires { length server.old.ports ≡ length setup.now.testers }
     ensures { length server.new.ports ≡ length server.old.ports }
 {

@@ -5,7 +5,6 @@ use diag_desk::{JournalFault, ReplayFault, StepFault};
 use diag_gate::TryFault;
 use diag_pdu::MessageFault;
 use diag_workers::PlayFault;
-use diag_world::ServerFault;
 use std::alloc::{AllocError, AllocFailed};
 
 /// Why a test did not come to its end: memory was refused, or a call answered what it must not. Two workers that are
@@ -83,15 +82,6 @@ impl From<ReplayFault> for Trouble {
         match fault {
             ReplayFault::Memory => Trouble::Memory,
             ReplayFault::Differs(_) => Trouble::Wrong,
-        }
-    }
-}
-
-impl From<ServerFault> for Trouble {
-    fn from(fault: ServerFault) -> Trouble {
-        match fault {
-            ServerFault::Memory => Trouble::Memory,
-            ServerFault::JournalFull | ServerFault::Clock => Trouble::Wrong,
         }
     }
 }

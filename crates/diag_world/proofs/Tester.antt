@@ -7,7 +7,6 @@ use Rattle.std.specs.Prelude.{slice_get, slice_set}
 use Rattle.std.specs.Option.{option_map}
 use Rattle.diag_can.specs.declared.frame.Event.{Event}
 use Rattle.diag_tp.specs.declared.sent.Sent.{Sent}
-use Rattle.diag_tp.specs.Moments.{last_time}
 use Rattle.diag_setup.specs.Setup.{link_of}
 use Rattle.diag_ecu.specs.State.{State, opening}
 use Rattle.diag_desk.specs.declared.entry.Entry.{Entry}
@@ -16,7 +15,7 @@ use Rattle.diag_port.specs.declared.port.Port.{Port}
 use Rattle.diag_port.specs.Late.{pace_of}
 use Rattle.diag_port.specs.Port.{Grew, PortState, port_of}
 use Rattle.diag_port.specs.Standing.{HasKept, PortStands, PortTook, TookEvent}
-use Rattle.diag_world.specs.Server.{Answered, EachRun, IsClosed, PortWent, TesterTook, ServerState, ServerTook, ServerView, Settled, closing_time, server_of, state_at}
+use Rattle.diag_world.specs.Server.{Answered, EachRun, IsEarly, PortWent, TesterTook, ServerState, ServerTook, ServerView, Settled, closing_time, server_of, state_at}
 use Rattle.diag_world.specs.Weaving.{items_of}
 use Rattle.diag_world.proofs.Serving.{port_at, same_who, server_went}
 use Rattle.diag_world.specs.Lazy.{caught_up}
@@ -115,21 +114,15 @@ module _ {ecu : State} {ports : List Port} {now : ServerView} {who i : ℕ} {por
   state_there : slice_get (server_of now).ports (who - 1) ≡ Some (port_of port)
   state_there = slice_get-map port_of now.ports (who - 1) ∙ ap (option_map port_of) seen_there
 
-  -- where it is late, so is the tester in each run
-  pub late_here : closing_time < port.link.state.now → EachRun (server_of now) (λ setup M K. closing_time < last_time (items_of M who))
-  late_here late = λ setup M K h.
-      let stands = port_here setup M K h in
-      omega (arith, late, stands.stands.stands.now)
-
-  -- and the tester's link is closed
-  pub closed_here : closing_time < port.link.state.now → IsClosed (server_of now).ports (who - 1)
-  closed_here late = record { port = port_of port; found = state_there; late = late }
+  -- the clock of a tester that is early tells no more than the closing time
+  pub early_here : IsEarly now (who - 1) → port.link.state.now ≤ closing_time
+  early_here early = early (port_of port) state_there
 
   -- and the other way round
-  pub late_there : IsClosed (server_of now).ports (who - 1) → closing_time < port.link.state.now
-  late_there closed =
-      let same : closed.port ≡ port_of port = same_item closed.port (port_of port) _ closed.found state_there in
-      subst (λ (S : PortState). closing_time < S.link.now) same closed.late
+  pub early_there : port.link.state.now ≤ closing_time → IsEarly now (who - 1)
+  early_there early = λ other found.
+      let same : port_of port ≡ other = same_item (port_of port) other _ state_there found in
+      subst (λ (S : PortState). S.link.now ≤ closing_time) same early
 
   -- a port that stands for the same leaves the server what it was
   pub same_here : (ecu' : State) (port' : Port) → port_of port' ≡ port_of port → ecu' ≡ ecu → state_at ecu' (slice_set ports i port') ≡ server_of now

@@ -131,11 +131,11 @@ pub record MovedOn (old new : List PortState) (place : ℕ) (e : Event) (asked :
   pub pace : after.link.now ≤ before.link.now + 60000 * length (option_to_list asked)
   pub within : AreWithin before.link.now after.link.now more
 
--- the link at this place has come to its closing time
-pub record IsClosed (ports : List PortState) (place : ℕ) : Type 0 where
-  pub port : PortState
-  pub found : slice_get ports place ≡ Some port
-  pub late : closing_time < port.link.now
+-- the link at this place, if there is one, hasn't come past its closing time
+abbrev pub IsEarly : ServerView → ℕ → Type 0
+IsEarly server place = (port : PortState)
+    → slice_get (server_of server).ports place ≡ Some port
+    → port.link.now ≤ closing_time
 
 -- no link has come past its closing time
 abbrev pub AreEarly : List PortState → Type 0

@@ -3,7 +3,7 @@
 ghost use Rattle.std.specs.Prelude.{
   ◌≡◌,
   [],
-  Err,
+  IfErr,
   IsTrue,
   IsSome,
   OnErr,
@@ -11,10 +11,10 @@ ghost use Rattle.std.specs.Prelude.{
   ◌↔◌,
 };
 ghost use Rattle.diag_tp.specs.Gives.{gives};
+ghost use Rattle.diag_port.specs.Fault.{IsFaultBy};
 ghost use Rattle.diag_world.specs.Channel.{channel_of, IsResting, ChannelTook, EachChannelRun, ChannelStands};
 
 use diag_can::Event;
-use diag_desk::StepFault;
 use diag_pdu::LinkSetup;
 use diag_port::{Pace, Port, TakeSteps, take};
 use diag_setup::TesterId;
@@ -54,7 +54,7 @@ impl Channel {
         who: TesterId,
         event: &Event,
         taker: &mut T,
-    ) -> Result<(), StepFault>
+    ) -> Result<(), T::Fault>
         requires rest { IsResting self.old }
         requires allows { T.allows taker.old who (channel_of self.old).port.link.now }
         ensures took { OnOk result (ChannelTook T.takes (channel_of self.old) (channel_of self.new)
@@ -62,9 +62,8 @@ impl Channel {
         ensures rest { IsResting self.new }
         ensures refused { OnErr result
             ((channel_of self.new ≡ channel_of self.old) × T.refuses taker.old taker.new) }
-        ensures full { result ≡ Err StepFault.JournalFull
-            → T.is_full taker.old
-            × EachChannelRun (channel_of self.old) (λ s pace E T. IsSome (gives s E event.now)) }
+        ensures full { IfErr result (IsFaultBy T.Fault.from_gives (T.is_full taker.old
+            × EachChannelRun (channel_of self.old) (λ s pace E T. IsSome (gives s E event.now)))) }
         ensures stays { T.stays taker.old taker.new }
     {
         take(&mut self.port, who, event, taker, &mut self.sent)

@@ -1,21 +1,25 @@
 //! Who keeps the journal of what a server takes.
 
-ghost use Rattle.std.specs.Prelude.{◌≡◌, ◌≤◌, Err, OnOk, OnErr, option_copied};
+ghost use Rattle.std.specs.Prelude.{◌≡◌, ◌≤◌, IfErr, OnOk, OnErr, option_copied};
 ghost use Rattle.diag_desk.specs.Entries.{asks};
+ghost use Rattle.diag_port.specs.Fault.{IsFaultBy};
 ghost use Rattle.diag_port.specs.Standing.{entry_of_ticks};
 ghost use Rattle.diag_world.specs.Server.{closing_time};
 
 use diag_can::TickCount;
-use diag_desk::StepFault;
 use diag_ecu::Ecu;
 use diag_pdu::{Message, Request};
 use diag_setup::TesterId;
+use std::alloc::AllocError;
 
 /// Keeps the entries of what a server takes, or passes them over.
 pub trait Keeper {
     ghost use Rattle.std.specs.Prelude.{ℕ};
     ghost use Rattle.diag_desk.specs.declared.entry.Entry.{Entry};
     ghost use Rattle.diag_ecu.specs.State.{State};
+
+    /// Why an entry isn't kept: memory is refused, or no further entry can be kept. `AllocError` where one always can.
+    type Fault: From<AllocError>;
 
     /// What is kept with this entry more, before which the ECU was this, and its tester's clock told this time.
     ghost keeps: { Self → State → ℕ → Entry → Self → Type 0 };
@@ -32,7 +36,8 @@ pub trait Keeper {
     /// Keeps the entry of a request and its reply; `ecu` is the ECU before it, and `before` the ticks of its tester.
     ///
     /// # Errors
-    /// `JournalFull` where no further entry can be kept, `Memory` where memory is refused. What is kept is then as before.
+    /// That of memory where it is refused, and another only where no further entry can be kept. What is kept is then as
+    /// before.
     fn keep_request(
         &mut self,
         ecu: &Ecu,
@@ -40,11 +45,11 @@ pub trait Keeper {
         who: TesterId,
         request: &Request,
         reply: Option<&Message>,
-    ) -> Result<(), StepFault>
+    ) -> Result<(), Self::Fault>
         requires early { before ≤ closing_time }
         ensures kept { OnOk result
             (keeps self.old ecu.now before (asks who request.now (option_copied reply.entry)) self.new) }
-        ensures full { result ≡ Err StepFault.JournalFull → is_full self.old }
+        ensures full { IfErr result (IsFaultBy Self.Fault.from_gives (is_full self.old)) }
         ensures err { OnErr result (unkept self.old self.new) }
         ensures place { place self.new ≡ place self.old };
 
@@ -58,10 +63,10 @@ pub trait Keeper {
         before: u64,
         who: TesterId,
         count: TickCount,
-    ) -> Result<(), StepFault>
+    ) -> Result<(), Self::Fault>
         requires early { before ≤ closing_time }
         ensures kept { OnOk result (keeps self.old ecu.now before (entry_of_ticks who count) self.new) }
-        ensures full { result ≡ Err StepFault.JournalFull → is_full self.old }
+        ensures full { IfErr result (IsFaultBy Self.Fault.from_gives (is_full self.old)) }
         ensures err { OnErr result (unkept self.old self.new) }
         ensures place { place self.new ≡ place self.old };
 
@@ -75,6 +80,8 @@ pub struct NoJournal;
 
 impl Keeper for NoJournal {
     ghost use Rattle.std.specs.Prelude.{◌≡◌, refl};
+
+    type Fault = AllocError;
 
     ghost keeps = { λ old _ _ _ new. new ≡ old };
 
@@ -91,11 +98,11 @@ impl Keeper for NoJournal {
         _: TesterId,
         _: &Request,
         _: Option<&Message>,
-    ) -> Result<(), StepFault> {
+    ) -> Result<(), AllocError> {
         Ok(())
     }
 
-    fn keep_ticks(&mut self, _: &Ecu, _: u64, _: TesterId, _: TickCount) -> Result<(), StepFault> {
+    fn keep_ticks(&mut self, _: &Ecu, _: u64, _: TesterId, _: TickCount) -> Result<(), AllocError> {
         Ok(())
     }
 

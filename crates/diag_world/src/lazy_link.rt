@@ -1,11 +1,13 @@
 //! A tester's port that takes ticks late in which it does nothing.
 
-ghost use Rattle.std.specs.Prelude.{◌≡◌, ◌≤◌, []};
+ghost use Rattle.std.specs.Prelude.{◌≡◌, ◌≤◌, ◌↔◌, [], IsTrue};
 ghost use Rattle.diag_port.specs.Block.{port_in_block};
 ghost use Rattle.diag_port.specs.Port.{port_of, port_quiet};
 ghost use Rattle.diag_port.specs.Standing.{PortStands};
 ghost use Rattle.diag_world.specs.Lazy.{caught_up, IsLazy};
+ghost use Rattle.diag_world.specs.Server.{closing_time};
 
+use crate::server::CLOSING_TIME;
 use diag_pdu::LinkSetup;
 use diag_port::{Pace, Port};
 use std::alloc::Global;
@@ -46,6 +48,14 @@ impl LazyLink {
         self.taken = passed;
     }
 
+    /// Whether it hasn't come past its closing time.
+    pub(crate) fn is_early(&self, passed: u64) -> bool
+        requires lazy { IsLazy passed self.now }
+        ensures { IsTrue result ↔ (caught_up passed self.now).link.state.now ≤ closing_time }
+    {
+        is_in_time(self.port.now().saturating_add(passed - self.taken))
+    }
+
     /// For how many ticks more it does nothing before the last of them; at least 1.
     #[inline(always)]
     pub(crate) fn quiet(&self, passed: u64) -> u64
@@ -63,4 +73,11 @@ impl LazyLink {
     {
         self.port.is_in_block()
     }
+}
+
+/// Whether a link whose clock tells this hasn't come past its closing time.
+fn is_in_time(now: u64) -> bool
+    ensures { IsTrue result ↔ now ≤ closing_time }
+{
+    now <= CLOSING_TIME
 }

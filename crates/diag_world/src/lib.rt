@@ -14,6 +14,6 @@ pub use channel::Channel;
 pub use keeper::{Keeper, NoJournal};
 pub use laws::{interleaving_law, turns_law, weaving_law};
 pub use serial_play::{Played, serial};
-pub use server::{CLOSING_TIME, Server, ServerFault};
+pub use server::{CLOSING_TIME, Server};
 pub use taking::{TakeEvents, take_turns};
 pub use world::World;

@@ -6,12 +6,10 @@ ghost use Rattle.std.specs.Prelude.{
   ◌<◌,
   ◌-◌,
   ◌+◌,
+  ◌↔◌,
   [],
   length,
-  map,
-  Option,
-  Some,
-  Err,
+  IfErr,
   IfOk,
   IfSome,
   OnOk,
@@ -19,24 +17,24 @@ ghost use Rattle.std.specs.Prelude.{
   slice_get,
   is_some,
   IsSome,
+  IsTrue,
 };
 ghost use Rattle.diag_store.specs.Dids.{with_value, write_answer};
 ghost use Rattle.diag_store.specs.Dtcs.{status_of, with_status};
 ghost use Rattle.diag_tp.specs.Gives.{gives};
-ghost use Rattle.diag_tp.specs.Moments.{last_time};
 ghost use Rattle.diag_setup.specs.Setup.{link_of};
 ghost use Rattle.diag_world.specs.Weaving.{items_of};
+ghost use Rattle.diag_port.specs.Fault.{IsFaultBy};
 ghost use Rattle.diag_port.specs.Port.{IsAtRest, port_of, port_quiet};
 ghost use Rattle.diag_port.specs.Standing.{GivesStep};
 ghost use Rattle.std.specs.List.{list_any};
 ghost use Rattle.diag_port.specs.Block.{port_in_block};
 ghost use Rattle.diag_world.specs.Block.{some_in_block};
-ghost use Rattle.diag_world.specs.Server.{closing_time, quiet_of, server_of, AreEarly, EachRun, IsClosed, TesterTook, Serves, ServerTook, TookNothing, Waited, WasSet};
+ghost use Rattle.diag_world.specs.Server.{closing_time, quiet_of, server_of, AreEarly, EachRun, IsEarly, TesterTook, Serves, ServerTook, TookNothing, Waited, WasSet};
 
 use crate::keeper::Keeper;
 use crate::lazy_link::LazyLink;
 use diag_can::{Event, TickCount};
-use diag_desk::StepFault;
 use diag_ecu::Ecu;
 use diag_pdu::{Message, Request};
 use diag_port::{Pace, Port, TakeSteps, take};
@@ -45,21 +43,6 @@ use diag_store::DidFault;
 use diag_tp::Sent;
 use std::alloc::{AllocError, Global};
 use std::marker::Model;
-use thiserror::Error;
-
-/// Why an event was not taken.
-#[derive(Clone, Copy, PartialEq, Eq, Debug, Drop, Error)]
-pub enum ServerFault {
-    /// Memory was refused, or 2^40 replies wait.
-    #[error("no memory")]
-    Memory,
-    /// The tester's link has come to its closing time.
-    #[error("the clock has run out")]
-    Clock,
-    /// The event gives a step, whose entry can't be kept.
-    #[error("the journal is full")]
-    JournalFull,
-}
 
 /// The last time of a link, in ticks, at which an event is taken.
 pub const CLOSING_TIME: u64 = 1 << 63;
@@ -122,12 +105,12 @@ impl Server {
         })
     }
 
-    /// Takes an event of a tester, has the entry that it gives kept, and hands out the frames that it draws.
+    /// Takes an event of a tester whose link hasn't come past its closing time, has the entry that it gives kept, and hands
+    /// out the frames that it draws.
     ///
     /// # Errors
-    /// `Clock` exactly where the tester's link has come past its closing time, which is looked at first; `JournalFull` where
-    /// the keeper can't keep the entry, `Memory` where memory is refused. The server and the frames are then as before, and
-    /// so is what is kept.
+    /// That of memory where it is refused, or 2^40 replies wait; and the keeper's own where the event gives a step, whose
+    /// entry it can't keep. The server and the frames are then as before, and so is what is kept.
     #[inline(always)]
     pub fn take<K: Keeper>(
         &mut self,
@@ -135,30 +118,32 @@ impl Server {
         event: &Event,
         keeper: &mut K,
         out: &mut Vec<Sent>,
-    ) -> Result<(), ServerFault>
+    ) -> Result<(), K::Fault>
         requires in_setup { who ≤ length self.old.ports }
+        requires early { IsEarly self.old (who - 1) }
         ensures took { OnOk result (ServerTook K.keeps (server_of self.old) (server_of self.new)
             keeper.old keeper.new who event.now out.old.items out.new.items) }
         ensures place { K.place keeper.new ≡ K.place keeper.old }
         ensures err { OnErr result
             ((server_of self.new ≡ server_of self.old) × (out.new.items ≡ out.old.items)) }
         ensures unkept { OnErr result (K.unkept keeper.old keeper.new) }
-        ensures full { result ≡ Err ServerFault.JournalFull
-            → K.is_full keeper.old
+        ensures full { IfErr result (IsFaultBy K.Fault.from_gives (K.is_full keeper.old
             × EachRun (server_of self.old) (λ setup M journal.
-            IsSome (gives (link_of setup who) (items_of M who) event.now)) }
-        ensures clock { result ≡ Err ServerFault.Clock
-            → EachRun (server_of self.old) (λ setup M journal.
-            closing_time < last_time (items_of M who)) }
-        ensures closed { result ≡ Err ServerFault.Clock
-            → IsClosed (server_of self.old).ports (who - 1) }
-        ensures first { IsClosed (server_of self.old).ports (who - 1)
-            → result ≡ Err ServerFault.Clock }
+            IsSome (gives (link_of setup who) (items_of M who) event.now)))) }
     {
         let index = who.index();
         let lazy = &mut self.links[index];
         lazy.catch_up(self.passed);
         take_at(&mut lazy.port, &mut self.ecu, who, event, keeper, out)
+    }
+
+    /// Whether a tester's link hasn't come past its closing time, so that it takes an event.
+    pub fn is_early(&self, who: TesterId) -> bool
+        requires in_setup { who ≤ length self.now.ports }
+        ensures { IsTrue result ↔ IsEarly self.now (who - 1) }
+    {
+        let index = who.index();
+        self.links[index].is_early(self.passed)
     }
 
     /// Takes so many ticks of each tester, in order, in which no port does anything. The entries that they give have no
@@ -259,6 +244,8 @@ impl<'a, K: Keeper> TakeSteps for Answering<'a, K> {
     ghost use Rattle.diag_ecu.specs.Respond.{may_delay};
     ghost use Rattle.diag_world.specs.Server.{Answered, closing_time};
 
+    type Fault = K::Fault;
+
     ghost allows = { λ _ _ before. before ≤ closing_time };
 
     ghost takes = { λ old before x new.
@@ -287,7 +274,7 @@ impl<'a, K: Keeper> TakeSteps for Answering<'a, K> {
         who: TesterId,
         request: &Request,
         reply: &mut Option<Message>,
-    ) -> Result<u32, StepFault> {
+    ) -> Result<u32, K::Fault> {
         let bytes = request.message.bytes();
         let decided = self.ecu.put_reply(who, request.functional, bytes, reply)?;
         self.keeper
@@ -297,12 +284,7 @@ impl<'a, K: Keeper> TakeSteps for Answering<'a, K> {
     }
 
     #[inline(always)]
-    fn take_ticks(
-        &mut self,
-        before: u64,
-        who: TesterId,
-        count: TickCount,
-    ) -> Result<(), StepFault> {
+    fn take_ticks(&mut self, before: u64, who: TesterId, count: TickCount) -> Result<(), K::Fault> {
         self.keeper.keep_ticks(self.ecu, before, who, count)?;
         self.ecu.ticks(who, count);
         Ok(())
@@ -313,7 +295,7 @@ impl<'a, K: Keeper> TakeSteps for Answering<'a, K> {
     ghost stays_itself = { λ _. (refl, refl, refl) };
 }
 
-/// Takes an event at a port, and has its entry kept. Refused, port, ECU and frames are as before.
+/// Takes an event at a port before its closing time, and has its entry kept. Refused, port, ECU and frames are as before.
 #[inline(always)]
 fn take_at<K: Keeper>(
     port: &mut Port,
@@ -322,40 +304,7 @@ fn take_at<K: Keeper>(
     event: &Event,
     keeper: &mut K,
     out: &mut Vec<Sent>,
-) -> Result<(), ServerFault>
-    requires rest { IsAtRest port.old }
-    ensures took { OnOk result (TesterTook K.keeps ecu.old ecu.new (port_of port.old) (port_of port.new)
-        keeper.old keeper.new who event.now out.old.items out.new.items) }
-    ensures rest { IsAtRest port.new }
-    ensures place { K.place keeper.new ≡ K.place keeper.old }
-    ensures err { OnErr result
-        (TookNothing K.unkept ecu.old ecu.new (port_of port.old) (port_of port.new) keeper.old keeper.new
-        out.old.items out.new.items) }
-    ensures full { result ≡ Err ServerFault.JournalFull
-        → K.is_full keeper.old × GivesStep port.old.link.state event.now }
-    ensures clock { result ≡ Err ServerFault.Clock → closing_time < port.old.link.state.now }
-    ensures first { closing_time < port.old.link.state.now → result ≡ Err ServerFault.Clock }
-{
-    if port.now() > CLOSING_TIME {
-        return Err(ServerFault::Clock);
-    }
-    match take_early(port, ecu, who, event, keeper, out) {
-        Ok(()) => Ok(()),
-        Err(StepFault::Memory) => Err(ServerFault::Memory),
-        Err(StepFault::JournalFull) => Err(ServerFault::JournalFull),
-    }
-}
-
-/// The same before the link's closing time.
-#[inline(always)]
-fn take_early<K: Keeper>(
-    port: &mut Port,
-    ecu: &mut Ecu,
-    who: TesterId,
-    event: &Event,
-    keeper: &mut K,
-    out: &mut Vec<Sent>,
-) -> Result<(), StepFault>
+) -> Result<(), K::Fault>
     requires rest { IsAtRest port.old }
     requires early { port.old.link.state.now ≤ closing_time }
     ensures took { OnOk result (TesterTook K.keeps ecu.old ecu.new (port_of port.old) (port_of port.new)
@@ -365,8 +314,8 @@ fn take_early<K: Keeper>(
     ensures err { OnErr result
         (TookNothing K.unkept ecu.old ecu.new (port_of port.old) (port_of port.new) keeper.old keeper.new
         out.old.items out.new.items) }
-    ensures full { result ≡ Err StepFault.JournalFull
-        → K.is_full keeper.old × GivesStep port.old.link.state event.now }
+    ensures full { IfErr result (IsFaultBy K.Fault.from_gives
+        (K.is_full keeper.old × GivesStep port.old.link.state event.now)) }
 {
     let mut answering = Answering { ecu, keeper };
     take(port, who, event, &mut answering, out)

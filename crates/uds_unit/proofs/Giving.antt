@@ -15,11 +15,10 @@ use Rattle.diag_desk.specs.declared.entry.Entry.{Entry}
 use Rattle.diag_desk.specs.Text.{ticks_of}
 use Rattle.diag_desk.specs.Timed.{Timed, entries_of, timed}
 use Rattle.diag_port.specs.Port.{PortState, port_of}
-use Rattle.diag_world.specs.Server.{IsClosed, ServerState, ServerView, ServesFrom, Settled, closing_time, sent_by, server_of}
+use Rattle.diag_world.specs.Server.{ServerState, ServerView, ServesFrom, Settled, closing_time, sent_by, server_of}
 use Rattle.diag_world.specs.Weaving.{items_of}
 use Rattle.diag_world.proofs.Times.{ticks_stretched}
 use Rattle.diag_world.proofs.Worlds.{set_cases, other_place}
-use Rattle.diag_bus.specs.Batch.{IsEarly}
 use Rattle.uds_unit.specs.Going.{Gave, SameShape, lists_of}
 use Rattle.uds_unit.specs.Journal.{entered, entry_added}
 use Rattle.uds_unit.specs.declared.going.Going.{Going}
@@ -62,12 +61,6 @@ pub record IsListAt (old : Going) (who i : ℕ) (list : Vec Sent Global) : Type 
 pub list_at : (old : Going) {who i : ℕ} {list : Vec Sent Global} → who ≤ length old.server.ports → length old.drawn.items ≡ length old.server.ports
     → who ≡ i + 1 → list ≡ get_or old.drawn.items i list → IsListAt old who i list
 list_at old in_setup lists is read = record { is = is; within = omega (arith, in_setup, lists, is); read = read }
-
--- a port that is early isn't closed
-pub never_closed : (server : ServerView) (place : ℕ) → IsEarly server place → IsClosed (server_of server).ports place → ⊥
-never_closed server place early closed =
-    let told = early closed.port closed.found in
-    omega (arith, told, closed.late)
 
 ports_moved : (old new : ServerView) (who : ℕ) (e : Event) (asked : Option Entry) (more : List Sent)
     → Settled (server_of old) (server_of new) who e asked more → length new.ports ≡ length old.ports

@@ -8,3 +8,4 @@ mod Queued
 mod Calling
 mod Captured
 mod Faults
+mod Replies

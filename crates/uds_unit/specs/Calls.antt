@@ -1,5 +1,5 @@
 -- What C's calls do to a unit, and what they answer.
-use Rattle.std.specs.Prelude.{◌≡◌, ℕ, ◌+◌, ◌-◌, ◌^◌, ◌<◌, ◌≤◌, ◌⊎◌, ◌&&◌, nat_le, nat_lt, codes, take, Bool, List, [], ◌∷◌, ◌++◌, length, drop, Option, Some, None, Result, Ok, Err, if◌then◌else◌}
+use Rattle.std.specs.Prelude.{◌≡◌, ℕ, ◌+◌, ◌-◌, ◌^◌, ◌<◌, ◌≤◌, ◌⊎◌, ◌&&◌, nat_le, nat_lt, codes, take, Bool, List, [], ◌∷◌, ◌++◌, length, drop, replicate, Option, Some, None, Result, Ok, Err, if◌then◌else◌}
 use Rattle.std.specs.Option.{option_map}
 use Rattle.diag_can.specs.Identifier.{extended, is_extended, number_of}
 use Rattle.diag_can.specs.declared.frame.Frame.{Frame}
@@ -66,6 +66,10 @@ frame_of id bytes =
 abbrev pub CopiedInto : List ℕ → List ℕ → List ℕ → Type 0
 CopiedInto old new text = new ≡ take (length old) text ++ drop (length text) old
 
+-- the eight bytes of a reply: those of a frame, and zeros behind them
+abbrev pub eight_of : List ℕ → List ℕ
+eight_of bytes = bytes ++ replicate (8 - length bytes) 0
+
 -- a frame was handed out, and this tells it
 pub record HandedReply (old new : DeviceState) (reply : Reply) : Type 0 where
   pub drawn : Drawn
@@ -73,7 +77,8 @@ pub record HandedReply (old new : DeviceState) (reply : Reply) : Type 0 where
   pub at : reply.at_us ≡ moment_us (start_of old.clock) drawn.sent.at
   pub id : reply.id ≡ told_id drawn.sent.frame.id
   pub tester : reply.tester ≡ drawn.who
-  pub bytes : take reply.len reply.bytes ≡ drawn.sent.frame.bytes
+  pub len : reply.len ≡ length drawn.sent.frame.bytes
+  pub bytes : reply.bytes ≡ eight_of drawn.sent.frame.bytes
 
 -- the session and its holder, by its place from 1, or 0
 abbrev pub session_told : State → Option ℕ → Session
@@ -140,14 +145,14 @@ abbrev pub close_status : Option DeviceState → ℕ
 close_status None = 16
 close_status (Some device) = 0
 
--- the code at a place is told, where there is one
-abbrev pub TellsCode : Option (ℕ × ℕ) → Code → ℕ → Type 0
-TellsCode None code status = status ≡ 17
-TellsCode (Some row) code status = (status ≡ 0) × (code ≡ record { code = row.0; status = row.1 })
+-- the code at a place is told, where there is one; else nothing is written
+abbrev pub TellsCode : Option (ℕ × ℕ) → Code → Code → ℕ → Type 0
+TellsCode None old new status = (status ≡ 17) × (new ≡ old)
+TellsCode (Some row) old new status = (status ≡ 0) × (new ≡ record { code = row.0; status = row.1 })
 
-abbrev pub TellsNumber : Option ℕ → ℕ → ℕ → Type 0
-TellsNumber None told status = status ≡ 17
-TellsNumber (Some n) told status = (status ≡ 0) × (told ≡ n)
+abbrev pub TellsNumber : Option ℕ → ℕ → ℕ → ℕ → Type 0
+TellsNumber None old new status = (status ≡ 17) × (new ≡ old)
+TellsNumber (Some n) old new status = (status ≡ 0) × (new ≡ n)
 
 -- the text was copied whole, or there is too little room; its length is told
 pub record CopiesWhole (text old new : List ℕ) (len status : ℕ) : Type 0 where
@@ -156,7 +161,7 @@ pub record CopiesWhole (text old new : List ℕ) (len status : ℕ) : Type 0 whe
   pub copied : status ≡ 0 → (length text ≤ length old) × CopiedInto old new text
   pub short : status ≡ 21 → (length old < length text) × (new ≡ old)
 
--- the same of an identifier's value, where there is one
-abbrev pub TellsValue : Option (List ℕ) → List ℕ → List ℕ → ℕ → ℕ → Type 0
-TellsValue None old new len status = (status ≡ 19) × (new ≡ old)
-TellsValue (Some value) old new len status = CopiesWhole value old new len status
+-- the same of an identifier's value, where there is one; else nothing is written
+abbrev pub TellsValue : Option (List ℕ) → List ℕ → List ℕ → ℕ → ℕ → ℕ → Type 0
+TellsValue None old new len len' status = (status ≡ 19) × (new ≡ old) × (len' ≡ len)
+TellsValue (Some value) old new len len' status = CopiesWhole value old new len' status

@@ -1,11 +1,12 @@
 //! The entries of a unit's journal, as they are written.
 
 use diag_can::TickCount;
-use diag_desk::{EntryRef, JournalVersion, StepFault, StepRef, write_entry};
+use diag_desk::{EntryRef, JournalVersion, StepRef, write_entry};
 use diag_ecu::Ecu;
 use diag_pdu::{Message, Request};
 use diag_setup::TesterId;
 use diag_world::Keeper;
+use std::alloc::AllocError;
 
 /// The text of the entries, as far as a journal is wanted.
 #[derive(Drop)]
@@ -19,6 +20,8 @@ pub struct Entries<'a> {
 impl<'a> Keeper for Entries<'a> {
     ghost use Rattle.std.specs.Prelude.{◌≡◌, refl};
     ghost use Rattle.uds_unit.specs.Entering.{Enters};
+
+    type Fault = AllocError;
 
     ghost keeps = { Enters };
 
@@ -35,7 +38,7 @@ impl<'a> Keeper for Entries<'a> {
         who: TesterId,
         request: &Request,
         reply: Option<&Message>,
-    ) -> Result<(), StepFault> {
+    ) -> Result<(), AllocError> {
         if self.wanted {
             let entry = EntryRef {
                 who,
@@ -53,7 +56,7 @@ impl<'a> Keeper for Entries<'a> {
         before: u64,
         who: TesterId,
         count: TickCount,
-    ) -> Result<(), StepFault> {
+    ) -> Result<(), AllocError> {
         if self.wanted {
             let entry = EntryRef {
                 who,

@@ -1,13 +1,13 @@
 //! What C calls.
 
-ghost use Rattle.std.specs.Prelude.{◌≡◌, ◌≤◌, ◌<◌, ◌/◌, ◌++◌, ◌∷◌, [], false, true, length, take, None, Some, IfOk, IfErr, IfSome, IsSome, option_map, slice_get, ◌⊎◌};
+ghost use Rattle.std.specs.Prelude.{◌≡◌, ◌≤◌, ◌<◌, ◌/◌, ◌++◌, ◌∷◌, [], false, true, length, None, Some, IfOk, IfErr, IfSome, IsSome, option_map, slice_get, ◌⊎◌};
 ghost use Rattle.diag_config.specs.Setup.{setup_of};
 ghost use Rattle.diag_config.specs.Fault.{Fails};
 ghost use Rattle.diag_setup.specs.Setup.{did_id};
 ghost use Rattle.diag_store.specs.Dids.{value_of, write_answer};
 ghost use Rattle.diag_store.specs.Dtcs.{row_pair, status_of};
 ghost use Rattle.diag_world.specs.Server.{quiet_of, server_of};
-ghost use Rattle.uds_unit.specs.Calls.{Both, CopiedInto, CopiesWhole, HandedReply, Opened, Refused, Sets, SetsOr, TellsCode, TellsFault, TellsNumber, TellsOr, TellsValue, Took, TookFrame, close_status, code_status, fault_line, frame_of, identifier_of, session_told, told_id, write_status};
+ghost use Rattle.uds_unit.specs.Calls.{Both, CopiedInto, CopiesWhole, HandedReply, Opened, Refused, Sets, SetsOr, TellsCode, TellsFault, TellsNumber, TellsOr, TellsValue, Took, TookFrame, close_status, code_status, eight_of, fault_line, frame_of, identifier_of, session_told, told_id, write_status};
 ghost use Rattle.uds_unit.specs.Moments.{due_us, moment_us};
 ghost use Rattle.uds_unit.specs.History.{At, SetStatus, SetValue};
 
@@ -273,11 +273,13 @@ pub extern "C" fn uds_unit_pass(alloc: Global, unit: &mut Handle, to_us: u64) ->
 }
 
 /// Writes out a frame that is due.
+#[tactic(auto, using(crate::proofs::Replies::eight_copied))]
 fn put(out: &mut Reply, start: u64, drawn: &Drawn)
     ensures at { out.new.at_us ≡ moment_us start drawn.now.sent.at }
     ensures id { out.new.id ≡ told_id drawn.now.sent.frame.id }
     ensures tester { out.new.tester ≡ drawn.now.who }
-    ensures bytes { take out.new.len out.new.bytes ≡ drawn.now.sent.frame.bytes }
+    ensures len { out.new.len ≡ length drawn.now.sent.frame.bytes }
+    ensures bytes { out.new.bytes ≡ eight_of drawn.now.sent.frame.bytes }
 {
     let frame = &drawn.sent.frame;
     out.at_us = moment_us(start, drawn.sent.at);
@@ -291,7 +293,7 @@ fn put(out: &mut Reply, start: u64, drawn: &Drawn)
 /// Hands out the next frame that is due, if there is one.
 fn hand_out(device: &mut Device, reply: &mut Reply) -> u32
     ensures handed { result ≡ 0 → HandedReply device.old device.new reply.new }
-    ensures none { result ≡ 17 → (device.new ≡ device.old) × (device.old.waiting ≡ []) }
+    ensures none { result ≡ 17 → (device.new ≡ device.old) × (device.old.waiting ≡ []) × (reply.new ≡ reply.old) }
     ensures only { (result ≡ 0) ⊎ (result ≡ 17) }
 {
     let start = device.start();
@@ -304,13 +306,14 @@ fn hand_out(device: &mut Device, reply: &mut Reply) -> u32
     }
 }
 
-/// Hands out the next frame that is due.
+/// Hands out the next frame that is due. Where there is none the reply is as it was.
 #[unsafe(no_mangle)]
 pub extern "C" fn uds_unit_next(alloc: Global, unit: &mut Handle, reply: &mut Reply) -> u32
-    ensures closed { unit.old.unit ≡ None → (result ≡ 16) × (unit.new.unit ≡ None) }
+    ensures closed { unit.old.unit ≡ None → (result ≡ 16) × (unit.new.unit ≡ None) × (reply.new ≡ reply.old) }
     ensures handed { result ≡ 0 → Both unit.old.unit unit.new.unit
         (λ old new. HandedReply old new reply.new) }
-    ensures none { result ≡ 17 → (unit.new.unit ≡ unit.old.unit) × IfSome unit.old.unit (λ device. device.waiting ≡ []) }
+    ensures none { result ≡ 17 → (unit.new.unit ≡ unit.old.unit)
+        × IfSome unit.old.unit (λ device. device.waiting ≡ []) × (reply.new ≡ reply.old) }
     ensures only { IsSome unit.old.unit → (result ≡ 0) ⊎ (result ≡ 17) }
 {
     let Some(mut device) = mem::replace(unit, Handle::closed(alloc)).into_box() else {
@@ -326,7 +329,7 @@ pub extern "C" fn uds_unit_next(alloc: Global, unit: &mut Handle, reply: &mut Re
 #[unsafe(no_mangle)]
 pub extern "C" fn uds_unit_due(alloc: Global, unit: &mut Handle, at_us: &mut u64) -> u32
     ensures same { unit.new.unit ≡ unit.old.unit }
-    ensures closed { unit.old.unit ≡ None → result ≡ 16 }
+    ensures closed { unit.old.unit ≡ None → (result ≡ 16) × (at_us.new ≡ at_us.old) }
     ensures due { IfSome unit.old.unit (λ device. (result ≡ 0)
         × (at_us.new ≡ due_us device.clock (quiet_of (server_of device.server).ports))) }
 {
@@ -358,7 +361,7 @@ fn session_of(ecu: &Ecu) -> Session
 #[unsafe(no_mangle)]
 pub extern "C" fn uds_unit_state(alloc: Global, unit: &mut Handle, state: &mut Session) -> u32
     ensures same { unit.new.unit ≡ unit.old.unit }
-    ensures closed { unit.old.unit ≡ None → result ≡ 16 }
+    ensures closed { unit.old.unit ≡ None → (result ≡ 16) × (state.new ≡ state.old) }
     ensures told { IfSome unit.old.unit (λ device. (result ≡ 0)
         × (state.new ≡ session_told device.server.ecu device.server.ecu.holder)) }
 {
@@ -379,9 +382,9 @@ pub extern "C" fn uds_unit_code(
     code: &mut Code,
 ) -> u32
     ensures same { unit.new.unit ≡ unit.old.unit }
-    ensures closed { unit.old.unit ≡ None → result ≡ 16 }
+    ensures closed { unit.old.unit ≡ None → (result ≡ 16) × (code.new ≡ code.old) }
     ensures told { IfSome unit.old.unit (λ device.
-        TellsCode (option_map row_pair (slice_get device.server.ecu.dtcs index)) code.new result) }
+        TellsCode (option_map row_pair (slice_get device.server.ecu.dtcs index)) code.old code.new result) }
 {
     let Some(device) = mem::replace(unit, Handle::closed(alloc)).into_box() else {
         return CLOSED;
@@ -409,9 +412,9 @@ pub extern "C" fn uds_unit_identifier(
     id: &mut u16,
 ) -> u32
     ensures same { unit.new.unit ≡ unit.old.unit }
-    ensures closed { unit.old.unit ≡ None → result ≡ 16 }
+    ensures closed { unit.old.unit ≡ None → (result ≡ 16) × (id.new ≡ id.old) }
     ensures told { IfSome unit.old.unit (λ device.
-        TellsNumber (option_map did_id (slice_get device.setup.dids index)) id.new result) }
+        TellsNumber (option_map did_id (slice_get device.setup.dids index)) id.old id.new result) }
 {
     let Some(device) = mem::replace(unit, Handle::closed(alloc)).into_box() else {
         return CLOSED;
@@ -441,7 +444,7 @@ fn copy_whole(out: &mut [u8], len: &mut usize, text: &[u8]) -> u32
 
 /// Copies an identifier's value, where there is one, and tells how long it is.
 fn copy_value(ecu: &Ecu, id: u16, out: &mut [u8], len: &mut usize) -> u32
-    ensures { TellsValue (value_of ecu.now.dids id) out.old out.new len.new result }
+    ensures { TellsValue (value_of ecu.now.dids id) out.old out.new len.old len.new result }
 {
     match ecu.dids().get(id) {
         Some(value) => copy_whole(out, len, value),
@@ -459,9 +462,9 @@ pub extern "C" fn uds_unit_value(
     len: &mut usize,
 ) -> u32
     ensures same { unit.new.unit ≡ unit.old.unit }
-    ensures closed { unit.old.unit ≡ None → result ≡ 16 }
+    ensures closed { unit.old.unit ≡ None → (result ≡ 16) × (value.new ≡ value.old) × (len.new ≡ len.old) }
     ensures told { IfSome unit.old.unit (λ device.
-        TellsValue (value_of device.server.ecu.dids id) value.old value.new len.new result) }
+        TellsValue (value_of device.server.ecu.dids id) value.old value.new len.old len.new result) }
 {
     let Some(device) = mem::replace(unit, Handle::closed(alloc)).into_box() else {
         return CLOSED;
@@ -547,7 +550,7 @@ pub extern "C" fn uds_unit_journal(
     text: &mut [u8],
     len: &mut usize,
 ) -> u32
-    ensures closed { unit.old.unit ≡ None → result ≡ 16 }
+    ensures closed { unit.old.unit ≡ None → (result ≡ 16) × (text.new ≡ text.old) × (len.new ≡ len.old) }
     ensures copied { IfSome unit.old.unit (λ device. CopiesWhole device.text text.old text.new len.new result) }
     ensures told { Both unit.old.unit unit.new.unit (λ old new. TellsOr old new result) }
 {

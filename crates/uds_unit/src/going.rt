@@ -6,8 +6,8 @@ ghost use Rattle.diag_can.specs.declared.frame.Event.{Event as AnEvent};
 ghost use Rattle.diag_can.specs.Log.{waited};
 ghost use Rattle.diag_pdu.specs.Cut.{counted_from};
 ghost use Rattle.diag_tp.specs.declared.sent.Sent.{Sent as ASent};
-ghost use Rattle.diag_world.specs.Server.{each_of};
-ghost use Rattle.diag_bus.specs.Batch.{HasTime, IsEarly, Lasts, OneWentOn, TookTime};
+ghost use Rattle.diag_world.specs.Server.{IsEarly, each_of};
+ghost use Rattle.diag_bus.specs.Batch.{HasTime, Lasts, OneWentOn, TookTime};
 ghost use Rattle.diag_bus.specs.Events.{frame_to};
 ghost use Rattle.diag_bus.specs.Requests.{AreRequestsOf, IsOwner, functional_to, functional_to_all, given};
 
@@ -16,7 +16,7 @@ use diag_bus::{Owner, RequestIds};
 use diag_can::{Event, Frame, TickCount};
 use diag_setup::{Setup, TesterId};
 use diag_tp::Sent;
-use diag_world::{Server, ServerFault};
+use diag_world::Server;
 use std::alloc::AllocError;
 
 /// The most milliseconds that one count of ticks gives.
@@ -65,12 +65,8 @@ impl Going {
             wanted: self.wanted,
             text: &mut self.text,
         };
-        match self.server.take(who, event, &mut entries, out) {
-            Ok(()) => Ok(()),
-            Err(ServerFault::Memory) => Err(AllocError),
-            Err(ServerFault::Clock) => unreachable!(),
-            Err(ServerFault::JournalFull) => unreachable!(),
-        }
+        self.server.take(who, event, &mut entries, out)?;
+        Ok(())
     }
 
     /// Gives the server an event of each tester, in order.

@@ -1,15 +1,18 @@
 use Rattle.std.proofs.Common.{◌++◌, None, List, ap, refl, subst, ◌∙◌}
+use Rattle.std.proofs.lemmas.Result.{IfErr-weaker}
 use Rattle.diag_tp.proofs.Given.{gives_ticks}
 use Rattle.diag_tp.specs.declared.sent.Sent.{Sent}
 use Rattle.diag_port.specs.Port.{PortState, port_of}
 use Rattle.diag_port.specs.Standing.{PortTook}
+use Rattle.diag_port.proofs.Faults.{fault_by}
 use Rattle.diag_port.proofs.taking.take.Goals as goal
 
 pub returns-in-Ticks-clause-full : goal.returns-in-Ticks-clause-full
-returns-in-Ticks-clause-full g c = λ is. (
-  c.take_ticks.ensures.full is,
-  λ s E A Q h. rw (c.in-Ticks.is, gives_ticks s E c.in-Ticks.count) refl,
-)
+returns-in-Ticks-clause-full g c =
+    IfErr-weaker c.take_ticks.result _ _ (λ fault. fault_by g.T.Fault.From.from_gives fault (λ full. (
+      full,
+      λ s E A Q h. rw (c.in-Ticks.is, gives_ticks s E c.in-Ticks.count) refl,
+    ))) c.take_ticks.ensures.full
 
 pub returns-in-Ignored-clause-took : goal.returns-in-Ignored-clause-took
 returns-in-Ignored-clause-took g c =

@@ -13,14 +13,14 @@ use Rattle.diag_port.proofs.Standing.{frame_took}
 use Rattle.diag_port.proofs.taking.take_request.Goals as goal
 use Rattle.diag_port.proofs.taking.take_request.Goals.{then-after-eq0+then-is_empty, else-after-eq0}
 
-pub returns-after-after-eq0-clause-took : goal.returns-after-after-eq0-clause-took
-returns-after-after-eq0-clause-took g c =
+pub returns-clause-took : goal.returns-clause-took
+returns-clause-took g c =
     let old = c.args.port.now in
     let who = c.args.who in
     let e = c.args.event.now in
     let out = c.args.out.now.items in
     let asked = step.Request c.in-Some.request.now in
-    let after = c.in_ok-after-in-Some.after in
+    let after = c.in_ok-after.after in
     let reply = c.take_request.new.reply in
     let x = timed_asks who c.in-Some.request.now reply after in
     let given : EachHistory old.link.state (λ s E A Q. Some asked ≡ gives s E e) = λ s E A Q h.
@@ -30,7 +30,7 @@ returns-after-after-eq0-clause-took g c =
     → TookEvent g.T.TakeSteps.takes (port_of old) (port_of new) c.args.taker.now c.take_request.new.self who e out sent =
     λ new sent time pace got. record {
       asked = Some x;
-      kept = subst (λ now. g.T.TakeSteps.takes c.args.taker.now now x c.take_request.new.self) c.now.ensures.state c.in_ok-after-in-Some.ensures.took;
+      kept = subst (λ now. g.T.TakeSteps.takes c.args.taker.now now x c.take_request.new.self) c.now.ensures.state c.in_ok-after.ensures.took;
       sent = record {
         more = got.more;
         grown = got.grown;
@@ -51,5 +51,5 @@ returns-after-after-eq0-clause-took g c =
           (subst (λ n. Grew out new.out.items (Received (port_of old) (port_of new.port) e after n reply)) w.service_of-sid.ensures done.received)))
     ]
 
-pub returns-in-None-clause-took : goal.returns-in-None-clause-took
-returns-in-None-clause-took g c = record { asked = None; kept = refl; sent = c.take_silent.ensures.took c.args.who }
+pub returns-in_default-clause-took : goal.returns-in_default-clause-took
+returns-in_default-clause-took g c = record { asked = None; kept = refl; sent = c.take_silent.ensures.took c.args.who }

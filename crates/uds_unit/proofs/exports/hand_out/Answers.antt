@@ -9,5 +9,6 @@ returns-in-Some-clause-handed c = λ is. record {
   at = c.put.ensures.at ∙ ap (λ start. moment_us start c.in-Some.drawn.sent.at) c.start-start.ensures;
   id = c.put.ensures.id;
   tester = c.put.ensures.tester;
+  len = c.put.ensures.len;
   bytes = c.put.ensures.bytes;
 }

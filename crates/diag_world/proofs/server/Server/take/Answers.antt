@@ -1,14 +1,15 @@
 use Rattle.std.proofs.Common.{◌≡◌, ◌≤◌, subst, sym, ◌∙◌, arith}
-use Rattle.std.proofs.lemmas.Result.{on_err_weaker, on_ok_weaker}
+use Rattle.std.proofs.lemmas.Result.{IfErr-weaker, on_err_weaker, on_ok_weaker}
 use Rattle.std.specs.Prelude.{slice_set}
 use Rattle.diag_tp.specs.Link.{last_tick}
 use Rattle.diag_setup.specs.Setup.{link_of}
 use Rattle.diag_port.specs.Port.{port_of}
+use Rattle.diag_port.proofs.Faults.{fault_by}
 use Rattle.diag_world.specs.Server.{ServerTook, server_of, state_at}
 use Rattle.diag_world.specs.Weaving.{items_of}
 use Rattle.diag_world.specs.declared.lazy_link.LazyLink.{LazyLink}
 use Rattle.diag_world.proofs.Lazy.{caught_still, caught_told, seen_after, seen_links, set_lazy, told_after}
-use Rattle.diag_world.proofs.Tester.{IsAt, closed_here, late_here, late_there, lazy_at, port_here, port_there, same_here, took_here}
+use Rattle.diag_world.proofs.Tester.{IsAt, early_here, lazy_at, port_here, port_there, same_here, took_here}
 use Rattle.diag_world.proofs.server.Server.take.Given.{Over}
 use Rattle.diag_world.proofs.server.Server.take.Goals as goal
 use Rattle.diag_world.proofs.server.Server.take.Goals.{After-take_at}
@@ -20,8 +21,13 @@ catch_up-requires g c =
           c.index_mut-lazy.ensures.value);
     }
 
-pub take_at-requires : goal.take_at-requires
-take_at-requires g c = record { rest = c.catch_up.ensures.lazy.rest }
+pub take_at-requires-clause-early : goal.take_at-requires-clause-early
+take_at-requires-clause-early g c =
+    early_here (port_there c.self.inside.links.items c.self.inside.passed _ c.self.view_is c.requires.in_setup c.index-index.ensures.from_one
+    c.index_mut-lazy.ensures.value c.catch_up.new.self.port c.catch_up.ensures.port) c.requires.early
+
+pub take_at-requires-clause-rest : goal.take_at-requires-clause-rest
+take_at-requires-clause-rest g c = c.catch_up.ensures.lazy.rest
 
 module _ (g : Over) (c : After-take_at g) where
   -- the tester's port, where the contract sees it
@@ -67,18 +73,9 @@ returns-clause-err g c =
     c.take_at.ensures.err
 
 pub returns-clause-full : goal.returns-clause-full
-returns-clause-full g c = λ e.
-    let full = c.take_at.ensures.full e in (
+returns-clause-full g c =
+    let here = here g (goal.at.returns-clause-full g c).After-take_at in
+    IfErr-weaker c.take_at.result _ _ (λ fault. fault_by g.K.Fault.From.from_gives fault (λ full. (
       full.0,
-      λ setup M K run. full.1 (link_of setup c.args.who) (items_of M c.args.who) _ _
-          (port_here (here g (goal.at.returns-clause-full g c).After-take_at) setup M K run).stands.stands,
-    )
-
-pub returns-clause-clock : goal.returns-clause-clock
-returns-clause-clock g c = λ e. late_here (here g (goal.at.returns-clause-clock g c).After-take_at) (c.take_at.ensures.clock e)
-
-pub returns-clause-closed : goal.returns-clause-closed
-returns-clause-closed g c = λ e. closed_here (here g (goal.at.returns-clause-closed g c).After-take_at) (c.take_at.ensures.clock e)
-
-pub returns-clause-first : goal.returns-clause-first
-returns-clause-first g c = λ closed. c.take_at.ensures.first (late_there (here g (goal.at.returns-clause-first g c).After-take_at) closed)
+      λ setup M K run. full.1 (link_of setup c.args.who) (items_of M c.args.who) _ _ (port_here here setup M K run).stands.stands,
+    ))) c.take_at.ensures.full
