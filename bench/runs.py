@@ -60,14 +60,15 @@ def peak_memory(child):
     return int(told[1]) if told else 0
 
 
-def watched(words, each=0.001, out=subprocess.DEVNULL):
-    """Runs the words, and returns the seconds that this took and the most memory in KiB, looked at each so many seconds."""
+def watched(words, each=0.001, out=subprocess.DEVNULL, well=(0,)):
+    """Runs the words, and returns the seconds that this took and the most memory in KiB, looked at each so many seconds; it
+    ends where the run has another status than these."""
     begun, peak = time.monotonic(), 0
     with subprocess.Popen(words, stdout=out) as child:
         while child.poll() is None:
             peak = max(peak, peak_memory(child))
             time.sleep(each)
-    if child.returncode:
+    if child.returncode not in well:
         sys.exit(f"{' '.join(words)} ended with status {child.returncode}")
     return time.monotonic() - begun, peak
 

@@ -173,23 +173,36 @@ def words_of(room, program, work, lines):
 # ---- measures
 
 
+def well(words):
+    """The statuses of a run that read its files to the end; a comparison may tell of exchanges that differ."""
+    return (0, 8) if "compare" in words else (0,)
+
+
+def ran(words, **how):
+    """A run that went well."""
+    done = subprocess.run(words, **how)
+    if done.returncode not in well(words):
+        sys.exit(f"workloads: {' '.join(words)} ended with status {done.returncode}")
+    return done
+
+
 def seconds(program, words):
     begun = time.monotonic()
-    subprocess.run([program, *words], stdout=subprocess.DEVNULL, check=True)
+    ran([program, *words], stdout=subprocess.DEVNULL)
     return time.monotonic() - begun
 
 
 def peak(program, words):
     """The most memory in KiB, as the process told it last."""
-    return watched([program, *words], 0.0002)[1]
+    return watched([program, *words], 0.0002, well=well(words))[1]
 
 
 def instructions(program, words):
-    ran = subprocess.run(
+    done = ran(
         ["valgrind", "--tool=callgrind", "--callgrind-out-file=/dev/null", program, *words],
-        stdout=subprocess.DEVNULL, stderr=subprocess.PIPE, check=True,
+        stdout=subprocess.DEVNULL, stderr=subprocess.PIPE,
     )
-    return int(re.search(rb"Collected : (\d+)", ran.stderr)[1])
+    return int(re.search(rb"Collected : (\d+)", done.stderr)[1])
 
 
 def count_of(work, words, lines):
@@ -214,7 +227,7 @@ def for_a_line(room, programs, work):
 
 
 def answers(program, words):
-    return subprocess.run([program, *words], stdout=subprocess.PIPE, check=True).stdout
+    return ran([program, *words], stdout=subprocess.PIPE).stdout
 
 
 def measure(room, name, programs, work, lines):

@@ -1,10 +1,12 @@
 #!/usr/bin/env python3
 """Makes the man page and the completion for bash from what `uds_play --help` and `uds_play COMMAND --help` print, and
 compares them with man/uds_play.1 and completion/uds_play.bash; with --write it writes these. The page is read by man, where
-that is there, and the completion is tried in bash; the example of each command runs over demo/.
+that is there, and the completion is tried in bash; the example of each command runs over demo/; and a terminal shows how
+far a long run is.
 Usage: test/words.py [--write]
 The last line is 'N passed, M failed'."""
 import os
+import pty
 import re
 import shutil
 import subprocess
@@ -146,6 +148,43 @@ def try_examples(commands):
             told(parts["Example"] != [] and done.returncode == (8 if name in ("verify", "compare") else 0) and "note:" not in done.stderr, f"the example of {name}", done)
 
 
+def shown(words):
+    """What the program writes to a terminal as its standard error, and its status."""
+    terminal, end = pty.openpty()
+    child = subprocess.Popen([PROGRAM, *words], stdin=subprocess.DEVNULL, stdout=subprocess.DEVNULL, stderr=end)
+    os.close(end)
+    pieces = []
+    with os.fdopen(terminal, "rb", buffering=0) as screen:
+        try:
+            while piece := screen.read(65536):
+                pieces.append(piece)
+        except OSError:
+            # a terminal ends so, once nobody has its other end
+            pass
+    return b"".join(pieces).decode(), child.wait(60)
+
+
+def try_terminal():
+    """A run of more than a second over a file shows how far it is, and takes that away before it says more."""
+    with tempfile.TemporaryDirectory() as folder:
+        path = f"{folder}/long.log"
+        # each line lets 100 days pass, which the journal tells minute by minute
+        with open(path, "w", encoding="ascii") as file:
+            file.writelines(f"({at * 8_640_000}.000000) can0 123#\n" for at in range(1, 301))
+            file.write("(9999999999.000000) can0 123#0\n")
+        size, setup = os.path.getsize(path), f"{TOP}/demo/setup.toml"
+        line = rf"\r\d+ of {size} bytes, \d+ lines a second\x1b\[K"
+        over = ["--journal", setup, path]
+        text, status = shown(["bus", *over])
+        told(status == 3 and re.match(rf"({line})+\r\x1b\[Kuds_play: capture line 301: bad line\r\n", text), "a terminal shows how far a run is", (text, status))
+        text, status = shown(["bus", "--interface", "can1", *over])
+        told(status == 3 and re.match(line, text), "a terminal shows how far a run over one interface is", (text, status))
+        text, status = shown(["--quiet", "bus", *over])
+        told(status == 3 and "\x1b" not in text, "a terminal shows nothing with --quiet", (text, status))
+        text, status = shown(["bus", setup, f"{TOP}/demo/bus.log"])
+        told((text, status) == ("", 0), "a terminal shows nothing of a short run", (text, status))
+
+
 def main():
     told.needs_program()
     whole = parts_of(help_of())
@@ -163,6 +202,7 @@ def main():
     try_page()
     try_completion()
     try_examples(commands)
+    try_terminal()
     return told.ended()
 
 

@@ -30,6 +30,7 @@ pub use line_frames::LineFrames;
 pub use no_text::NoText;
 pub use replies::Replies;
 pub use request_ids::{Owner, RequestIds};
+pub use response_ids::ResponseIds;
 pub use sink::Sink;
 pub use verdict::{Difference, Recorded, Verdict};
 pub use writing::Drawn;

@@ -3,3 +3,4 @@ pub mod Entering
 pub mod LineEnds
 pub mod Lines
 pub mod Takings
+pub mod UnitFrames

@@ -15,6 +15,7 @@ use Rattle.diag_bus.specs.Text.{bus_moment, start_after, start_said}
 use Rattle.diag_bus.specs.declared.clock.Start.{Start}
 use Rattle.diag_exchange.specs.Agreeing.{agrees}
 use Rattle.diag_exchange.specs.declared.happening.Over.{Over}
+use Rattle.diag_judge.specs.declared.tester.Told.{Told}
 use Rattle.diag_told.specs.Told.{place_told, told_text}
 use Rattle.diag_compare.specs.Compare.{compared_after, compared_by, is_told, lines_of}
 use Rattle.diag_compare.specs.Expects.{expects}
@@ -24,6 +25,12 @@ use Rattle.diag_comparing.specs.declared.stamps.FirstStamp.{FirstStamp}
 use Rattle.diag_comparing.specs.declared.stamps.Stamps.{Stamps}
 
 -- ---- in order
+
+-- one exchange or none is
+pub few_in_order : (batch : List Told) → length batch < 2 → batch ≡ in_order told_number batch
+few_in_order [] few = refl
+few_in_order (told ∷ []) few = refl
+few_in_order (told ∷ other ∷ others) few = absurd (omega (arith, few))
 
 put_pairs : (x : ℕ × Over) (ys : List (ℕ × Over)) → insert_in_order told_number (told_pair x) (map told_pair ys) ≡ map told_pair (insert_in_order line_number x ys)
 put_pairs x [] = refl

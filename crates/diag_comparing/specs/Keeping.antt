@@ -8,11 +8,12 @@ use Rattle.diag_can.specs.declared.frame.Frame.{Frame}
 use Rattle.diag_pdu.specs.declared.step.Step.{Step}
 use Rattle.diag_pdu.specs.declared.step.Step.TheVariants as step
 use Rattle.diag_setup.specs.Rows.{in_order}
-use Rattle.diag_setup.specs.Setup.{name_of}
+use Rattle.diag_setup.specs.Setup.{ids_of, name_of}
 use Rattle.diag_setup.specs.declared.raw.RawSetup.{RawSetup}
 use Rattle.diag_ecu.specs.State.{State}
 use Rattle.diag_desk.specs.declared.entry.Entry.{Entry}
 use Rattle.diag_bus.specs.Events.{clock_of, line_said, reference, time_said}
+use Rattle.diag_bus.specs.Requests.{IsWithin}
 use Rattle.diag_bus.specs.Text.{bus_moment, ecu_after, start_after}
 use Rattle.diag_bus.specs.Verdict.{places}
 use Rattle.diag_bus.specs.declared.clock.Clock.{Clock}
@@ -30,6 +31,7 @@ use Rattle.diag_compare.specs.Compare.{compared_by, exchanges, open_for, over_by
 use Rattle.diag_compare.specs.Expects.{expects}
 use Rattle.diag_compare.specs.Hearing.{entries_by, happenings, in_states, is_of, place_of, unit_events, unit_side}
 use Rattle.diag_comparing.specs.declared.exchange_lines.ExchangeLines.{ExchangeLines}
+use Rattle.diag_comparing.specs.declared.exchange_lines.UnitFrame.{UnitFrame}
 use Rattle.diag_comparing.specs.declared.stamps.FirstStamp.{FirstStamp}
 use Rattle.diag_comparing.specs.declared.stamps.Stamps.{Stamps}
 
@@ -109,6 +111,20 @@ pub record HasTaken (own : ExchangeLines) (setup : RawSetup) (lines : List (List
 abbrev pub bytes_with : ℕ → Option Frame → Option (List ℕ)
 bytes_with id None = None
 bytes_with id (Some frame) = if frame.id == id then Some frame.bytes else None
+
+-- the bytes of a frame of the unit's, where it is to this tester
+abbrev pub bytes_to : Option UnitFrame → ℕ → Option (List ℕ)
+bytes_to None who = None
+bytes_to (Some sent) who = if sent.who == who then Some sent.bytes else None
+
+-- the one of these bytes to this tester
+abbrev pub sent_to : List ℕ → ℕ → UnitFrame
+sent_to bytes who = record { who = who; bytes = bytes }
+
+-- to each tester it is what the line's frame is
+abbrev pub IsUnitFrame : RawSetup → Option Frame → Option UnitFrame → Type 0
+IsUnitFrame setup frame sent = (who : ℕ) → IsWithin (length setup.testers) who
+    → bytes_to sent who ≡ bytes_with (ids_of setup who).response frame
 
 -- A line says this, behind these lines: so many milliseconds pass, the journal of the run has these entries more, and the
 -- clock is this behind it.

@@ -1,6 +1,6 @@
 //! What is kept of a recording, and the lines of exchanges that are over.
 
-ghost use Rattle.std.specs.Prelude.{◌≡◌, ◌≤◌, ◌+◌, ◌∷◌, [], ◌++◌, ℕ, List, length, option_copied, IfOk, OnOk, OnErr, Ok};
+ghost use Rattle.std.specs.Prelude.{◌≡◌, ◌≤◌, ◌+◌, ◌∷◌, [], ◌++◌, ℕ, List, length, option_copied, option_map, IfOk, OnOk, OnErr, Ok};
 ghost use Rattle.diag_can.specs.declared.bus.BusLine.{BusLine as ABusLine};
 ghost use Rattle.diag_desk.specs.Entries.{asks};
 ghost use Rattle.diag_desk.specs.declared.entry.Entry.{Entry};
@@ -8,15 +8,16 @@ ghost use Rattle.diag_ecu.specs.State.{State};
 ghost use Rattle.diag_setup.specs.declared.raw.RawSetup.{RawSetup};
 ghost use Rattle.diag_desk.specs.Legal.{after};
 ghost use Rattle.diag_bus.specs.Events.{frame_said};
+ghost use Rattle.diag_bus.specs.Requests.{AreResponsesOf};
 ghost use Rattle.diag_bus.specs.Text.{ecu_after};
 ghost use Rattle.diag_port.specs.Port.{Grew};
 ghost use Rattle.diag_compare.specs.Hearing.{unit_side};
-ghost use Rattle.diag_comparing.specs.Keeping.{HasTaken, TakesEach, TakesEnd, bytes_with};
+ghost use Rattle.diag_comparing.specs.Keeping.{HasTaken, IsUnitFrame, TakesEach, TakesEnd, bytes_to, sent_to};
 
 use crate::stamps::Stamps;
 use crate::telling::write_batch;
-use diag_bus::Clock;
-use diag_can::{BusLine, CanId, FrameBytes, TickCount};
+use diag_bus::{Clock, ResponseIds};
+use diag_can::{BusLine, FrameBytes, FrameText, TickCount};
 use diag_ecu::Ecu;
 use diag_exchange::Place;
 use diag_expect::Entered;
@@ -36,6 +37,8 @@ pub struct ExchangeLines {
     pub lines: u64,
     /// Where the bus's time begins.
     pub stamps: Stamps,
+    /// To which tester a frame of the unit's is.
+    pub responses: ResponseIds,
     /// The testers, in the setup's order.
     pub testers: Vec<Tester>,
     /// Room for what is over with a line.
@@ -59,21 +62,56 @@ fn unit_side(setup: &Setup, who: TesterId) -> LinkSetup
     }
 }
 
-/// A line's frame, where it is the unit's with this identifier.
-fn frame_with(response: CanId, said: &BusLine) -> Option<FrameBytes>
-    ensures { result ≡ bytes_with response (frame_said said.now) }
+/// A frame of the unit to a tester.
+#[derive(Drop)]
+struct UnitFrame {
+    who: TesterId,
+    bytes: FrameBytes,
+}
+
+/// A line's frame, where it is one of the unit's.
+fn unit_frame(responses: &ResponseIds, setup: &Setup, said: &BusLine) -> Option<UnitFrame>
+    requires { AreResponsesOf setup.now responses.now }
+    ensures { IsUnitFrame setup.now (frame_said said.now) result }
 {
-    let BusLine::Stamped {
-        frame: Some(frame),
-        ..
-    } = said
-    else {
-        return None;
-    };
-    if frame.id() != response {
-        return None;
+    match said {
+        BusLine::Empty | BusLine::Ticks(_) => None,
+        BusLine::Stamped { moment: _, frame } => match frame {
+            Some(frame) => sent_to(responses.responder(setup, frame.id()), frame),
+            None => None,
+        },
     }
-    Some(frame.bytes())
+}
+
+/// A frame, where it is to a tester.
+#[inline(always)]
+fn sent_to(responder: Option<TesterId>, frame: &FrameText) -> Option<UnitFrame>
+    ensures { result ≡ option_map (sent_to frame.now.bytes) responder }
+{
+    match responder {
+        Some(who) => Some(UnitFrame {
+            who,
+            bytes: frame.bytes(),
+        }),
+        None => None,
+    }
+}
+
+/// Its bytes, where it is to this tester.
+#[inline(always)]
+fn bytes_to(sent: Option<&UnitFrame>, who: TesterId) -> Option<&FrameBytes>
+    ensures { option_copied result ≡ bytes_to (option_copied sent.entry) who }
+{
+    match sent {
+        Some(sent) => {
+            if sent.who == who {
+                Some(&sent.bytes)
+            } else {
+                None
+            }
+        }
+        None => None,
+    }
 }
 
 /// The number behind this one.
@@ -86,24 +124,27 @@ fn next(number: u64) -> Result<u64, AllocError>
 /// Gives the end of a line to each tester; what is over with it is put behind `told`, one tester behind the other.
 fn take_each(
     testers: &mut Vec<Tester>,
+    responses: &ResponseIds,
     setup: &Setup,
     at: Place,
     said: &BusLine,
     span: u64,
     told: &mut Vec<Told>,
 ) -> Result<(), AllocError>
-    requires { length testers.old.items ≡ length setup.now.testers }
+    requires many { length testers.old.items ≡ length setup.now.testers }
+    requires responses { AreResponsesOf setup.now responses.now }
     ensures each { OnOk result (TakesEach setup.now at said.now span
         testers.old.items testers.new.items told.old.items told.new.items) }
     ensures many { length testers.new.items ≡ length testers.old.items }
 {
     let alloc = *told.allocator();
+    let sent = unit_frame(responses, setup, said);
     for index in 0..testers.len() {
         let Some(who) = setup.who(index) else {
             unreachable!()
         };
-        let frame = frame_with(setup.ids(who).response, said);
-        testers[index].take_line(alloc, setup, who, at, span, frame.as_ref(), told)?;
+        let frame = bytes_to(sent.as_ref(), who);
+        testers[index].take_line(alloc, setup, who, at, span, frame, told)?;
     }
     Ok(())
 }
@@ -117,6 +158,9 @@ impl ExchangeLines {
             differences,
             lines: 0,
             stamps: Stamps::new(),
+            responses: ResponseIds {
+                testers: Vec::new(alloc),
+            },
             testers: Vec::new(alloc),
             batch: Vec::new(alloc),
             text: Vec::new(alloc),
@@ -129,6 +173,7 @@ impl ExchangeLines {
     /// `AllocError` where memory is refused.
     pub fn set_up(&mut self, alloc: Global, setup: &Setup) -> Result<(), AllocError>
         ensures taken { OnOk result (HasTaken self.new setup.now [] []) }
+        ensures responses { OnOk result (AreResponsesOf setup.now self.new.responses) }
         ensures differences { self.new.differences ≡ self.old.differences }
     {
         let mut testers = Vec::new(alloc);
@@ -138,6 +183,8 @@ impl ExchangeLines {
             };
             testers.push(Tester::new(alloc, unit_side(setup, who)))?;
         }
+        let responses = ResponseIds::new(alloc, setup)?;
+        self.responses = responses;
         self.testers = testers;
         self.lines = 0;
         self.stamps = Stamps::new();
@@ -160,6 +207,7 @@ impl ExchangeLines {
             → HasTaken self.old setup lines K
             → HasTaken self.new setup lines (K ++ asks who request.now (option_copied reply.entry) ∷ [])) }
         ensures many { length self.new.testers.items ≡ length self.old.testers.items }
+        ensures responses { self.new.responses ≡ self.old.responses }
         ensures differences { self.new.differences ≡ self.old.differences }
     {
         let index = who.index();
@@ -184,11 +232,13 @@ impl ExchangeLines {
         clock: &Clock,
         text: &mut Vec<u8>,
     ) -> Result<(), AllocError>
-        requires { length self.old.testers.items ≡ length setup.now.testers }
+        requires many { length self.old.testers.items ≡ length setup.now.testers }
+        requires responses { AreResponsesOf setup.now self.old.responses }
         ensures taken { OnOk result (Grew text.old.items text.new.items
             (TakesEnd setup.now self.old self.new said.now span clock.now)) }
         ensures err { OnErr result (text.new.items ≡ text.old.items) }
         ensures many { length self.new.testers.items ≡ length self.old.testers.items }
+        ensures responses { self.new.responses ≡ self.old.responses }
         ensures differences { self.new.differences ≡ self.old.differences }
     {
         let line = next(self.lines)?;
@@ -198,7 +248,15 @@ impl ExchangeLines {
         };
         self.batch.clear();
         self.text.clear();
-        take_each(&mut self.testers, setup, at, said, span, &mut self.batch)?;
+        take_each(
+            &mut self.testers,
+            &self.responses,
+            setup,
+            at,
+            said,
+            span,
+            &mut self.batch,
+        )?;
         self.stamps.take(line, clock);
         self.lines = line;
         write_batch(

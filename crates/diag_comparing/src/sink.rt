@@ -10,12 +10,14 @@ use std::alloc::{AllocError, Global};
 
 impl Sink for ExchangeLines {
     ghost use Rattle.std.specs.Prelude.{◌≡◌, Bool, false, length};
+    ghost use Rattle.diag_bus.specs.Requests.{AreResponsesOf};
     ghost use Rattle.diag_compare.specs.Compare.{compared};
     ghost use Rattle.diag_compare.specs.Expects.{expects};
     ghost use Rattle.diag_comparing.specs.Keeping.{HasTaken};
     ghost use Rattle.diag_comparing.specs.Ticks.{ticks_taken};
 
-    ghost is_for = { λ own setup. length own.testers.items ≡ length setup.testers };
+    ghost is_for = { λ own setup. (length own.testers.items ≡ length setup.testers)
+        × AreResponsesOf setup own.responses };
 
     ghost took = { HasTaken };
 
@@ -28,7 +30,8 @@ impl Sink for ExchangeLines {
     ghost wants_ticks = { false };
 
     fn begin(&mut self, alloc: Global, setup: &Setup) -> Result<(), AllocError> {
-        self.set_up(alloc, setup)
+        self.set_up(alloc, setup)?;
+        Ok(())
     }
 
     fn write_header(&self, _: &mut Vec<u8>) -> Result<(), AllocError> {

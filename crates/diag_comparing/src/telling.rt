@@ -27,11 +27,15 @@ fn name_of(setup: &Setup, who: TesterId) -> &[u8]
 fn sort(batch: &mut Vec<Told>) -> Result<(), AllocError>
     ensures { OnOk result (batch.new.items ≡ in_order told_number batch.old.items) }
 {
+    if batch.len() < 2 {
+        return Ok(());
+    }
     batch.sort_by_key(|told| place(&told.over).line)?;
     Ok(())
 }
 
 /// Adds the line of an exchange.
+#[inline(always)]
 fn add_line(
     setup: &Setup,
     stamps: &Stamps,

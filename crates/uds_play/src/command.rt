@@ -67,6 +67,13 @@ pub enum Output {
     Exchanges { differences: bool },
 }
 
+impl Output {
+    /// Whether nothing is written before the end of the capture.
+    pub fn is_last(self) -> bool {
+        matches!(self, Output::End | Output::Verdict)
+    }
+}
+
 /// Why nothing is run.
 #[derive(Drop)]
 pub enum Refusal {

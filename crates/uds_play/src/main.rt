@@ -16,6 +16,7 @@ mod command;
 mod flow_lines;
 mod notes;
 mod pace;
+mod progress;
 mod source;
 mod standard;
 
@@ -32,10 +33,11 @@ use diag_setup::Setup;
 use diag_stored::{CONFIG, LOG_A, LOG_B};
 use diag_text::{ReadFault, RunFault, read_whole, write_text, write_whole};
 use notes::{FileKind, Notes, note_usage};
+use progress::Progress;
 use source::Source;
 use standard::{Hearing, PIECES, Record, StandardBench, read_all};
 use std::alloc::{AllocError, Global};
-use std::io::{ErrorKind, Read, Write};
+use std::io::{ErrorKind, IsTerminal, Read, Write};
 use std::process::ExitCode;
 use std::rt::{Clock, Files};
 use std::sync::Wait;
@@ -69,7 +71,11 @@ fn main(rt: HostRuntime) -> ExitCode {
                 } else {
                     None
                 };
-                run_words(&rt, words.as_slice(), hearing)
+                let screen = Screen {
+                    is_told: rt.stderr().is_terminal(),
+                    is_written: rt.stdout().is_terminal(),
+                };
+                run_words(&rt, words.as_slice(), hearing, screen)
             }
         },
     }
@@ -106,6 +112,22 @@ fn refuse(rt: &(impl Print + Eprint), refusal: &Refusal) -> ExitCode {
     }
 }
 
+/// Where a terminal shows what is written.
+#[derive(Clone, Copy)]
+struct Screen {
+    /// Standard error is one.
+    is_told: bool,
+    /// Standard output is one.
+    is_written: bool,
+}
+
+impl Screen {
+    /// Whether a line that shows how far a run is stands by itself: in what is written as the run goes it wouldn't.
+    fn shows_progress(self, output: Output) -> bool {
+        self.is_told && (output.is_last() || !self.is_written)
+    }
+}
+
 /// A file of a run, or standard input.
 type RunSource<'a, R> = Source<'a, <R as Files>::File, <R as Input>::Reader>;
 
@@ -113,6 +135,7 @@ fn run_words<R: Print + Eprint + Files + Input + AllocGlobal + Clock + Threads +
     rt: &R,
     words: &[String],
     hearing: Option<Hearing>,
+    screen: Screen,
 ) -> ExitCode {
     if words.len() < 2 {
         return run_stored(rt);
@@ -130,7 +153,7 @@ fn run_words<R: Print + Eprint + Files + Input + AllocGlobal + Clock + Threads +
                 output,
                 capture,
                 interface,
-            } => over_capture(rt, quiet, config, output, capture, interface),
+            } => over_capture(rt, quiet, config, output, capture, interface, screen),
             Task::Check => over_setup(rt, quiet, config),
             Task::Live { record, interface } => match hearing {
                 Some(hearing) => over_bus(rt, quiet, config, hearing, record, interface),
@@ -169,13 +192,14 @@ fn over_files<'a, R: Print + Eprint + Files + Input + AllocGlobal + Threads + Wa
 }
 
 /// A run over a capture.
-fn over_capture<R: Print + Eprint + Files + Input + AllocGlobal>(
+fn over_capture<R: Print + Eprint + Files + Input + AllocGlobal + Clock + Threads + Sync>(
     rt: &R,
     quiet: bool,
     config: &str,
     output: Output,
     capture: Option<&str>,
     interface: Option<&str>,
+    screen: Screen,
 ) -> ExitCode {
     let path = [capture.unwrap_or("")];
     let notes = Notes {
@@ -185,7 +209,7 @@ fn over_capture<R: Print + Eprint + Files + Input + AllocGlobal>(
         files: given(capture, &path),
         kind: FileKind::Capture,
     };
-    run_bus(rt, output, capture, &notes)
+    run_bus(rt, output, capture, &notes, screen)
 }
 
 /// The look at a setup.
@@ -329,42 +353,67 @@ fn run_files<R: Print + Eprint + Files + Input + AllocGlobal + Threads + Wait + 
 }
 
 /// The run over a capture, for what is to be written of it.
-fn run_bus<R: Print + Eprint + Files + Input + AllocGlobal>(
+fn run_bus<R: Print + Eprint + Files + Input + AllocGlobal + Clock + Threads + Sync>(
     rt: &R,
     output: Output,
     capture: Option<&str>,
     notes: &Notes<'_>,
+    screen: Screen,
 ) -> ExitCode {
     let alloc = rt.alloc();
+    let size = if screen.shows_progress(output) && !notes.quiet {
+        size_of(rt, capture)
+    } else {
+        None
+    };
     match output {
-        Output::Replies => run_capture(rt, Replies::new(alloc), capture, notes),
-        Output::Journal => run_capture(rt, Journal::new(alloc), capture, notes),
-        Output::End => run_capture(rt, NoText, capture, notes),
-        Output::Verdict => run_capture(rt, Comparisons::new(alloc), capture, notes),
+        Output::Replies => run_capture(rt, Replies::new(alloc), capture, notes, size),
+        Output::Journal => run_capture(rt, Journal::new(alloc), capture, notes, size),
+        Output::End => run_capture(rt, NoText, capture, notes, size),
+        Output::Verdict => run_capture(rt, Comparisons::new(alloc), capture, notes, size),
         Output::Exchanges { differences } => {
-            run_capture(rt, ExchangeLines::new(alloc, differences), capture, notes)
+            let lines = ExchangeLines::new(alloc, differences);
+            run_capture(rt, lines, capture, notes, size)
         }
     }
 }
 
-/// The run over a capture: the file at its path, or standard input.
-fn run_capture<S: Ending, R: Print + Eprint + Files + Input + AllocGlobal>(
+/// How many bytes a capture has, where it is a regular file.
+fn size_of(rt: &impl Files, capture: Option<&str>) -> Option<u64> {
+    match fs::metadata(rt, capture?) {
+        Ok(found) if found.is_file() => Some(found.len()),
+        _ => None,
+    }
+}
+
+/// The run over a capture: the file at its path, or standard input. Of a file of a size it is shown how far it is.
+fn run_capture<S: Ending, R: Print + Eprint + Files + Input + AllocGlobal + Clock + Threads + Sync>(
     rt: &R,
     sink: S,
     capture: Option<&str>,
     notes: &Notes<'_>,
+    size: Option<u64>,
 ) -> ExitCode {
     notes.before(rt);
     let mut first = Vec::new(rt.alloc());
+    let progress = Progress::new();
+    let watch: Option<&Progress> = match size {
+        Some(_) => Some(&progress),
+        None => None,
+    };
     let (Ok(config), Ok(capture)) = (
         open(rt, notes.config),
-        open_capture(rt, capture, &mut first),
+        open_capture(rt, capture, &mut first, watch),
     ) else {
         return refuse(rt, &Refusal::Memory);
     };
     let name = notes.interface.map(|name| name.as_bytes());
     let mut out = io::writer(rt);
-    match outcome_of(rt.alloc(), sink, config, capture, name, &mut out) {
+    let outcome = match size {
+        Some(size) => { outcome_shown(rt, &progress, size, sink, config, capture, name, &mut out) }
+        None => outcome_of(rt.alloc(), sink, config, capture, name, &mut out),
+    };
+    match outcome {
         Ok(outcome) => finish(rt, notes, &outcome, first.as_slice()),
         Err(AllocError) => refuse(rt, &Refusal::Memory),
     }
@@ -382,6 +431,34 @@ fn outcome_of<S: Ending, F: Read + Drop, W: Write>(
     let config = Chosen::new(alloc, config, None)?;
     let capture = Chosen::new(alloc, capture, interface)?;
     Ok(run_bus_and_tell(alloc, sink, config, capture, out))
+}
+
+/// The same, while a thread shows how far the reading of a file of this size is.
+fn outcome_shown<
+    R: Eprint + AllocGlobal + Clock + Threads + Sync,
+    S: Ending,
+    F: Read + Drop,
+    W: Write,
+>(
+    rt: &R,
+    progress: &Progress,
+    size: u64,
+    sink: S,
+    config: F,
+    capture: F,
+    interface: Option<&[u8]>,
+    out: &mut W,
+) -> Result<Outcome, AllocError> {
+    let (_, outcome) = thread::join(
+        rt,
+        || progress.show(rt, size),
+        || {
+            let outcome = outcome_of(rt.alloc(), sink, config, capture, interface, out);
+            progress.end();
+            outcome
+        },
+    );
+    outcome
 }
 
 /// The live run of a bus: the record is made once the config was read well, and then standard input is heard.
@@ -473,14 +550,16 @@ fn open<'a, R: Files + Input>(rt: &R, path: &str) -> Result<RunSource<'a, R>, Al
     }
 }
 
-/// The capture at a path; standard input where there is none, whose first bytes are kept.
+/// The capture at a path, whose reading is watched where that is wanted; standard input where there is none, whose first bytes
+/// are kept.
 fn open_capture<'a, R: Files + Input>(
     rt: &R,
     path: Option<&str>,
     first: &'a mut Vec<u8>,
+    watch: Option<&'a Progress>,
 ) -> Result<RunSource<'a, R>, AllocError> {
     match path {
-        Some(path) => open(rt, path),
+        Some(path) => Ok(open(rt, path)?.watched(watch)),
         None => Ok(Source::Standard(rt.reader(), first)),
     }
 }

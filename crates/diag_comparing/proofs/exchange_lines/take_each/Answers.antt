@@ -4,16 +4,17 @@ use Rattle.std.proofs.lemmas.List.{append-nil}
 use Rattle.std.proofs.lemmas.Option.{slice_get_read}
 use Rattle.std.specs.List.{flat_map}
 use Rattle.std.specs.Prelude.{◌++◌, map, option_copied, slice_get}
-use Rattle.diag_can.specs.declared.frame.Ids.{Ids}
 use Rattle.diag_setup.specs.Setup.{ids_of}
 use Rattle.diag_world.proofs.Worlds.{who_found}
 use Rattle.diag_bus.specs.Events.{frame_said}
+use Rattle.diag_bus.specs.Requests.{IsWithin}
 use Rattle.diag_judge.specs.Judging.{JudgesLine}
 use Rattle.diag_judge.specs.declared.tester.Tester.{Tester}
 use Rattle.diag_pdu.specs.Cut.{counted_from}
 use Rattle.diag_compare.specs.Compare.{over_by}
 use Rattle.diag_compare.specs.Expects.{expects}
-use Rattle.diag_comparing.specs.Keeping.{bytes_with, told_pair}
+use Rattle.diag_comparing.specs.Keeping.{bytes_to, bytes_with, told_pair}
+use Rattle.diag_comparing.specs.declared.exchange_lines.UnitFrame.{UnitFrame}
 use Rattle.diag_comparing.proofs.Takings.{taken_all, taken_none, taken_one, tester_is, told_is, told_more}
 use Rattle.diag_comparing.proofs.exchange_lines.take_each.Goals as goal
 
@@ -34,9 +35,11 @@ loop-index-preserved c =
     let within : i < length now = omega (arith, c.loop-index-test.true, c.loop-index.invariant.many, c.len-index-end.ensures) in
     let here : slice_get now i ≡ Some own = slice_get_read now (length now) i own refl within c.index_mut.ensures.value in
     let who = who_found setup i c.in-Some.who c.in-Some.ensures in
-    let bytes : Option (List ℕ) = option_copied c.as_ref.result in
+    let bytes : Option (List ℕ) = option_copied c.bytes_to-frame.result in
+    let is_within : IsWithin (length setup.testers) c.in-Some.who = (omega (arith, who), omega (arith, who, within, c.requires.many, c.loop-index.invariant.many)) in
     let frame : bytes ≡ bytes_with (ids_of setup (i + 1)).response (frame_said said) =
-    c.as_ref.ensures.value ∙ (c.frame_with-frame.ensures ∙ ap (λ (ids : Ids). bytes_with ids.response (frame_said said)) (c.ids.ensures ∙ ap (ids_of setup) who)) in
+    c.bytes_to-frame.ensures ∙ (ap (λ (s : Option UnitFrame). bytes_to s c.in-Some.who) c.as_ref.ensures.value
+    ∙ (c.unit_frame-sent.ensures c.in-Some.who is_within ∙ ap (λ t. bytes_with (ids_of setup t).response (frame_said said)) who)) in
     let took : JudgesLine setup c.args.at (i + 1) own new c.loop-index.told.items c.take_line.new.told.items c.args.span bytes =
     subst (λ t. JudgesLine setup c.args.at t own new c.loop-index.told.items c.take_line.new.told.items c.args.span bytes) who c.in_ok-take_line.ensures.judges in
     record {
@@ -59,8 +62,8 @@ returns-clause-each c = λ lines line K is old.
     let f = over_by (expects setup) setup lines line in
     let i = c.loop-index.index in
     let all : i ≡ length setup.testers =
-    omega (arith, c.loop-index-test.false, c.loop-index.auto.index-end, c.len-index-end.ensures, c.requires) in
+    omega (arith, c.loop-index-test.false, c.loop-index.auto.index-end, c.len-index-end.ensures, c.requires.many) in
     let end = c.loop-index.invariant.taken lines line K is old in (
-      taken_all setup lines line K c.loop-index.testers.items i (omega (arith, c.loop-index.invariant.many, all, c.requires)) end.0,
+      taken_all setup lines line K c.loop-index.testers.items i (omega (arith, c.loop-index.invariant.many, all, c.requires.many)) end.0,
       end.1 ∙ ap (λ (n : ℕ). c.args.told.now.items ++ map told_pair (flat_map f (counted_from 1 n))) all,
     )

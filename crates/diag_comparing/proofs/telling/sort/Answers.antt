@@ -1,9 +1,13 @@
-use Rattle.std.proofs.Common.{◌≡◌, rules}
+use Rattle.std.proofs.Common.{◌≡◌, arith, rules}
 use Rattle.std.proofs.lemmas.Fn.{always_returns_same}
 use Rattle.std.proofs.lemmas.List.Sorted.{IsNonDecreasingBy-from_sort_by_key}
 use Rattle.diag_bus.proofs.Order.{sorted_is, stable_of}
 use Rattle.diag_comparing.specs.Keeping.{told_number}
+use Rattle.diag_comparing.proofs.Lines.{few_in_order}
 use Rattle.diag_comparing.proofs.telling.sort.Goals as goal
+
+pub returns-then-len-lt2 : goal.returns-then-len-lt2
+returns-then-len-lt2 c = few_in_order c.args.batch.now.items (omega (arith, c.if-len-lt2.true, c.len.ensures, c.args.batch.now.ok))
 
 pub returns : goal.returns
 returns c =

@@ -1,0 +1,9 @@
+use Rattle.std.proofs.Common.{◌≡◌, Some, List, ℕ, ap, sym, ◌∙◌}
+use Rattle.std.specs.Prelude.{option_map}
+use Rattle.diag_comparing.specs.Keeping.{sent_to}
+use Rattle.diag_comparing.proofs.exchange_lines.sent_to.Goals as goal
+
+pub returns-in-Some : goal.returns-in-Some
+returns-in-Some c =
+    ap (λ (bytes : List ℕ). Some (sent_to bytes c.in-Some.who)) c.bytes.ensures
+    ∙ ap (option_map (sent_to c.args.frame.now.bytes)) (sym c.in-Some.is)
