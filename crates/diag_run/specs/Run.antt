@@ -144,7 +144,14 @@ GivesWoven only_journal timing setup said (Ok text) =
 GivesWoven only_journal timing setup said (Err JournalFull) = IsOk said
 GivesWoven only_journal timing setup said (Err fault) = Fails fault said
 
--- the bytes are the text of these entries, which are legal for the setup
+-- the bytes are the text of these entries, which are legal for the setup: the replay goes through
+pub record IsReplayable (setup : RawSetup) (bytes : List ℕ) : Type 0 where
+  pub entries : List Entry
+  pub journal : IsJournal entries
+  pub read : IsTextOf bytes entries
+  pub run : IsLegalFor setup entries
+
+-- and this is what is told of it
 pub record IsReplayedText (setup : RawSetup) (bytes : List ℕ) (text : List ℕ) : Type 0 where
   pub entries : List Entry
   pub journal : IsJournal entries
@@ -156,7 +163,7 @@ abbrev pub GivesReplayed : RawSetup → List ℕ → Result (List ℕ) RunFault 
 GivesReplayed setup bytes (Ok text) = IsReplayedText setup bytes text
 GivesReplayed setup bytes (Err (JournalLine n)) = FaultAt bytes n
 GivesReplayed setup bytes (Err (Differs n)) = TextDiffers setup bytes n
-GivesReplayed setup bytes (Err Memory) = Unit {0}
+GivesReplayed setup bytes (Err Memory) = IsReplayable setup bytes
 GivesReplayed setup bytes (Err fault) = ⊥
 
 -- the one text was taken up to these bytes of a line that no line feed ended
