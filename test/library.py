@@ -6,8 +6,9 @@
   that is installed. The line of a setup's fault is the program's, each key spoilt in turn.
 - Random captures (200, the same each time) by the library from C and from Python, beside `uds_play bus`: the same frames.
 - The package's tests, by each Python that has what they want: python-can, scapy and pytest are Debian's packages.
-- Frames a second, of one tester: at least 1,000,000 from C and 100,000 from Python. Where the machine is slow they are told
-  and not judged: a million turns of an empty loop of Python take more than 0.05 s.
+- Frames a second, of one tester: at least 1,000,000 from C and 100,000 from Python, in the best of eight turns. A turn
+  counts where the machine is quick before and behind it: a million turns of an empty loop of Python take 0.05 s at most.
+  Where fewer than three count, the speed is told and not judged.
 The last line is 'N passed, M failed'."""
 import os
 import random
@@ -31,6 +32,8 @@ CAPTURES = 200
 PATIENCE = 200
 TESTERS = 4
 C_FRAMES, PYTHON_FRAMES, QUICK = 1_000_000, 100_000, 0.05
+# how often each is measured, and in how many of these turns the machine has to be quick, so that it is judged
+TURNS, JUDGED = 8, 3
 WARNINGS = ["-O2", "-Wall", "-Wextra", "-Werror", "-pedantic", f"-I{TOP}/include"]
 C = ["cc", "-std=c11", *WARNINGS]
 CPP = ["c++", "-std=c++17", *WARNINGS, "-x", "c++"]
@@ -227,37 +230,46 @@ def loop():
     taken = []
     for _ in range(5):
         begun = time.process_time()
-        for _ in range(1_000_000):
+        for _ in range(200_000):
             pass
         taken.append(time.process_time() - begun)
-    return min(taken)
+    return 5 * min(taken)
+
+
+def rates_of(measure):
+    """The frames a second that were measured in some turns, and of those before and behind which the machine was quick."""
+    rates, quick, before = [], [], loop()
+    for _ in range(TURNS):
+        rates.append(measure())
+        behind = loop()
+        if max(before, behind) <= QUICK:
+            quick.append(rates[-1])
+        before = behind
+    return rates, quick
 
 
 def test_speed(room, program):
     """A request of one frame with its reply, again and again."""
-    before = loop()
     lines = "".join(f"{at * 1000} 7E0 0322F195\n" for at in range(10_000))
-    rate = max(float(run([program, SETUP, "20"], input=lines).stdout.split()[0]) for _ in range(3))
-    rates = [(rate, C_FRAMES, "C")]
     code = f"""
 import sys, time
 sys.path.insert(0, {TOP + "/python"!r})
 from uds_unit import Unit
-best = 0
-for _ in range(5):
-    with Unit({SETUP!r}) as unit:
-        begun, data = time.process_time(), bytes.fromhex("0322F195")
-        for at in range(30_000):
-            unit.frame(at / 1000, 0x7E0, data)
-        best = max(best, 30_000 / (time.process_time() - begun))
-print(best)
+with Unit({SETUP!r}) as unit:
+    begun, data = time.process_time(), bytes.fromhex("0322F195")
+    for at in range(30_000):
+        unit.frame(at / 1000, 0x7E0, data)
+    print(30_000 / (time.process_time() - begun))
 """
-    rates.append((float(run([sys.executable, "-c", code]).stdout), PYTHON_FRAMES, "Python"))
-    turns = max(before, loop())
-    for rate, least, kind in rates:
-        told(rate >= least or turns > QUICK, f"{rate:,.0f} frames a second from {kind}, each with its reply", rate)
-    if turns > QUICK:
-        told.note(f"the machine is slow ({turns:.3f} s for a loop), so the speeds weren't judged")
+    for least, kind, measure in (
+        (C_FRAMES, "C", lambda: float(run([program, SETUP, "20"], input=lines).stdout.split()[0])),
+        (PYTHON_FRAMES, "Python", lambda: float(run([sys.executable, "-c", code]).stdout)),
+    ):
+        rates, quick = rates_of(measure)
+        is_judged = len(quick) >= JUDGED
+        told(not is_judged or max(quick) >= least, f"{max(rates):,.0f} frames a second from {kind}, each with its reply", rates)
+        if not is_judged:
+            told.note(f"the machine was slow but in {len(quick)} of {TURNS} turns, so the speed from {kind} wasn't judged")
 
 
 # ---- Python's tests
