@@ -248,7 +248,7 @@ def against(entry, before, outcome):
 
 
 def ends(session, setup):
-    """What the program's end says of this session, without the codes."""
+    """What the program's end says of this session, without the DTCs."""
     holder = "none" if session.holder is None else setup.names[session.holder]
     return f"session {NAMES.get(session.session, f'{session.session:02X}')}\nholder {holder}\n"
 
