@@ -108,7 +108,7 @@ impl FromTable for RawCode {
     }
 }
 
-/// The code that a routine sets when it is done. Its status is looked at only where the code is given.
+/// The DTC that a routine sets when it is done. Its status is looked at only where the DTC is given.
 #[tactic(auto, unfolding(crate::specs::Setup::done_at))]
 fn done(alloc: Global, table: &Table) -> Result<Option<RawCode>, KeyFault>
     ensures { KeyGives (λ x. x) result (done_at (table_view table.now)) }

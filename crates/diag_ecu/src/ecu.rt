@@ -305,7 +305,7 @@ impl Ecu {
         }
     }
 
-    /// The code of the first check that holds; where none does, the positive reply is put in its place, or none where
+    /// The NRC of the first check that holds; where none does, the positive reply is put in its place, or none where
     /// the request asks for silence. (Two services have such a function of their own: `put_presence` and `put_data`.)
     #[inline(never)]
     fn put_answer(
@@ -330,7 +330,7 @@ impl Ecu {
         Ok(None)
     }
 
-    /// The code of the first check of the service that holds.
+    /// The NRC of the first check of the service that holds.
     fn refusal(&self, who: TesterId, service: Service, row: &ServiceRow, p: &[u8]) -> Option<Nrc>
         requires some { 1 ≤ length p.now }
         requires row { row.now ≡ row_of service }
@@ -347,7 +347,7 @@ impl Ecu {
         }
     }
 
-    /// The code of the first check of this service alone that holds.
+    /// The NRC of the first check of this service alone that holds.
     fn own_refusal(&self, who: TesterId, service: Service, p: &[u8]) -> Option<Nrc>
         requires some { 1 ≤ length p.now }
         requires presence { service ≢ Service.TesterPresent }

@@ -40,7 +40,7 @@ impl Service {
 }
 
 impl Nrc {
-    /// What a request does that is refused with the code.
+    /// What a request does that is refused with the NRC.
     pub(crate) fn effect(self) -> Effect
         ensures { result ≡ refused_effect self }
     {

@@ -1,4 +1,4 @@
-//! DTCs: clearing them, reading them, and the setting of their status bits (ISO 14229-1:2013, 11.2, 11.3 and
+//! DTCs: clearing them, reading them, and the DTC setting (ISO 14229-1:2013, 11.2, 11.3 and
 //! 9.9).
 ghost use Rattle.std.specs.Prelude.{◌<◌, drop, ◌∷◌, [], ◌≡◌, ◌≤◌, ◌+◌, ◌++◌, ◌==◌, length, flat_map, OnOk, IfOk};
 ghost use Rattle.diag_setup.specs.Setup.{first_holding};
@@ -14,7 +14,7 @@ use diag_store::ALL_GROUPS;
 use std::alloc::AllocError;
 
 impl Ecu {
-    /// Refuses to clear a code that isn't known.
+    /// Refuses to clear a DTC that isn't known.
     #[inline(never)]
     pub(crate) fn clear_refusal(&self, p: &[u8]) -> Option<Nrc>
         requires { 4 ≤ length p.now }
@@ -27,7 +27,7 @@ impl Ecu {
         }
     }
 
-    /// Clears a code, or all codes.
+    /// Clears a DTC, or all DTCs.
     pub(crate) fn clear(&mut self, p: &[u8])
         requires { 4 ≤ length p.now }
         ensures { self.new
@@ -50,7 +50,7 @@ impl Ecu {
     }
 }
 
-/// Refuses a setting for a part of the codes.
+/// Refuses a DTC setting for a part of the DTCs.
 pub(crate) fn setting_refusal(p: &[u8]) -> Option<Nrc>
     ensures { result ≡ first_holding (setting_checks p.now) }
 {
@@ -62,7 +62,7 @@ pub(crate) fn setting_refusal(p: &[u8]) -> Option<Nrc>
 }
 
 impl Ecu {
-    /// Reports the codes: how many are counted, those, or all.
+    /// Reports DTCs: how many are counted, those, or all.
     #[inline(never)]
     pub(crate) fn codes_reply(&self, p: &[u8]) -> Result<Message, AllocError>
         requires { 2 ≤ length p.now }
@@ -103,7 +103,7 @@ impl Ecu {
         Ok(Message::from_vec(reply))
     }
 
-    /// The start of a report, with room for so many codes.
+    /// The start of a report, with room for so many DTCs.
     fn report_head(&self, sub: u8, codes: usize) -> Result<Vec<u8>, AllocError>
         requires { codes ≤ 65535 }
         ensures { IfOk result (λ head.
@@ -114,7 +114,7 @@ impl Ecu {
         Ok(head)
     }
 
-    /// Adds the code at a place with its reported status.
+    /// Adds the DTC at a place with its reported status.
     fn report_at(&self, reply: &mut Vec<u8>, i: usize) -> Result<(), AllocError>
         requires place { i < length self.now.dtcs }
         ensures text { OnOk result (reply.new.items
@@ -154,7 +154,7 @@ impl Ecu {
     }
 }
 
-/// Adds a code with its reported status.
+/// Adds a DTC with its reported status.
 fn append_report(reply: &mut Vec<u8>, code: u32, status: u8) -> Result<(), AllocError>
     ensures text { OnOk result
         (reply.new.items ≡ reply.old.items ++ (spec.bytes_24 code ++ status ∷ [])) }

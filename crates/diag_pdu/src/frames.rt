@@ -74,7 +74,7 @@ pub fn flow_frame(status: u8, block: u8, gap: u8) -> FrameBytes
     FrameBytes::made_of(&[0x30 + status, block, gap])
 }
 
-/// The frame filled to 8 bytes with the pad byte, if any.
+/// The frame padded to 8 bytes with the pad byte, if any.
 #[inline(always)]
 pub fn padded(frame: FrameBytes, pad: Option<u8>) -> FrameBytes
     requires { length frame ≤ 8 }
@@ -86,7 +86,7 @@ pub fn padded(frame: FrameBytes, pad: Option<u8>) -> FrameBytes
     }
 }
 
-/// The frame filled to 8 bytes. (Not inlined, so that its bytes are read from memory as one word, and aren't taken apart.)
+/// The frame padded to 8 bytes. (Not inlined, so that its bytes are read from memory as one word, and aren't taken apart.)
 #[inline(never)]
 fn filled_with(frame: &FrameBytes, byte: u8) -> FrameBytes
     requires { length frame.now ≤ 8 }
@@ -129,7 +129,7 @@ fn nth_consecutive(message: &[u8], i: u16, pad: Option<u8>) -> FrameBytes
     }
 }
 
-/// The `k`-th frame of the message, from 0, filled to 8 bytes with the pad byte, if any. The message has one.
+/// The `k`-th frame of the message, from 0, padded to 8 bytes with the pad byte, if any. The message has one.
 #[tactic(auto, using(crate::proofs::CutFrames::cut_single_at, crate::proofs::CutFrames::cut_first_at, crate::proofs::CutFrames::cut_part_at))]
 pub fn frame_at(message: &Message, k: u16, pad: Option<u8>) -> FrameBytes
     requires { k < frames_of message.now }
@@ -147,7 +147,7 @@ pub fn frame_at(message: &Message, k: u16, pad: Option<u8>) -> FrameBytes
     }
 }
 
-/// The frame of a message that has a single one, filled as `frame_at` does; None where it has more. Bytes that stand in
+/// The frame of a message that has a single one, padded as `frame_at` does; None where it has more. Bytes that stand in
 /// place are moved together.
 #[tactic(auto, unfolding(crate::specs::Cut::cut))]
 #[inline(always)]
@@ -177,7 +177,7 @@ fn lone_long(message: &Message, pad: Option<u8>) -> Option<FrameBytes>
     }
 }
 
-/// The `k`-th frame of the message, from 0, filled to 8 bytes with the pad byte, if any; None past the last. The first
+/// The `k`-th frame of the message, from 0, padded to 8 bytes with the pad byte, if any; None past the last. The first
 /// is a SingleFrame or a FirstFrame, the others carry 7 bytes each and are numbered 1, 2, .., 15, 0, 1, ..
 #[tactic(auto, using(crate::proofs::CutFrames::frame_past))]
 pub fn frame_of(message: &Message, k: usize, pad: Option<u8>) -> Option<FrameBytes>

@@ -24,9 +24,9 @@ pub struct RawSetup {
     pub st_min: u32,
     /// The longest request, in bytes, 8 to 65535.
     pub max_request: u32,
-    /// Whether frames are filled to 8 bytes.
+    /// Whether frames are padded to 8 bytes.
     pub pad: bool,
-    /// The byte that fills them, 0 to 255.
+    /// The byte that pads them, 0 to 255.
     pub pad_byte: u32,
     /// DTCStatusAvailabilityMask, 0 to 255 (ISO 14229-1:2013, 11.3).
     pub availability: u32,

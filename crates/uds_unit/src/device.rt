@@ -192,7 +192,7 @@ impl Device {
         self.going.server.set_value(id, value)
     }
 
-    /// Gives a DTC another status; whether the code is known.
+    /// Gives a DTC another status; whether the DTC is known.
     pub fn set_status(&mut self, code: u32, status: u8) -> bool
         ensures known { result ≡ is_some (status_of self.old.server.ecu.dtcs code) }
         ensures set { TookCall self.old self.new (SetStatus code status) }

@@ -513,7 +513,7 @@ fn set_code(device: &mut Device, code: u32, status: u8) -> u32
     UNKNOWN
 }
 
-/// Gives a DTC another status, as the ECU's own software does; where there is no such code nothing is set.
+/// Gives a DTC another status, as the ECU's own software does; where there is no such DTC nothing is set.
 #[unsafe(no_mangle)]
 pub extern "C" fn uds_unit_set_code(alloc: Global, unit: &mut Handle, code: u32, status: u8) -> u32
     ensures closed { unit.old.unit ≡ None → result ≡ 16 }
