@@ -1,5 +1,5 @@
 use Rattle.std.proofs.Common.{rules}
-use Rattle.diag_sides.proofs.reception.Receiver.take_back.Goals as goal
+use Rattle.diag_sides.proofs.receiver.Receiver.take_back.Goals as goal
 
 pub returns-then-capacity-clause-kept : goal.returns-then-capacity-clause-kept
 returns-then-capacity-clause-kept c = search rules

@@ -1,7 +1,7 @@
 use Rattle.std.proofs.Common.{List, ℕ, ◌+◌, ap}
 use Rattle.diag_sides.specs.Receiver.{Partial}
 use Rattle.diag_sides.proofs.Parts.{set-next}
-use Rattle.diag_sides.proofs.reception.Partial.add.Goals as goal
+use Rattle.diag_sides.proofs.receiver.Partial.add.Goals as goal
 
 pub returns : goal.returns
 returns c =

@@ -4,8 +4,8 @@ ghost use Rattle.std.specs.Prelude.{◌≡◌, ◌≤◌, ◌<◌, ◌+◌, ◌%
 ghost use Rattle.diag_pdu.specs.declared.setup.LinkSetup.{LinkSetup as ALinkSetup};
 ghost use Rattle.diag_sides.specs.Quiet.{reception_quiet, reception_later};
 ghost use Rattle.diag_pdu.specs.Cut.{head_size, consecutive_count};
-ghost use Rattle.diag_sides.specs.Held.{IsHeld};
-ghost use Rattle.diag_sides.specs.declared.reception.Held.{Held};
+ghost use Rattle.diag_sides.specs.PartialBytes.{IsHeld};
+ghost use Rattle.diag_sides.specs.declared.receiver.PartialBytes.{PartialBytes};
 ghost use Rattle.diag_sides.specs.Receiver.{ask_of, kept_bytes, begun_partial, expects, with_bytes, ends_block, ticks_later, open_after, completed_by, granted_by, go_on};
 ghost use Rattle.diag_pdu.specs.Request.{request_of};
 ghost use Rattle.diag_pdu.specs.Kind.{Consecutive, IsRead, says, needed_for};
@@ -20,7 +20,7 @@ use std::mem;
 
 /// The bytes of a reception.
 #[derive(Drop)]
-enum Held {
+enum PartialBytes {
     /// Those that came, with room for the whole message.
     Growing(Vec<u8>),
     /// The whole message, staged as the request that it is: with the last Consecutive, which wasn't taken yet.
@@ -31,7 +31,7 @@ enum Held {
 /// them.
 #[derive(Drop)]
 struct Partial {
-    held: Held,
+    held: PartialBytes,
     len: u16,
     total: u16,
     count: u16,
@@ -42,7 +42,7 @@ impl Model for Partial {
     ghost use Rattle.std.specs.Prelude.{◌≡◌};
     ghost use Rattle.diag_pdu.specs.Cut.{consecutive_count};
     ghost use Rattle.diag_sides.specs.Receiver.{PartialView};
-    ghost use Rattle.diag_sides.specs.Held.{bytes_held, staged_in, IsHeld};
+    ghost use Rattle.diag_sides.specs.PartialBytes.{bytes_held, staged_in, IsHeld};
 
     ghost Value = { PartialView };
 
@@ -88,11 +88,11 @@ impl Partial {
         ensures { self.new.seen ≡ with_bytes self.old.seen part.now }
     {
         match &mut self.held {
-            Held::Growing(bytes) => {
+            PartialBytes::Growing(bytes) => {
                 let taken = bytes.extend_from_slice(&part[..7]).is_ok();
                 prove!(taken);
             }
-            Held::Staged(_) => unreachable!(),
+            PartialBytes::Staged(_) => unreachable!(),
         }
         self.count += 1;
         self.silence = 0;
@@ -108,14 +108,14 @@ impl Partial {
             ≡ Some (request_of false (with_bytes self.old.seen part.now).bytes) }
     {
         match &mut self.held {
-            Held::Growing(bytes) => {
+            PartialBytes::Growing(bytes) => {
                 let begun = mem::replace(bytes, Vec::new(*bytes.allocator()));
-                self.held = Held::Staged(Request {
+                self.held = PartialBytes::Staged(Request {
                     functional: false,
                     message: whole(begun, self.len, part),
                 });
             }
-            Held::Staged(request) => set_last(request, self.len, self.count, part),
+            PartialBytes::Staged(request) => set_last(request, self.len, self.count, part),
         }
     }
 
@@ -155,8 +155,10 @@ impl Partial {
         ensures some { 1 ≤ length result.now }
     {
         match &self.held {
-            Held::Growing(bytes) => bytes.as_slice(),
-            Held::Staged(request) => &request.message.bytes()[..kept_bytes(self.len, self.count)],
+            PartialBytes::Growing(bytes) => bytes.as_slice(),
+            PartialBytes::Staged(request) => &request.message.bytes()[..kept_bytes(
+                self.len, self.count,
+            )],
         }
     }
 
@@ -174,8 +176,8 @@ impl Partial {
         ensures { ask_of false result ≡ self.staged }
     {
         match self.held {
-            Held::Growing(_) => None,
-            Held::Staged(request) => Some(request.message),
+            PartialBytes::Growing(_) => None,
+            PartialBytes::Staged(request) => Some(request.message),
         }
     }
 
@@ -185,8 +187,8 @@ impl Partial {
         ensures found { 8 < self.seen.len → IsSome result }
     {
         match self.held {
-            Held::Growing(bytes) => Some(bytes),
-            Held::Staged(request) => request.message.into_vec(),
+            PartialBytes::Growing(bytes) => Some(bytes),
+            PartialBytes::Staged(request) => request.message.into_vec(),
         }
     }
 }
@@ -360,7 +362,7 @@ impl Receiver {
         match &self.partial {
             Some(
                 Partial {
-                    held: Held::Staged(request),
+                    held: PartialBytes::Staged(request),
                     ..
                 },
             ) => Some(request),
@@ -417,7 +419,7 @@ impl Receiver {
         let bytes = mem::replace(&mut self.spare, Vec::new(self.alloc));
         self.end();
         self.partial = Some(Partial {
-            held: Held::Growing(bytes),
+            held: PartialBytes::Growing(bytes),
             len,
             total: consecutive_count(len),
             count: 0,
@@ -535,9 +537,9 @@ fn whole(mut bytes: Vec<u8>, len: u16, part: &[u8]) -> Message
 
 /// Puts another last part into a request that is staged.
 fn set_last(request: &mut Request, len: u16, count: u16, part: &[u8])
-    requires whole { IsHeld len count (Held.Staged request.old) }
+    requires whole { IsHeld len count (PartialBytes.Staged request.old) }
     requires fits { len ≤ kept_bytes len count + length part.now }
-    ensures whole { IsHeld len count (Held.Staged request.new) }
+    ensures whole { IsHeld len count (PartialBytes.Staged request.new) }
     ensures staged { request.new ≡ request_of false
         (take len (take (kept_bytes len count) request.old.message ++ part.now)) }
 {

@@ -3,7 +3,7 @@ use Rattle.std.proofs.lemmas.List.{length-take-le}
 use Rattle.diag_pdu.specs.Request.{request_of}
 use Rattle.diag_sides.specs.Receiver.{kept_bytes}
 use Rattle.diag_sides.proofs.Parts.{set-over}
-use Rattle.diag_sides.proofs.reception.set_last.Goals as goal
+use Rattle.diag_sides.proofs.receiver.set_last.Goals as goal
 
 pub returns-clause-staged : goal.returns-clause-staged
 returns-clause-staged c =
