@@ -8,7 +8,7 @@ use Rattle.diag_can.specs.declared.frame.Event.{Event}
 use Rattle.diag_can.specs.declared.frame.Event.TheVariants.{Physical, Functional, Ticks}
 use Rattle.diag_pdu.specs.Kind.{IsRead, kind, Kind, Single, First, Overflow, Consecutive, FlowControl, Ignored}
 use Rattle.diag_pdu.specs.declared.setup.LinkSetup.{LinkSetup}
-use Rattle.diag_sides.specs.Receiver.{Partial, ask_of, completed_by, one_tick_later, open_after, ticks_later}
+use Rattle.diag_sides.specs.Receiver.{Receiving, ask_of, completed_by, one_tick_later, open_after, ticks_later}
 use Rattle.diag_tp.specs.Gives.{gives}
 use Rattle.diag_tp.specs.Link.{asked_of, unfinished}
 use Rattle.diag_tp.specs.Moments.{history, last_time, now}
@@ -50,7 +50,7 @@ ticked s past (suc n) =
     unfinished-more s (replicate (suc n) (Ticks 1) ++ past) (Ticks 1) tt
     ∙ (ap (option_and_then (one_tick_later s.n_cr)) (ticked s past n) ∙ twice s.n_cr n (unfinished (now past) (open_at s past)))
   where
-    twice : (n_cr n : ℕ) (o : Option Partial) → option_and_then (one_tick_later n_cr) (option_and_then (ticks_later n_cr (suc n)) o)
+    twice : (n_cr n : ℕ) (o : Option Receiving) → option_and_then (one_tick_later n_cr) (option_and_then (ticks_later n_cr (suc n)) o)
         ≡ option_and_then (ticks_later n_cr (suc (suc n))) o
     twice n_cr n o = grind (arith, nat_tests)
 
@@ -60,7 +60,7 @@ ticks_more s E n =
 
 -- ---- what an event is
 
-broken : (s : LinkSetup) (E : List Event) (e : Event) (o : Option Partial) → partial_of s (E ++ e ∷ []) ≡ o
+broken : (s : LinkSetup) (E : List Event) (e : Event) (o : Option Receiving) → partial_of s (E ++ e ∷ []) ≡ o
     → breaks s E e ≡ (is_some (partial_of s E) && not (is_some o))
 broken s E e o same = ap₂ (λ (a b : Bool). a && not b) (kept s E) (kept s (E ++ e ∷ []) ∙ ap is_some same)
 
@@ -121,7 +121,7 @@ took_both old mid new out out' out'' xs ys first second hs s =
           ∙ ap (λ w. out ++ w) (sym (over_append hs xs ys)))),
     )
 
-pub has_moved : (old : Exchanges) (new : Listener) (out out' : List Over) (happened wanted : List Happening) (partial : Option Partial)
+pub has_moved : (old : Exchanges) (new : Listener) (out out' : List Over) (happened wanted : List Happening) (partial : Option Receiving)
     → TookEach old new.exchanges out out' happened → happened ≡ wanted → new.receiver.partial ≡ partial
     → is_some new.exchanges.coming ≡ is_some partial → (hs : List Happening) → Stands old hs → HasMoved new hs wanted out out' partial
 has_moved old new out out' happened wanted partial took same is coming hs s =
@@ -135,7 +135,7 @@ has_moved old new out out' happened wanted partial took same is coming hs s =
 -- ---- the listener
 
 -- it heard an event, where what is kept moved so
-pub hears_one : (old new : Listener) (out out' : List Over) (at : Place) (e : Event) (E : List Event) (hs happened : List Happening) (partial : Option Partial)
+pub hears_one : (old new : Listener) (out out' : List Over) (at : Place) (e : Event) (E : List Event) (hs happened : List Happening) (partial : Option Receiving)
     → Listens old E hs → new.side ≡ old.side → Moves old new out out' happened partial → happened ≡ unit_happens old.side at E e
     → partial ≡ partial_of old.side (E ++ e ∷ [])
     → Listens new (E ++ e ∷ []) (hs ++ unit_happens old.side at E e) × (out' ≡ out ++ over_after hs (unit_happens old.side at E e))
@@ -162,7 +162,7 @@ pub hears_frame : (old new : Listener) (out out' : List Over) (at : Place) (byte
 hears_frame old new out out' at bytes k is read side moves E hs l =
     let s = old.side in
     let whole : IsRead s.max_request (kind bytes s.max_request) = subst (IsRead s.max_request) is read in
-    let happened = ap₂ (λ (o : Option Partial) (k : Kind). kind_happens o at k) l.partial is ∙ sym (kind_is s at E bytes whole) in
+    let happened = ap₂ (λ (o : Option Receiving) (k : Kind). kind_happens o at k) l.partial is ∙ sym (kind_is s at E bytes whole) in
     let kept = ap₂ open_after l.partial is ∙ sym (frame_more s E bytes whole) in
     with_nil new out out' (E ++ Physical bytes ∷ []) hs (unit_happens s at E (Physical bytes))
     (hears_one old new out out' at (Physical bytes) E hs (kind_happens old.receiver.partial at k) (open_after old.receiver.partial k) l side moves happened kept)
@@ -231,7 +231,7 @@ waited_ticks ms = same_ticks (ms / 60000) 60000 (rest_of ms) (omega arith) (rest
 pub waits_none : (own : Listener) (out : List Over) (at : Place) (ms : ℕ) → own.exchanges.coming ≡ None → Hears own own out out at (waited ms)
 waits_none own out at ms none E hs l = goes_by own out at E (waited ms) hs (waited_ticks ms) (no_partial own.receiver.partial (sym l.coming ∙ ap is_some none)) l
   where
-    no_partial : (o : Option Partial) → is_some o ≡ false → o ≡ None
+    no_partial : (o : Option Receiving) → is_some o ≡ false → o ≡ None
     no_partial None e = refl
     no_partial (Some p) e = cc
 
@@ -264,7 +264,7 @@ hears_ticks old new out out' at m es t ends side moves E hs l =
           ))
     ]
 
-ends_within : (s : LinkSetup) (o : Option Partial) → s.n_cr ≤ 60000 → after_ticks s 60000 o ≡ None
+ends_within : (s : LinkSetup) (o : Option Receiving) → s.n_cr ≤ 60000 → after_ticks s 60000 o ≡ None
 ends_within s None le = refl
 ends_within s (Some p) le = grind (arith, nat_tests)
 

@@ -7,7 +7,7 @@ use Rattle.diag_pdu.specs.Kind.{kind, Kind, Single, First, Overflow, Consecutive
 use Rattle.diag_pdu.specs.declared.setup.LinkSetup.{LinkSetup}
 use Rattle.diag_pdu.specs.declared.step.Step.{Step}
 use Rattle.diag_pdu.specs.declared.step.Step.TheVariants as step
-use Rattle.diag_sides.specs.Receiver.{Partial, completed_by, open_after, ticks_later}
+use Rattle.diag_sides.specs.Receiver.{Receiving, completed_by, open_after, ticks_later}
 use Rattle.diag_tp.specs.Gives.{gives}
 use Rattle.diag_tp.specs.Link.{unfinished}
 use Rattle.diag_tp.specs.Moments.{history, last_time}
@@ -75,11 +75,11 @@ came_by (Some message) broken = Came message ∷ []
 came_by None broken = lost_if broken
 
 -- what a ConsecutiveFrame is
-abbrev pub part_happens : Option Partial → Kind → List Happening
+abbrev pub part_happens : Option Receiving → Kind → List Happening
 part_happens o k = came_by (completed_by o k) (is_some o && not (is_some (open_after o k)))
 
 -- what a frame of this kind is
-abbrev pub kind_happens : Option Partial → Place → Kind → List Happening
+abbrev pub kind_happens : Option Receiving → Place → Kind → List Happening
 kind_happens o at (Single payload) = lost_if (is_some o) ++ began at payload ∷ Came payload ∷ []
 kind_happens o at (First len head) = lost_if (is_some o) ++ began at head ∷ []
 kind_happens o at Overflow = lost_if (is_some o)
@@ -88,17 +88,17 @@ kind_happens o at (FlowControl status block gap) = []
 kind_happens o at Ignored = []
 
 -- so many ticks later
-abbrev pub after_ticks : LinkSetup → ℕ → Option Partial → Option Partial
+abbrev pub after_ticks : LinkSetup → ℕ → Option Receiving → Option Receiving
 after_ticks s n o = option_and_then (ticks_later s.n_cr n) o
 
 -- what so many ticks are
-abbrev pub ticks_happen : LinkSetup → ℕ → Option Partial → List Happening
+abbrev pub ticks_happen : LinkSetup → ℕ → Option Receiving → List Happening
 ticks_happen s n o = lost_if (is_some o && not (is_some (after_ticks s n o)))
 
 -- ---- the listener
 
 -- of what a tester is sent, the part that the next frames need
-abbrev pub partial_of : LinkSetup → List Event → Option Partial
+abbrev pub partial_of : LinkSetup → List Event → Option Receiving
 partial_of s E = unfinished (last_time E) (open_at s (history E))
 
 -- it heard these events of the unit's side, and this happened to the tester
@@ -115,14 +115,14 @@ TookEach old new out out' happened = (hs : List Happening)
 
 -- this happened behind those, by which the reception is this, and what was over with it was handed out
 pub record HasMoved (new : Listener) (hs happened : List Happening) (before after : List Over)
-    (reception : Option Partial) : Type 0 where
+    (reception : Option Receiving) : Type 0 where
   pub stands : Stands new.exchanges (hs ++ happened)
   pub partial : new.receiver.partial ≡ reception
   pub coming : is_some new.exchanges.coming ≡ is_some reception
   pub out : after ≡ before ++ over_after hs happened
 
 -- whatever happened before
-abbrev pub Moves : Listener → Listener → List Over → List Over → List Happening → Option Partial → Type 0
+abbrev pub Moves : Listener → Listener → List Over → List Over → List Happening → Option Receiving → Type 0
 Moves old new out out' happened partial = (hs : List Happening)
     → Stands old.exchanges hs
     → is_some old.exchanges.coming ≡ is_some old.receiver.partial

@@ -5,7 +5,7 @@ ghost use Rattle.diag_can.specs.declared.frame.Event.{Event as AnEvent};
 ghost use Rattle.diag_can.specs.Log.{waited};
 ghost use Rattle.diag_pdu.specs.Kind.{Consecutive, IsRead, says};
 ghost use Rattle.diag_pdu.specs.Cut.{head_size};
-ghost use Rattle.diag_sides.specs.Receiver.{begun_partial, open_after};
+ghost use Rattle.diag_sides.specs.Receiver.{begun_receiving, open_after};
 ghost use Rattle.diag_exchange.specs.Taking.{Ended};
 ghost use Rattle.diag_exchange.specs.declared.happening.Happening.TheVariants.{Began, Came};
 ghost use Rattle.diag_listen.specs.Listening.{Hears, HearsRequest, Listens, Moves, TookEach, after_ticks, began, kind_happens, lost_if, part_happens, ticks_happen};
@@ -186,7 +186,7 @@ impl Listener {
         requires { (8 ≤ len) × (length head.now ≡ head_size len) }
         ensures moves { OnOk result (Moves self.old self.new over.old.items over.new.items
             (lost_if (is_some self.old.receiver.partial) ++ began at head.now ∷ [])
-            (Some (begun_partial len head.now))) }
+            (Some (begun_receiving len head.now))) }
         ensures side { self.new.side ≡ self.old.side }
     {
         self.lose(over)?;

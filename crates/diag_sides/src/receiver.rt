@@ -6,7 +6,7 @@ ghost use Rattle.diag_sides.specs.Quiet.{reception_quiet, reception_later};
 ghost use Rattle.diag_pdu.specs.Cut.{head_size, consecutive_count};
 ghost use Rattle.diag_sides.specs.PartialBytes.{IsHeld};
 ghost use Rattle.diag_sides.specs.declared.receiver.PartialBytes.{PartialBytes};
-ghost use Rattle.diag_sides.specs.Receiver.{ask_of, kept_bytes, begun_partial, expects, with_bytes, ends_block, ticks_later, open_after, completed_by, granted_by, go_on};
+ghost use Rattle.diag_sides.specs.Receiver.{ask_of, kept_bytes, begun_receiving, expects, with_bytes, ends_block, ticks_later, open_after, completed_by, granted_by, go_on};
 ghost use Rattle.diag_pdu.specs.Request.{request_of};
 ghost use Rattle.diag_pdu.specs.Kind.{Consecutive, IsRead, says, needed_for};
 
@@ -30,7 +30,7 @@ enum PartialBytes {
 /// A message of `len` bytes of which the First and `count` of `total` Consecutives came, `silence` ticks after the last of
 /// them.
 #[derive(Drop)]
-struct Partial {
+struct Receiving {
     held: PartialBytes,
     len: u16,
     total: u16,
@@ -38,13 +38,13 @@ struct Partial {
     silence: u16,
 }
 
-impl Model for Partial {
+impl Model for Receiving {
     ghost use Rattle.std.specs.Prelude.{◌≡◌};
     ghost use Rattle.diag_pdu.specs.Cut.{consecutive_count};
-    ghost use Rattle.diag_sides.specs.Receiver.{PartialView};
+    ghost use Rattle.diag_sides.specs.Receiver.{ReceivingView};
     ghost use Rattle.diag_sides.specs.PartialBytes.{bytes_held, staged_in, IsHeld};
 
-    ghost Value = { PartialView };
+    ghost Value = { ReceivingView };
 
     ghost view = { λ a. record {
       seen = record {
@@ -59,7 +59,7 @@ impl Model for Partial {
     ghost invariant = { λ a. IsHeld a.len a.count a.held × (a.total ≡ consecutive_count a.len) };
 }
 
-impl Partial {
+impl Receiving {
     /// Whether this is the number of the next Consecutive: after 15 comes 0.
     #[inline(always)]
     fn is_next_number(&self, number: u8) -> bool
@@ -200,7 +200,7 @@ impl Partial {
 #[derive(Drop)]
 pub struct Receiver {
     alloc: Global,
-    partial: Option<Partial>,
+    partial: Option<Receiving>,
     spare: Vec<u8>,
 }
 
@@ -361,7 +361,7 @@ impl Receiver {
     {
         match &self.partial {
             Some(
-                Partial {
+                Receiving {
                     held: PartialBytes::Staged(request),
                     ..
                 },
@@ -413,12 +413,12 @@ impl Receiver {
     pub fn begin(&mut self, len: u16, head: &[u8])
         requires read { (8 ≤ len) × (length head.now ≡ head_size len) }
         requires room { len ≤ self.old.room }
-        ensures { self.new.partial ≡ Some (begun_partial len head.now) }
+        ensures { self.new.partial ≡ Some (begun_receiving len head.now) }
     {
         add_head(&mut self.spare, head);
         let bytes = mem::replace(&mut self.spare, Vec::new(self.alloc));
         self.end();
-        self.partial = Some(Partial {
+        self.partial = Some(Receiving {
             held: PartialBytes::Growing(bytes),
             len,
             total: consecutive_count(len),

@@ -8,7 +8,7 @@ use Rattle.diag_pdu.specs.declared.step.Request.{Request}
 use Rattle.diag_tp.specs.declared.taken.Taken.{Taken}
 use Rattle.diag_tp.specs.declared.taken.Taken.TheVariants as left
 use Rattle.diag_sides.specs.declared.sending.Sending.{Sending}
-use Rattle.diag_sides.specs.Receiver.{Partial, open_after, completed_by, granted_by}
+use Rattle.diag_sides.specs.Receiver.{Receiving, open_after, completed_by, granted_by}
 use Rattle.diag_sides.specs.Sender.{SenderState}
 use Rattle.diag_tp.specs.Kept.{no_flow, sender_frame}
 use Rattle.diag_tp.specs.State.{LinkState, LinkView}
@@ -30,7 +30,7 @@ left_in left.Last = OfLast
 left_in (left.Read pci) = OfKind (says pci)
 
 -- of a Single nothing is left but that it ends a reception, and of the last Consecutive of a message the same
-abbrev pub left_of_kind : Option Partial → Kind → Left
+abbrev pub left_of_kind : Option Receiving → Kind → Left
 left_of_kind o (Single payload) = OfSingle
 left_of_kind o (First len head) = OfKind (First len head)
 left_of_kind o Overflow = OfKind Overflow
@@ -42,7 +42,7 @@ left_of_kind o (FlowControl status block gap) = OfKind (FlowControl status block
 left_of_kind o Ignored = OfKind Ignored
 
 -- what is left of an event, where this reception is open; a functional frame changes nothing
-abbrev pub left_of : LinkSetup → Option Partial → Event → Left
+abbrev pub left_of : LinkSetup → Option Receiving → Event → Left
 left_of s o (Physical bytes) = left_of_kind o (kind bytes s.max_request)
 left_of s o (Functional bytes) =
     if is_some (completed_by None (single_only (kind bytes s.max_request)))
@@ -74,14 +74,14 @@ asked_in view left.Last = view.staged
 asked_in view (left.Read pci) = None
 
 -- what it does to the reception, to the flow control that is due, and to the sender
-abbrev pub reception_after : Option Partial → Left → Option Partial
+abbrev pub reception_after : Option Receiving → Left → Option Receiving
 reception_after o OfFunctional = o
 reception_after o OfIgnored = o
 reception_after o OfSingle = None
 reception_after o OfLast = None
 reception_after o (OfKind k) = open_after o k
 
-abbrev pub granted_after : LinkSetup → Option Partial → Left → Option (List ℕ)
+abbrev pub granted_after : LinkSetup → Option Receiving → Left → Option (List ℕ)
 granted_after s o OfFunctional = None
 granted_after s o OfIgnored = None
 granted_after s o OfSingle = None

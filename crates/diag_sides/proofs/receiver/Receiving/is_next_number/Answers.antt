@@ -1,5 +1,5 @@
 use Rattle.std.proofs.Common.{rules}
-use Rattle.diag_sides.proofs.receiver.Partial.is_next_number.Goals as goal
+use Rattle.diag_sides.proofs.receiver.Receiving.is_next_number.Goals as goal
 
 pub returns : goal.returns
 returns c = search rules

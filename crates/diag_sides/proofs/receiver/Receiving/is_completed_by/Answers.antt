@@ -1,5 +1,5 @@
 use Rattle.std.proofs.Common.{rules}
-use Rattle.diag_sides.proofs.receiver.Partial.is_completed_by.Goals as goal
+use Rattle.diag_sides.proofs.receiver.Receiving.is_completed_by.Goals as goal
 
 pub returns-then-from-clause-is : goal.returns-then-from-clause-is
 returns-then-from-clause-is c = search rules

@@ -1,7 +1,7 @@
 use Rattle.std.proofs.Common.{List, ℕ, ◌+◌, ap}
-use Rattle.diag_sides.specs.Receiver.{Partial}
+use Rattle.diag_sides.specs.Receiver.{Receiving}
 use Rattle.diag_sides.proofs.Parts.{set-next}
-use Rattle.diag_sides.proofs.receiver.Partial.add.Goals as goal
+use Rattle.diag_sides.proofs.receiver.Receiving.add.Goals as goal
 
 pub returns : goal.returns
 returns c =
@@ -10,5 +10,5 @@ returns c =
     let held = rw c.in-Growing.is at c.self.invariant in
     let more = rw (← c.self.view_is) at c.requires.more in
     rw (← c.self.view_is, c.in-Growing.is, c.extend_from_slice.ensures.items, ← c.if-prove.ensures.value)
-    (ap (λ (bytes : List ℕ). let p : Partial = record { len = len; count = count + 1; bytes = bytes; silence = 0 } in p)
+    (ap (λ (bytes : List ℕ). let p : Receiving = record { len = len; count = count + 1; bytes = bytes; silence = 0 } in p)
     (set-next len count c.in-Growing.bytes.items c.args.part.now held.0.1 more c.requires.few))
