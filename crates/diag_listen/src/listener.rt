@@ -106,7 +106,7 @@ impl Listener {
             (AnEvent.Physical frame.now ∷ [])) }
         ensures side { self.new.side ≡ self.old.side }
     {
-        self.take_kind(at, Pci::read(frame.as_slice(), self.side.max_request), over)
+        self.take_pci(at, Pci::read(frame.as_slice(), self.side.max_request), over)
     }
 
     /// Hears a request of the tester, complete.
@@ -133,26 +133,21 @@ impl Listener {
     }
 
     /// Hears a frame of this kind.
-    fn take_kind(
-        &mut self,
-        at: Place,
-        kind: Pci<'_>,
-        over: &mut Vec<Over>,
-    ) -> Result<(), AllocError>
-        requires { IsRead self.old.side.max_request (says kind) }
+    fn take_pci(&mut self, at: Place, pci: Pci<'_>, over: &mut Vec<Over>) -> Result<(), AllocError>
+        requires { IsRead self.old.side.max_request (says pci) }
         ensures moves { OnOk result (Moves self.old self.new over.old.items over.new.items
-            (kind_happens self.old.receiver.partial at (says kind.entry))
-            (open_after self.old.receiver.partial (says kind.entry))) }
+            (kind_happens self.old.receiver.partial at (says pci.entry))
+            (open_after self.old.receiver.partial (says pci.entry))) }
         ensures side { self.new.side ≡ self.old.side }
     {
-        match kind {
+        match pci {
             Pci::Single(payload) => self.take_single(at, payload, over),
             Pci::First { len, head } => self.take_first(at, len, head, over),
             Pci::Overflow => self.lose(over),
             Pci::Consecutive {
                 sequence_number,
                 part,
-            } => self.take_part(kind, sequence_number, part, over),
+            } => self.take_part(pci, sequence_number, part, over),
             Pci::FlowControl { .. } | Pci::Ignored => Ok(()),
         }
     }
@@ -199,19 +194,19 @@ impl Listener {
     /// A ConsecutiveFrame: it completes the message, or goes on with it, or breaks it off.
     fn take_part(
         &mut self,
-        kind: Pci<'_>,
+        pci: Pci<'_>,
         number: u8,
         part: &[u8],
         over: &mut Vec<Over>,
     ) -> Result<(), AllocError>
-        requires kind { says kind ≡ Consecutive number part.now }
+        requires kind { says pci ≡ Consecutive number part.now }
         requires few { length part.now ≤ 7 }
         ensures moves { OnOk result (Moves self.old self.new over.old.items over.new.items
             (part_happens self.old.receiver.partial (Consecutive number part.now))
             (open_after self.old.receiver.partial (Consecutive number part.now))) }
         ensures side { self.new.side ≡ self.old.side }
     {
-        let message = self.receiver.complete(kind);
+        let message = self.receiver.complete(pci);
         let _grant = self.receiver.consecutive(&self.side, number, part);
         match message {
             Some(message) => self.come(message, over),

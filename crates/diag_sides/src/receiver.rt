@@ -246,14 +246,14 @@ impl Receiver {
 
     /// Takes a frame whose message, if it completes one, was handed over, and answers the flow control that it draws.
     #[inline(always)]
-    pub fn take(&mut self, setup: &LinkSetup, kind: Pci<'_>) -> Option<FrameBytes>
-        requires read { IsRead setup.now.max_request (says kind) }
-        requires room { needed_for (says kind) ≤ self.old.room }
-        ensures partial { self.new.partial ≡ open_after self.old.partial (says kind.entry) }
-        ensures grant { result ≡ granted_by setup.now self.old.partial (says kind.entry) }
-        ensures kept { needed_for (says kind.entry) ≡ 0 → self.old.room ≤ self.new.room }
+    pub fn take(&mut self, setup: &LinkSetup, pci: Pci<'_>) -> Option<FrameBytes>
+        requires read { IsRead setup.now.max_request (says pci) }
+        requires room { needed_for (says pci) ≤ self.old.room }
+        ensures partial { self.new.partial ≡ open_after self.old.partial (says pci.entry) }
+        ensures grant { result ≡ granted_by setup.now self.old.partial (says pci.entry) }
+        ensures kept { needed_for (says pci.entry) ≡ 0 → self.old.room ≤ self.new.room }
     {
-        match kind {
+        match pci {
             Pci::Single(_) => {
                 self.end();
                 None
@@ -275,17 +275,17 @@ impl Receiver {
     }
 
     /// The message that this frame completes, taken out of the reception, which it ends.
-    pub fn complete(&mut self, kind: Pci<'_>) -> Option<Message>
-        requires read { IsRead 65535 (says kind) }
-        ensures message { result ≡ completed_by self.old.partial (says kind.entry) }
-        ensures partial { open_after self.new.partial (says kind.entry)
-            ≡ open_after self.old.partial (says kind.entry) }
-        ensures grant { (s : ALinkSetup) → granted_by s self.new.partial (says kind.entry)
-            ≡ granted_by s self.old.partial (says kind.entry) }
+    pub fn complete(&mut self, pci: Pci<'_>) -> Option<Message>
+        requires read { IsRead 65535 (says pci) }
+        ensures message { result ≡ completed_by self.old.partial (says pci.entry) }
+        ensures partial { open_after self.new.partial (says pci.entry)
+            ≡ open_after self.old.partial (says pci.entry) }
+        ensures grant { (s : ALinkSetup) → granted_by s self.new.partial (says pci.entry)
+            ≡ granted_by s self.old.partial (says pci.entry) }
         ensures same { IfNone result (self.new ≡ self.old) }
         ensures room { self.new.room ≡ self.old.room }
     {
-        match kind {
+        match pci {
             Pci::Single(payload) => Some(Message::in_place(FrameBytes::from_slice(payload))),
             Pci::Consecutive {
                 sequence_number,
@@ -314,11 +314,11 @@ impl Receiver {
     }
 
     /// The message that this frame would complete.
-    pub fn peek(&self, kind: Pci<'_>) -> Result<Option<Message>, AllocError>
-        requires read { IsRead 65535 (says kind) }
-        ensures { IfOk result (λ message. message ≡ completed_by self.now.partial (says kind.entry)) }
+    pub fn peek(&self, pci: Pci<'_>) -> Result<Option<Message>, AllocError>
+        requires read { IsRead 65535 (says pci) }
+        ensures { IfOk result (λ message. message ≡ completed_by self.now.partial (says pci.entry)) }
     {
-        match kind {
+        match pci {
             Pci::Single(payload) => Ok(Some(Message::in_place(FrameBytes::from_slice(payload)))),
             Pci::Consecutive {
                 sequence_number,
