@@ -109,10 +109,10 @@ known_part : (c : Option Start) (r : Reception) (part : List ℕ) (t : ℕ) → 
 known_part None r part t k = tt
 known_part (Some s) r part t k = record { has = k.has; first = k.first; second = k.second }
 
-part_heads : (c : Option Start) (o : Option Reception) (t number : ℕ) (part : List ℕ) (b : Bool) → Known c o
-    → Heads c (came (completed (option_and_then (with_part t number part) o)) b) (option_and_then (with_part t number part) o)
-part_heads c None t number part b k = lost_heads c b None (known_none c)
-part_heads c (Some r) t number part b k = next_case (is_next r number part)
+part_heads : (c : Option Start) (o : Option Reception) (t sequence_number : ℕ) (part : List ℕ) (b : Bool) → Known c o
+    → Heads c (came (completed (option_and_then (with_part t sequence_number part) o)) b) (option_and_then (with_part t sequence_number part) o)
+part_heads c None t sequence_number part b k = lost_heads c b None (known_none c)
+part_heads c (Some r) t sequence_number part b k = next_case (is_next r sequence_number part)
   where
     next_case : (n : Bool)
         → Heads c (came (completed (if n then Some (record { len = r.len; head = r.head; parts = r.parts ++ part ∷ []; last = t }) else None)) b)
@@ -136,10 +136,10 @@ module _ (s : LinkSetup) (at : Place) (E : List Event) (c : Option Start) (known
     by_kind : (hs : List Happening) (k : Kind) → kind bytes s.max_request ≡ k → Heads c hs (with_frame (now (history E)) k (open_at s (history E))) → Then hs
     by_kind hs k is h = subst (Heads c hs) (sym (open_is k is)) h
 
-    gives_is : (number : ℕ) (part : List ℕ) → kind bytes s.max_request ≡ Consecutive number part
-        → gives s E (Physical bytes) ≡ completed (option_and_then (with_part (now (history E)) number part) (open_at s (history E)))
+    gives_is : (sequence_number : ℕ) (part : List ℕ) → kind bytes s.max_request ≡ Consecutive sequence_number part
+        → gives s E (Physical bytes) ≡ completed (option_and_then (with_part (now (history E)) sequence_number part) (open_at s (history E)))
     unfolding gives open_at
-    gives_is number part is =
+    gives_is sequence_number part is =
         ap (physical_step s (Physical bytes ∷ history E)) is ∙ ap (λ k. completed (with_frame (now (history E)) k (open_at s (history E)))) is
 
     frame_heads : (k : Kind) → kind bytes s.max_request ≡ k → Then (frame_happens s at E bytes k)
@@ -147,13 +147,13 @@ module _ (s : LinkSetup) (at : Place) (E : List Event) (c : Option Start) (known
     frame_heads (First len head) is =
         by_kind _ (First len head) is (began_heads c (receives s E) at len (now (history E)) head (subst IsFirst is (first_of_kind bytes s.max_request)))
     frame_heads Overflow is = by_kind _ Overflow is (lost_heads c (receives s E) None (known_none c))
-    frame_heads (FlowControl status block gap) is = by_kind [] (FlowControl status block gap) is (tt, known)
+    frame_heads (FlowControl flow_status block_size st_min) is = by_kind [] (FlowControl flow_status block_size st_min) is (tt, known)
     frame_heads Ignored is = by_kind [] Ignored is (tt, known)
-    frame_heads (Consecutive number part) is =
-        let h = part_heads c (open_at s (history E)) (now (history E)) number part (breaks s E (Physical bytes)) known in
-        by_kind _ (Consecutive number part) is
-        (subst (λ (o : Option Step). Heads c (came o (breaks s E (Physical bytes))) (option_and_then (with_part (now (history E)) number part)
-        (open_at s (history E)))) (sym (gives_is number part is)) h)
+    frame_heads (Consecutive sequence_number part) is =
+        let h = part_heads c (open_at s (history E)) (now (history E)) sequence_number part (breaks s E (Physical bytes)) known in
+        by_kind _ (Consecutive sequence_number part) is
+        (subst (λ (o : Option Step). Heads c (came o (breaks s E (Physical bytes))) (option_and_then (with_part (now (history E)) sequence_number part)
+        (open_at s (history E)))) (sym (gives_is sequence_number part is)) h)
 
   known_time : (t : ℕ) (o : Option Reception) → Known c o → Known c (option_and_then (in_time s t) o)
   known_time t None k = known_none c

@@ -112,18 +112,18 @@ whole_case c r u e is few false whole =
     let none : (u && not (is_unfinished (Some r))) ≡ false = ap₂ (λ a b. a && not b) is more in
     (ap (λ (b : Bool). heard c (lost_if b)) none, ap (λ (b : Bool). is_some (coming_after c (lost_if b))) none ∙ (e ∙ sym more))
 
-next_below : (r : Reception) (number : ℕ) (part : List ℕ) → is_next r number part ≡ true → nat_lt (length r.parts) (consecutive_count r.len) ≡ true
-next_below r number part e = grind arith
+next_below : (r : Reception) (sequence_number : ℕ) (part : List ℕ) → is_next r sequence_number part ≡ true → nat_lt (length r.parts) (consecutive_count r.len) ≡ true
+next_below r sequence_number part e = grind arith
 
 one_further : (r : Reception) (part : List ℕ) → nat_lt (length r.parts) (consecutive_count r.len) ≡ true
     → length (r.parts ++ part ∷ []) ≤ consecutive_count r.len
 one_further r part e = let more = length-append r.parts (part ∷ []) in grind (arith, nat_tests)
 
-module _ (t number : ℕ) (part : List ℕ) where
+module _ (t sequence_number : ℕ) (part : List ℕ) where
   abbrev then_is : Option Reception → Option Reception
-  then_is o = option_and_then (with_part t number part) o
+  then_is o = option_and_then (with_part t sequence_number part) o
 
-  part_case : (c : Option Start) (r : Reception) → is_some c ≡ is_unfinished (Some r) → (b : Bool) → is_next r number part ≡ b
+  part_case : (c : Option Start) (r : Reception) → is_some c ≡ is_unfinished (Some r) → (b : Bool) → is_next r sequence_number part ≡ b
       → (o : Option Reception) → o ≡ (if b then Some (record { len = r.len; head = r.head; parts = r.parts ++ part ∷ []; last = t }) else None)
       → Gives c (came (completed o) (is_unfinished (Some r) && not (is_unfinished o))) (completed o) (is_unfinished o)
   part_case c r e false other o is =
@@ -131,14 +131,14 @@ module _ (t number : ℕ) (part : List ℕ) where
       (lost_by c (is_unfinished (Some r)) false e refl)
   part_case c r e true next o is =
       let more : Reception = record { len = r.len; head = r.head; parts = r.parts ++ part ∷ []; last = t } in
-      let below : is_unfinished (Some r) ≡ true = next_below r number part next in
+      let below : is_unfinished (Some r) ≡ true = next_below r sequence_number part next in
       subst (λ (o : Option Reception). Gives c (came (completed o) (is_unfinished (Some r) && not (is_unfinished o))) (completed o) (is_unfinished o)) (sym is)
       (whole_case c more (is_unfinished (Some r)) (e ∙ below) below (one_further r part below) (is_whole more) refl)
 
   parts_of : (c : Option Start) (o : Option Reception) → is_some c ≡ is_unfinished o
       → Gives c (came (completed (then_is o)) (is_unfinished o && not (is_unfinished (then_is o)))) (completed (then_is o)) (is_unfinished (then_is o))
   parts_of c None e = (refl, e)
-  parts_of c (Some r) e = part_case c r e (is_next r number part) refl (then_is (Some r)) refl
+  parts_of c (Some r) e = part_case c r e (is_next r sequence_number part) refl (then_is (Some r)) refl
 
 -- ---- a frame
 
@@ -171,13 +171,13 @@ module _ (s : LinkSetup) (at : Place) (E : List Event) (c : Option Start) (own :
         let g = lost_begins c (receives s E) at head in
         by_values (frame_happens s at E bytes (First len head)) (First len head) is (g.0, g.1 ∙ sym long)
     frame_gives Overflow is = by_values (lost_if (receives s E)) Overflow is (lost_heard c (receives s E), lost_coming c (receives s E) own)
-    frame_gives (FlowControl status block gap) is = by_values [] (FlowControl status block gap) is (refl, own)
+    frame_gives (FlowControl flow_status block_size st_min) is = by_values [] (FlowControl flow_status block_size st_min) is (refl, own)
     frame_gives Ignored is = by_values [] Ignored is (refl, own)
-    frame_gives (Consecutive number part) is =
+    frame_gives (Consecutive sequence_number part) is =
         let o = open_at s (history E) in
-        let g = parts_of (now (history E)) number part c o own in
-        let given = gives_is (Consecutive number part) is ∙ ap completed (open_is (Consecutive number part) is) in
-        let received = receives_is (Consecutive number part) is in
+        let g = parts_of (now (history E)) sequence_number part c o own in
+        let given = gives_is (Consecutive sequence_number part) is ∙ ap completed (open_is (Consecutive sequence_number part) is) in
+        let received = receives_is (Consecutive sequence_number part) is in
         let same = ap₂ (λ (o : Option Step) (b : Bool). came o (receives s E && not b)) given received in (
           ap (heard c) same ∙ (g.0 ∙ ap (λ o. flat_map message_given (option_to_list o)) (sym given)),
           ap (λ hs. is_some (coming_after c hs)) same ∙ (g.1 ∙ sym received),

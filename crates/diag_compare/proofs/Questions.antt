@@ -104,8 +104,8 @@ frame_asks : (s : LinkSetup) (at : Place) (E : List Event) (bytes : List ℕ) (p
 frame_asks s at E bytes (Single payload) = flat_append asked_one (lost_if (receives s E)) _ ∙ ap (λ w. w ++ []) (lost_asks (receives s E))
 frame_asks s at E bytes (First len head) = flat_append asked_one (lost_if (receives s E)) _ ∙ ap (λ w. w ++ []) (lost_asks (receives s E))
 frame_asks s at E bytes Overflow = lost_asks (receives s E)
-frame_asks s at E bytes (Consecutive number part) = came_asks (gives s E (Physical bytes)) (breaks s E (Physical bytes))
-frame_asks s at E bytes (FlowControl status block gap) = refl
+frame_asks s at E bytes (Consecutive sequence_number part) = came_asks (gives s E (Physical bytes)) (breaks s E (Physical bytes))
+frame_asks s at E bytes (FlowControl flow_status block_size st_min) = refl
 frame_asks s at E bytes Ignored = refl
 
 unit_asks : (s : LinkSetup) (at : Place) (E : List Event) (e : Event) → questions (unit_happens s at E e) ≡ []

@@ -76,12 +76,12 @@ kind_is s at E bytes read = of_kind (kind bytes s.max_request) refl
     of_kind (Single payload) e = ap (λ b. lost_if b ++ began at payload ∷ Came payload ∷ []) (kept s E)
     of_kind (First len head) e = ap (λ b. lost_if b ++ began at head ∷ []) (kept s E)
     of_kind Overflow e = ap lost_if (kept s E)
-    of_kind (Consecutive number part) e =
-        let k = Consecutive number part in
+    of_kind (Consecutive sequence_number part) e =
+        let k = Consecutive sequence_number part in
         let step = gives-more s E (Physical bytes) ∙ ap (λ (k : Kind). asked_of (ask_of false (completed_by (partial_of s E) k))) e in
         let later = frame_more s E bytes read ∙ ap (open_after (partial_of s E)) e in
         ap₂ came step (broken s E (Physical bytes) (open_after (partial_of s E) k) later) ∙ came_so (completed_by (partial_of s E) k) _
-    of_kind (FlowControl status block gap) e = refl
+    of_kind (FlowControl flow_status block_size st_min) e = refl
     of_kind Ignored e = refl
 
 pub ticks_are : (s : LinkSetup) (at : Place) (E : List Event) (n : ℕ)

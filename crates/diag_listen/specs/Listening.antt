@@ -53,9 +53,9 @@ abbrev pub frame_happens : LinkSetup → Place → List Event → List ℕ → K
 frame_happens s at E bytes (Single payload) = lost_if (receives s E) ++ began at payload ∷ Came payload ∷ []
 frame_happens s at E bytes (First len head) = lost_if (receives s E) ++ began at head ∷ []
 frame_happens s at E bytes Overflow = lost_if (receives s E)
-frame_happens s at E bytes (Consecutive number part) =
+frame_happens s at E bytes (Consecutive sequence_number part) =
     came (gives s E (Physical bytes)) (breaks s E (Physical bytes))
-frame_happens s at E bytes (FlowControl status block gap) = []
+frame_happens s at E bytes (FlowControl flow_status block_size st_min) = []
 frame_happens s at E bytes Ignored = []
 
 -- what an event of the unit's side is, behind these
@@ -83,8 +83,8 @@ abbrev pub kind_happens : Option Receiving → Place → Kind → List Happening
 kind_happens o at (Single payload) = lost_if (is_some o) ++ began at payload ∷ Came payload ∷ []
 kind_happens o at (First len head) = lost_if (is_some o) ++ began at head ∷ []
 kind_happens o at Overflow = lost_if (is_some o)
-kind_happens o at (Consecutive number part) = part_happens o (Consecutive number part)
-kind_happens o at (FlowControl status block gap) = []
+kind_happens o at (Consecutive sequence_number part) = part_happens o (Consecutive sequence_number part)
+kind_happens o at (FlowControl flow_status block_size st_min) = []
 kind_happens o at Ignored = []
 
 -- so many ticks later

@@ -195,19 +195,19 @@ impl Listener {
     fn take_part(
         &mut self,
         pci: Pci<'_>,
-        number: u8,
+        sequence_number: u8,
         part: &[u8],
         over: &mut Vec<Over>,
     ) -> Result<(), AllocError>
-        requires kind { says pci ≡ Consecutive number part.now }
+        requires kind { says pci ≡ Consecutive sequence_number part.now }
         requires few { length part.now ≤ 7 }
         ensures moves { OnOk result (Moves self.old self.new over.old.items over.new.items
-            (part_happens self.old.receiver.partial (Consecutive number part.now))
-            (open_after self.old.receiver.partial (Consecutive number part.now))) }
+            (part_happens self.old.receiver.partial (Consecutive sequence_number part.now))
+            (open_after self.old.receiver.partial (Consecutive sequence_number part.now))) }
         ensures side { self.new.side ≡ self.old.side }
     {
         let message = self.receiver.complete(pci);
-        let _grant = self.receiver.consecutive(&self.side, number, part);
+        let _grant = self.receiver.consecutive(&self.side, sequence_number, part);
         match message {
             Some(message) => self.come(message, over),
             None if self.is_receiving() => Ok(()),

@@ -52,26 +52,26 @@ fn first_of(len: u16, head: &[u8]) -> FrameBytes
 }
 
 /// A ConsecutiveFrame (9.6.4): the sequence number, 0 to 15, and at most 7 bytes of the message.
-pub fn consecutive_frame(number: u8, part: &[u8]) -> FrameBytes
-    requires nibble { number < 16 }
+pub fn consecutive_frame(sequence_number: u8, part: &[u8]) -> FrameBytes
+    requires nibble { sequence_number < 16 }
     requires few { length part.now ≤ 7 }
-    ensures bytes { result ≡ consecutive_bytes number part.now }
-    ensures read { (max : ℕ) → kind result max ≡ Consecutive number part.now }
+    ensures bytes { result ≡ consecutive_bytes sequence_number part.now }
+    ensures read { (max : ℕ) → kind result max ≡ Consecutive sequence_number part.now }
 {
     let mut frame = FrameBytes::new();
-    frame.push(0x20 + number);
+    frame.push(0x20 + sequence_number);
     frame.append(part);
     frame
 }
 
 /// A FlowControl (9.6.5): the flow status, 0 (continue to send), 1 (wait) or 2 (overflow), block size and STmin.
 #[tactic(auto, using(crate::proofs::CutFrames::flow_read))]
-pub fn flow_frame(status: u8, block: u8, gap: u8) -> FrameBytes
-    requires nibble { status < 16 }
-    ensures bytes { result ≡ flow_bytes status block gap }
-    ensures read { (max : ℕ) → kind result max ≡ FlowControl status block gap }
+pub fn flow_frame(flow_status: u8, block_size: u8, st_min: u8) -> FrameBytes
+    requires nibble { flow_status < 16 }
+    ensures bytes { result ≡ flow_bytes flow_status block_size st_min }
+    ensures read { (max : ℕ) → kind result max ≡ FlowControl flow_status block_size st_min }
 {
-    FrameBytes::made_of(&[0x30 + status, block, gap])
+    FrameBytes::made_of(&[0x30 + flow_status, block_size, st_min])
 }
 
 /// The frame padded to 8 bytes with the pad byte, if any.
@@ -115,15 +115,15 @@ fn nth_consecutive(message: &[u8], i: u16, pad: Option<u8>) -> FrameBytes
     requires fits { length message.now ≤ 65535 }
     ensures { result ≡ filled pad (consecutive_bytes i (part_of message.now i)) }
 {
-    let number = (i % 16) as u8;
+    let sequence_number = (i % 16) as u8;
     let before = usize::from(head_size(message.len() as u16)) + 7 * usize::from(i - 1) - 1;
     if let Some(eight) = message[before.min(message.len())..].first_chunk::<8>() {
         let mut whole = *eight;
-        whole[0] = 0x20 + number;
+        whole[0] = 0x20 + sequence_number;
         FrameBytes::full(whole)
     } else {
         padded(
-            consecutive_frame(number, part(message, usize::from(i))),
+            consecutive_frame(sequence_number, part(message, usize::from(i))),
             pad,
         )
     }

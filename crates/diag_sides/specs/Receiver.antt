@@ -28,8 +28,8 @@ begun_receiving len head = record { len = len; count = 0; bytes = head; silence 
 
 -- a Consecutive of this number and size is the next one
 abbrev pub expects : Receiving → ℕ → ℕ → Bool
-expects p number size =
-    (number == (p.count + 1) % 16) && nat_le (min 7 (p.len - head_size p.len - 7 * p.count)) size
+expects p sequence_number size =
+    (sequence_number == (p.count + 1) % 16) && nat_le (min 7 (p.len - head_size p.len - 7 * p.count)) size
 
 abbrev pub with_bytes : Receiving → List ℕ → Receiving
 with_bytes p part =
@@ -40,8 +40,8 @@ is_complete p = p.count == consecutive_count p.len
 
 -- with a further Consecutive; a wrong one ends the reception
 abbrev pub with_consecutive : ℕ → List ℕ → Receiving → Option Receiving
-with_consecutive number part p =
-    if expects p number (length part) then Some (with_bytes p part) else None
+with_consecutive sequence_number part p =
+    if expects p sequence_number (length part) then Some (with_bytes p part) else None
 
 -- so many ticks later
 abbrev pub ticks_later : ℕ → ℕ → Receiving → Option Receiving
@@ -67,8 +67,8 @@ abbrev pub open_after : Option Receiving → Kind → Option Receiving
 open_after o (Single payload) = None
 open_after o (First len head) = Some (begun_receiving len head)
 open_after o Overflow = None
-open_after o (Consecutive number part) = if_open (option_and_then (with_consecutive number part) o)
-open_after o (FlowControl status block gap) = o
+open_after o (Consecutive sequence_number part) = if_open (option_and_then (with_consecutive sequence_number part) o)
+open_after o (FlowControl flow_status block_size st_min) = o
 open_after o Ignored = o
 
 -- the message that a frame completes
@@ -76,9 +76,9 @@ abbrev pub completed_by : Option Receiving → Kind → Option (List ℕ)
 completed_by o (Single payload) = Some payload
 completed_by o (First len head) = None
 completed_by o Overflow = None
-completed_by o (Consecutive number part) =
-    if_complete (option_and_then (with_consecutive number part) o)
-completed_by o (FlowControl status block gap) = None
+completed_by o (Consecutive sequence_number part) =
+    if_complete (option_and_then (with_consecutive sequence_number part) o)
+completed_by o (FlowControl flow_status block_size st_min) = None
 completed_by o Ignored = None
 
 -- a block of the reception is whole, and more is to come
@@ -98,9 +98,9 @@ abbrev pub granted_by : LinkSetup → Option Receiving → Kind → Option (List
 granted_by s o (Single payload) = None
 granted_by s o (First len head) = Some (go_on s)
 granted_by s o Overflow = Some (filled s.pad (flow_bytes 2 0 0))
-granted_by s o (Consecutive number part) =
-    block_answer s (option_and_then (with_consecutive number part) o)
-granted_by s o (FlowControl status block gap) = None
+granted_by s o (Consecutive sequence_number part) =
+    block_answer s (option_and_then (with_consecutive sequence_number part) o)
+granted_by s o (FlowControl flow_status block_size st_min) = None
 granted_by s o Ignored = None
 
 -- what a receiver is

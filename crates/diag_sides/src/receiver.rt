@@ -62,21 +62,21 @@ impl Model for Receiving {
 impl Receiving {
     /// Whether this is the number of the next Consecutive: after 15 comes 0.
     #[inline(always)]
-    fn is_next_number(&self, number: u8) -> bool
-        ensures { result ≡ (number == (self.now.seen.count + 1) % 16) }
+    fn is_next_number(&self, sequence_number: u8) -> bool
+        ensures { result ≡ (sequence_number == (self.now.seen.count + 1) % 16) }
     {
-        u32::from(number) == (u32::from(self.count) + 1) % 16
+        u32::from(sequence_number) == (u32::from(self.count) + 1) % 16
     }
 
     /// Whether a Consecutive of this number and size is the next one.
     #[inline(never)]
-    fn expects(&self, number: u8, size: usize) -> bool
-        ensures { result ≡ expects self.now.seen number size }
+    fn expects(&self, sequence_number: u8, size: usize) -> bool
+        ensures { result ≡ expects self.now.seen sequence_number size }
     {
         let left = usize::from(self.len.saturating_sub(head_size(self.len))).saturating_sub(
             7 * usize::from(self.count),
         );
-        self.is_next_number(number) && left.min(7) <= size
+        self.is_next_number(sequence_number) && left.min(7) <= size
     }
 
     /// Adds the bytes of the next Consecutive, which isn't the last.
@@ -129,22 +129,22 @@ impl Receiving {
 
     /// Whether a Consecutive of this number and size is the next one, and the last.
     #[inline(always)]
-    fn is_completed_by(&self, number: u8, size: usize) -> bool
+    fn is_completed_by(&self, sequence_number: u8, size: usize) -> bool
         ensures is { result ≡ ((self.now.seen.count + 1 == consecutive_count self.now.seen.len)
-            && expects self.now.seen number size) }
+            && expects self.now.seen sequence_number size) }
         ensures fits { IsTrue result
             → self.now.seen.len ≤ length self.now.seen.bytes + size }
     {
-        u32::from(self.count) + 1 == u32::from(self.total) && self.expects(number, size)
+        u32::from(self.count) + 1 == u32::from(self.total) && self.expects(sequence_number, size)
     }
 
     /// Whether a Consecutive of this number and size is the next one, and not the last.
-    fn goes_on_with(&self, number: u8, size: usize) -> bool
-        ensures is { result ≡ (expects self.now.seen number size
+    fn goes_on_with(&self, sequence_number: u8, size: usize) -> bool
+        ensures is { result ≡ (expects self.now.seen sequence_number size
             && nat_lt (self.now.seen.count + 1) (consecutive_count self.now.seen.len)) }
     {
         u32::from(self.count) + 1 < u32::from(self.total)
-            && self.is_next_number(number)
+            && self.is_next_number(sequence_number)
             && size >= 7
     }
 
@@ -303,12 +303,12 @@ impl Receiver {
 
     /// Whether this Consecutive would complete a message.
     #[inline(always)]
-    pub fn completes(&self, number: u8, part: &[u8]) -> bool
+    pub fn completes(&self, sequence_number: u8, part: &[u8]) -> bool
         ensures { result
-            ≡ is_some (completed_by self.now.partial (Consecutive number part.now)) }
+            ≡ is_some (completed_by self.now.partial (Consecutive sequence_number part.now)) }
     {
         match &self.partial {
-            Some(partial) => partial.is_completed_by(number, part.len()),
+            Some(partial) => partial.is_completed_by(sequence_number, part.len()),
             None => false,
         }
     }
@@ -335,12 +335,12 @@ impl Receiver {
 
     /// Stages the message that this Consecutive completes; whether it completes one. What is seen of the reception stays.
     #[inline(always)]
-    pub fn stage(&mut self, number: u8, part: &[u8]) -> bool
+    pub fn stage(&mut self, sequence_number: u8, part: &[u8]) -> bool
         requires few { length part.now ≤ 7 }
         ensures is { result
-            ≡ is_some (completed_by self.old.partial (Consecutive number part.now)) }
+            ≡ is_some (completed_by self.old.partial (Consecutive sequence_number part.now)) }
         ensures staged { IsTrue result → self.new.staged
-            ≡ ask_of false (completed_by self.old.partial (Consecutive number part.now)) }
+            ≡ ask_of false (completed_by self.old.partial (Consecutive sequence_number part.now)) }
         ensures partial { self.new.partial ≡ self.old.partial }
         ensures room { self.new.room ≡ self.old.room }
         ensures same { IsFalse result → self.new ≡ self.old }
@@ -348,7 +348,7 @@ impl Receiver {
         let Some(partial) = &mut self.partial else {
             return false;
         };
-        if !partial.is_completed_by(number, part.len()) {
+        if !partial.is_completed_by(sequence_number, part.len()) {
             return false;
         }
         partial.stage(part);
@@ -430,18 +430,18 @@ impl Receiver {
     /// A Consecutive: the next one adds its part, any other ends the reception, and so does the last. Whether the sender is to
     /// be let go on.
     #[inline(always)]
-    pub fn consecutive(&mut self, setup: &LinkSetup, number: u8, part: &[u8]) -> bool
+    pub fn consecutive(&mut self, setup: &LinkSetup, sequence_number: u8, part: &[u8]) -> bool
         requires few { length part.now ≤ 7 }
         ensures partial { self.new.partial
-            ≡ open_after self.old.partial (Consecutive number part.now) }
+            ≡ open_after self.old.partial (Consecutive sequence_number part.now) }
         ensures grant { (if result then Some (go_on setup.now) else None)
-            ≡ granted_by setup.now self.old.partial (Consecutive number part.now) }
+            ≡ granted_by setup.now self.old.partial (Consecutive sequence_number part.now) }
         ensures room { self.old.room ≤ self.new.room }
     {
         let Some(partial) = &mut self.partial else {
             return false;
         };
-        if !partial.goes_on_with(number, part.len()) {
+        if !partial.goes_on_with(sequence_number, part.len()) {
             self.end();
             return false;
         }

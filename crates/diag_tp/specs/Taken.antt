@@ -34,11 +34,11 @@ abbrev pub left_of_kind : Option Receiving → Kind → Left
 left_of_kind o (Single payload) = OfSingle
 left_of_kind o (First len head) = OfKind (First len head)
 left_of_kind o Overflow = OfKind Overflow
-left_of_kind o (Consecutive number part) =
-    if is_some (completed_by o (Consecutive number part))
+left_of_kind o (Consecutive sequence_number part) =
+    if is_some (completed_by o (Consecutive sequence_number part))
     then OfLast
-    else OfKind (Consecutive number part)
-left_of_kind o (FlowControl status block gap) = OfKind (FlowControl status block gap)
+    else OfKind (Consecutive sequence_number part)
+left_of_kind o (FlowControl flow_status block_size st_min) = OfKind (FlowControl flow_status block_size st_min)
 left_of_kind o Ignored = OfKind Ignored
 
 -- what is left of an event, where this reception is open; a functional frame changes nothing

@@ -10,8 +10,8 @@ use Rattle.diag_can.specs.declared.frame.Frame.{Frame}
 abbrev pub is_flow : List ℕ → Bool
 is_flow [] = false
 is_flow (control ∷ []) = false
-is_flow (control ∷ block ∷ []) = false
-is_flow (control ∷ block ∷ gap ∷ rest) = control / 16 == 3
+is_flow (control ∷ block_size ∷ []) = false
+is_flow (control ∷ block_size ∷ st_min ∷ rest) = control / 16 == 3
 
 -- such a frame with one of these identifiers
 abbrev pub flows : List ℕ → Option Frame → Bool
