@@ -66,7 +66,7 @@ pub fn take<T: TakeSteps>(
     let delays = taker.can_delay();
     let taken = prepare(port, event, delays, out)?;
     match taken {
-        Taken::Ignored | Taken::Read(_) => {
+        Taken::Ignored | Taken::Other(_) => {
             take_silent(port, event, taken, out);
             Ok(())
         }

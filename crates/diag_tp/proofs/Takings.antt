@@ -26,8 +26,8 @@ last-ends : (s : LinkSetup) (o : Option Receiving) → IsTrue (is_some (if_compl
 last-ends s o h = grind (arith, nat_tests)
 
 -- a frame that completes nothing is left as its kind
-pub taken_read : (o : Option Receiving) (k : Kind) → completed_by o k ≡ None → left_of_kind o k ≡ OfKind k
-taken_read o k none = grind arith
+pub taken_other : (o : Option Receiving) (k : Kind) → completed_by o k ≡ None → left_of_kind o k ≡ OfKind k
+taken_other o k none = grind arith
 
 -- a Single's payload stands behind the frame's first byte
 abbrev Stands : List ℕ → List ℕ → Type 0

@@ -27,7 +27,7 @@ left_in left.Functional = OfFunctional
 left_in left.Ignored = OfIgnored
 left_in left.Single = OfSingle
 left_in left.Last = OfLast
-left_in (left.Read pci) = OfKind (says pci)
+left_in (left.Other pci) = OfKind (says pci)
 
 -- of a Single nothing is left but that it ends a reception, and of the last Consecutive of a message the same
 abbrev pub left_of_kind : Option Receiving → Kind → Left
@@ -62,7 +62,7 @@ FitsIn view left.Functional = Unit {0}
 FitsIn view left.Ignored = Unit {0}
 FitsIn view left.Single = Unit {0}
 FitsIn view left.Last = Unit {0}
-FitsIn view (left.Read pci) =
+FitsIn view (left.Other pci) =
     IsRead view.state.setup.max_request (says pci) × (needed_for (says pci) ≤ view.room)
 
 -- the request that the frame completes: noted by the link, or staged
@@ -71,7 +71,7 @@ asked_in view left.Functional = Some view.noted
 asked_in view left.Ignored = None
 asked_in view left.Single = Some view.noted
 asked_in view left.Last = view.staged
-asked_in view (left.Read pci) = None
+asked_in view (left.Other pci) = None
 
 -- what it does to the reception, to the flow control that is due, and to the sender
 abbrev pub reception_after : Option Receiving → Left → Option Receiving
