@@ -20,7 +20,7 @@ use Rattle.diag_desk.specs.Legal.{Legal, after, after_step, reply_to}
 use Rattle.diag_desk.specs.Text.{journal_text_at}
 use Rattle.diag_desk.specs.Timed.{own_timed, timed}
 use Rattle.diag_port.specs.Late.{pace_of}
-use Rattle.diag_port.specs.Placing.{drawn}
+use Rattle.diag_port.specs.Releasing.{drawn}
 use Rattle.diag_world.specs.Server.{sent_to}
 use Rattle.diag_world.specs.Weaving.{items_of, steps_of}
 use Rattle.diag_bus.specs.Events.{events_of, line_said}

@@ -27,7 +27,7 @@ use Rattle.diag_desk.specs.Text.{ended, entry_line, stamped_line, text_of, ticks
 use Rattle.diag_desk.proofs.ReadLemmas.{text_one}
 use Rattle.diag_port.specs.declared.pace.Pace.{Pace}
 use Rattle.diag_port.specs.Late.{pace_of}
-use Rattle.diag_port.specs.Placing.{drawn}
+use Rattle.diag_port.specs.Releasing.{drawn}
 use Rattle.diag_port.specs.Port.{Grew, PortState}
 use Rattle.diag_port.specs.Standing.{HasKept}
 use Rattle.diag_world.specs.Server.{IsEarly, ServerState, ServerTook, ServerView, Serves, Settled, sent_to, server_of}

@@ -12,7 +12,7 @@ use Rattle.diag_tp.specs.Moments.{last_moment, last_time}
 use Rattle.diag_port.specs.declared.pace.Pace.{Pace}
 use Rattle.diag_port.specs.Late.{asked_at, laters}
 use Rattle.diag_desk.specs.Timed.{Timed}
-use Rattle.diag_port.specs.Placing.{Mark, late_at, lates, mark_of, marks, marks_after, sid_of}
+use Rattle.diag_port.specs.Releasing.{Mark, late_at, lates, mark_of, marks, marks_after, sid_of}
 
 -- of an event that gives a step, its mark
 abbrev here : LinkSetup → List Event → Event → List Mark
