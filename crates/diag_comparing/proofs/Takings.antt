@@ -116,11 +116,11 @@ module _ (setup : RawSetup) (lines : List (List ℕ)) (line : List ℕ) (K : Lis
   so_far = happenings (expects setup) setup t lines
 
   module _ (own new : Tester) (told told' : List Told) (own_is : IsTester setup lines K t own)
-      (took : JudgesLine setup at t own new told told' span bytes) (side : new.listener.side ≡ own.listener.side) (none : new.entered.items ≡ []) where
-    happened_is : line_happens setup own.listener.side at before span own.entered.items bytes ≡ hearing.line_happens (expects setup) setup t lines line
-    happened_is = ap₂ (λ (s : LinkSetup) (e : List Entered). line_happens setup s at before span e bytes) own_is.side own_is.entered ∙ happen_is
+      (took : JudgesLine setup at t own new told told' span bytes) (link_setup : new.listener.setup ≡ own.listener.setup) (none : new.entered.items ≡ []) where
+    happened_is : line_happens setup own.listener.setup at before span own.entered.items bytes ≡ hearing.line_happens (expects setup) setup t lines line
+    happened_is = ap₂ (λ (s : LinkSetup) (e : List Entered). line_happens setup s at before span e bytes) own_is.link_setup own_is.entered ∙ happen_is
 
-    all_is : so_far ++ line_happens setup own.listener.side at before span own.entered.items bytes
+    all_is : so_far ++ line_happens setup own.listener.setup at before span own.entered.items bytes
         ≡ happenings (expects setup) setup t (lines ++ line ∷ [])
     all_is = ap (λ w. so_far ++ w) happened_is ∙ sym (happen_push (expects setup) setup t [] lines line)
 
@@ -128,7 +128,7 @@ module _ (setup : RawSetup) (lines : List (List ℕ)) (line : List ℕ) (K : Lis
     tester_is = record {
       judges = subst (λ (E : List Event). Judges new E (happenings (expects setup) setup t (lines ++ line ∷ []))) events_are
           (subst (λ w. Judges new ((before ++ waited span) ++ frame_events bytes) w) all_is (took before so_far own_is.judges).0);
-      side = side ∙ own_is.side;
+      link_setup = link_setup ∙ own_is.link_setup;
       entered = none;
     }
 
@@ -139,9 +139,9 @@ module _ (setup : RawSetup) (lines : List (List ℕ)) (line : List ℕ) (K : Lis
         ∙ ap (λ w. told ++ w) (pairs_of t (with_line (expects setup) setup t lines line) ∙ ap (map told_pair) (sym (by_line (expects setup) setup t lines line))))
 
 -- one that heard nothing
-pub new_tester : (setup : RawSetup) (t : ℕ) (own : Tester) → Judges own [] [] → own.entered.items ≡ [] → own.listener.side ≡ unit_side setup t
+pub new_tester : (setup : RawSetup) (t : ℕ) (own : Tester) → Judges own [] [] → own.entered.items ≡ [] → own.listener.setup ≡ unit_side setup t
     → IsTester setup [] [] t own
-new_tester setup t own judges entered side = record { judges = judges; side = side; entered = entered }
+new_tester setup t own judges entered link_setup = record { judges = judges; link_setup = link_setup; entered = entered }
 
 -- ---- all testers
 

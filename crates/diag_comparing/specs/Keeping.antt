@@ -92,7 +92,7 @@ entered_by setup lines K t = flat_map entry_entered (filter (is_of t) (in_states
 -- what is kept of a tester stands for these lines, and behind them these entries of the line that is under way
 pub record IsTester (setup : RawSetup) (lines : List (List ℕ)) (K : List Entry) (t : ℕ) (own : Tester) : Type 0 where
   pub judges : Judges own (unit_events setup t lines) (happenings (expects setup) setup t lines)
-  pub side : own.listener.side ≡ unit_side setup t
+  pub link_setup : own.listener.setup ≡ unit_side setup t
   pub entered : own.entered.items ≡ entered_by setup lines K t
 
 -- of the testers, one behind the other

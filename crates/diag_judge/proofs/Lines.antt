@@ -57,15 +57,15 @@ pub line_heard : (setup : RawSetup) (at : Place) (old later asked new : Listener
     (frame : Option (List ℕ))
     → Hears old later o1 o2 at (waited span)
     → HearsRequests setup at later asked o2 o3 entered
-    → asked.side ≡ old.side
+    → asked.setup ≡ old.setup
     → Hears asked new o3 o4 at (frame_events frame)
     → HearsLine setup at old new o1 o4 span entered frame
 line_heard setup at old later asked new o1 o2 o3 o4 span entered frame time requests same last E hs l =
     let F = E ++ waited span in
-    let xs = all_happen old.side at E (waited span) in
+    let xs = all_happen old.setup at E (waited span) in
     let ys = requests_happen setup at entered in
-    let zs = all_happen old.side at F (frame_events frame) in
-    let zs' = all_happen asked.side at F (frame_events frame) in
+    let zs = all_happen old.setup at F (frame_events frame) in
+    let zs' = all_happen asked.setup at F (frame_events frame) in
     let one = time E hs l in
     let two = requests F (hs ++ xs) one.0 in
     let three = last F ((hs ++ xs) ++ ys) two.0 in
@@ -131,7 +131,7 @@ pub line_judged : (setup : RawSetup) (at : Place) (who : ℕ) (old new : Tester)
     → ((before : List Over) → AreCounts old.counts before → AreCounts new.counts (before ++ os))
     → JudgesLine setup at who old new told told' span frame
 line_judged setup at who old new heard told told' os span frame hears same is counts E hs j =
-    let happened = line_happens setup old.listener.side at E span old.entered.items frame in
+    let happened = line_happens setup old.listener.setup at E span old.entered.items frame in
     let both = hears E hs j.listens in
     let more : over (hs ++ happened) ≡ over hs ++ os = over_append [] hs happened ∙ ap (λ w. over hs ++ w) (sym both.1) in (
       record {

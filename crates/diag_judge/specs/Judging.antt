@@ -55,10 +55,10 @@ requests_happen setup at entered = map (request_happens setup at) entered
 -- what a line is to a tester behind these events: what ends by its time, the requests that it completes, and what its
 -- frame is to a message
 abbrev pub line_happens : RawSetup → LinkSetup → Place → List Event → ℕ → List Entered → Option (List ℕ) → List Happening
-line_happens setup side at E span entered frame =
-    all_happen side at E (waited span)
+line_happens setup link_setup at E span entered frame =
+    all_happen link_setup at E (waited span)
     ++ requests_happen setup at entered
-    ++ all_happen side at (E ++ waited span) (frame_events frame)
+    ++ all_happen link_setup at (E ++ waited span) (frame_events frame)
 
 -- requests were complete behind all that happened, and what was over with them was handed out
 abbrev pub HearsRequests : RawSetup → Place → Listener → Listener → List Over → List Over → List Entered → Type 0
@@ -71,15 +71,15 @@ HearsRequests setup at old new out out' entered = (E : List Event) (hs : List Ha
 abbrev pub HearsLine : RawSetup → Place → Listener → Listener → List Over → List Over → ℕ → List Entered → Option (List ℕ) → Type 0
 HearsLine setup at old new out out' span entered frame = (E : List Event) (hs : List Happening)
     → Listens old E hs
-    → Listens new ((E ++ waited span) ++ frame_events frame) (hs ++ line_happens setup old.side at E span entered frame)
-    × (out' ≡ out ++ over_after hs (line_happens setup old.side at E span entered frame))
+    → Listens new ((E ++ waited span) ++ frame_events frame) (hs ++ line_happens setup old.setup at E span entered frame)
+    × (out' ≡ out ++ over_after hs (line_happens setup old.setup at E span entered frame))
 
 -- it took a line, and what was over with it was told
 abbrev pub JudgesLine : RawSetup → Place → ℕ → Tester → Tester → List Told → List Told → ℕ → Option (List ℕ) → Type 0
 JudgesLine setup at who old new told told' span frame = (E : List Event) (hs : List Happening)
     → Judges old E hs
-    → Judges new ((E ++ waited span) ++ frame_events frame) (hs ++ line_happens setup old.listener.side at E span old.entered.items frame)
-    × (told' ≡ told ++ map (told_for who) (over_after hs (line_happens setup old.listener.side at E span old.entered.items frame)))
+    → Judges new ((E ++ waited span) ++ frame_events frame) (hs ++ line_happens setup old.listener.setup at E span old.entered.items frame)
+    × (told' ≡ told ++ map (told_for who) (over_after hs (line_happens setup old.listener.setup at E span old.entered.items frame)))
 
 -- ---- the end
 

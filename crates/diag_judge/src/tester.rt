@@ -60,7 +60,7 @@ fn hear_requests(
     ensures heard { OnOk result (HearsRequests setup.now at listener.old listener.new over.old.items over.new.items
         entered.old.items) }
     ensures none { OnOk result (entered.new.items ≡ []) }
-    ensures side { listener.new.side ≡ listener.old.side }
+    ensures link_setup { listener.new.setup ≡ listener.old.setup }
 {
     entered.reverse();
     for _turn in 0..entered.len() {
@@ -80,13 +80,13 @@ fn next(number: u64) -> Result<u64, AllocError>
 
 impl Tester {
     /// A tester that heard nothing, whose frames are read by these settings.
-    pub fn new(alloc: Global, side: LinkSetup) -> Tester
+    pub fn new(alloc: Global, link_setup: LinkSetup) -> Tester
         ensures judges { Judges result [] [] }
         ensures entered { result.entered.items ≡ [] }
-        ensures side { result.listener.side ≡ side }
+        ensures link_setup { result.listener.setup ≡ link_setup }
     {
         Tester {
-            listener: Listener::new(alloc, side),
+            listener: Listener::new(alloc, link_setup),
             entered: Vec::new(alloc),
             over: Vec::new(alloc),
             counts: Counts::new(),
@@ -127,7 +127,7 @@ impl Tester {
         ensures judges { OnOk result (JudgesLine setup.now at who self.old self.new told.old.items told.new.items span
             (option_copied frame.entry)) }
         ensures entered { OnOk result (self.new.entered.items ≡ []) }
-        ensures side { self.new.listener.side ≡ self.old.listener.side }
+        ensures link_setup { self.new.listener.setup ≡ self.old.listener.setup }
     {
         if frame.is_none() && self.is_idle() {
             return Ok(());
@@ -159,7 +159,7 @@ impl Tester {
         ensures judges { OnOk result (JudgesLine setup.now at who self.old self.new told.old.items told.new.items span
             (option_copied frame.entry)) }
         ensures entered { OnOk result (self.new.entered.items ≡ []) }
-        ensures side { self.new.listener.side ≡ self.old.listener.side }
+        ensures link_setup { self.new.listener.setup ≡ self.old.listener.setup }
     {
         self.hear(alloc, setup, at, span, frame)?;
         if self.over.is_empty() {
@@ -181,7 +181,7 @@ impl Tester {
         ensures heard { OnOk result (HearsLine setup.now at self.old.listener self.new.listener [] self.new.over.items
             span self.old.entered.items (option_copied frame.entry)) }
         ensures entered { OnOk result (self.new.entered.items ≡ []) }
-        ensures side { self.new.listener.side ≡ self.old.listener.side }
+        ensures link_setup { self.new.listener.setup ≡ self.old.listener.setup }
         ensures counts { self.new.counts ≡ self.old.counts }
     {
         self.over.clear();

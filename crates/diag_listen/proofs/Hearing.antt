@@ -136,14 +136,14 @@ has_moved old new out out' happened wanted partial took same is coming hs s =
 
 -- it heard an event, where what is kept moved so
 pub hears_one : (old new : Listener) (out out' : List Over) (at : Place) (e : Event) (E : List Event) (hs happened : List Happening) (partial : Option Receiving)
-    → Listens old E hs → new.side ≡ old.side → Moves old new out out' happened partial → happened ≡ unit_happens old.side at E e
-    → partial ≡ partial_of old.side (E ++ e ∷ [])
-    → Listens new (E ++ e ∷ []) (hs ++ unit_happens old.side at E e) × (out' ≡ out ++ over_after hs (unit_happens old.side at E e))
-hears_one old new out out' at e E hs happened partial l side moves is kept =
+    → Listens old E hs → new.setup ≡ old.setup → Moves old new out out' happened partial → happened ≡ unit_happens old.setup at E e
+    → partial ≡ partial_of old.setup (E ++ e ∷ [])
+    → Listens new (E ++ e ∷ []) (hs ++ unit_happens old.setup at E e) × (out' ≡ out ++ over_after hs (unit_happens old.setup at E e))
+hears_one old new out out' at e E hs happened partial l setup moves is kept =
     let m = moves hs l.stands l.coming in (
       record {
         stands = subst (λ w. Stands new.exchanges (hs ++ w)) is m.stands;
-        partial = m.partial ∙ (kept ∙ ap (λ (s : LinkSetup). partial_of s (E ++ e ∷ [])) (sym side));
+        partial = m.partial ∙ (kept ∙ ap (λ (s : LinkSetup). partial_of s (E ++ e ∷ [])) (sym setup));
         coming = m.coming ∙ ap is_some (sym m.partial);
       },
       m.out ∙ ap (λ w. out ++ over_after hs w) is,
@@ -156,16 +156,16 @@ with_nil new out out' E hs xs h =
     let n = sym (append-nil xs) in (subst (λ w. Listens new E (hs ++ w)) n h.0, h.1 ∙ ap (λ w. out ++ over_after hs w) n)
 
 -- it heard a frame of this kind
-pub hears_frame : (old new : Listener) (out out' : List Over) (at : Place) (bytes : List ℕ) (k : Kind) → k ≡ kind bytes old.side.max_request
-    → IsRead old.side.max_request k → new.side ≡ old.side
+pub hears_frame : (old new : Listener) (out out' : List Over) (at : Place) (bytes : List ℕ) (k : Kind) → k ≡ kind bytes old.setup.max_request
+    → IsRead old.setup.max_request k → new.setup ≡ old.setup
     → Moves old new out out' (kind_happens old.receiver.partial at k) (open_after old.receiver.partial k) → Hears old new out out' at (Physical bytes ∷ [])
-hears_frame old new out out' at bytes k is read side moves E hs l =
-    let s = old.side in
+hears_frame old new out out' at bytes k is read setup moves E hs l =
+    let s = old.setup in
     let whole : IsRead s.max_request (kind bytes s.max_request) = subst (IsRead s.max_request) is read in
     let happened = ap₂ (λ (o : Option Receiving) (k : Kind). kind_happens o at k) l.partial is ∙ sym (kind_is s at E bytes whole) in
     let kept = ap₂ open_after l.partial is ∙ sym (frame_more s E bytes whole) in
     with_nil new out out' (E ++ Physical bytes ∷ []) hs (unit_happens s at E (Physical bytes))
-    (hears_one old new out out' at (Physical bytes) E hs (kind_happens old.receiver.partial at k) (open_after old.receiver.partial k) l side moves happened kept)
+    (hears_one old new out out' at (Physical bytes) E hs (kind_happens old.receiver.partial at k) (open_after old.receiver.partial k) l setup moves happened kept)
 
 -- ---- time
 
@@ -214,9 +214,9 @@ silent s at E (Ticks n ∷ es) t none =
 
 -- and it goes by
 goes_by : (own : Listener) (out : List Over) (at : Place) (E es : List Event) (hs : List Happening) → AreTicks es → own.receiver.partial ≡ None
-    → Listens own E hs → Listens own (E ++ es) (hs ++ all_happen own.side at E es) × (out ≡ out ++ over_after hs (all_happen own.side at E es))
+    → Listens own E hs → Listens own (E ++ es) (hs ++ all_happen own.setup at E es) × (out ≡ out ++ over_after hs (all_happen own.setup at E es))
 goes_by own out at E es hs t none l =
-    let q = silent own.side at E es t (sym l.partial ∙ none) in (
+    let q = silent own.setup at E es t (sym l.partial ∙ none) in (
       record {
         stands = subst (λ w. Stands own.exchanges (hs ++ w)) (sym q.0) (subst (λ w. Stands own.exchanges w) (sym (append-nil hs)) l.stands);
         partial = none ∙ sym q.1;
@@ -237,14 +237,14 @@ waits_none own out at ms none E hs l = goes_by own out at E (waited ms) hs (wait
 
 -- ticks, and where they end the message any more
 hears_ticks : (old new : Listener) (out out' : List Over) (at : Place) (m : ℕ) (es : List Event) → AreTicks es
-    → (es ≡ []) ⊎ (after_ticks old.side (suc m) old.receiver.partial ≡ None)
-    → new.side ≡ old.side
-    → Moves old new out out' (ticks_happen old.side (suc m) old.receiver.partial) (after_ticks old.side (suc m) old.receiver.partial)
+    → (es ≡ []) ⊎ (after_ticks old.setup (suc m) old.receiver.partial ≡ None)
+    → new.setup ≡ old.setup
+    → Moves old new out out' (ticks_happen old.setup (suc m) old.receiver.partial) (after_ticks old.setup (suc m) old.receiver.partial)
     → Hears old new out out' at (Ticks (suc m) ∷ es)
-hears_ticks old new out out' at m es t ends side moves E hs l =
-    let s = old.side in
+hears_ticks old new out out' at m es t ends setup moves E hs l =
+    let s = old.setup in
     let e : Event = Ticks (suc m) in
-    let one = hears_one old new out out' at e E hs (ticks_happen s (suc m) old.receiver.partial) (after_ticks s (suc m) old.receiver.partial) l side moves
+    let one = hears_one old new out out' at e E hs (ticks_happen s (suc m) old.receiver.partial) (after_ticks s (suc m) old.receiver.partial) l setup moves
     (ap (ticks_happen s (suc m)) l.partial ∙ sym (ticks_are s at E m)) (ap (after_ticks s (suc m)) l.partial ∙ sym (ticks_more s E m)) in
     let xs = unit_happens s at E e in
     elim ends [
@@ -252,9 +252,9 @@ hears_ticks old new out out' at m es t ends side moves E hs l =
           (sym none) (with_nil new out out' (E ++ e ∷ []) hs xs one)
       | inr over ↦ (
           let gone : new.receiver.partial ≡ None = (moves hs l.stands l.coming).partial ∙ over in
-          let ys' = all_happen new.side at (E ++ e ∷ []) es in
+          let ys' = all_happen new.setup at (E ++ e ∷ []) es in
           let ys = all_happen s at (E ++ e ∷ []) es in
-          let same : ys' ≡ ys = ap (λ (s : LinkSetup). all_happen s at (E ++ e ∷ []) es) side in
+          let same : ys' ≡ ys = ap (λ (s : LinkSetup). all_happen s at (E ++ e ∷ []) es) setup in
           let rest = goes_by new out' at (E ++ e ∷ []) es (hs ++ xs) t gone one.0 in
           let moved : Listens new ((E ++ e ∷ []) ++ es) ((hs ++ xs) ++ ys) = subst (λ w. Listens new ((E ++ e ∷ []) ++ es) ((hs ++ xs) ++ w)) same rest.0 in (
             subst (λ (F : List Event). Listens new F (hs ++ (xs ++ ys))) (append_assoc E (e ∷ []) es)
@@ -268,10 +268,10 @@ ends_within : (s : LinkSetup) (o : Option Receiving) → s.n_cr ≤ 60000 → af
 ends_within s None le = refl
 ends_within s (Some p) le = grind (arith, nat_tests)
 
-pub waits_some : (old new : Listener) (out out' : List Over) (at : Place) (ms count : ℕ) → count ≡ min ms 60000 → 1 ≤ count → old.side.n_cr ≤ 60000
-    → new.side ≡ old.side → Moves old new out out' (ticks_happen old.side count old.receiver.partial) (after_ticks old.side count old.receiver.partial)
+pub waits_some : (old new : Listener) (out out' : List Over) (at : Place) (ms count : ℕ) → count ≡ min ms 60000 → 1 ≤ count → old.setup.n_cr ≤ 60000
+    → new.setup ≡ old.setup → Moves old new out out' (ticks_happen old.setup count old.receiver.partial) (after_ticks old.setup count old.receiver.partial)
     → Hears old new out out' at (waited ms)
-waits_some old new out out' at ms count is some le side moves = of_count count is some moves
+waits_some old new out out' at ms count is some le setup moves = of_count count is some moves
   where
     short : (m : ℕ) → suc m ≡ min ms 60000 → ms < 60000 → waited ms ≡ Ticks (suc m) ∷ []
     short m e less =
@@ -289,23 +289,23 @@ waits_some old new out out' at ms count is some le side moves = of_count count i
     one_less (suc k) h = (k, refl)
 
     of_count : (count : ℕ) → count ≡ min ms 60000 → 1 ≤ count
-        → Moves old new out out' (ticks_happen old.side count old.receiver.partial) (after_ticks old.side count old.receiver.partial)
+        → Moves old new out out' (ticks_happen old.setup count old.receiver.partial) (after_ticks old.setup count old.receiver.partial)
         → Hears old new out out' at (waited ms)
     of_count zero e h moved = absurd (omega (arith, h))
     of_count (suc m) e h moved = elim (nat_lt ms 60000) as (λ b. nat_lt ms 60000 ≡ b → Hears old new out out' at (waited ms)) [
       | true ↦ λ t. let less : ms < 60000 = grind (arith, nat_tests) in
-          subst (λ (es : List Event). Hears old new out out' at es) (sym (short m e less)) (hears_ticks old new out out' at m [] tt (inl refl) side moved)
+          subst (λ (es : List Event). Hears old new out out' at es) (sym (short m e less)) (hears_ticks old new out out' at m [] tt (inl refl) setup moved)
       | false ↦ λ t.
           let above : 60000 ≤ ms = grind (arith, nat_tests) in
           let all : suc m ≡ 60000 = omega (arith, e, above) in
           let k = one_less (ms / 60000) (omega (arith, above)) in
           let rest : List Event = replicate k.0 (Ticks 60000) ++ rest_of ms in
           let are : AreTicks rest = same_ticks k.0 60000 (rest_of ms) (omega arith) (rest_ticks (ms % 60000) (ms % 60000 == 0) refl) in
-          let over : after_ticks old.side (suc m) old.receiver.partial ≡ None =
-          ap (λ (n : ℕ). after_ticks old.side n old.receiver.partial) all ∙ ends_within old.side old.receiver.partial le in
+          let over : after_ticks old.setup (suc m) old.receiver.partial ≡ None =
+          ap (λ (n : ℕ). after_ticks old.setup n old.receiver.partial) all ∙ ends_within old.setup old.receiver.partial le in
           subst (λ (es : List Event). Hears old new out out' at es)
           (ap (λ (n : ℕ). Ticks n ∷ rest) all ∙ sym (long k.0 k.1))
-          (hears_ticks old new out out' at m rest are (inr over) side moved)
+          (hears_ticks old new out out' at m rest are (inr over) setup moved)
     ] refl
 
 -- ---- results

@@ -104,7 +104,7 @@ partial_of s E = unfinished (last_time E) (open_at s (history E))
 -- it heard these events of the unit's side, and this happened to the tester
 pub record Listens (own : Listener) (E : List Event) (hs : List Happening) : Type 0 where
   pub stands : Stands own.exchanges hs
-  pub partial : own.receiver.partial ≡ partial_of own.side E
+  pub partial : own.receiver.partial ≡ partial_of own.setup E
   pub coming : is_some own.exchanges.coming ≡ is_some own.receiver.partial
 
 -- whatever happened before, this happened behind it, and what was over with it was handed out
@@ -132,8 +132,8 @@ Moves old new out out' happened partial = (hs : List Happening)
 abbrev pub Hears : Listener → Listener → List Over → List Over → Place → List Event → Type 0
 Hears old new out out' at es = (E : List Event) (hs : List Happening)
     → Listens old E hs
-    → Listens new (E ++ es) (hs ++ all_happen old.side at E es)
-    × (out' ≡ out ++ over_after hs (all_happen old.side at E es))
+    → Listens new (E ++ es) (hs ++ all_happen old.setup at E es)
+    × (out' ≡ out ++ over_after hs (all_happen old.setup at E es))
 
 -- a request was complete behind all that happened
 abbrev pub HearsRequest : Listener → Listener → List Over → List Over → Request → Type 0

@@ -23,7 +23,7 @@ use std::alloc::{AllocError, Global};
 #[derive(Drop)]
 pub struct Listener {
     /// What frames are read by: the longest message, and N_Cr.
-    pub side: LinkSetup,
+    pub setup: LinkSetup,
     /// The message that is coming in.
     pub receiver: Receiver,
     /// The exchanges that aren't over.
@@ -44,12 +44,12 @@ fn start_of(at: Place, bytes: &[u8]) -> Start
 
 impl Listener {
     /// Nothing was heard.
-    pub fn new(alloc: Global, side: LinkSetup) -> Listener
+    pub fn new(alloc: Global, setup: LinkSetup) -> Listener
         ensures listens { Listens result [] [] }
-        ensures side { result.side ≡ side }
+        ensures setup { result.setup ≡ setup }
     {
         Listener {
-            side,
+            setup,
             receiver: Receiver::new(alloc),
             exchanges: Exchanges::new(alloc),
         }
@@ -63,11 +63,11 @@ impl Listener {
     pub fn wait(&mut self, at: Place, ms: u64, over: &mut Vec<Over>) -> Result<(), AllocError>
         ensures heard { OnOk result
             (Hears self.old self.new over.old.items over.new.items at (waited ms)) }
-        ensures side { self.new.side ≡ self.old.side }
+        ensures setup { self.new.setup ≡ self.old.setup }
     {
         // (for its contract: the time is that of this place, and N_Cr is within the longest count)
         let _ = at;
-        let _n_cr = self.side.n_cr.get();
+        let _n_cr = self.setup.n_cr.get();
         if self.exchanges.coming.is_none() {
             return Ok(());
         }
@@ -81,11 +81,11 @@ impl Listener {
     /// Hears so many ticks.
     fn pass(&mut self, count: TickCount, over: &mut Vec<Over>) -> Result<(), AllocError>
         ensures moves { OnOk result (Moves self.old self.new over.old.items over.new.items
-            (ticks_happen self.old.side count self.old.receiver.partial)
-            (after_ticks self.old.side count self.old.receiver.partial)) }
-        ensures side { self.new.side ≡ self.old.side }
+            (ticks_happen self.old.setup count self.old.receiver.partial)
+            (after_ticks self.old.setup count self.old.receiver.partial)) }
+        ensures setup { self.new.setup ≡ self.old.setup }
     {
-        self.receiver.pass(self.side.n_cr.get(), count.get());
+        self.receiver.pass(self.setup.n_cr.get(), count.get());
         if self.is_receiving() {
             return Ok(());
         }
@@ -104,9 +104,13 @@ impl Listener {
     ) -> Result<(), AllocError>
         ensures heard { OnOk result (Hears self.old self.new over.old.items over.new.items at
             (AnEvent.Physical frame.now ∷ [])) }
-        ensures side { self.new.side ≡ self.old.side }
+        ensures setup { self.new.setup ≡ self.old.setup }
     {
-        self.take_pci(at, Pci::read(frame.as_slice(), self.side.max_request), over)
+        self.take_pci(
+            at,
+            Pci::read(frame.as_slice(), self.setup.max_request),
+            over,
+        )
     }
 
     /// Hears a request of the tester, complete.
@@ -117,7 +121,7 @@ impl Listener {
     pub fn ask(&mut self, request: Request, over: &mut Vec<Over>) -> Result<(), AllocError>
         ensures heard { OnOk result
             (HearsRequest self.old self.new over.old.items over.new.items request) }
-        ensures side { self.new.side ≡ self.old.side }
+        ensures setup { self.new.setup ≡ self.old.setup }
     {
         self.exchanges.ask(request, over)
     }
@@ -134,11 +138,11 @@ impl Listener {
 
     /// Hears a frame of this kind.
     fn take_pci(&mut self, at: Place, pci: Pci<'_>, over: &mut Vec<Over>) -> Result<(), AllocError>
-        requires { IsRead self.old.side.max_request (says pci) }
+        requires { IsRead self.old.setup.max_request (says pci) }
         ensures moves { OnOk result (Moves self.old self.new over.old.items over.new.items
             (kind_happens self.old.receiver.partial at (says pci.entry))
             (open_after self.old.receiver.partial (says pci.entry))) }
-        ensures side { self.new.side ≡ self.old.side }
+        ensures setup { self.new.setup ≡ self.old.setup }
     {
         match pci {
             Pci::Single(payload) => self.take_single(at, payload, over),
@@ -162,7 +166,7 @@ impl Listener {
         requires { (1 ≤ length payload.now) × (length payload.now ≤ 7) }
         ensures moves { OnOk result (Moves self.old self.new over.old.items over.new.items
             (lost_if (is_some self.old.receiver.partial) ++ began at payload.now ∷ Came payload.now ∷ []) None) }
-        ensures side { self.new.side ≡ self.old.side }
+        ensures setup { self.new.setup ≡ self.old.setup }
     {
         self.lose(over)?;
         self.exchanges.begin(start_of(at, payload));
@@ -182,7 +186,7 @@ impl Listener {
         ensures moves { OnOk result (Moves self.old self.new over.old.items over.new.items
             (lost_if (is_some self.old.receiver.partial) ++ began at head.now ∷ [])
             (Some (begun_receiving len head.now))) }
-        ensures side { self.new.side ≡ self.old.side }
+        ensures setup { self.new.setup ≡ self.old.setup }
     {
         self.lose(over)?;
         self.receiver.reserve(len)?;
@@ -204,10 +208,12 @@ impl Listener {
         ensures moves { OnOk result (Moves self.old self.new over.old.items over.new.items
             (part_happens self.old.receiver.partial (Consecutive sequence_number part.now))
             (open_after self.old.receiver.partial (Consecutive sequence_number part.now))) }
-        ensures side { self.new.side ≡ self.old.side }
+        ensures setup { self.new.setup ≡ self.old.setup }
     {
         let message = self.receiver.complete(pci);
-        let _grant = self.receiver.consecutive(&self.side, sequence_number, part);
+        let _grant = self
+            .receiver
+            .consecutive(&self.setup, sequence_number, part);
         match message {
             Some(message) => self.come(message, over),
             None if self.is_receiving() => Ok(()),
@@ -221,7 +227,7 @@ impl Listener {
             over.old.items over.new.items (Came message ∷ [])) }
         ensures coming { OnOk result (self.new.exchanges.coming ≡ None) }
         ensures receiver { self.new.receiver ≡ self.old.receiver }
-        ensures side { self.new.side ≡ self.old.side }
+        ensures setup { self.new.setup ≡ self.old.setup }
     {
         if self.exchanges.coming.is_none() {
             return Ok(());
@@ -235,7 +241,7 @@ impl Listener {
             over.old.items over.new.items (lost_if (is_some self.old.exchanges.coming))) }
         ensures coming { OnOk result (self.new.exchanges.coming ≡ None) }
         ensures partial { self.new.receiver.partial ≡ None }
-        ensures side { self.new.side ≡ self.old.side }
+        ensures setup { self.new.setup ≡ self.old.setup }
     {
         self.receiver.end();
         if self.exchanges.coming.is_none() {

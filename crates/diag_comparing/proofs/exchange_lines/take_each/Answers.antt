@@ -49,10 +49,10 @@ loop-index-preserved c =
           let at_one = (before.0 i own here).1 (omega arith) in (
             taken_one setup lines line K now i new before.0
                 (tester_is setup lines line K said c.args.span c.args.at is (i + 1) bytes frame own new c.loop-index.told.items c.take_line.new.told.items at_one took
-                c.in_ok-take_line.ensures.side c.in_ok-take_line.ensures.entered),
+                c.in_ok-take_line.ensures.link_setup c.in_ok-take_line.ensures.entered),
             told_more setup lines line K c.args.told.now.items c.loop-index.told.items c.take_line.new.told.items i before.1
                 (told_is setup lines line K said c.args.span c.args.at is (i + 1) bytes frame own new c.loop-index.told.items c.take_line.new.told.items at_one took
-                c.in_ok-take_line.ensures.side c.in_ok-take_line.ensures.entered),
+                c.in_ok-take_line.ensures.link_setup c.in_ok-take_line.ensures.entered),
           );
     }
 
