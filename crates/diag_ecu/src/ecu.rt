@@ -432,7 +432,7 @@ impl Ecu {
         ensures { result ≡ is_holder self.now who }
     {
         match self.holder {
-            Some(holder) => holder.place() == who.place(),
+            Some(holder) => holder.number() == who.number(),
             None => false,
         }
     }
