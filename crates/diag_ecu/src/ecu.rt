@@ -237,7 +237,7 @@ impl Ecu {
             Effect::Nothing => {}
             Effect::Serve(service) => self.serve(who, service, p),
             Effect::CountWrongKey => self.security.count_wrong_key(who),
-            Effect::Answer(place) => self.answer_by(who, place),
+            Effect::Answer(index) => self.answer_by(who, index),
         }
         self.keep_alive(who, decided.after_ms);
     }
