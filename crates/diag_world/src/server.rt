@@ -123,7 +123,7 @@ impl Server {
         requires early { IsEarly self.old (who - 1) }
         ensures took { OnOk result (ServerTook K.keeps (server_of self.old) (server_of self.new)
             keeper.old keeper.new who event.now out.old.items out.new.items) }
-        ensures place { K.place keeper.new ≡ K.place keeper.old }
+        ensures target { K.target keeper.new ≡ K.target keeper.old }
         ensures err { OnErr result
             ((server_of self.new ≡ server_of self.old) × (out.new.items ≡ out.old.items)) }
         ensures unkept { OnErr result (K.unkept keeper.old keeper.new) }
@@ -260,7 +260,7 @@ impl<'a, K: Keeper> TakeSteps for Answering<'a, K> {
 
     ghost stays = { λ old new. (new.ecu.ghost_name ≡ old.ecu.ghost_name)
         × (new.keeper.ghost_name ≡ old.keeper.ghost_name)
-        × (K.place new.keeper.now ≡ K.place old.keeper.now) };
+        × (K.target new.keeper.now ≡ K.target old.keeper.now) };
 
     #[inline(always)]
     fn can_delay(&self) -> bool {
@@ -310,7 +310,7 @@ fn take_at<K: Keeper>(
     ensures took { OnOk result (TesterTook K.keeps ecu.old ecu.new (port_of port.old) (port_of port.new)
         keeper.old keeper.new who event.now out.old.items out.new.items) }
     ensures rest { IsAtRest port.new }
-    ensures place { K.place keeper.new ≡ K.place keeper.old }
+    ensures target { K.target keeper.new ≡ K.target keeper.old }
     ensures err { OnErr result
         (TookNothing K.unkept ecu.old ecu.new (port_of port.old) (port_of port.new) keeper.old keeper.new
         out.old.items out.new.items) }
