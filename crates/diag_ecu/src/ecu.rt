@@ -6,10 +6,10 @@ ghost use Rattle.diag_ecu.specs.Respond.{common_checks, own_checks, checks, afte
 ghost use Rattle.diag_ecu.specs.Service.{row as row_of};
 
 use crate::bytes::sub_of;
+use crate::dtcs::setting_refusal;
 use crate::effect::{Decision, Effect};
 use crate::service::{Nrc, Service, ServiceRow};
 use crate::session::DEFAULT_SESSION;
-use crate::trouble_codes::setting_refusal;
 use crate::write_data::write_reply;
 use diag_can::FrameBytes;
 use diag_pdu::Message;
