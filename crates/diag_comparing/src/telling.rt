@@ -16,7 +16,7 @@ use std::alloc::AllocError;
 fn name_of(setup: &Setup, who: TesterId) -> &[u8]
     ensures { result.now ≡ name_of setup.now who }
 {
-    if usize::from(who.place()) <= setup.testers() {
+    if usize::from(who.number()) <= setup.testers() {
         setup.name(who)
     } else {
         &[]

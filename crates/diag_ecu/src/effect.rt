@@ -13,7 +13,7 @@ pub enum Effect {
     Serve(Service),
     /// A wrong key counts, though it is refused.
     CountWrongKey,
-    /// The row of answers at this place answers: its next template moves on, and the tester goes to the row's session.
+    /// The row of answers at this index answers: its next template moves on, and the tester goes to the row's session.
     Answer(u16),
 }
 

@@ -74,7 +74,7 @@ impl Keeper for JournalLines {
 
     ghost unkept = { IsUnkept };
 
-    ghost place = { λ _. 0 };
+    ghost target = { λ _. 0 };
 
     fn keep_request(
         &mut self,

@@ -7,7 +7,7 @@ ghost use Rattle.diag_store.specs.Dtcs.{code_of, status_of, with_status, set_sta
 ghost use Rattle.diag_store.specs.Opening.{opening_codes, dtc_row};
 
 use crate::search::{find_place, find_row};
-use diag_setup::{Keyed, RawCode, Setup};
+use diag_setup::{Keyed, RawDtc, Setup};
 use std::alloc::{AllocError, Global};
 use std::marker::Model;
 
@@ -162,7 +162,7 @@ fn count_matching(rows: &[Dtc], mask: u8) -> u16
     rows.iter().filter(|row| row.status & mask != 0).count() as u16
 }
 
-pub(crate) fn dtc_row(row: &RawCode) -> Dtc
+pub(crate) fn dtc_row(row: &RawDtc) -> Dtc
     requires { row.now.status ≤ 0xFF }
     ensures { result ≡ dtc_row row.now }
 {

@@ -10,7 +10,7 @@ use crate::bytes::bytes_of;
 use crate::dtcs::{Dtc, DtcMemory, dtc_row};
 use crate::search::{find_place, find_row};
 use arrayvec::ArrayVec;
-use diag_setup::{Keyed, RawCode, RawRoutine, Setup};
+use diag_setup::{Keyed, RawDtc, RawRoutine, Setup};
 use std::alloc::{AllocError, Global};
 use std::marker::Model;
 
@@ -310,7 +310,7 @@ fn routine_row(routine: &RawRoutine) -> Routine
     }
 }
 
-fn on_done_row(on_done: &Option<RawCode>) -> Option<Dtc>
+fn on_done_row(on_done: &Option<RawDtc>) -> Option<Dtc>
     requires { OnDoneFits on_done.now }
     ensures { result ≡ option_map dtc_row on_done.now }
 {

@@ -284,7 +284,7 @@ fn put(out: &mut Reply, start: u64, drawn: &Drawn)
     let frame = &drawn.sent.frame;
     out.at_us = moment_us(start, drawn.sent.at);
     out.id = told_id(frame.id);
-    out.tester = drawn.who.place();
+    out.tester = drawn.who.number();
     out.bytes = [0; 8];
     out.len = frame.bytes.len() as u8;
     copy_into(&mut out.bytes, frame.bytes.as_slice());
@@ -352,7 +352,7 @@ fn session_of(ecu: &Ecu) -> Session
         },
         Some(who) => Session {
             session: ecu.session_of(who),
-            holder: who.place(),
+            holder: who.number(),
         },
     }
 }

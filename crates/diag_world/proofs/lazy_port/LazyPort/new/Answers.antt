@@ -4,7 +4,7 @@ use Rattle.diag_port.specs.Port.{port_of}
 use Rattle.diag_port.specs.Standing.{PortStands}
 use Rattle.diag_port.proofs.Quiet.{whole_none}
 use Rattle.diag_world.proofs.Lazy.{caught_still}
-use Rattle.diag_world.proofs.lazy_link.LazyLink.new.Goals as goal
+use Rattle.diag_world.proofs.lazy_port.LazyPort.new.Goals as goal
 
 pub returns-clause-lazy : goal.returns-clause-lazy
 returns-clause-lazy c = caught_still 0 _ refl c.new.ensures.rest (omega arith) (omega (arith, c.new.ensures.time))

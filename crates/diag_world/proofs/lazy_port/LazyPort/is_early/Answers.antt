@@ -1,9 +1,9 @@
 use Rattle.std.proofs.Common.{◌≡◌, ◌≤◌, ℕ, IsTrue, subst, arith}
 use Rattle.std.specs.Prelude.{◌↔◌}
 use Rattle.diag_tp.specs.Link.{quiet_later}
-use Rattle.diag_world.specs.Lazy.{caught_up}
+use Rattle.diag_world.specs.LazyPort.{caught_up}
 use Rattle.diag_world.specs.Server.{closing_time}
-use Rattle.diag_world.proofs.lazy_link.LazyLink.is_early.Goals as goal
+use Rattle.diag_world.proofs.lazy_port.LazyPort.is_early.Goals as goal
 
 pub returns : goal.returns
 unfolding quiet_later

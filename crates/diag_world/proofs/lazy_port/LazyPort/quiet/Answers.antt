@@ -1,7 +1,7 @@
 use Rattle.std.proofs.Common.{◌-◌, arith}
 use Rattle.diag_port.proofs.Quiet.{rest_later, some_quiet}
-use Rattle.diag_world.specs.Lazy.{caught_up}
-use Rattle.diag_world.proofs.lazy_link.LazyLink.quiet.Goals as goal
+use Rattle.diag_world.specs.LazyPort.{caught_up}
+use Rattle.diag_world.proofs.lazy_port.LazyPort.quiet.Goals as goal
 
 pub returns-clause-some : goal.returns-clause-some
 returns-clause-some c =

@@ -114,9 +114,9 @@ impl Ecu {
         Ok(head)
     }
 
-    /// Adds the DTC at a place with its reported status.
+    /// Adds the DTC at an index with its reported status.
     fn report_at(&self, reply: &mut Vec<u8>, i: usize) -> Result<(), AllocError>
-        requires place { i < length self.now.dtcs }
+        requires index { i < length self.now.dtcs }
         ensures text { OnOk result (reply.new.items
             ++ flat_map (report self.now.values.availability) (drop (i + 1) self.now.dtcs)
             ≡ reply.old.items
@@ -131,7 +131,7 @@ impl Ecu {
 
     /// The same, where the status has a bit of the mask.
     fn report_if(&self, reply: &mut Vec<u8>, i: usize, mask: u8) -> Result<(), AllocError>
-        requires place { i < length self.now.dtcs }
+        requires index { i < length self.now.dtcs }
         ensures text { OnOk result (reply.new.items
             ++ flat_map (report self.now.values.availability)
             (matching (drop (i + 1) self.now.dtcs) mask)

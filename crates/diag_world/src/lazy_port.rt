@@ -4,7 +4,7 @@ ghost use Rattle.std.specs.Prelude.{◌≡◌, ◌≤◌, ◌↔◌, [], IsTrue}
 ghost use Rattle.diag_port.specs.Block.{port_in_block};
 ghost use Rattle.diag_port.specs.Port.{port_of, port_quiet};
 ghost use Rattle.diag_port.specs.Standing.{PortStands};
-ghost use Rattle.diag_world.specs.Lazy.{caught_up, IsLazy};
+ghost use Rattle.diag_world.specs.LazyPort.{caught_up, IsLazy};
 ghost use Rattle.diag_world.specs.Server.{closing_time};
 
 use crate::server::CLOSING_TIME;
@@ -16,18 +16,18 @@ use std::alloc::Global;
 ///
 /// In the others it does nothing, so it stands for what it is once it has caught up, in one move.
 #[derive(Drop)]
-pub(crate) struct LazyLink {
+pub(crate) struct LazyPort {
     pub(crate) port: Port,
     pub(crate) taken: u64,
 }
 
-impl LazyLink {
+impl LazyPort {
     /// A port whose link has these settings, on which nothing has happened.
-    pub(crate) fn new(alloc: Global, setup: LinkSetup, pace: Pace) -> LazyLink
+    pub(crate) fn new(alloc: Global, setup: LinkSetup, pace: Pace) -> LazyPort
         ensures lazy { IsLazy 0 result }
         ensures stands { PortStands setup pace (port_of (caught_up 0 result)) [] [] }
     {
-        LazyLink {
+        LazyPort {
             port: Port::new(alloc, setup, pace),
             taken: 0,
         }

@@ -1,6 +1,6 @@
 use Rattle.std.proofs.Common.{refl, sym, arith}
 use Rattle.diag_world.proofs.Lazy.{caught, seen_caught}
-use Rattle.diag_world.proofs.lazy_link.LazyLink.catch_up.Goals as goal
+use Rattle.diag_world.proofs.lazy_port.LazyPort.catch_up.Goals as goal
 
 pub returns-then-self-passed-clause-port : goal.returns-then-self-passed-clause-port
 returns-then-self-passed-clause-port c =
