@@ -87,7 +87,7 @@ ids_once setup well =
     second false true c d e f h = cc
     second false false c d e f h = refl
 
--- the tester of a place
+-- the tester of a number
 tester_at : (setup : RawSetup) (who : ℕ) → IsWithin (length setup.testers) who
     → (t : RawTester) × (slice_get setup.testers (who - 1) ≡ Some t) × ((ids_of setup who).request ≡ request_id t)
     × ((ids_of setup who).functional ≡ functional_of setup.functional t)

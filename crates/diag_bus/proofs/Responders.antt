@@ -50,7 +50,7 @@ responses_apart (v ∷ ts) zero (suc j) t u once at there less same =
 responses_apart (v ∷ ts) (suc i) (suc j) t u once at there less same =
     responses_apart ts i j t u (others_once v ts once) at there (omega (arith, less)) same
 
--- the tester of a place
+-- the tester of a number
 tester_at : (setup : RawSetup) (who : ℕ) → IsWithin (length setup.testers) who
     → (t : RawTester) × (slice_get setup.testers (who - 1) ≡ Some t) × ((ids_of setup who).response ≡ response_id t)
 tester_at setup who within =

@@ -60,13 +60,13 @@ pub record HasTime (server : ServerView) (span : ℕ) : Type 0 where
 abbrev pub TookTime : ServerView → ServerView → ℕ → Type 0
 TookTime old new span = (time : ℕ) → IsBy old time → IsBy new (time + span)
 
--- the clock at this place went on by at most so much, and no other did
+-- the clock at this index went on by at most so much, and no other did
 abbrev pub OneWentOn : ServerView → ServerView → ℕ → ℕ → Type 0
-OneWentOn old new place span = (i : ℕ) (port : PortState)
+OneWentOn old new index span = (i : ℕ) (port : PortState)
     → slice_get (server_of new).ports i ≡ Some port
     → (before : PortState)
     × (slice_get (server_of old).ports i ≡ Some before)
-    × (((i ≡ place) × (port.link.now ≤ before.link.now + span)) ⊎ (port.link.now ≤ before.link.now))
+    × (((i ≡ index) × (port.link.now ≤ before.link.now + span)) ⊎ (port.link.now ≤ before.link.now))
 
 -- the event lets at most so much pass
 abbrev pub Lasts : Event → ℕ → Type 0
@@ -78,8 +78,8 @@ AreSentBy lists time = (i : ℕ) (frames : List Sent) → slice_get lists i ≡ 
 
 -- the tester's event sent no frame later than so much behind what its clock told
 abbrev pub OneSentIn : Node → Node → ℕ → ℕ → Type 0
-OneSentIn old new place span = (last : ℕ)
-    → ((port : PortState) → slice_get (server_of old.server).ports place ≡ Some port → port.link.now + span ≤ last)
+OneSentIn old new index span = (last : ℕ)
+    → ((port : PortState) → slice_get (server_of old.server).ports index ≡ Some port → port.link.now + span ≤ last)
     → AreSentBy (lists_of old.drawn) last
     → AreSentBy (lists_of new.drawn) last
 
@@ -136,11 +136,11 @@ SaidBelow (Stamped moment frame) most = moment < most
 abbrev pub StartsBelow : Option Start → ℕ → Type 0
 StartsBelow start most = IfSome start (λ s. s.moment < most)
 
--- frames of the tester at this place, from 0, are written by the writers of these names
-pub record AreWritable (setup : RawSetup) (begins : Option Start) (writers : List (List ℕ)) (place : ℕ)
+-- frames of the tester at this index, from 0, are written by the writers of these names
+pub record AreWritable (setup : RawSetup) (begins : Option Start) (writers : List (List ℕ)) (index : ℕ)
     (frames : List Sent) : Type 0 where
   pub names : AreNamesOf setup writers
-  pub tester : place < length setup.testers
+  pub tester : index < length setup.testers
   pub start : StartsBelow begins moment_end
   pub sent : All (λ f. f.at ≤ closing_time) frames
 

@@ -87,7 +87,7 @@ pub record Each (P : ℕ → Comparison → Comparison → Type 0) (old new : Li
   pub each : (i : ℕ) (before after : Comparison) → slice_get old i ≡ Some before → slice_get new i ≡ Some after
       → P i before after
 
--- the frames of the list at this place were taken
+-- the frames of the list at this index were taken
 abbrev pub ExpectsAt : List (List Sent) → ℕ → Comparison → Comparison → Type 0
 ExpectsAt drawn i before after = (frames : List Sent) → slice_get drawn i ≡ Some frames → Expects before after (expected_of frames)
 

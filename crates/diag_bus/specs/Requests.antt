@@ -30,7 +30,7 @@ given setup id n Nobody bytes = []
 given setup id n (Tester who) bytes = (who, event.Physical bytes) ∷ []
 given setup id n Functional bytes = functional_to_all setup id n bytes
 
--- the tester of this place is one of so many
+-- the tester of this number is one of so many
 abbrev pub IsWithin : ℕ → ℕ → Type 0
 IsWithin n who = (1 ≤ who) × (who ≤ n)
 
@@ -59,18 +59,18 @@ pub record AreNamesOf (setup : RawSetup) (names : List (List ℕ)) : Type 0 wher
   pub many : length names ≡ length setup.testers
   pub each : (i : ℕ) (name : List ℕ) → slice_get names i ≡ Some name → name ≡ name_of setup (i + 1)
 
--- the lists have frames at no other place than this says
+-- the lists have frames at no other index than this says
 abbrev pub AreFilled : Filled → List (List Sent) → Type 0
 AreFilled Nowhere lists = (i : ℕ) (frames : List Sent) → slice_get lists i ≡ Some frames → frames ≡ []
-AreFilled (At place) lists = (place < length lists)
-    × ((i : ℕ) (frames : List Sent) → i ≢ place → slice_get lists i ≡ Some frames → frames ≡ [])
+AreFilled (At index) lists = (index < length lists)
+    × ((i : ℕ) (frames : List Sent) → i ≢ index → slice_get lists i ≡ Some frames → frames ≡ [])
 AreFilled Anywhere lists = Unit {0}
 
--- the same where the list at this place may have frames, too
+-- the same where the list at this index may have frames, too
 abbrev pub filled_at : Filled → ℕ → Filled
-filled_at Nowhere place = At place
-filled_at (At other) place = if other == place then At other else Anywhere
-filled_at Anywhere place = Anywhere
+filled_at Nowhere index = At index
+filled_at (At other) index = if other == index then At other else Anywhere
+filled_at Anywhere index = Anywhere
 
 -- ---- the unit's own frames
 

@@ -368,7 +368,7 @@ fn expect(testers: &mut Vec<Comparison>, drawn: &LineFrames) -> Result<(), Alloc
 {
     match drawn.filled {
         Filled::Nowhere => Ok(()),
-        Filled::At(place) => testers[place].expect_each(drawn.lists[place].as_slice()),
+        Filled::At(index) => testers[index].expect_each(drawn.lists[index].as_slice()),
         Filled::Anywhere => expect_all(testers, drawn.lists.as_slice()),
     }
 }
@@ -380,8 +380,8 @@ fn expect_all(testers: &mut Vec<Comparison>, drawn: &[Vec<Sent>]) -> Result<(), 
     ensures ok { OnOk result (EachExpects (map (λ frames. frames.items) drawn.now) testers.old.items testers.new.items) }
     ensures shape { length testers.new.items ≡ length testers.old.items }
 {
-    for place in 0..testers.len() {
-        testers[place].expect_each(drawn[place].as_slice())?;
+    for index in 0..testers.len() {
+        testers[index].expect_each(drawn[index].as_slice())?;
     }
     Ok(())
 }

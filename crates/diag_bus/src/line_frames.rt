@@ -41,7 +41,7 @@ fn clear(drawn: &mut Vec<Vec<Sent>>, filled: Filled)
 {
     match filled {
         Filled::Nowhere => {}
-        Filled::At(place) => drawn[place].clear(),
+        Filled::At(index) => drawn[index].clear(),
         Filled::Anywhere => clear_all(drawn),
     }
 }

@@ -53,9 +53,9 @@ impl Replies {
     {
         match drawn.filled {
             Filled::Nowhere => Ok(()),
-            Filled::At(place) if is_in_order(drawn.lists[place].as_slice()) => {
-                let frames = drawn.lists[place].as_slice();
-                write_own(setup, clock, &mut self.writers, place, frames, text)
+            Filled::At(index) if is_in_order(drawn.lists[index].as_slice()) => {
+                let frames = drawn.lists[index].as_slice();
+                write_own(setup, clock, &mut self.writers, index, frames, text)
             }
             Filled::At(_) | Filled::Anywhere => {
                 let (writers, batch) = (&mut self.writers, &mut self.batch);
