@@ -52,7 +52,7 @@ Records old new frames = (recorded : List Recorded) (expected : List (List ℕ))
     → Compares old recorded expected
     → Compares new (recorded ++ frames) expected
 
--- two frames were compared that stand at one place, behind which this was kept
+-- two frames were compared that stand at one index, behind which this was kept
 abbrev pub Compared : Comparison → Comparison → Recorded → List ℕ → Type 0
 Compared old new frame bytes = (recorded : List Recorded) (expected : List (List ℕ))
     → old.count ≡ length recorded

@@ -34,7 +34,7 @@ pub struct Comparison {
     pub behind: VecDeque<FrameBytes>,
     /// How many frames the recording had.
     pub count: u64,
-    /// The first difference, once the frame that the server sends at its place is known. Nothing is kept behind it.
+    /// The first difference, once the frame that the server sends at its index is known. Nothing is kept behind it.
     pub difference: Option<Difference>,
 }
 
@@ -51,7 +51,7 @@ impl Comparison {
         }
     }
 
-    /// Compares a frame of the recording with the one that the server sends at its place.
+    /// Compares a frame of the recording with the one that the server sends at its index.
     fn compare(&mut self, frame: Recorded, bytes: FrameBytes)
         requires { self.old.difference ≡ None }
         ensures { Compared self.old self.new frame bytes }

@@ -9,7 +9,7 @@ use Rattle.std.specs.Prelude.{◌&&◌, ◌||◌, if◌then◌else◌, nat_lt, n
 use Rattle.diag_pdu.specs.Cut.{counted_from}
 use Rattle.diag_setup.specs.Setup.{name_of}
 use Rattle.diag_setup.specs.declared.raw.RawSetup.{RawSetup}
-use Rattle.diag_bus.specs.Verdict.{places}
+use Rattle.diag_bus.specs.Verdict.{numbers}
 use Rattle.diag_exchange.specs.Agreeing.{is_compared}
 use Rattle.diag_exchange.specs.declared.happening.Over.{Over}
 use Rattle.diag_judge.specs.Judging.{EndsCounted, EndsTold, differs}
@@ -49,10 +49,10 @@ module _ (setup : RawSetup) (lines : List (List ℕ)) where
   compared_all (t ∷ ts) = ap (λ b. list_any is_compared (of t) || b) (compared_all ts) ∙ sym (list_any-append is_compared (of t) (flat_map of ts))
 
   pub differ_is : list_any some_differ (all_counts setup lines) ≡ any_differs (expects setup) setup lines
-  differ_is = differ_all (places setup)
+  differ_is = differ_all (numbers setup)
 
   pub nothing_is : nothing_in (all_counts setup lines) ≡ compares_nothing (expects setup) setup lines
-  nothing_is = ap₂ (λ (a b : Bool). not a && not b) (differ_all (places setup)) (compared_all (places setup))
+  nothing_is = ap₂ (λ (a b : Bool). not a && not b) (differ_all (numbers setup)) (compared_all (numbers setup))
 
   pub status_is : status_in (all_counts setup lines) ≡ status (expects setup) setup lines
   status_is = ap₂ (λ (a b : Bool). if a then 8 else if b then 9 else 0) differ_is nothing_is
@@ -62,7 +62,7 @@ module _ (setup : RawSetup) (lines : List (List ℕ)) where
   lines_from a zero = refl
   lines_from a (suc n) = ap (λ w. count_line (expects setup) setup lines a ++ w) (lines_from (suc a) n)
 
-  pub lines_are : count_lines setup 1 (all_counts setup lines) ≡ flat_map (count_line (expects setup) setup lines) (places setup)
+  pub lines_are : count_lines setup 1 (all_counts setup lines) ≡ flat_map (count_line (expects setup) setup lines) (numbers setup)
   lines_are = lines_from 1 (length setup.testers)
 
 -- one tester's line more

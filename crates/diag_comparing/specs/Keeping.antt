@@ -15,7 +15,7 @@ use Rattle.diag_desk.specs.declared.entry.Entry.{Entry}
 use Rattle.diag_bus.specs.Events.{clock_of, line_said, reference, time_said}
 use Rattle.diag_bus.specs.Requests.{IsWithin}
 use Rattle.diag_bus.specs.Text.{bus_moment, ecu_after, start_after}
-use Rattle.diag_bus.specs.Verdict.{places}
+use Rattle.diag_bus.specs.Verdict.{numbers}
 use Rattle.diag_bus.specs.declared.clock.Clock.{Clock}
 use Rattle.diag_bus.specs.declared.clock.Start.{Start}
 use Rattle.diag_exchange.specs.declared.happening.Over.{Over}
@@ -150,7 +150,7 @@ TakesEach setup at said span old new told told' = (lines : List (List ℕ)) (lin
     → IsLine setup lines line said span at K
     → AreTesters setup lines K old
     → AreTesters setup (lines ++ line ∷ []) [] new
-    × (told' ≡ told ++ map told_pair (flat_map (over_by (expects setup) setup lines line) (places setup)))
+    × (told' ≡ told ++ map told_pair (flat_map (over_by (expects setup) setup lines line) (numbers setup)))
 
 -- the end of a line was taken, and this was written
 abbrev pub TakesEnd : RawSetup → ExchangeLines → ExchangeLines → BusLine → ℕ → Clock → List ℕ → Type 0
@@ -167,13 +167,13 @@ abbrev pub tester_counts : RawSetup → List (List ℕ) → ℕ → Counts
 tester_counts setup lines t = counts_of (exchanges (expects setup) setup lines t)
 
 abbrev pub all_counts : RawSetup → List (List ℕ) → List Counts
-all_counts setup lines = map (tester_counts setup lines) (places setup)
+all_counts setup lines = map (tester_counts setup lines) (numbers setup)
 
 -- the exchanges that weren't over were told, of each tester
 abbrev pub EndsEach : RawSetup → List Tester → List Told → List Told → Type 0
 EndsEach setup testers told told' = (lines : List (List ℕ))
     → AreTesters setup lines [] testers
-    → told' ≡ told ++ map told_pair (flat_map (open_for (expects setup) setup lines) (places setup))
+    → told' ≡ told ++ map told_pair (flat_map (open_for (expects setup) setup lines) (numbers setup))
 
 -- all exchanges were counted, of each tester
 abbrev pub CountsEach : RawSetup → List Tester → List Counts → Type 0

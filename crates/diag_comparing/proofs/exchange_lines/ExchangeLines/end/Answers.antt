@@ -1,7 +1,7 @@
 use Rattle.std.proofs.Common.{◌≡◌, ◌++◌, [], List, ℕ, ap, ap₂, subst, sym, ◌∙◌}
 use Rattle.std.specs.List.{flat_map}
 use Rattle.std.specs.Prelude.{map}
-use Rattle.diag_bus.specs.Verdict.{places}
+use Rattle.diag_bus.specs.Verdict.{numbers}
 use Rattle.diag_judge.specs.declared.tester.Counts.{Counts}
 use Rattle.diag_judge.specs.declared.tester.Tester.{Tester}
 use Rattle.diag_judge.specs.declared.tester.Told.{Told}
@@ -38,7 +38,7 @@ returns-clause-ok c =
       grown = c.in_ok-extend_from_slice.ensures.items ∙ ap (λ w. c.args.text.now.items ++ w) (c.as_slice-4.ensures.value ∙ third);
       holds = λ lines taken.
           let each = subst (λ (ts : List Tester). AreTesters setup lines [] ts) (sym c.as_slice.ensures.value) taken.each in
-          let pairs = flat_map (open_for (expects setup) setup lines) (places setup) in
+          let pairs = flat_map (open_for (expects setup) setup lines) (numbers setup) in
           let are : told ≡ map told_pair pairs = c.in_ok-counts.ensures.told lines each ∙ ap (λ (w : List Told). w ++ map told_pair pairs) c.new-told.ensures.items in
           let all = c.in_ok-counts.ensures.counts lines each in
           ap₂ (λ (u v : List ℕ). u ++ v)

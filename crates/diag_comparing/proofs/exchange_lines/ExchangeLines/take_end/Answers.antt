@@ -2,7 +2,7 @@ use Rattle.std.proofs.Common.{◌≡◌, ◌+◌, ◌++◌, ◌∷◌, [], List,
 use Rattle.std.proofs.lemmas.List.{length-append}
 use Rattle.std.specs.List.{flat_map}
 use Rattle.std.specs.Prelude.{map}
-use Rattle.diag_bus.specs.Verdict.{places}
+use Rattle.diag_bus.specs.Verdict.{numbers}
 use Rattle.diag_judge.specs.declared.tester.Told.{Told}
 use Rattle.diag_compare.specs.Compare.{over_by}
 use Rattle.diag_compare.specs.Expects.{expects}
@@ -30,7 +30,7 @@ returns-clause-taken c =
       holds = λ lines line K ends taken.
           let count = c.in_ok-line.ensures ∙ ap (λ k. k + 1) taken.count in
           let one = c.in_ok-take_each.ensures.each lines line K (is_line setup lines line said span clock K n count ends) taken.each in
-          let pairs = flat_map (over_by (expects setup) setup lines line) (places setup) in
+          let pairs = flat_map (over_by (expects setup) setup lines line) (numbers setup) in
           let are : batch ≡ map told_pair pairs = one.1 ∙ ap (λ (w : List Told). w ++ map told_pair pairs) c.clear.ensures.items in
           let stamped = stamps_more setup lines line old.stamps stamps n clock.start count ends.start c.take.ensures taken.stamps in (
             record {
