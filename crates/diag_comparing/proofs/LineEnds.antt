@@ -30,10 +30,10 @@ module _ (setup : RawSetup) (lines : List (List ℕ)) (line : List ℕ) (said : 
   }
 
   pub is_line : (number : ℕ) → number ≡ length lines + 1 → Ends setup lines line said span clock K
-      → IsLine setup lines line said span (record { line = number; moment = clock.time }) K
+      → IsLine setup lines line said span (record { number = number; moment = clock.time }) K
   is_line number is e = record {
     says = e.says;
     waits = e.waits;
-    place = ap₂ (λ (n m : ℕ). record { line = n; moment = m }) is e.time;
+    stands = ap₂ (λ (n m : ℕ). record { number = n; moment = m }) is e.time;
     entries = e.entries;
   }

@@ -16,7 +16,7 @@ use Rattle.diag_bus.specs.declared.clock.Start.{Start}
 use Rattle.diag_exchange.specs.Agreeing.{agrees}
 use Rattle.diag_exchange.specs.declared.happening.Over.{Over}
 use Rattle.diag_judge.specs.declared.tester.Told.{Told}
-use Rattle.diag_told.specs.Told.{place_told, told_text}
+use Rattle.diag_told.specs.Told.{capture_line_told, told_text}
 use Rattle.diag_compare.specs.Compare.{compared_after, compared_by, is_told, lines_of}
 use Rattle.diag_compare.specs.Expects.{expects}
 use Rattle.diag_comparing.specs.Keeping.{HasStamps, line_at, lines_at, stamped_by, start_from, told_number, told_pair, written_at}
@@ -144,8 +144,8 @@ module _ (setup : RawSetup) (stamps : Stamps) (lines : List (List ℕ)) (differe
   -- an exchange's line is the one by where the bus's time begins
   same_line : (pair : ℕ × Over) → line_at setup stamps (told_pair pair) ≡ told_line setup lines pair
   same_line pair =
-      ap (λ s. told_text (name_of setup pair.0) (bus_moment s (place_told pair.1).moment) (agrees pair.1) pair.1)
-      (sym (h.start (place_told pair.1).line))
+      ap (λ s. told_text (name_of setup pair.0) (bus_moment s (capture_line_told pair.1).moment) (agrees pair.1) pair.1)
+      (sym (h.start (capture_line_told pair.1).number))
 
   same_written : (pair : ℕ × Over) (d a : Bool) → d ≡ differences → a ≡ agrees pair.1 → (rest rest' : List ℕ) → rest ≡ rest'
       → (if d && a then [] else line_at setup stamps (told_pair pair)) ++ rest

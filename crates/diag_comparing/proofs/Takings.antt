@@ -23,7 +23,7 @@ use Rattle.diag_bus.specs.Text.{ecu_after}
 use Rattle.diag_exchange.specs.Exchanges.{over_after}
 use Rattle.diag_exchange.specs.declared.happening.Happening.{Happening}
 use Rattle.diag_exchange.specs.declared.happening.Over.{Over}
-use Rattle.diag_exchange.specs.declared.happening.Place.{Place}
+use Rattle.diag_exchange.specs.declared.happening.CaptureLine.{CaptureLine}
 use Rattle.diag_expect.specs.declared.entered.Entered.{Entered}
 use Rattle.diag_listen.specs.Listening.{all_happen}
 use Rattle.diag_judge.specs.Judging.{Judges, JudgesLine, frame_events, line_happens, request_happens, requests_happen, told_for}
@@ -31,7 +31,7 @@ use Rattle.diag_judge.specs.declared.tester.Tester.{Tester}
 use Rattle.diag_judge.specs.declared.tester.Told.{Told}
 use Rattle.diag_compare.specs.Compare.{beside, over_by}
 use Rattle.diag_compare.specs.Expects.{expects, step_expects}
-use Rattle.diag_compare.specs.Hearing.{asks, entries_by, entry_happens, frame_with, happenings, in_states, is_of, place_of, time_of_line, unit_after, unit_events, unit_frame, unit_side}
+use Rattle.diag_compare.specs.Hearing.{asks, capture_line_of, entries_by, entry_happens, frame_with, happenings, in_states, is_of, time_of_line, unit_after, unit_events, unit_frame, unit_side}
 use Rattle.diag_compare.specs.Hearing as hearing
 use Rattle.diag_comparing.specs.Keeping.{AreTesters, IsLine, IsTester, bytes_with, entered_by, entry_entered, step_entered, told_pair}
 use Rattle.diag_compare.proofs.Messages.{unit_push}
@@ -44,12 +44,12 @@ flat_append f [] ys = refl
 flat_append f (x ∷ xs) ys = ap (λ w. f x ++ w) (flat_append f xs ys) ∙ sym (append_assoc (f x) (flat_map f xs) (flat_map f ys))
 
 -- the requests that are complete are those that were entered
-step_asked : (setup : RawSetup) (at : Place) (s : State) (who : ℕ) (step : Step) (reply : Option (List ℕ))
+step_asked : (setup : RawSetup) (at : CaptureLine) (s : State) (who : ℕ) (step : Step) (reply : Option (List ℕ))
     → asks at step (step_expects setup s who step reply) ≡ requests_happen setup at (step_entered s who step reply)
 step_asked setup at s who (step.Request request) reply = refl
 step_asked setup at s who (step.Ticks n) reply = refl
 
-asked_entered : (setup : RawSetup) (at : Place) (t : ℕ) (es : List (State × Entry))
+asked_entered : (setup : RawSetup) (at : CaptureLine) (t : ℕ) (es : List (State × Entry))
     → flat_map (entry_happens (expects setup) setup t at) es ≡ requests_happen setup at (flat_map entry_entered es)
 asked_entered setup at t [] = refl
 asked_entered setup at t (e ∷ es) =
@@ -84,7 +84,7 @@ counted_next i =
 
 -- ---- a line to a tester
 
-module _ (setup : RawSetup) (lines : List (List ℕ)) (line : List ℕ) (K : List Entry) (said : BusLine) (span : ℕ) (at : Place)
+module _ (setup : RawSetup) (lines : List (List ℕ)) (line : List ℕ) (K : List Entry) (said : BusLine) (span : ℕ) (at : CaptureLine)
     (h : IsLine setup lines line said span at K) (t : ℕ) (bytes : Option (List ℕ))
     (frame : bytes ≡ bytes_with (ids_of setup t).response (frame_said said)) where
   abbrev before : List Event
@@ -103,14 +103,14 @@ module _ (setup : RawSetup) (lines : List (List ℕ)) (line : List ℕ) (K : Lis
   happen_is : line_happens setup (unit_side setup t) at before span (entered_by setup lines K t) bytes
       ≡ hearing.line_happens (expects setup) setup t lines line
   happen_is =
-      let entries = ap (λ es. flat_map (entry_happens (expects setup) setup t (place_of setup lines line)) (filter (is_of t) es)) (sym h.entries) in
-      let asked = sym (asked_entered setup (place_of setup lines line) t (filter (is_of t) (in_states (ecu_after setup lines) K))) ∙ entries in
-      ap (λ p. line_happens setup (unit_side setup t) p before span (entered_by setup lines K t) bytes) h.place
-      ∙ ap₂ (λ (x y : List Event). all_happen (unit_side setup t) (place_of setup lines line) before x
-      ++ requests_happen setup (place_of setup lines line) (entered_by setup lines K t)
-      ++ all_happen (unit_side setup t) (place_of setup lines line) (before ++ x) y) time_is frame_of
-      ∙ ap (λ w. all_happen (unit_side setup t) (place_of setup lines line) before (time_of_line setup lines (line_said setup line)) ++ w
-      ++ all_happen (unit_side setup t) (place_of setup lines line) (before ++ time_of_line setup lines (line_said setup line)) (unit_frame setup t (line_said setup line))) asked
+      let entries = ap (λ es. flat_map (entry_happens (expects setup) setup t (capture_line_of setup lines line)) (filter (is_of t) es)) (sym h.entries) in
+      let asked = sym (asked_entered setup (capture_line_of setup lines line) t (filter (is_of t) (in_states (ecu_after setup lines) K))) ∙ entries in
+      ap (λ p. line_happens setup (unit_side setup t) p before span (entered_by setup lines K t) bytes) h.stands
+      ∙ ap₂ (λ (x y : List Event). all_happen (unit_side setup t) (capture_line_of setup lines line) before x
+      ++ requests_happen setup (capture_line_of setup lines line) (entered_by setup lines K t)
+      ++ all_happen (unit_side setup t) (capture_line_of setup lines line) (before ++ x) y) time_is frame_of
+      ∙ ap (λ w. all_happen (unit_side setup t) (capture_line_of setup lines line) before (time_of_line setup lines (line_said setup line)) ++ w
+      ++ all_happen (unit_side setup t) (capture_line_of setup lines line) (before ++ time_of_line setup lines (line_said setup line)) (unit_frame setup t (line_said setup line))) asked
 
   abbrev so_far : List Happening
   so_far = happenings (expects setup) setup t lines

@@ -19,17 +19,17 @@ use Rattle.diag_bus.specs.Verdict.{numbers}
 use Rattle.diag_bus.specs.declared.clock.Clock.{Clock}
 use Rattle.diag_bus.specs.declared.clock.Start.{Start}
 use Rattle.diag_exchange.specs.declared.happening.Over.{Over}
-use Rattle.diag_exchange.specs.declared.happening.Place.{Place}
+use Rattle.diag_exchange.specs.declared.happening.CaptureLine.{CaptureLine}
 use Rattle.diag_expect.specs.Expecting.{entered_of}
 use Rattle.diag_expect.specs.declared.entered.Entered.{Entered}
 use Rattle.diag_judge.specs.Judging.{Judges, counts_of, told_for}
 use Rattle.diag_judge.specs.declared.tester.Counts.{Counts}
 use Rattle.diag_judge.specs.declared.tester.Tester.{Tester}
 use Rattle.diag_judge.specs.declared.tester.Told.{Told}
-use Rattle.diag_told.specs.Told.{place_told, told_text}
+use Rattle.diag_told.specs.Told.{capture_line_told, told_text}
 use Rattle.diag_compare.specs.Compare.{compared_by, exchanges, open_for, over_by}
 use Rattle.diag_compare.specs.Expects.{expects}
-use Rattle.diag_compare.specs.Hearing.{entries_by, happenings, in_states, is_of, place_of, unit_events, unit_side}
+use Rattle.diag_compare.specs.Hearing.{capture_line_of, entries_by, happenings, in_states, is_of, unit_events, unit_side}
 use Rattle.diag_comparing.specs.declared.exchange_lines.ExchangeLines.{ExchangeLines}
 use Rattle.diag_comparing.specs.declared.exchange_lines.UnitFrame.{UnitFrame}
 use Rattle.diag_comparing.specs.declared.stamps.FirstStamp.{FirstStamp}
@@ -59,10 +59,10 @@ abbrev pub told_pair : ℕ × Over → Told
 told_pair pair = told_for pair.0 pair.1
 
 abbrev pub told_number : Told → ℕ
-told_number told = (place_told told.over).line
+told_number told = (capture_line_told told.over).number
 
 abbrev pub stamped_at : Stamps → Over → ℕ
-stamped_at stamps o = bus_moment (start_from stamps.first (place_told o).line) (place_told o).moment
+stamped_at stamps o = bus_moment (start_from stamps.first (capture_line_told o).number) (capture_line_told o).moment
 
 abbrev pub line_at : RawSetup → Stamps → Told → List ℕ
 line_at setup stamps told = told_text (name_of setup told.who) (stamped_at stamps told.over) told.agrees told.over
@@ -136,16 +136,16 @@ pub record Ends (setup : RawSetup) (lines : List (List ℕ)) (line : List ℕ) (
   pub start : clock.start ≡ start_after setup 0 (lines ++ line ∷ [])
   pub entries : entries_by setup lines line ≡ in_states (ecu_after setup lines) K
 
--- the same of a line of this place
-pub record IsLine (setup : RawSetup) (lines : List (List ℕ)) (line : List ℕ) (said : BusLine) (span : ℕ) (at : Place)
+-- the same of this line of the capture
+pub record IsLine (setup : RawSetup) (lines : List (List ℕ)) (line : List ℕ) (said : BusLine) (span : ℕ) (at : CaptureLine)
     (K : List Entry) : Type 0 where
   pub says : line_said setup line ≡ Ok said
   pub waits : waited span ≡ time_said (reference setup lines) said
-  pub place : at ≡ place_of setup lines line
+  pub stands : at ≡ capture_line_of setup lines line
   pub entries : entries_by setup lines line ≡ in_states (ecu_after setup lines) K
 
 -- each tester took the end of a line, and what was over with it was told
-abbrev pub TakesEach : RawSetup → Place → BusLine → ℕ → List Tester → List Tester → List Told → List Told → Type 0
+abbrev pub TakesEach : RawSetup → CaptureLine → BusLine → ℕ → List Tester → List Tester → List Told → List Told → Type 0
 TakesEach setup at said span old new told told' = (lines : List (List ℕ)) (line : List ℕ) (K : List Entry)
     → IsLine setup lines line said span at K
     → AreTesters setup lines K old

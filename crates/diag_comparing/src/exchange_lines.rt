@@ -19,7 +19,7 @@ use crate::telling::write_batch;
 use diag_bus::{Clock, ResponseIds};
 use diag_can::{BusLine, FrameBytes, FrameText, TickCount};
 use diag_ecu::Ecu;
-use diag_exchange::Place;
+use diag_exchange::CaptureLine;
 use diag_expect::Entered;
 use diag_judge::{Tester, Told};
 use diag_pdu::{LinkSetup, Message, Request};
@@ -126,7 +126,7 @@ fn take_each(
     testers: &mut Vec<Tester>,
     responses: &ResponseIds,
     setup: &Setup,
-    at: Place,
+    at: CaptureLine,
     said: &BusLine,
     span: u64,
     told: &mut Vec<Told>,
@@ -242,8 +242,8 @@ impl ExchangeLines {
         ensures differences { self.new.differences ≡ self.old.differences }
     {
         let line = next(self.lines)?;
-        let at = Place {
-            line,
+        let at = CaptureLine {
+            number: line,
             moment: clock.time,
         };
         self.batch.clear();

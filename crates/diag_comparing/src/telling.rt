@@ -9,7 +9,7 @@ ghost use Rattle.diag_comparing.specs.Keeping.{line_at, lines_at, told_number, w
 use crate::stamps::Stamps;
 use diag_judge::Told;
 use diag_setup::{Setup, TesterId};
-use diag_told::{place, tell};
+use diag_told::{capture_line, tell};
 use std::alloc::AllocError;
 
 /// A tester's name; none where the setup has no such tester.
@@ -30,7 +30,7 @@ fn sort(batch: &mut Vec<Told>) -> Result<(), AllocError>
     if batch.len() < 2 {
         return Ok(());
     }
-    batch.sort_by_key(|told| place(&told.over).line)?;
+    batch.sort_by_key(|told| capture_line(&told.over).number)?;
     Ok(())
 }
 
@@ -44,8 +44,8 @@ fn add_line(
 ) -> Result<(), AllocError>
     ensures { OnOk result (text.new.items ≡ text.old.items ++ line_at setup.now stamps.now told.now) }
 {
-    let at = place(&told.over);
-    let moment = stamps.moment(at.line, at.moment)?;
+    let at = capture_line(&told.over);
+    let moment = stamps.moment(at.number, at.moment)?;
     tell(
         text,
         name_of(setup, told.who),

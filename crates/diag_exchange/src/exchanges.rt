@@ -54,7 +54,7 @@ fn ask_again(live: &mut Vec<Open>, request: &Request)
     }
 }
 
-/// The place of the latest candidate for a message that begins so, or of the latest loud one.
+/// The index of the latest candidate for a message that begins so, or of the latest loud one.
 fn latest(live: &[Open], loud: bool, start: &Start) -> Option<usize>
     ensures { IsLast (may_hear loud start.now) live.now result }
 {
@@ -68,7 +68,7 @@ fn latest(live: &[Open], loud: bool, start: &Start) -> Option<usize>
     None
 }
 
-/// The place of the exchange that hears the message that is coming in.
+/// The index of the exchange that hears the message that is coming in.
 fn hearer(live: &[Open]) -> Option<usize>
     ensures { IsLast hears_it live.now result }
 {

@@ -8,9 +8,9 @@ use std::alloc::{AllocError, Global};
 
 /// A line of the capture.
 #[derive(Clone, Copy, Drop)]
-pub struct Place {
+pub struct CaptureLine {
     /// Its number, from 1.
-    pub line: u64,
+    pub number: u64,
     /// The bus's time of it, in milliseconds.
     pub moment: u64,
 }
@@ -33,7 +33,7 @@ pub struct Expected {
 #[derive(Drop)]
 pub struct Request {
     /// The line that completed it.
-    pub at: Place,
+    pub at: CaptureLine,
     /// Whether it came to all units.
     pub functional: bool,
     /// Its bytes.
@@ -46,7 +46,7 @@ pub struct Request {
 #[derive(Clone, Copy, Drop)]
 pub struct Start {
     /// Its line.
-    pub at: Place,
+    pub at: CaptureLine,
     /// The message's first byte.
     pub first: u8,
     /// The byte behind it, where the message has one.

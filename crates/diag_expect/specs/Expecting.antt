@@ -12,7 +12,7 @@ use Rattle.diag_store.specs.Answers.{fits}
 use Rattle.diag_ecu.specs.Respond.{ids, template_for}
 use Rattle.diag_ecu.specs.State.{State}
 use Rattle.diag_exchange.specs.declared.happening.Expected.{Expected}
-use Rattle.diag_exchange.specs.declared.happening.Place.{Place}
+use Rattle.diag_exchange.specs.declared.happening.CaptureLine.{CaptureLine}
 use Rattle.diag_exchange.specs.declared.happening.Request.{Request}
 use Rattle.diag_expect.specs.declared.entered.Entered.{Entered}
 use Rattle.diag_expect.specs.declared.entered.Source.{Source}
@@ -125,7 +125,7 @@ expected_of setup entered = record {
 }
 
 -- the same, complete at a line
-abbrev pub asked_at : RawSetup → Place → Entered → Request
+abbrev pub asked_at : RawSetup → CaptureLine → Entered → Request
 asked_at setup at entered = record {
   at = at;
   functional = entered.functional;

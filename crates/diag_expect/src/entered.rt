@@ -5,7 +5,7 @@ ghost use Rattle.diag_expect.specs.Expecting.{asked_at, entered_of, marks_of, so
 
 use crate::expecting::{is_ignored, own_marks, template_marks};
 use diag_ecu::Ecu;
-use diag_exchange::{Expected, Place, Request};
+use diag_exchange::{CaptureLine, Expected, Request};
 use diag_pdu::{Message, Request as TheRequest};
 use diag_setup::{Setup, TemplateItem, TesterId};
 use std::alloc::{AllocError, Global};
@@ -68,7 +68,7 @@ impl Entered {
         self,
         alloc: Global,
         setup: &Setup,
-        at: Place,
+        at: CaptureLine,
     ) -> Result<Request, AllocError>
         ensures { IfOk result (λ request. request ≡ asked_at setup.now at self) }
     {

@@ -13,7 +13,7 @@ use Rattle.diag_exchange.specs.Exchanges.{over, over_after, over_with}
 use Rattle.diag_exchange.specs.declared.happening.Happening.{Happening}
 use Rattle.diag_exchange.specs.declared.happening.Happening.TheVariants.{Asked}
 use Rattle.diag_exchange.specs.declared.happening.Over.{Over}
-use Rattle.diag_exchange.specs.declared.happening.Place.{Place}
+use Rattle.diag_exchange.specs.declared.happening.CaptureLine.{CaptureLine}
 use Rattle.diag_exchange.specs.declared.happening.Request.{Request}
 use Rattle.diag_expect.specs.Expecting.{asked_at}
 use Rattle.diag_expect.specs.declared.entered.Entered.{Entered}
@@ -46,14 +46,14 @@ pub next_of : {X : Type 0} (n : ℕ) (all left less : List X) (x : X) → revers
 next_of n all left less x are is = next_at n all (reverse less) x (sym (reverse-append less (x ∷ [])) ∙ (ap reverse (sym is) ∙ are))
 
 -- a line without a frame
-pub nothing_heard : (own : Listener) (out : List Over) (at : Place) → Hears own own out out at []
+pub nothing_heard : (own : Listener) (out : List Over) (at : CaptureLine) → Hears own own out out at []
 nothing_heard own out at E hs l = (
   subst (λ (es : List Event). Listens own es (hs ++ [])) (sym (append-nil E)) (subst (λ (w : List Happening). Listens own E w) (sym (append-nil hs)) l),
   sym (append-nil out),
 )
 
 -- time, requests, and a frame
-pub line_heard : (setup : RawSetup) (at : Place) (old later asked new : Listener) (o1 o2 o3 o4 : List Over) (span : ℕ) (entered : List Entered)
+pub line_heard : (setup : RawSetup) (at : CaptureLine) (old later asked new : Listener) (o1 o2 o3 o4 : List Over) (span : ℕ) (entered : List Entered)
     (frame : Option (List ℕ))
     → Hears old later o1 o2 at (waited span)
     → HearsRequests setup at later asked o2 o3 entered
@@ -81,7 +81,7 @@ line_heard setup at old later asked new o1 o2 o3 o4 span entered frame time requ
     )
 
 -- a request more
-pub request_heard : (setup : RawSetup) (at : Place) (mid new : Listener) (o1 o2 o3 : List Over) (entered : List Entered) (one : Entered) (request : Request)
+pub request_heard : (setup : RawSetup) (at : CaptureLine) (mid new : Listener) (o1 o2 o3 : List Over) (entered : List Entered) (one : Entered) (request : Request)
     (E : List Event) (hs : List Happening)
     → request ≡ asked_at setup at one
     → HearsRequest mid new o2 o3 request
@@ -123,7 +123,7 @@ counts_one old new os o h count differ compared = same_counts new (counts_of (os
     ∙ sym (list_any-append is_compared os (o ∷ []))))
 
 -- a line to a tester
-pub line_judged : (setup : RawSetup) (at : Place) (who : ℕ) (old new : Tester) (heard : Listener) (told told' : List Told) (os : List Over) (span : ℕ)
+pub line_judged : (setup : RawSetup) (at : CaptureLine) (who : ℕ) (old new : Tester) (heard : Listener) (told told' : List Told) (os : List Over) (span : ℕ)
     (frame : Option (List ℕ))
     → HearsLine setup at old.listener heard [] os span old.entered.items frame
     → new.listener ≡ heard
@@ -142,7 +142,7 @@ line_judged setup at who old new heard told told' os span frame hears same is co
     )
 
 -- time alone, where no message is coming in
-pub idle_judged : (setup : RawSetup) (at : Place) (who : ℕ) (own : Tester) (told : List Told) (span : ℕ)
+pub idle_judged : (setup : RawSetup) (at : CaptureLine) (who : ℕ) (own : Tester) (told : List Told) (span : ℕ)
     → own.listener.exchanges.coming ≡ None
     → own.entered.items ≡ []
     → JudgesLine setup at who own own told told span None

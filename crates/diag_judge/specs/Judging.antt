@@ -11,7 +11,7 @@ use Rattle.diag_exchange.specs.Exchanges.{left_open, over, over_after, over_at_e
 use Rattle.diag_exchange.specs.declared.happening.Happening.{Happening}
 use Rattle.diag_exchange.specs.declared.happening.Happening.TheVariants.{Asked}
 use Rattle.diag_exchange.specs.declared.happening.Over.{Over}
-use Rattle.diag_exchange.specs.declared.happening.Place.{Place}
+use Rattle.diag_exchange.specs.declared.happening.CaptureLine.{CaptureLine}
 use Rattle.diag_expect.specs.Expecting.{asked_at}
 use Rattle.diag_expect.specs.declared.entered.Entered.{Entered}
 use Rattle.diag_listen.specs.Listening.{Listens, all_happen}
@@ -45,37 +45,37 @@ abbrev pub frame_events : Option (List ℕ) → List Event
 frame_events None = []
 frame_events (Some bytes) = Physical bytes ∷ []
 
-abbrev pub request_happens : RawSetup → Place → Entered → Happening
+abbrev pub request_happens : RawSetup → CaptureLine → Entered → Happening
 request_happens setup at entered = Asked (asked_at setup at entered)
 
 -- these are complete with the line
-abbrev pub requests_happen : RawSetup → Place → List Entered → List Happening
+abbrev pub requests_happen : RawSetup → CaptureLine → List Entered → List Happening
 requests_happen setup at entered = map (request_happens setup at) entered
 
 -- what a line is to a tester behind these events: what ends by its time, the requests that it completes, and what its
 -- frame is to a message
-abbrev pub line_happens : RawSetup → LinkSetup → Place → List Event → ℕ → List Entered → Option (List ℕ) → List Happening
+abbrev pub line_happens : RawSetup → LinkSetup → CaptureLine → List Event → ℕ → List Entered → Option (List ℕ) → List Happening
 line_happens setup side at E span entered frame =
     all_happen side at E (waited span)
     ++ requests_happen setup at entered
     ++ all_happen side at (E ++ waited span) (frame_events frame)
 
 -- requests were complete behind all that happened, and what was over with them was handed out
-abbrev pub HearsRequests : RawSetup → Place → Listener → Listener → List Over → List Over → List Entered → Type 0
+abbrev pub HearsRequests : RawSetup → CaptureLine → Listener → Listener → List Over → List Over → List Entered → Type 0
 HearsRequests setup at old new out out' entered = (E : List Event) (hs : List Happening)
     → Listens old E hs
     → Listens new E (hs ++ requests_happen setup at entered)
     × (out' ≡ out ++ over_after hs (requests_happen setup at entered))
 
 -- it heard a line, and what was over with it was handed out
-abbrev pub HearsLine : RawSetup → Place → Listener → Listener → List Over → List Over → ℕ → List Entered → Option (List ℕ) → Type 0
+abbrev pub HearsLine : RawSetup → CaptureLine → Listener → Listener → List Over → List Over → ℕ → List Entered → Option (List ℕ) → Type 0
 HearsLine setup at old new out out' span entered frame = (E : List Event) (hs : List Happening)
     → Listens old E hs
     → Listens new ((E ++ waited span) ++ frame_events frame) (hs ++ line_happens setup old.side at E span entered frame)
     × (out' ≡ out ++ over_after hs (line_happens setup old.side at E span entered frame))
 
 -- it took a line, and what was over with it was told
-abbrev pub JudgesLine : RawSetup → Place → ℕ → Tester → Tester → List Told → List Told → ℕ → Option (List ℕ) → Type 0
+abbrev pub JudgesLine : RawSetup → CaptureLine → ℕ → Tester → Tester → List Told → List Told → ℕ → Option (List ℕ) → Type 0
 JudgesLine setup at who old new told told' span frame = (E : List Event) (hs : List Happening)
     → Judges old E hs
     → Judges new ((E ++ waited span) ++ frame_events frame) (hs ++ line_happens setup old.listener.side at E span old.entered.items frame)

@@ -6,7 +6,7 @@ ghost use Rattle.diag_exchange.specs.declared.happening.Over.{Over as AnOver};
 ghost use Rattle.diag_judge.specs.Judging.{AreCounts, EndsCounted, EndsTold, HearsLine, HearsRequests, Judges, JudgesLine, told_for};
 
 use diag_can::FrameBytes;
-use diag_exchange::{Over, Place};
+use diag_exchange::{CaptureLine, Over};
 use diag_expect::Entered;
 use diag_listen::Listener;
 use diag_pdu::LinkSetup;
@@ -53,7 +53,7 @@ fn hear_requests(
     listener: &mut Listener,
     alloc: Global,
     setup: &Setup,
-    at: Place,
+    at: CaptureLine,
     entered: &mut Vec<Entered>,
     over: &mut Vec<Over>,
 ) -> Result<(), AllocError>
@@ -119,7 +119,7 @@ impl Tester {
         alloc: Global,
         setup: &Setup,
         who: TesterId,
-        at: Place,
+        at: CaptureLine,
         span: u64,
         frame: Option<&FrameBytes>,
         told: &mut Vec<Told>,
@@ -151,7 +151,7 @@ impl Tester {
         alloc: Global,
         setup: &Setup,
         who: TesterId,
-        at: Place,
+        at: CaptureLine,
         span: u64,
         frame: Option<&FrameBytes>,
         told: &mut Vec<Told>,
@@ -174,7 +174,7 @@ impl Tester {
         &mut self,
         alloc: Global,
         setup: &Setup,
-        at: Place,
+        at: CaptureLine,
         span: u64,
         frame: Option<&FrameBytes>,
     ) -> Result<(), AllocError>
