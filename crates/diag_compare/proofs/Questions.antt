@@ -27,7 +27,7 @@ use Rattle.diag_exchange.specs.declared.happening.Happening.{Happening}
 use Rattle.diag_exchange.specs.declared.happening.Happening.TheVariants.{Asked, Began, Came, Lost}
 use Rattle.diag_exchange.specs.declared.happening.Heard.{Heard}
 use Rattle.diag_exchange.specs.declared.happening.CaptureLine.{CaptureLine}
-use Rattle.diag_exchange.specs.declared.happening.Request.{Request}
+use Rattle.diag_exchange.specs.declared.happening.AskedRequest.{AskedRequest}
 use Rattle.diag_exchange.specs.declared.happening.Start.{Start}
 use Rattle.diag_exchange.proofs.Lists.{change_last_here, change_later, change_not_here}
 use Rattle.diag_compare.specs.Hearing.{asks, capture_line_of, entries_by, entry_happens, happen_after, happenings, in_states, is_of, line_happens, time_of_line, unit_events, unit_frame, unit_side}
@@ -54,7 +54,7 @@ module _ (p : Course → Bool) (f : Course → Course) (same : (c : Course) → 
   same_questions [] = refl
   same_questions (c ∷ cs) = same_case c cs (same_questions cs) (list_any p cs) (p c) refl refl
 
-behind_questions : (r : Request) (cs : List Course) → map question (map (and_behind r) cs) ≡ map question cs
+behind_questions : (r : AskedRequest) (cs : List Course) → map question (map (and_behind r) cs) ≡ map question cs
 behind_questions r [] = refl
 behind_questions r (c ∷ cs) = ap (λ w. question c ∷ w) (behind_questions r cs)
 

@@ -9,7 +9,7 @@ use Rattle.diag_exchange.specs.declared.happening.Heard.{Heard}
 use Rattle.diag_exchange.specs.declared.happening.Over.{Over}
 use Rattle.diag_exchange.specs.declared.happening.Over.TheVariants.{Exchange, Unasked}
 use Rattle.diag_exchange.specs.declared.happening.CaptureLine.{CaptureLine}
-use Rattle.diag_exchange.specs.declared.happening.Request.{Request}
+use Rattle.diag_exchange.specs.declared.happening.AskedRequest.{AskedRequest}
 use Rattle.diag_exchange.specs.declared.happening.Start.{Start}
 
 abbrev line : ℕ → CaptureLine
@@ -19,7 +19,7 @@ line n = record { number = n; moment = 10 * n }
 abbrev replies : Option (List ℕ) → Expected
 replies reply = record { reply = reply; varies = None; own = true; ignored = false }
 
-abbrev at : ℕ → List ℕ → Option (List ℕ) → Request
+abbrev at : ℕ → List ℕ → Option (List ℕ) → AskedRequest
 at n bytes reply = record { at = line n; functional = false; bytes = bytes; expected = replies reply }
 
 abbrev second : List ℕ → Option ℕ

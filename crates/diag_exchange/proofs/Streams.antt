@@ -6,7 +6,7 @@ use Rattle.diag_exchange.specs.declared.happening.Happening.{Happening}
 use Rattle.diag_exchange.specs.declared.happening.Happening.TheVariants.{Asked, Began, Came, Lost}
 use Rattle.diag_exchange.specs.declared.happening.Heard.{Heard}
 use Rattle.diag_exchange.specs.declared.happening.Over.{Over}
-use Rattle.diag_exchange.specs.declared.happening.Request.{Request}
+use Rattle.diag_exchange.specs.declared.happening.AskedRequest.{AskedRequest}
 use Rattle.diag_exchange.specs.declared.happening.Start.{Start}
 use Rattle.diag_exchange.specs.declared.held.Open.{Open}
 use Rattle.diag_exchange.specs.Asking.{Course, and_behind, asked, change_last, completes, finish, happens, hear, hearing, hears_it, hears_no_more, is_candidate, is_loud, is_loud_candidate, with_answer}
@@ -172,7 +172,7 @@ module _ (p : Course → Bool) (f : Course → Course) (q : Open → Bool) (g : 
 
 -- ---- one more request
 
-module _ (r : Request) where
+module _ (r : AskedRequest) where
   abbrev AskedLeft : List Course → Type 0
   AskedLeft cs = open_of (map (and_behind r) cs) ≡ filter (goes_on true) (map (held.asked_again r) (open_of cs))
 

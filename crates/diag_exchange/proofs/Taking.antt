@@ -10,7 +10,7 @@ use Rattle.diag_exchange.specs.declared.happening.Happening.TheVariants.{Asked, 
 use Rattle.diag_exchange.specs.declared.happening.Heard.{Heard}
 use Rattle.diag_exchange.specs.declared.happening.Over.{Over}
 use Rattle.diag_exchange.specs.declared.happening.Over.TheVariants.{Unasked}
-use Rattle.diag_exchange.specs.declared.happening.Request.{Request}
+use Rattle.diag_exchange.specs.declared.happening.AskedRequest.{AskedRequest}
 use Rattle.diag_exchange.specs.declared.happening.Start.{Start}
 use Rattle.diag_exchange.specs.declared.held.Open.{Open}
 use Rattle.diag_exchange.specs.Asking.{Course, and_behind, asked, comes_in, coming, coming_after, completes, courses, courses_after, happens}
@@ -86,7 +86,7 @@ stays now Lost cs s = finish_left None cs s
 no_unasked : (cs : List Course) (now : Option Start) (h : Happening) → completes now h ≡ None → unasked cs (completes now h) ≡ []
 no_unasked cs now h e = ap (unasked cs) e
 
-nothing_asked : (now : Option Start) (r : Request) → completes now (Asked r) ≡ None
+nothing_asked : (now : Option Start) (r : AskedRequest) → completes now (Asked r) ≡ None
 nothing_asked None r = refl
 nothing_asked (Some s) r = refl
 

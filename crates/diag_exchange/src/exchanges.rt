@@ -7,7 +7,7 @@ ghost use Rattle.diag_exchange.specs.Streaming.{asked_again, finish, goes_on, he
 ghost use Rattle.diag_exchange.specs.Streaming.{IsLast};
 ghost use Rattle.diag_exchange.specs.declared.happening.Happening.TheVariants.{Asked, Began, Came, Lost};
 
-use crate::happening::{Heard, Over, Request, Start};
+use crate::happening::{AskedRequest, Heard, Over, Start};
 use crate::held::Open;
 use diag_pdu::Message;
 use std::alloc::{AllocError, Global};
@@ -44,7 +44,7 @@ fn take_out(live: &mut Vec<Open>, asked: bool, over: &mut Vec<Over>)
 }
 
 /// A request is complete behind each of them.
-fn ask_again(live: &mut Vec<Open>, request: &Request)
+fn ask_again(live: &mut Vec<Open>, request: &AskedRequest)
     ensures items { live.new.items ≡ map (asked_again request.now) live.old.items }
     ensures len { vec_len live.new ≡ vec_len live.old }
     ensures room { vec_capacity live.new ≡ vec_capacity live.old }
@@ -140,7 +140,7 @@ impl Exchanges {
     /// # Errors
     /// `AllocError` where memory is refused, and then nothing has changed.
     #[inline(always)]
-    pub fn ask(&mut self, request: Request, over: &mut Vec<Over>) -> Result<(), AllocError>
+    pub fn ask(&mut self, request: AskedRequest, over: &mut Vec<Over>) -> Result<(), AllocError>
         ensures ok { OnOk result (Took self.old self.new over.old.items over.new.items
             (Asked request)) }
         ensures coming { OnOk result (self.new.coming ≡ self.old.coming) }

@@ -4,7 +4,7 @@ ghost use Rattle.std.specs.Prelude.{◌≡◌, ◌+◌, ◌∷◌, [], option_co
 ghost use Rattle.diag_exchange.specs.Asking.{begins_as, begins_as_reply, first_byte, fits, is_positive};
 ghost use Rattle.diag_exchange.specs.Streaming.{asked_again, hearing, hears_no_more, is_candidate, is_done, may_hear, told, opened, with_message};
 
-use crate::happening::{Heard, Over, Request, Start};
+use crate::happening::{AskedRequest, Heard, Over, Start};
 use diag_pdu::Message;
 use std::alloc::{AllocError, Global};
 
@@ -12,7 +12,7 @@ use std::alloc::{AllocError, Global};
 #[derive(Drop)]
 pub struct Open {
     /// The request.
-    pub request: Request,
+    pub request: AskedRequest,
     /// How many times response pending came.
     pub pendings: u64,
     /// The message that isn't response pending, where there is one.
@@ -53,7 +53,7 @@ fn is_positive(start: &Start, service: u8) -> bool
 }
 
 /// Whether a message fits a request: as a positive response, a negative response, or as the server's reply.
-fn fits(start: &Start, request: &Request) -> bool
+fn fits(start: &Start, request: &AskedRequest) -> bool
     ensures { result ≡ fits start.now request.now }
 {
     let service = request.first_byte();
@@ -65,7 +65,7 @@ fn fits(start: &Start, request: &Request) -> bool
 impl Open {
     /// A request of which nothing was heard.
     #[inline(always)]
-    pub fn new(request: Request) -> Open
+    pub fn new(request: AskedRequest) -> Open
         ensures { result ≡ opened request }
     {
         Open {
@@ -166,7 +166,7 @@ impl Open {
 
     /// A request is complete behind it.
     #[inline(always)]
-    pub fn ask_again(&mut self, request: &Request)
+    pub fn ask_again(&mut self, request: &AskedRequest)
         ensures { self.new ≡ asked_again request.now self.old }
     {
         self.replaced = self.replaced || request.replaces(&self.request);

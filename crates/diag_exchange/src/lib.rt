@@ -9,6 +9,6 @@ mod laws;
 mod records;
 
 pub use exchanges::Exchanges;
-pub use happening::{CaptureLine, Expected, Happening, Heard, Over, Request, Start};
+pub use happening::{AskedRequest, CaptureLine, Expected, Happening, Heard, Over, Start};
 pub use held::Open;
 pub use laws::{agrees_law, few_law, once_law, over_law};

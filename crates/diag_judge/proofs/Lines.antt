@@ -14,7 +14,7 @@ use Rattle.diag_exchange.specs.declared.happening.Happening.{Happening}
 use Rattle.diag_exchange.specs.declared.happening.Happening.TheVariants.{Asked}
 use Rattle.diag_exchange.specs.declared.happening.Over.{Over}
 use Rattle.diag_exchange.specs.declared.happening.CaptureLine.{CaptureLine}
-use Rattle.diag_exchange.specs.declared.happening.Request.{Request}
+use Rattle.diag_exchange.specs.declared.happening.AskedRequest.{AskedRequest}
 use Rattle.diag_expect.specs.Expecting.{asked_at}
 use Rattle.diag_expect.specs.declared.entered.Entered.{Entered}
 use Rattle.diag_listen.specs.Listening.{Hears, HearsRequest, Listens, all_happen}
@@ -81,7 +81,7 @@ line_heard setup at old later asked new o1 o2 o3 o4 span entered frame time requ
     )
 
 -- a request more
-pub request_heard : (setup : RawSetup) (at : CaptureLine) (mid new : Listener) (o1 o2 o3 : List Over) (entered : List Entered) (one : Entered) (request : Request)
+pub request_heard : (setup : RawSetup) (at : CaptureLine) (mid new : Listener) (o1 o2 o3 : List Over) (entered : List Entered) (one : Entered) (request : AskedRequest)
     (E : List Event) (hs : List Happening)
     → request ≡ asked_at setup at one
     → HearsRequest mid new o2 o3 request

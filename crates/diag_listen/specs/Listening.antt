@@ -19,7 +19,7 @@ use Rattle.diag_exchange.specs.declared.happening.Happening.{Happening}
 use Rattle.diag_exchange.specs.declared.happening.Happening.TheVariants.{Asked, Began, Came, Lost}
 use Rattle.diag_exchange.specs.declared.happening.Over.{Over}
 use Rattle.diag_exchange.specs.declared.happening.CaptureLine.{CaptureLine}
-use Rattle.diag_exchange.specs.declared.happening.Request.{Request}
+use Rattle.diag_exchange.specs.declared.happening.AskedRequest.{AskedRequest}
 use Rattle.diag_listen.specs.declared.listener.Listener.{Listener}
 
 -- ---- messages of the unit
@@ -136,7 +136,7 @@ Hears old new out out' at es = (E : List Event) (hs : List Happening)
     × (out' ≡ out ++ over_after hs (all_happen old.side at E es))
 
 -- a request was complete behind all that happened
-abbrev pub HearsRequest : Listener → Listener → List Over → List Over → Request → Type 0
+abbrev pub HearsRequest : Listener → Listener → List Over → List Over → AskedRequest → Type 0
 HearsRequest old new out out' request = (E : List Event) (hs : List Happening)
     → Listens old E hs
     → Listens new E (hs ++ Asked request ∷ [])

@@ -11,7 +11,7 @@ ghost use Rattle.diag_exchange.specs.declared.happening.Happening.TheVariants.{B
 ghost use Rattle.diag_listen.specs.Listening.{Hears, HearsRequest, Listens, Moves, TookEach, after_ticks, began, kind_happens, lost_if, part_happens, ticks_happen};
 
 use diag_can::{FrameBytes, TickCount};
-use diag_exchange::{CaptureLine, Exchanges, Over, Request, Start};
+use diag_exchange::{AskedRequest, CaptureLine, Exchanges, Over, Start};
 use diag_pdu::{LinkSetup, Message, Pci};
 use diag_sides::Receiver;
 use std::alloc::{AllocError, Global};
@@ -114,7 +114,7 @@ impl Listener {
     /// # Errors
     /// As `wait`.
     #[inline(always)]
-    pub fn ask(&mut self, request: Request, over: &mut Vec<Over>) -> Result<(), AllocError>
+    pub fn ask(&mut self, request: AskedRequest, over: &mut Vec<Over>) -> Result<(), AllocError>
         ensures heard { OnOk result
             (HearsRequest self.old self.new over.old.items over.new.items request) }
         ensures side { self.new.side ≡ self.old.side }
