@@ -10,7 +10,7 @@ use Rattle.diag_exchange.specs.declared.happening.Happening.TheVariants.{Asked, 
 use Rattle.diag_exchange.specs.declared.happening.Heard.{Heard}
 use Rattle.diag_exchange.specs.declared.happening.AskedRequest.{AskedRequest}
 use Rattle.diag_exchange.specs.declared.happening.Start.{Start}
-use Rattle.diag_exchange.specs.declared.held.Open.{Open}
+use Rattle.diag_exchange.specs.declared.open.Open.{Open}
 use Rattle.diag_exchange.specs.Asking.{Course, and_behind, asked, change_last, comes_in, completes, courses, courses_after, finish, first_byte, happens, hearing, hears_it, hears_no_more, is_answered, is_candidate, is_loud, is_loud_candidate, is_replaced, replaced_by, replaces, with_answer}
 use Rattle.diag_exchange.specs.Exchanges.{is_closed, is_open}
 use Rattle.diag_exchange.specs.Streaming.{StandsFor, kept}

@@ -7,7 +7,7 @@ use Rattle.std.specs.Prelude.{cond, if◌then◌else◌, ◌||◌}
 use Rattle.diag_exchange.specs.declared.happening.Heard.{Heard}
 use Rattle.diag_exchange.specs.declared.happening.AskedRequest.{AskedRequest}
 use Rattle.diag_exchange.specs.declared.happening.Start.{Start}
-use Rattle.diag_exchange.specs.declared.held.Open.{Open}
+use Rattle.diag_exchange.specs.declared.open.Open.{Open}
 use Rattle.diag_exchange.specs.Asking.{change_last, is_pending}
 use Rattle.diag_exchange.specs.Streaming.{asked_again, finish, hear, hearing, hears_it, hears_no_more, may_hear, opened, with_message}
 use Rattle.diag_exchange.proofs.Lists.{change_last_here, change_later, change_not_here, or_left, or_right}

@@ -10,7 +10,7 @@ use Rattle.diag_exchange.specs.declared.happening.Over.{Over}
 use Rattle.diag_exchange.specs.declared.happening.Over.TheVariants.{Exchange}
 use Rattle.diag_exchange.specs.declared.happening.AskedRequest.{AskedRequest}
 use Rattle.diag_exchange.specs.declared.happening.Start.{Start}
-use Rattle.diag_exchange.specs.declared.held.Open.{Open}
+use Rattle.diag_exchange.specs.declared.open.Open.{Open}
 
 -- what is kept of a request and what became of it
 abbrev pub kept : Course → Open

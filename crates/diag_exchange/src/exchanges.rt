@@ -8,7 +8,7 @@ ghost use Rattle.diag_exchange.specs.Streaming.{IsLast};
 ghost use Rattle.diag_exchange.specs.declared.happening.Happening.TheVariants.{Asked, Began, Came, Lost};
 
 use crate::happening::{AskedRequest, Heard, Over, Start};
-use crate::held::Open;
+use crate::open::Open;
 use diag_pdu::Message;
 use std::alloc::{AllocError, Global};
 
@@ -217,8 +217,8 @@ impl Exchanges {
     pub fn left(&self, alloc: Global, over: &mut Vec<Over>) -> Result<(), AllocError>
         ensures { OnOk result (Ended self.now over.old.items over.new.items) }
     {
-        for held in &self.live {
-            over.push(held.tell_copy(alloc)?)?;
+        for open in &self.live {
+            over.push(open.tell_copy(alloc)?)?;
         }
         Ok(())
     }
@@ -232,8 +232,8 @@ impl Exchanges {
         ensures out { OnErr result (over.new.items ≡ over.old.items) }
     {
         over.reserve(self.live.len())?;
-        for held in self.live {
-            over.push_reserved(held.tell());
+        for open in self.live {
+            over.push_reserved(open.tell());
         }
         Ok(())
     }
