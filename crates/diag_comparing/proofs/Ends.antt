@@ -12,14 +12,14 @@ use Rattle.diag_setup.specs.declared.raw.RawSetup.{RawSetup}
 use Rattle.diag_bus.specs.Verdict.{numbers}
 use Rattle.diag_exchange.specs.Agreeing.{is_compared}
 use Rattle.diag_exchange.specs.declared.happening.Over.{Over}
-use Rattle.diag_judge.specs.Judging.{EndsCounted, EndsTold, differs}
+use Rattle.diag_judge.specs.Judging.{EndsCounted, EndsJudged, differs}
 use Rattle.diag_judge.specs.declared.tester.Counts.{Counts}
 use Rattle.diag_judge.specs.declared.tester.Tester.{Tester}
-use Rattle.diag_judge.specs.declared.tester.Told.{Told}
+use Rattle.diag_judge.specs.declared.tester.Judged.{Judged}
 use Rattle.diag_compare.specs.Compare.{any_differs, compares_nothing, count_line, exchanges, open_for, status}
 use Rattle.diag_compare.specs.Expects.{expects}
 use Rattle.diag_compare.specs.Hearing.{happenings, unit_events}
-use Rattle.diag_comparing.specs.Keeping.{IsTester, all_counts, count_lines, count_text, nothing_in, some_compared, some_differ, status_in, tester_counts, told_pair}
+use Rattle.diag_comparing.specs.Keeping.{IsTester, all_counts, count_lines, count_text, judged_pair, nothing_in, some_compared, some_differ, status_in, tester_counts}
 use Rattle.diag_comparing.proofs.Takings.{counted_next, flat_append, pairs_of}
 
 -- ---- counts
@@ -83,18 +83,18 @@ count_more setup a (d ∷ cs) (suc i) c at =
 
 module _ (setup : RawSetup) (lines : List (List ℕ)) where
   -- one tester more
-  pub end_told : (own : Tester) (i : ℕ) (told now now' : List Told) → IsTester setup lines [] (i + 1) own
-      → now ≡ told ++ map told_pair (flat_map (open_for (expects setup) setup lines) (counted_from 1 i))
-      → EndsTold own (i + 1) now now'
-      → now' ≡ told ++ map told_pair (flat_map (open_for (expects setup) setup lines) (counted_from 1 (i + 1)))
-  end_told own i told now now' h first ends =
+  pub end_judged : (own : Tester) (i : ℕ) (judged now now' : List Judged) → IsTester setup lines [] (i + 1) own
+      → now ≡ judged ++ map judged_pair (flat_map (open_for (expects setup) setup lines) (counted_from 1 i))
+      → EndsJudged own (i + 1) now now'
+      → now' ≡ judged ++ map judged_pair (flat_map (open_for (expects setup) setup lines) (counted_from 1 (i + 1)))
+  end_judged own i judged now now' h first ends =
       let f = open_for (expects setup) setup lines in
       let more = ends (unit_events setup (i + 1) lines) (happenings (expects setup) setup (i + 1) lines) h.judges
       ∙ ap (λ w. now ++ w) (pairs_of (i + 1) _) in
-      more ∙ (ap (λ w. w ++ map told_pair (f (i + 1))) first
-      ∙ (append_assoc told (map told_pair (flat_map f (counted_from 1 i))) (map told_pair (f (i + 1)))
-      ∙ ap (λ w. told ++ w) (sym (map-append told_pair (flat_map f (counted_from 1 i)) (f (i + 1)))
-      ∙ ap (map told_pair) (sym (ap (flat_map f) (counted_next i)
+      more ∙ (ap (λ w. w ++ map judged_pair (f (i + 1))) first
+      ∙ (append_assoc judged (map judged_pair (flat_map f (counted_from 1 i))) (map judged_pair (f (i + 1)))
+      ∙ ap (λ w. judged ++ w) (sym (map-append judged_pair (flat_map f (counted_from 1 i)) (f (i + 1)))
+      ∙ ap (map judged_pair) (sym (ap (flat_map f) (counted_next i)
       ∙ (flat_append f (counted_from 1 i) ((i + 1) ∷ []) ∙ ap (λ w. flat_map f (counted_from 1 i) ++ w) (append-nil (f (i + 1)))))))))
 
   pub end_counted : (own : Tester) (i : ℕ) (counts : Counts) (now now' : List Counts) → IsTester setup lines [] (i + 1) own

@@ -26,14 +26,14 @@ use Rattle.diag_exchange.specs.declared.happening.Over.{Over}
 use Rattle.diag_exchange.specs.declared.happening.CaptureLine.{CaptureLine}
 use Rattle.diag_expect.specs.declared.entered.Entered.{Entered}
 use Rattle.diag_listen.specs.Listening.{all_happen}
-use Rattle.diag_judge.specs.Judging.{Judges, JudgesLine, frame_events, line_happens, request_happens, requests_happen, told_for}
+use Rattle.diag_judge.specs.Judging.{Judges, JudgesLine, frame_events, judged_for, line_happens, request_happens, requests_happen}
 use Rattle.diag_judge.specs.declared.tester.Tester.{Tester}
-use Rattle.diag_judge.specs.declared.tester.Told.{Told}
+use Rattle.diag_judge.specs.declared.tester.Judged.{Judged}
 use Rattle.diag_compare.specs.Compare.{beside, over_by}
 use Rattle.diag_compare.specs.Expects.{expects, step_expects}
 use Rattle.diag_compare.specs.Hearing.{asks, capture_line_of, entries_by, entry_happens, frame_with, happenings, in_states, is_of, time_of_line, unit_after, unit_events, unit_frame, unit_side}
 use Rattle.diag_compare.specs.Hearing as hearing
-use Rattle.diag_comparing.specs.Keeping.{AreTesters, IsLine, IsTester, bytes_with, entered_by, entry_entered, step_entered, told_pair}
+use Rattle.diag_comparing.specs.Keeping.{AreTesters, IsLine, IsTester, bytes_with, entered_by, entry_entered, judged_pair, step_entered}
 use Rattle.diag_compare.proofs.Messages.{unit_push}
 use Rattle.diag_compare.proofs.Telling.{by_line, happen_push, with_line}
 
@@ -67,9 +67,9 @@ frame_is id (Some frame) = pick (frame.id == id)
     pick false = refl
 
 -- exchanges beside their tester
-pub pairs_of : (t : ℕ) (os : List Over) → map (told_for t) os ≡ map told_pair (map (beside t) os)
+pub pairs_of : (t : ℕ) (os : List Over) → map (judged_for t) os ≡ map judged_pair (map (beside t) os)
 pairs_of t [] = refl
-pairs_of t (o ∷ os) = ap (λ w. told_for t o ∷ w) (pairs_of t os)
+pairs_of t (o ∷ os) = ap (λ w. judged_for t o ∷ w) (pairs_of t os)
 
 -- one tester more
 counted_more : (a n : ℕ) → counted_from a (suc n) ≡ counted_from a n ++ (a + n) ∷ []
@@ -115,8 +115,8 @@ module _ (setup : RawSetup) (lines : List (List ℕ)) (line : List ℕ) (K : Lis
   abbrev so_far : List Happening
   so_far = happenings (expects setup) setup t lines
 
-  module _ (own new : Tester) (told told' : List Told) (own_is : IsTester setup lines K t own)
-      (took : JudgesLine setup at t own new told told' span bytes) (side : new.listener.side ≡ own.listener.side) (none : new.entered.items ≡ []) where
+  module _ (own new : Tester) (judged judged' : List Judged) (own_is : IsTester setup lines K t own)
+      (took : JudgesLine setup at t own new judged judged' span bytes) (side : new.listener.side ≡ own.listener.side) (none : new.entered.items ≡ []) where
     happened_is : line_happens setup own.listener.side at before span own.entered.items bytes ≡ hearing.line_happens (expects setup) setup t lines line
     happened_is = ap₂ (λ (s : LinkSetup) (e : List Entered). line_happens setup s at before span e bytes) own_is.side own_is.entered ∙ happen_is
 
@@ -132,11 +132,11 @@ module _ (setup : RawSetup) (lines : List (List ℕ)) (line : List ℕ) (K : Lis
       entered = none;
     }
 
-    pub told_is : told' ≡ told ++ map told_pair (over_by (expects setup) setup lines line t)
-    told_is =
+    pub judged_is : judged' ≡ judged ++ map judged_pair (over_by (expects setup) setup lines line t)
+    judged_is =
         (took before so_far own_is.judges).1
-        ∙ (ap (λ w. told ++ map (told_for t) (over_after so_far w)) happened_is
-        ∙ ap (λ w. told ++ w) (pairs_of t (with_line (expects setup) setup t lines line) ∙ ap (map told_pair) (sym (by_line (expects setup) setup t lines line))))
+        ∙ (ap (λ w. judged ++ map (judged_for t) (over_after so_far w)) happened_is
+        ∙ ap (λ w. judged ++ w) (pairs_of t (with_line (expects setup) setup t lines line) ∙ ap (map judged_pair) (sym (by_line (expects setup) setup t lines line))))
 
 -- one that heard nothing
 pub new_tester : (setup : RawSetup) (t : ℕ) (own : Tester) → Judges own [] [] → own.entered.items ≡ [] → own.listener.side ≡ unit_side setup t
@@ -179,13 +179,13 @@ module _ (setup : RawSetup) (lines : List (List ℕ)) (line : List ℕ) (K : Lis
       ap (flat_map f) (counted_next i) ∙ (flat_append f (counted_from 1 i) ((i + 1) ∷ [])
       ∙ ap (λ w. flat_map f (counted_from 1 i) ++ w) (append-nil (f (i + 1))))
 
-  -- one tester more was told of
-  pub told_more : (told now now' : List Told) (i : ℕ)
-      → now ≡ told ++ map told_pair (flat_map (over_by (expects setup) setup lines line) (counted_from 1 i))
-      → now' ≡ now ++ map told_pair (over_by (expects setup) setup lines line (i + 1))
-      → now' ≡ told ++ map told_pair (flat_map (over_by (expects setup) setup lines line) (counted_from 1 (i + 1)))
-  told_more told now now' i first more =
+  -- one tester more was judged
+  pub judged_more : (judged now now' : List Judged) (i : ℕ)
+      → now ≡ judged ++ map judged_pair (flat_map (over_by (expects setup) setup lines line) (counted_from 1 i))
+      → now' ≡ now ++ map judged_pair (over_by (expects setup) setup lines line (i + 1))
+      → now' ≡ judged ++ map judged_pair (flat_map (over_by (expects setup) setup lines line) (counted_from 1 (i + 1)))
+  judged_more judged now now' i first more =
       let f = over_by (expects setup) setup lines line in
-      more ∙ (ap (λ w. w ++ map told_pair (f (i + 1))) first
-      ∙ (append_assoc told (map told_pair (flat_map f (counted_from 1 i))) (map told_pair (f (i + 1)))
-      ∙ ap (λ w. told ++ w) (sym (map-append told_pair (flat_map f (counted_from 1 i)) (f (i + 1))) ∙ ap (map told_pair) (sym (over_more i)))))
+      more ∙ (ap (λ w. w ++ map judged_pair (f (i + 1))) first
+      ∙ (append_assoc judged (map judged_pair (flat_map f (counted_from 1 i))) (map judged_pair (f (i + 1)))
+      ∙ ap (λ w. judged ++ w) (sym (map-append judged_pair (flat_map f (counted_from 1 i)) (f (i + 1))) ∙ ap (map judged_pair) (sym (over_more i)))))

@@ -22,10 +22,10 @@ use Rattle.diag_exchange.specs.declared.happening.Over.{Over}
 use Rattle.diag_exchange.specs.declared.happening.CaptureLine.{CaptureLine}
 use Rattle.diag_expect.specs.Expecting.{entered_of}
 use Rattle.diag_expect.specs.declared.entered.Entered.{Entered}
-use Rattle.diag_judge.specs.Judging.{Judges, counts_of, told_for}
+use Rattle.diag_judge.specs.Judging.{Judges, counts_of, judged_for}
 use Rattle.diag_judge.specs.declared.tester.Counts.{Counts}
 use Rattle.diag_judge.specs.declared.tester.Tester.{Tester}
-use Rattle.diag_judge.specs.declared.tester.Told.{Told}
+use Rattle.diag_judge.specs.declared.tester.Judged.{Judged}
 use Rattle.diag_told.specs.Told.{capture_line_told, told_text}
 use Rattle.diag_compare.specs.Compare.{compared_by, exchanges, open_for, over_by}
 use Rattle.diag_compare.specs.Expects.{expects}
@@ -55,25 +55,25 @@ pub record HasStamps (setup : RawSetup) (stamps : Stamps) (lines : List (List �
 
 -- ---- the line of an exchange
 
-abbrev pub told_pair : ℕ × Over → Told
-told_pair pair = told_for pair.0 pair.1
+abbrev pub judged_pair : ℕ × Over → Judged
+judged_pair pair = judged_for pair.0 pair.1
 
-abbrev pub told_number : Told → ℕ
-told_number told = (capture_line_told told.over).number
+abbrev pub judged_number : Judged → ℕ
+judged_number judged = (capture_line_told judged.over).number
 
 abbrev pub stamped_at : Stamps → Over → ℕ
 stamped_at stamps o = bus_moment (start_from stamps.first (capture_line_told o).number) (capture_line_told o).moment
 
-abbrev pub line_at : RawSetup → Stamps → Told → List ℕ
-line_at setup stamps told = told_text (name_of setup told.who) (stamped_at stamps told.over) told.agrees told.over
+abbrev pub line_at : RawSetup → Stamps → Judged → List ℕ
+line_at setup stamps judged = told_text (name_of setup judged.who) (stamped_at stamps judged.over) judged.agrees judged.over
 
 -- with `--differences` those that agree are left out
-abbrev pub written_at : RawSetup → Stamps → Bool → Told → List ℕ
-written_at setup stamps differences told = if differences && told.agrees then [] else line_at setup stamps told
+abbrev pub written_at : RawSetup → Stamps → Bool → Judged → List ℕ
+written_at setup stamps differences judged = if differences && judged.agrees then [] else line_at setup stamps judged
 
 -- of a batch, by their lines
-abbrev pub lines_at : RawSetup → Stamps → Bool → List Told → List ℕ
-lines_at setup stamps differences batch = flat_map (written_at setup stamps differences) (in_order told_number batch)
+abbrev pub lines_at : RawSetup → Stamps → Bool → List Judged → List ℕ
+lines_at setup stamps differences batch = flat_map (written_at setup stamps differences) (in_order judged_number batch)
 
 -- ---- a tester
 
@@ -144,13 +144,13 @@ pub record IsLine (setup : RawSetup) (lines : List (List ℕ)) (line : List ℕ)
   pub stands : at ≡ capture_line_of setup lines line
   pub entries : entries_by setup lines line ≡ in_states (ecu_after setup lines) K
 
--- each tester took the end of a line, and what was over with it was told
-abbrev pub TakesEach : RawSetup → CaptureLine → BusLine → ℕ → List Tester → List Tester → List Told → List Told → Type 0
-TakesEach setup at said span old new told told' = (lines : List (List ℕ)) (line : List ℕ) (K : List Entry)
+-- each tester took the end of a line, and what was over with it was judged
+abbrev pub TakesEach : RawSetup → CaptureLine → BusLine → ℕ → List Tester → List Tester → List Judged → List Judged → Type 0
+TakesEach setup at said span old new judged judged' = (lines : List (List ℕ)) (line : List ℕ) (K : List Entry)
     → IsLine setup lines line said span at K
     → AreTesters setup lines K old
     → AreTesters setup (lines ++ line ∷ []) [] new
-    × (told' ≡ told ++ map told_pair (flat_map (over_by (expects setup) setup lines line) (numbers setup)))
+    × (judged' ≡ judged ++ map judged_pair (flat_map (over_by (expects setup) setup lines line) (numbers setup)))
 
 -- the end of a line was taken, and this was written
 abbrev pub TakesEnd : RawSetup → ExchangeLines → ExchangeLines → BusLine → ℕ → Clock → List ℕ → Type 0
@@ -169,11 +169,11 @@ tester_counts setup lines t = counts_of (exchanges (expects setup) setup lines t
 abbrev pub all_counts : RawSetup → List (List ℕ) → List Counts
 all_counts setup lines = map (tester_counts setup lines) (numbers setup)
 
--- the exchanges that weren't over were told, of each tester
-abbrev pub EndsEach : RawSetup → List Tester → List Told → List Told → Type 0
-EndsEach setup testers told told' = (lines : List (List ℕ))
+-- the exchanges that weren't over were judged, of each tester
+abbrev pub EndsEach : RawSetup → List Tester → List Judged → List Judged → Type 0
+EndsEach setup testers judged judged' = (lines : List (List ℕ))
     → AreTesters setup lines [] testers
-    → told' ≡ told ++ map told_pair (flat_map (open_for (expects setup) setup lines) (numbers setup))
+    → judged' ≡ judged ++ map judged_pair (flat_map (open_for (expects setup) setup lines) (numbers setup))
 
 -- all exchanges were counted, of each tester
 abbrev pub CountsEach : RawSetup → List Tester → List Counts → Type 0

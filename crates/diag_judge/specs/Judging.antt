@@ -18,14 +18,14 @@ use Rattle.diag_listen.specs.Listening.{Listens, all_happen}
 use Rattle.diag_listen.specs.declared.listener.Listener.{Listener}
 use Rattle.diag_judge.specs.declared.tester.Counts.{Counts}
 use Rattle.diag_judge.specs.declared.tester.Tester.{Tester}
-use Rattle.diag_judge.specs.declared.tester.Told.{Told}
+use Rattle.diag_judge.specs.declared.tester.Judged.{Judged}
 
 abbrev pub differs : Over → Bool
 differs o = not (agrees o)
 
 -- what is over for a tester, and whether it agrees
-abbrev pub told_for : ℕ → Over → Told
-told_for t o = record { who = t; over = o; agrees = agrees o }
+abbrev pub judged_for : ℕ → Over → Judged
+judged_for t o = record { who = t; over = o; agrees = agrees o }
 
 -- how many exchanges they are, how many of them differ, and whether there is a message of the unit to compare
 abbrev pub counts_of : List Over → Counts
@@ -74,20 +74,20 @@ HearsLine setup at old new out out' span entered frame = (E : List Event) (hs : 
     → Listens new ((E ++ waited span) ++ frame_events frame) (hs ++ line_happens setup old.side at E span entered frame)
     × (out' ≡ out ++ over_after hs (line_happens setup old.side at E span entered frame))
 
--- it took a line, and what was over with it was told
-abbrev pub JudgesLine : RawSetup → CaptureLine → ℕ → Tester → Tester → List Told → List Told → ℕ → Option (List ℕ) → Type 0
-JudgesLine setup at who old new told told' span frame = (E : List Event) (hs : List Happening)
+-- it took a line, and what was over with it was judged
+abbrev pub JudgesLine : RawSetup → CaptureLine → ℕ → Tester → Tester → List Judged → List Judged → ℕ → Option (List ℕ) → Type 0
+JudgesLine setup at who old new judged judged' span frame = (E : List Event) (hs : List Happening)
     → Judges old E hs
     → Judges new ((E ++ waited span) ++ frame_events frame) (hs ++ line_happens setup old.listener.side at E span old.entered.items frame)
-    × (told' ≡ told ++ map (told_for who) (over_after hs (line_happens setup old.listener.side at E span old.entered.items frame)))
+    × (judged' ≡ judged ++ map (judged_for who) (over_after hs (line_happens setup old.listener.side at E span old.entered.items frame)))
 
 -- ---- the end
 
--- the exchanges that weren't over were told
-abbrev pub EndsTold : Tester → ℕ → List Told → List Told → Type 0
-EndsTold own who told told' = (E : List Event) (hs : List Happening)
+-- the exchanges that weren't over were judged
+abbrev pub EndsJudged : Tester → ℕ → List Judged → List Judged → Type 0
+EndsJudged own who judged judged' = (E : List Event) (hs : List Happening)
     → Judges own E hs
-    → told' ≡ told ++ map (told_for who) (left_open hs)
+    → judged' ≡ judged ++ map (judged_for who) (left_open hs)
 
 -- all exchanges were counted
 abbrev pub EndsCounted : Tester → Counts → Type 0
