@@ -24,7 +24,7 @@ const LONGEST_COUNT: u64 = TickCount::MAX as u64;
 
 /// The server in the midst of a call, with what the call has drawn and entered so far.
 #[derive(Drop)]
-pub struct Going {
+pub struct Node {
     /// The ECU and each tester's port.
     pub server: Server,
     /// Whether a journal is wanted.
@@ -35,8 +35,8 @@ pub struct Going {
     pub text: Vec<u8>,
 }
 
-impl Going {
-    ghost use Rattle.uds_unit.specs.Going.{Gave, IsReady, Passed, SameShape, lists_of};
+impl Node {
+    ghost use Rattle.uds_unit.specs.Node.{Gave, IsReady, Passed, SameShape, lists_of};
 
     /// Begins a call: nothing was drawn.
     pub fn begin(&mut self)

@@ -1,7 +1,7 @@
 use Rattle.std.proofs.Common.{length, arith}
 use Rattle.diag_bus.proofs.Paces.{ticks_time}
 use Rattle.uds_unit.proofs.Passing.{passed_quietly}
-use Rattle.uds_unit.proofs.going.Going.give_each.Goals as goal
+use Rattle.uds_unit.proofs.node.Node.give_each.Goals as goal
 
 pub returns-then-from-quiet : goal.returns-then-from-quiet
 returns-then-from-quiet c =

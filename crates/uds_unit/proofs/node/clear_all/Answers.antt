@@ -3,7 +3,7 @@ use Rattle.std.proofs.lemmas.List.{length-set}
 use Rattle.std.proofs.lemmas.Option.{slice_get_within}
 use Rattle.diag_tp.specs.declared.sent.Sent.{Sent}
 use Rattle.diag_world.proofs.Worlds.{map_cases, set_cases}
-use Rattle.uds_unit.proofs.going.clear_all.Goals as goal
+use Rattle.uds_unit.proofs.node.clear_all.Goals as goal
 
 pub loop-index-init : goal.loop-index-init
 loop-index-init c = record { lists = refl; empty = λ k v less at. absurd (omega (arith, less)) }

@@ -5,9 +5,9 @@ use Rattle.diag_can.specs.declared.frame.Event.TheVariants.{Functional}
 use Rattle.diag_can.specs.declared.frame.Ids.{Ids}
 use Rattle.diag_setup.specs.Setup.{ids_of}
 use Rattle.diag_bus.specs.Requests.{functional_to}
-use Rattle.uds_unit.specs.Going.{Gave}
+use Rattle.uds_unit.specs.Node.{Gave}
 use Rattle.uds_unit.proofs.Passing.{passed_as, passed_one}
-use Rattle.uds_unit.proofs.going.Going.give_functional_to.Goals as goal
+use Rattle.uds_unit.proofs.node.Node.give_functional_to.Goals as goal
 
 pub returns-then-eq : goal.returns-then-eq
 returns-then-eq c =

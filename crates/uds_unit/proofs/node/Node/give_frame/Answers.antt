@@ -4,9 +4,9 @@ use Rattle.diag_can.specs.declared.frame.Event.TheVariants.{Physical}
 use Rattle.diag_bus.specs.Requests.{IsOwner, given}
 use Rattle.diag_bus.specs.declared.request_ids.Owner.{Owner}
 use Rattle.diag_bus.specs.declared.request_ids.Owner.TheVariants as owner
-use Rattle.uds_unit.specs.Going.{Gave}
+use Rattle.uds_unit.specs.Node.{Gave}
 use Rattle.uds_unit.proofs.Passing.{passed_as, passed_none, passed_one}
-use Rattle.uds_unit.proofs.going.Going.give_frame.Goals as goal
+use Rattle.uds_unit.proofs.node.Node.give_frame.Goals as goal
 
 pub returns-in-Nobody : goal.returns-in-Nobody
 returns-in-Nobody c =

@@ -1,7 +1,7 @@
 use Rattle.std.proofs.Common.{◌≡◌, ◌<◌, ℕ, [], Some, Vec, Global, length}
 use Rattle.std.specs.Prelude.{slice_get}
 use Rattle.diag_tp.specs.declared.sent.Sent.{Sent}
-use Rattle.uds_unit.proofs.going.clear_all.Given as goal
+use Rattle.uds_unit.proofs.node.clear_all.Given as goal
 
 abbrev pub invariant-loop-index : goal.invariant-loop-index
 invariant-loop-index l = record {

@@ -2,7 +2,7 @@ use Rattle.std.proofs.Common.{◌-◌}
 use Rattle.diag_bus.proofs.Paces.{stays, went_on}
 use Rattle.uds_unit.proofs.Entered.{entered_asked}
 use Rattle.uds_unit.proofs.Giving.{gave_one, list_at, shape_one, shape_refused}
-use Rattle.uds_unit.proofs.going.Going.give.Goals as goal
+use Rattle.uds_unit.proofs.node.Node.give.Goals as goal
 
 pub returns-clause-ok : goal.returns-clause-ok
 returns-clause-ok c =

@@ -5,7 +5,7 @@ use Rattle.diag_bus.specs.Events.{frame_to}
 use Rattle.diag_bus.specs.Requests.{IsOwner, given}
 use Rattle.diag_bus.proofs.Paces.{has_left}
 use Rattle.uds_unit.proofs.Passing.{passed_as, passed_quiet, passed_then}
-use Rattle.uds_unit.proofs.going.Going.take.Goals as goal
+use Rattle.uds_unit.proofs.node.Node.take.Goals as goal
 
 pub give_frame-requires-clause-owner : goal.give_frame-requires-clause-owner
 give_frame-requires-clause-owner c = c.owner.ensures

@@ -2,8 +2,8 @@ use Rattle.std.proofs.Common.{ℕ}
 use Rattle.diag_world.specs.Server.{each_of}
 use Rattle.diag_bus.specs.Batch.{Lasts}
 use Rattle.diag_bus.proofs.Paces.{SomeWentOn}
-use Rattle.uds_unit.specs.Going.{Gave, SameShape}
-use Rattle.uds_unit.proofs.going.Going.give_to_each.Given as goal
+use Rattle.uds_unit.specs.Node.{Gave, SameShape}
+use Rattle.uds_unit.proofs.node.Node.give_to_each.Given as goal
 
 abbrev pub invariant-loop-index : goal.invariant-loop-index
 invariant-loop-index l = record {

@@ -9,44 +9,44 @@ use Rattle.diag_desk.specs.Timed.{Timed, entries_of, timed}
 use Rattle.diag_world.specs.Server.{ServesFrom, sent_by, server_of}
 use Rattle.diag_bus.specs.Batch.{HasTime, TookTime}
 use Rattle.uds_unit.specs.Journal.{entered}
-use Rattle.uds_unit.specs.declared.going.Going.{Going}
+use Rattle.uds_unit.specs.declared.node.Node.{Node}
 
 -- the frames of each tester in this call
-abbrev pub lists_of : Going → List (List Sent)
-lists_of going = map (λ frames. frames.items) going.drawn.items
+abbrev pub lists_of : Node → List (List Sent)
+lists_of node = map (λ frames. frames.items) node.drawn.items
 
 -- The server took M, of whose run the ECU was set to `opened` behind the entries T. Each tester was sent its frames of the
 -- call behind those that it had been sent, and the text stands behind what was handed out of it.
-pub record Drew (opened : State) (T : List Timed) (setup : RawSetup) (going : Going) (base : ℕ → List Sent)
+pub record Drew (opened : State) (T : List Timed) (setup : RawSetup) (node : Node) (base : ℕ → List Sent)
     (told : List ℕ) (M : List (ℕ × Event)) : Type 0 where
   pub journal : List Entry
-  pub serves : ServesFrom opened T setup (server_of going.server) M journal
-  pub lists : length going.drawn.items ≡ length setup.testers
-  pub frames : (i : ℕ) (frames : List Sent) → slice_get (lists_of going) i ≡ Some frames
+  pub serves : ServesFrom opened T setup (server_of node.server) M journal
+  pub lists : length node.drawn.items ≡ length setup.testers
+  pub frames : (i : ℕ) (frames : List Sent) → slice_get (lists_of node) i ≡ Some frames
       → sent_by setup M (T ++ timed opened journal) (i + 1) ≡ base (i + 1) ++ frames
-  pub text : entered going.wanted (entries_of T ++ journal) ≡ told ++ going.text.items
+  pub text : entered node.wanted (entries_of T ++ journal) ≡ told ++ node.text.items
 
 -- the server was given these events: whatever it stood for, it stands for them behind it
-abbrev pub Gave : Going → Going → List (ℕ × Event) → Type 0
+abbrev pub Gave : Node → Node → List (ℕ × Event) → Type 0
 Gave old new more =
     (opened : State) (T : List Timed) (setup : RawSetup) (base : ℕ → List Sent) (told : List ℕ) (M : List (ℕ × Event))
     → Drew opened T setup old base told M
     → Drew opened T setup new base told (M ++ more)
 
 -- as many testers as before, and a journal where one was wanted
-pub record SameShape (old new : Going) : Type 0 where
+pub record SameShape (old new : Node) : Type 0 where
   pub ports : length new.server.ports ≡ length old.server.ports
   pub lists : length new.drawn.items ≡ length old.drawn.items
   pub wanted : new.wanted ≡ old.wanted
 
 -- the server is that of so many testers, and so much may pass
-pub record IsReady (going : Going) (testers span : ℕ) : Type 0 where
-  pub in_setup : length going.server.ports ≡ testers
-  pub lists : length going.drawn.items ≡ testers
-  pub early : HasTime going.server span
+pub record IsReady (node : Node) (testers span : ℕ) : Type 0 where
+  pub in_setup : length node.server.ports ≡ testers
+  pub lists : length node.drawn.items ≡ testers
+  pub early : HasTime node.server span
 
 -- the server was given these events, by which at most so much passed, or those of them that there was memory for
-pub record Passed {A E : Type 0} (old new : Going) (span : ℕ) (more : List (ℕ × Event))
+pub record Passed {A E : Type 0} (old new : Node) (span : ℕ) (more : List (ℕ × Event))
     (result : Result A E) : Type 0 where
   pub ok : OnOk result (Gave old new more)
   pub shape : SameShape old new

@@ -3,9 +3,9 @@ use Rattle.diag_world.proofs.Waiting.{each_more}
 use Rattle.diag_world.proofs.Worlds.{who_found}
 use Rattle.diag_world.specs.Server.{each_of}
 use Rattle.diag_bus.proofs.Paces.{lasts, some_all, some_more, some_none}
-use Rattle.uds_unit.specs.Going.{Gave}
+use Rattle.uds_unit.specs.Node.{Gave}
 use Rattle.uds_unit.proofs.Passing.{gave_more, gave_none, same_more, same_none}
-use Rattle.uds_unit.proofs.going.Going.give_to_each.Goals as goal
+use Rattle.uds_unit.proofs.node.Node.give_to_each.Goals as goal
 
 pub loop-index-init : goal.loop-index-init
 loop-index-init c = record {

@@ -8,7 +8,7 @@ use Rattle.diag_world.specs.Server.{each_of}
 use Rattle.diag_bus.proofs.Batches.{parts_more, rest_more, waited_whole, waited_rest}
 use Rattle.diag_bus.proofs.Paces.{has_left}
 use Rattle.uds_unit.proofs.Passing.{passed_as, passed_err, passed_none, passed_then}
-use Rattle.uds_unit.proofs.going.Going.pass.Goals as goal
+use Rattle.uds_unit.proofs.node.Node.pass.Goals as goal
 
 pub loop-part-init : goal.loop-part-init
 loop-part-init c = passed_none c.args.self.now (60000 * 0)

@@ -5,7 +5,7 @@ use Rattle.diag_bus.specs.Requests.{functional_to_all}
 use Rattle.diag_bus.proofs.Batches.{functional_more}
 use Rattle.diag_bus.proofs.Paces.{has_left}
 use Rattle.uds_unit.proofs.Passing.{passed_as, passed_err, passed_none, passed_then}
-use Rattle.uds_unit.proofs.going.Going.give_functional.Goals as goal
+use Rattle.uds_unit.proofs.node.Node.give_functional.Goals as goal
 
 pub loop-index-init : goal.loop-index-init
 loop-index-init c = passed_none c.args.self.now 0
