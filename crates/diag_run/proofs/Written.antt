@@ -39,7 +39,7 @@ use Rattle.diag_text.specs.Text.{end_text, journal_part, lines_from, lines_of}
 use Rattle.diag_text.proofs.Lines.{concat_more}
 use Rattle.diag_run.specs.Playing.{AreTexts, AreUnwritten, Enters, EntersMore, EntersOne, IsReady, Plays, Replies, Terms, Took, WroteTo, version_of, parts_text}
 use Rattle.diag_run.specs.Run.{played_text}
-use Rattle.diag_run.specs.declared.entering.JournalLines.{JournalLines}
+use Rattle.diag_run.specs.declared.journal_lines.JournalLines.{JournalLines}
 use Rattle.diag_run.specs.declared.replies.ReplyLines.{ReplyLines}
 use Rattle.diag_run.specs.declared.playing.Playing.{Playing}
 

@@ -1,7 +1,7 @@
 use Rattle.std.proofs.Common.{◌+◌, refl, arith}
-use Rattle.diag_run.specs.declared.entering.JournalLines.{JournalLines}
+use Rattle.diag_run.specs.declared.journal_lines.JournalLines.{JournalLines}
 use Rattle.diag_run.proofs.Written.{enters_more}
-use Rattle.diag_run.proofs.entering.JournalLines.enter.Goals as goal
+use Rattle.diag_run.proofs.journal_lines.JournalLines.enter.Goals as goal
 
 pub returns-clause-kept : goal.returns-clause-kept
 returns-clause-kept c =
