@@ -1,8 +1,8 @@
 -- What the server stands for in the midst of a line, beside what the line has drawn so far; and between two lines.
 use Rattle.std.specs.Prelude.{◌≡◌, ◌≤◌, ◌<◌, ◌⊎◌, ◌^◌, ℕ, ◌+◌, IfSome, OnOk, List, [], ◌∷◌, ◌++◌, length, map, Option, Some, None, Result, Ok, slice_get}
 use Rattle.std.specs.List.{All}
-use Rattle.diag_can.specs.declared.bus.BusLine.{BusLine}
-use Rattle.diag_can.specs.declared.bus.BusLine.TheVariants.{Empty, Ticks, Stamped}
+use Rattle.diag_can.specs.declared.bus_line.BusLine.{BusLine}
+use Rattle.diag_can.specs.declared.bus_line.BusLine.TheVariants.{Empty, Ticks, Stamped}
 use Rattle.diag_can.specs.declared.frame.Event.{Event}
 use Rattle.diag_can.specs.Reading.{later}
 use Rattle.diag_tp.specs.declared.sent.Sent.{Sent}

@@ -9,13 +9,13 @@ use Rattle.std.proofs.lemmas.List.Elements.{All-append, All-cons, All-nil}
 use Rattle.std.proofs.lemmas.List.Sums.{prefix_len_passes}
 use lib.Seq.{drop-append_seam}
 use Rattle.hex.specs.Hex.{is_hex_digit}
-use Rattle.diag_can.specs.Bus.{HasNoFeed, IsFirst}
+use Rattle.diag_can.specs.BusLine.{HasNoFeed, IsFirst}
 use Rattle.diag_can.specs.Lanes.{IsRunIn, IsWithin}
 use Rattle.diag_can.specs.Line.{id_of, line_says}
 use Rattle.diag_can.specs.Log.{is_feed, without_return}
 use Rattle.diag_can.specs.Stamp.{behind, is_mark, is_no_space}
 use Rattle.diag_can.specs.Usual.{BeginsFramed, IsUsual}
-use Rattle.diag_can.specs.declared.bus.BusLine.{BusLine}
+use Rattle.diag_can.specs.declared.bus_line.BusLine.{BusLine}
 use Rattle.diag_can.proofs.UsualLines.{bus_line-short, usual_parts}
 use Rattle.diag_can.proofs.Windows.{back_least, back_most, framed_within, front_least, front_most}
 

@@ -1,12 +1,12 @@
 -- A log that comes in pieces: what one line more makes of it, and where a line is at fault.
 use Rattle.std.proofs.Common.{◌≡◌, ℕ, false, arith, length, List, [], ◌∷◌, ◌++◌, Option, Some, None, Err, refl, sym, ap, subst, ◌∙◌, append_assoc, append-nil}
 use Rattle.std.proofs.lemmas.List.Elements.{All-nil}
-use Rattle.diag_can.specs.Bus.{HasNoFeed, IsFirst, begun_line}
+use Rattle.diag_can.specs.BusLine.{HasNoFeed, IsFirst, begun_line}
 use Rattle.diag_can.specs.Growing.{GivesMore, HasEvent}
 use Rattle.diag_can.specs.HasRead.{AreRead, HasLines, HasRead}
 use Rattle.diag_can.specs.Log.{is_feed, lines_of, fault_after, events, without_return}
 use Rattle.diag_can.specs.Pieces.{TakesLines}
-use Rattle.diag_can.specs.declared.bus.BusLine.{BusLine}
+use Rattle.diag_can.specs.declared.bus_line.BusLine.{BusLine}
 use Rattle.diag_can.specs.declared.fault.LogFault.{LogFault}
 use Rattle.diag_can.specs.declared.fault.LogFault.TheVariants.{Memory}
 use Rattle.diag_can.specs.declared.frame.Ids.{Ids}

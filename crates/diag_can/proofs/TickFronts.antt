@@ -6,11 +6,11 @@ use Rattle.std.proofs.lemmas.Bool.{cases_Bool, eqb-true}
 use Rattle.std.proofs.lemmas.Bool.Decides.{nat_tests}
 use Rattle.std.proofs.lemmas.List.Elements.{All-append, All-cons, All-nil}
 use Rattle.std.proofs.lemmas.List.Sums.{AllPass-from_list_all, list_all-from_AllPass, prefix_len-le-length}
-use Rattle.diag_can.specs.Bus.{HasNoFeed, IsFirst}
+use Rattle.diag_can.specs.BusLine.{HasNoFeed, IsFirst}
 use Rattle.diag_can.specs.Line.{is_decimal, line_says, tick_count, ticks_of}
 use Rattle.diag_can.specs.Log.{is_feed, without_return}
 use Rattle.diag_can.specs.Stamp.{behind, decimal_value, is_digit}
-use Rattle.diag_can.specs.declared.bus.BusLine.TheVariants.{Ticks}
+use Rattle.diag_can.specs.declared.bus_line.BusLine.TheVariants.{Ticks}
 use Rattle.diag_can.proofs.Fronts.{front_is, without_its_cr}
 use Rattle.diag_can.proofs.Runs.{run-passes}
 use Rattle.diag_can.proofs.UsualLines.{bus_line-short}

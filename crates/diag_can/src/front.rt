@@ -2,11 +2,11 @@
 
 ghost use Rattle.std.specs.Prelude.{◌≡◌, ◌-◌, ◌<◌, ◌≤◌, ◌∷◌, ◌⊎◌, length, take, IfSome, MatchOption, Some};
 ghost use Rattle.memchr.specs.Find.{IsFirstByte};
-ghost use Rattle.diag_can.specs.Bus.{HasNoFeed, IsFirst};
+ghost use Rattle.diag_can.specs.BusLine.{HasNoFeed, IsFirst};
 ghost use Rattle.diag_can.specs.Line.{tick_count};
 ghost use Rattle.diag_can.specs.Log.{is_feed};
 
-use crate::bus::BusLine;
+use crate::bus_line::BusLine;
 use crate::frame::TickCount;
 use crate::lanes::{hex_of_sixteen, line_run};
 use crate::line::short_id;

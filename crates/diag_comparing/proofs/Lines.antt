@@ -4,8 +4,8 @@ use Rattle.std.proofs.lemmas.List.{append-nil, length-append, take_all, take-app
 use Rattle.std.proofs.lemmas.Bool.Decides.{nat_tests}
 use Rattle.std.specs.List.{filter, flat_map}
 use Rattle.std.specs.Prelude.{◌&&◌, ◌||◌, if◌then◌else◌, nat_le, nat_lt, not, Ok, Err, Result, IfSome}
-use Rattle.diag_can.specs.declared.bus.BusLine.{BusLine}
-use Rattle.diag_can.specs.declared.bus.BusLine.TheVariants as said
+use Rattle.diag_can.specs.declared.bus_line.BusLine.{BusLine}
+use Rattle.diag_can.specs.declared.bus_line.BusLine.TheVariants as said
 use Rattle.diag_can.specs.declared.fault.LineFault.{LineFault}
 use Rattle.diag_setup.specs.Rows.{in_order, insert_in_order}
 use Rattle.diag_setup.specs.Setup.{name_of}

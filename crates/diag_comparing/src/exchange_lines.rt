@@ -1,7 +1,7 @@
 //! What is kept of a recording, and the lines of exchanges that are over.
 
 ghost use Rattle.std.specs.Prelude.{◌≡◌, ◌≤◌, ◌+◌, ◌∷◌, [], ◌++◌, ℕ, List, length, option_copied, option_map, IfOk, OnOk, OnErr, Ok};
-ghost use Rattle.diag_can.specs.declared.bus.BusLine.{BusLine as ABusLine};
+ghost use Rattle.diag_can.specs.declared.bus_line.BusLine.{BusLine as ABusLine};
 ghost use Rattle.diag_desk.specs.Entries.{asks};
 ghost use Rattle.diag_desk.specs.declared.entry.Entry.{Entry};
 ghost use Rattle.diag_ecu.specs.State.{State};

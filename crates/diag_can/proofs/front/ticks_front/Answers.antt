@@ -1,7 +1,7 @@
 use Rattle.std.proofs.Common.{◌≡◌, ◌∷◌, ℕ, ◌-◌, List, Some, length, take, drop, length-drop, sym, subst, arith, rules}
 use Rattle.std.proofs.lemmas.List.{take_all}
-use Rattle.diag_can.specs.Bus.{IsFirst}
-use Rattle.diag_can.specs.declared.bus.BusLine.TheVariants.{Ticks}
+use Rattle.diag_can.specs.BusLine.{IsFirst}
+use Rattle.diag_can.specs.declared.bus_line.BusLine.TheVariants.{Ticks}
 use Rattle.diag_can.proofs.TickFronts.{letters, ticks_line}
 use Rattle.diag_can.proofs.front.ticks_front.Goals as goal
 

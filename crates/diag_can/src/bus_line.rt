@@ -1,7 +1,7 @@
 //! The lines of a capture of a whole bus.
 
 ghost use Rattle.std.specs.Prelude.{◌≡◌};
-ghost use Rattle.diag_can.specs.Bus.{bus_line};
+ghost use Rattle.diag_can.specs.BusLine.{bus_line};
 
 use crate::fault::LineFault;
 use crate::frame::{CanId, TickCount};
