@@ -31,7 +31,7 @@ HasNoFeed line = All (λ c. is_feed c ≡ false) line
 
 -- the first line of a text without its line feed, what follows that, and what the line says where that is known: that doesn't
 -- depend on which identifiers of 29 bits are read
-pub record IsFirst (text line after : List ℕ) (said : Option BusLine) : Type 0 where
+pub record IsFirstLine (text line after : List ℕ) (said : Option BusLine) : Type 0 where
   pub is : text ≡ line ++ 10 ∷ after
   pub plain : HasNoFeed line
   pub says : IfSome said (λ said. (known : List ℕ) → bus_line known line ≡ Ok said)
