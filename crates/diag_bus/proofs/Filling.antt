@@ -18,9 +18,9 @@ use Rattle.diag_port.specs.declared.port.Port.{Port}
 use Rattle.diag_port.specs.Port.{PortState, port_of, port_quiet}
 use Rattle.diag_world.specs.Server.{ServerState, ServerView, Settled, quiet_of, server_of}
 use Rattle.diag_world.proofs.Worlds.{set_cases}
-use Rattle.diag_bus.specs.Batch.{IsRest, SameShape, lists_of}
+use Rattle.diag_bus.specs.Node.{IsRest, SameShape, lists_of}
 use Rattle.diag_bus.specs.declared.node.Node.{Node}
-use Rattle.diag_bus.specs.Requests.{AreFilled, filled_at}
+use Rattle.diag_bus.specs.Filled.{AreFilled, filled_at}
 use Rattle.diag_bus.specs.Text.{drawn_for, drawn_text, gathered, line_of, own_text, time_of}
 use Rattle.diag_bus.specs.declared.clock.Start.{Start}
 use Rattle.diag_bus.specs.declared.filled.Filled.{Filled}

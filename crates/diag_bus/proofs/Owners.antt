@@ -15,10 +15,10 @@ use Rattle.diag_setup.specs.declared.raw.RawTester.{RawTester}
 use Rattle.diag_setup.proofs.SetupLemmas.{NoneHold, none_hold}
 use Rattle.diag_pdu.specs.Cut.{counted_from}
 use Rattle.diag_bus.specs.Events.{frame_to}
-use Rattle.diag_bus.specs.Requests.{IsOwner, IsWithin, functional_to, functional_to_all}
+use Rattle.diag_bus.specs.RequestIds.{IsOwner, IsWithin, functional_to, functional_to_all}
 use Rattle.diag_bus.specs.declared.request_ids.Owner.{Owner}
 use Rattle.diag_bus.specs.declared.request_ids.Owner.TheVariants as owner
-use Rattle.diag_bus.proofs.Batches.{found_at, frames_more, functional_more}
+use Rattle.diag_bus.proofs.Nodes.{found_at, frames_more, functional_more}
 
 abbrev pub request_id : RawTester → ℕ
 request_id t = id_by t.extended t.request

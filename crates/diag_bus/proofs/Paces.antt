@@ -12,7 +12,8 @@ use Rattle.diag_desk.specs.declared.entry.Entry.{Entry}
 use Rattle.diag_port.specs.Port.{AreWithin, PortState, time_after}
 use Rattle.diag_world.specs.Server.{MovedOn, ServerState, ServerView, server_of}
 use Rattle.diag_world.proofs.Worlds.{set_cases}
-use Rattle.diag_bus.specs.Batch.{AreSentBy, GoesOn, HasTime, IsBy, Lasts, OneSentIn, OneWentOn, SentIn, TookTime, lists_of}
+use Rattle.diag_bus.specs.Clock.{GoesOn}
+use Rattle.diag_bus.specs.Node.{AreSentBy, HasTime, IsBy, Lasts, OneSentIn, OneWentOn, SentIn, TookTime, lists_of}
 use Rattle.diag_bus.specs.declared.node.Node.{Node}
 use Rattle.diag_bus.specs.Events.{span_said}
 use Rattle.diag_bus.specs.declared.clock.Clock.{Clock}

@@ -16,14 +16,16 @@ use Rattle.diag_setup.specs.declared.raw.RawSetup.{RawSetup}
 use Rattle.diag_world.proofs.Worlds.{set_cases}
 use Rattle.diag_bus.specs.Comparing.{Compares, ComparesLines, Each, EachExpects, EachRecords, Expects, Records, TakesLine, frame_has}
 use Rattle.diag_bus.specs.Events.{events_of, frame_said}
-use Rattle.diag_bus.specs.Requests.{AreFilled, IsResponder, IsWithin}
+use Rattle.diag_bus.specs.Filled.{AreFilled}
+use Rattle.diag_bus.specs.RequestIds.{IsWithin}
+use Rattle.diag_bus.specs.ResponseIds.{IsResponder}
 use Rattle.diag_bus.specs.Text.{sent_of}
 use Rattle.diag_bus.specs.Verdict.{at_line, expected, expected_of, is_pending, line_has, recorded, recorded_from, reply_said, sent_bytes}
 use Rattle.diag_bus.specs.declared.comparing.Comparison.{Comparison}
 use Rattle.diag_bus.specs.declared.comparing.Comparisons.{Comparisons}
 use Rattle.diag_bus.specs.declared.filled.Filled.TheVariants.{At, Nowhere}
 use Rattle.diag_bus.specs.declared.verdict.Recorded.{Recorded}
-use Rattle.diag_bus.proofs.Batches.{found_at}
+use Rattle.diag_bus.proofs.Nodes.{found_at}
 use Rattle.diag_world.proofs.Waiting.{get_set_other}
 
 -- ---- the recording of one tester

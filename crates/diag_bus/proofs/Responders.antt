@@ -7,8 +7,9 @@ use Rattle.diag_setup.specs.Rows.{has_key, has_repeat}
 use Rattle.diag_setup.specs.Setup.{can_ids, fault_of, ids_of, itself, nobody}
 use Rattle.diag_setup.specs.declared.raw.RawSetup.{RawSetup}
 use Rattle.diag_setup.specs.declared.raw.RawTester.{RawTester}
-use Rattle.diag_bus.specs.Requests.{IsResponder, IsWithin}
-use Rattle.diag_bus.proofs.Batches.{found_at}
+use Rattle.diag_bus.specs.RequestIds.{IsWithin}
+use Rattle.diag_bus.specs.ResponseIds.{IsResponder}
+use Rattle.diag_bus.proofs.Nodes.{found_at}
 use Rattle.diag_bus.proofs.Owners.{ids_once, others_once, request_id, response_id}
 
 -- ---- no response has the identifier of another

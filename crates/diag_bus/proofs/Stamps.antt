@@ -17,7 +17,7 @@ use Rattle.diag_can.specs.declared.fault.LineFault.TheVariants.{BadLine, BadTick
 use Rattle.diag_can.specs.declared.frame.Frame.{Frame}
 use Rattle.diag_can.proofs.Digits.{decimal_value-lt}
 use Rattle.diag_can.proofs.Runs.{run-passes}
-use Rattle.diag_bus.specs.Batch.{SaidBelow, moment_end}
+use Rattle.diag_bus.specs.Clock.{SaidBelow, moment_end}
 
 -- ---- a stamp
 

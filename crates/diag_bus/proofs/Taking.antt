@@ -10,9 +10,10 @@ use Rattle.diag_setup.specs.declared.raw.RawSetup.{RawSetup}
 use Rattle.diag_desk.specs.declared.entry.Entry.{Entry}
 use Rattle.diag_port.specs.Port.{Grew}
 use Rattle.diag_world.specs.Server.{ServerView, closing_time, server_of}
-use Rattle.diag_bus.specs.Batch.{AreSentBy, BusStands, Gave, GoesOn, HasTime, IsBy, IsReady, SaidBelow, SameShape, SentIn, StartsBelow, TookTime, lists_of, moment_end}
-use Rattle.diag_bus.specs.Bus.{AnswersLine, AreSound, BusState, TookLine, TookLines}
+use Rattle.diag_bus.specs.Bus.{AnswersLine, AreSound, BusStands, BusState, TookLine, TookLines}
+use Rattle.diag_bus.specs.Clock.{GoesOn, SaidBelow, StartsBelow, moment_end}
 use Rattle.diag_bus.specs.Events.{fault_said, line_fault, line_said, said_gives, span_said, time_said}
+use Rattle.diag_bus.specs.Node.{AreSentBy, Gave, HasTime, IsBy, IsReady, SameShape, SentIn, TookTime, lists_of}
 use Rattle.diag_bus.specs.Sink.{EndsLine, StaysFor}
 use Rattle.diag_bus.specs.declared.clock.Clock.{Clock}
 use Rattle.diag_bus.specs.declared.fault.BusFault.{BusFault}

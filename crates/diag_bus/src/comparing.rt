@@ -1,9 +1,11 @@
 //! What is kept of a recording and of the frames that the server sends, to compare the two.
 
 ghost use Rattle.std.specs.Prelude.{◌≡◌, ◌≤◌, ℕ, List, [], ◌∷◌, ◌+◌, length, map, slice_get, Some, IfSome, OnOk, IfOk};
-ghost use Rattle.diag_bus.specs.Batch.{lists_of};
 ghost use Rattle.diag_bus.specs.Comparing.{Compared, Compares, ComparesLines, EachExpects, EachRecords, Expects, Records, TakesLine};
-ghost use Rattle.diag_bus.specs.Requests.{AreFilled, AreResponsesOf, IsResponder, IsWithin};
+ghost use Rattle.diag_bus.specs.Filled.{AreFilled};
+ghost use Rattle.diag_bus.specs.Node.{lists_of};
+ghost use Rattle.diag_bus.specs.RequestIds.{IsWithin};
+ghost use Rattle.diag_bus.specs.ResponseIds.{AreResponsesOf, IsResponder};
 ghost use Rattle.diag_bus.specs.Verdict.{difference, expected_of, first_difference, is_pending, recorded, verdict};
 ghost use Rattle.diag_bus.specs.declared.comparing.Comparison.{Comparison as AComparison};
 ghost use Rattle.diag_bus.specs.declared.verdict.Recorded.{Recorded as ARecorded};
@@ -277,7 +279,7 @@ impl Comparisons {
 impl Sink for Comparisons {
     ghost use Rattle.std.specs.Prelude.{◌≡◌, [], false, length};
     ghost use Rattle.diag_bus.specs.Comparing.{ComparesLines};
-    ghost use Rattle.diag_bus.specs.Requests.{AreResponsesOf};
+    ghost use Rattle.diag_bus.specs.ResponseIds.{AreResponsesOf};
 
     ghost is_for = { λ kept setup. (length kept.testers.items ≡ length setup.testers)
         × AreResponsesOf setup kept.responses };

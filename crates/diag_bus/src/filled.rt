@@ -1,7 +1,7 @@
 //! Where the testers' lists have frames.
 
 ghost use Rattle.std.specs.Prelude.{◌≡◌, if◌then◌else◌};
-ghost use Rattle.diag_bus.specs.Requests.{filled_at};
+ghost use Rattle.diag_bus.specs.Filled.{filled_at};
 
 /// Which of the testers' lists may have frames, so that the others needn't be looked at.
 #[derive(Clone, Copy)]

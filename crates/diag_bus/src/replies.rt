@@ -1,10 +1,10 @@
 //! The sink that writes reply lines.
 
 ghost use Rattle.std.specs.Prelude.{◌≡◌, ◌++◌, OnErr, OnOk};
-ghost use Rattle.diag_bus.specs.Batch.{lists_of};
-ghost use Rattle.diag_bus.specs.Requests.{AreNamesOf};
+ghost use Rattle.diag_bus.specs.Node.{lists_of};
 ghost use Rattle.diag_bus.specs.Sink.{IsDrawn};
 ghost use Rattle.diag_bus.specs.Text.{drawn_text};
+ghost use Rattle.diag_bus.specs.Writing.{AreNamesOf};
 
 use crate::clock::Clock;
 use crate::filled::Filled;
@@ -67,8 +67,8 @@ impl Replies {
 
 impl Sink for Replies {
     ghost use Rattle.std.specs.Prelude.{⊤, false};
-    ghost use Rattle.diag_bus.specs.Requests.{AreNamesOf};
     ghost use Rattle.diag_bus.specs.Text.{text_of};
+    ghost use Rattle.diag_bus.specs.Writing.{AreNamesOf};
 
     ghost is_for = { λ replies setup. AreNamesOf setup replies.writers.items };
 

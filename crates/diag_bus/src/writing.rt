@@ -5,9 +5,10 @@ ghost use Rattle.std.specs.List.{All, flat_map};
 ghost use Rattle.std.specs.List.Sorted.{IsNonDecreasingBy, IsPermutation};
 ghost use Rattle.diag_setup.specs.Rows.{in_order};
 ghost use Rattle.diag_world.specs.Server.{closing_time};
-ghost use Rattle.diag_bus.specs.Batch.{AreSentBy, AreWritable, StartsBelow, moment_end};
-ghost use Rattle.diag_bus.specs.Requests.{AreNamesOf};
+ghost use Rattle.diag_bus.specs.Clock.{StartsBelow, moment_end};
+ghost use Rattle.diag_bus.specs.Node.{AreSentBy};
 ghost use Rattle.diag_bus.specs.Text.{bus_moment, drawn_for, drawn_text, gathered, line_of, own_text, time_of};
+ghost use Rattle.diag_bus.specs.Writing.{AreNamesOf, AreWritable};
 
 use crate::clock::{Clock, Start};
 use diag_can::{Frame, LineWriter};

@@ -5,7 +5,7 @@ use Rattle.diag_can.specs.declared.bus_line.BusLine.{BusLine}
 use Rattle.diag_setup.specs.declared.raw.RawSetup.{RawSetup}
 use Rattle.diag_tp.specs.declared.sent.Sent.{Sent}
 use Rattle.diag_desk.specs.declared.entry.Entry.{Entry}
-use Rattle.diag_bus.specs.Batch.{resumed}
+use Rattle.diag_bus.specs.Clock.{resumed}
 use Rattle.diag_bus.specs.Sink.{LineEnds, journal_of}
 use Rattle.diag_bus.specs.Text.{ecu_after, start_after}
 use Rattle.diag_bus.specs.declared.clock.Clock.{Clock}

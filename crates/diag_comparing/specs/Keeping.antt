@@ -13,7 +13,7 @@ use Rattle.diag_setup.specs.declared.raw.RawSetup.{RawSetup}
 use Rattle.diag_ecu.specs.State.{State}
 use Rattle.diag_desk.specs.declared.entry.Entry.{Entry}
 use Rattle.diag_bus.specs.Events.{clock_of, line_said, reference, time_said}
-use Rattle.diag_bus.specs.Requests.{IsWithin}
+use Rattle.diag_bus.specs.RequestIds.{IsWithin}
 use Rattle.diag_bus.specs.Text.{bus_moment, ecu_after, start_after}
 use Rattle.diag_bus.specs.Verdict.{numbers}
 use Rattle.diag_bus.specs.declared.clock.Clock.{Clock}

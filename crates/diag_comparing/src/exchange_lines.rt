@@ -8,7 +8,7 @@ ghost use Rattle.diag_ecu.specs.State.{State};
 ghost use Rattle.diag_setup.specs.declared.raw.RawSetup.{RawSetup};
 ghost use Rattle.diag_desk.specs.Legal.{after};
 ghost use Rattle.diag_bus.specs.Events.{frame_said};
-ghost use Rattle.diag_bus.specs.Requests.{AreResponsesOf};
+ghost use Rattle.diag_bus.specs.ResponseIds.{AreResponsesOf};
 ghost use Rattle.diag_bus.specs.Text.{ecu_after};
 ghost use Rattle.diag_port.specs.Port.{Grew};
 ghost use Rattle.diag_compare.specs.Hearing.{unit_side};

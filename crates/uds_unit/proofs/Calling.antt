@@ -16,8 +16,8 @@ use Rattle.diag_desk.specs.Legal.{after}
 use Rattle.diag_desk.specs.Timed.{Timed, entries_of, timed}
 use Rattle.diag_world.proofs.Serving.{entries_timed}
 use Rattle.diag_world.specs.Server.{ServerView, ServesFrom, WasSet, each_of, sent_by, server_of}
-use Rattle.diag_bus.specs.Batch.{IsBy, TookTime}
 use Rattle.diag_bus.specs.Events.{frame_to, said_gives}
+use Rattle.diag_bus.specs.Node.{IsBy, TookTime}
 use Rattle.diag_bus.specs.Text.{gathered, time_of}
 use Rattle.diag_bus.specs.declared.writing.Drawn.{Drawn}
 use Rattle.uds_unit.specs.Device.{AreSound, DeviceState, IsClock, Stands, TookCall, latest_ms}

@@ -15,8 +15,8 @@ use Rattle.diag_desk.specs.declared.entry.Entry.{Entry}
 use Rattle.diag_desk.specs.Timed.{entries_of}
 use Rattle.diag_port.specs.Port.{port_of}
 use Rattle.diag_world.specs.Server.{ServerView, Waited, each_of, entries_of_each, server_of}
-use Rattle.diag_bus.specs.Batch.{Lasts, OneWentOn}
 use Rattle.diag_bus.specs.Events.{frame_to}
+use Rattle.diag_bus.specs.Node.{Lasts, OneWentOn}
 use Rattle.diag_bus.proofs.Lines.{frames_none}
 use Rattle.diag_bus.proofs.Paces.{took_more, took_none, took_one}
 use Rattle.uds_unit.specs.Node.{Drew, Gave, Passed, SameShape}

@@ -2,7 +2,7 @@
 use Rattle.std.specs.Prelude.{◌≡◌, ◌≤◌, ℕ, Bool, List, [], ◌∷◌, ◌++◌, length, Option, Some, None}
 use Rattle.diag_setup.specs.declared.raw.RawSetup.{RawSetup}
 use Rattle.diag_world.specs.Server.{ServerView, ServesFrom, server_of}
-use Rattle.diag_bus.specs.Batch.{IsBy}
+use Rattle.diag_bus.specs.Node.{IsBy}
 use Rattle.diag_bus.specs.declared.writing.Drawn.{Drawn}
 use Rattle.uds_unit.specs.History.{Call, History, entries_in, history, journal_of}
 use Rattle.uds_unit.specs.Journal.{entered}

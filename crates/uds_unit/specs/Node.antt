@@ -7,7 +7,7 @@ use Rattle.diag_ecu.specs.State.{State}
 use Rattle.diag_desk.specs.declared.entry.Entry.{Entry}
 use Rattle.diag_desk.specs.Timed.{Timed, entries_of, timed}
 use Rattle.diag_world.specs.Server.{ServesFrom, sent_by, server_of}
-use Rattle.diag_bus.specs.Batch.{HasTime, TookTime}
+use Rattle.diag_bus.specs.Node.{HasTime, TookTime}
 use Rattle.uds_unit.specs.Journal.{entered}
 use Rattle.uds_unit.specs.declared.node.Node.{Node}
 

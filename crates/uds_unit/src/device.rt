@@ -53,7 +53,7 @@ impl Drop for Device {
 }
 
 impl Model for Device {
-    ghost use Rattle.diag_bus.specs.Requests.{AreRequestsOf};
+    ghost use Rattle.diag_bus.specs.RequestIds.{AreRequestsOf};
     ghost use Rattle.uds_unit.specs.Device.{AreSound, DeviceState};
 
     ghost Value = { DeviceState };

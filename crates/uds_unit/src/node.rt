@@ -7,9 +7,9 @@ ghost use Rattle.diag_can.specs.Log.{waited};
 ghost use Rattle.diag_pdu.specs.Cut.{counted_from};
 ghost use Rattle.diag_tp.specs.declared.sent.Sent.{Sent as ASent};
 ghost use Rattle.diag_world.specs.Server.{IsEarly, each_of};
-ghost use Rattle.diag_bus.specs.Batch.{HasTime, Lasts, OneWentOn, TookTime};
 ghost use Rattle.diag_bus.specs.Events.{frame_to};
-ghost use Rattle.diag_bus.specs.Requests.{AreRequestsOf, IsOwner, functional_to, functional_to_all, given};
+ghost use Rattle.diag_bus.specs.Node.{HasTime, Lasts, OneWentOn, TookTime};
+ghost use Rattle.diag_bus.specs.RequestIds.{AreRequestsOf, IsOwner, functional_to, functional_to_all, given};
 
 use crate::entries::Entries;
 use diag_bus::{Owner, RequestIds};

@@ -4,9 +4,9 @@ use Rattle.std.proofs.lemmas.Option.{slice_get_read, slice_get-map}
 use Rattle.std.proofs.lemmas.Result.{on_ok_weaker}
 use Rattle.std.specs.Prelude.{option_map, slice_get}
 use Rattle.diag_tp.specs.declared.sent.Sent.{Sent}
-use Rattle.diag_bus.specs.Batch.{lists_of}
 use Rattle.diag_bus.specs.Comparing.{Expects}
-use Rattle.diag_bus.specs.Requests.{AreFilled}
+use Rattle.diag_bus.specs.Filled.{AreFilled}
+use Rattle.diag_bus.specs.Node.{lists_of}
 use Rattle.diag_bus.specs.Verdict.{expected_of}
 use Rattle.diag_bus.specs.declared.comparing.Comparison.{Comparison}
 use Rattle.diag_bus.specs.declared.filled.Filled.{Filled}

@@ -4,7 +4,7 @@ use Rattle.std.proofs.lemmas.Result.{on_ok_weaker}
 use Rattle.std.specs.Prelude.{◌∷◌, [], IfSome, slice_get, slice_set}
 use Rattle.diag_port.proofs.Within.{none_of}
 use Rattle.diag_bus.specs.Comparing.{EachRecords, Records}
-use Rattle.diag_bus.specs.Requests.{IsWithin}
+use Rattle.diag_bus.specs.RequestIds.{IsWithin}
 use Rattle.diag_bus.specs.Verdict.{at_line, is_pending}
 use Rattle.diag_bus.specs.declared.comparing.Comparison.{Comparison}
 use Rattle.diag_bus.proofs.Recordings.{nobody_records, own_records}

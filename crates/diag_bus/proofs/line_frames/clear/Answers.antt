@@ -4,7 +4,7 @@ use Rattle.std.specs.Prelude.{map, slice_set}
 use Rattle.std.specs.Option.{option_map}
 use Rattle.diag_tp.specs.declared.sent.Sent.{Sent}
 use Rattle.diag_world.proofs.Worlds.{map_cases, set_cases}
-use Rattle.diag_bus.specs.Requests.{AreFilled}
+use Rattle.diag_bus.specs.Filled.{AreFilled}
 use Rattle.diag_bus.specs.declared.filled.Filled.{Filled}
 use Rattle.diag_bus.proofs.line_frames.clear.Goals as goal
 

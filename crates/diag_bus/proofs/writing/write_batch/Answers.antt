@@ -2,8 +2,8 @@ use Rattle.std.proofs.Common.{◌≤◌, ◌++◌, List, length, ap, subst, sym,
 use Rattle.std.proofs.lemmas.List.Sorted.{All-permutation}
 use Rattle.std.specs.List.{All}
 use Rattle.diag_world.specs.Server.{closing_time}
-use Rattle.diag_bus.specs.Requests.{AreNamesOf}
 use Rattle.diag_bus.specs.Text.{drawn_for, line_of}
+use Rattle.diag_bus.specs.Writing.{AreNamesOf}
 use Rattle.diag_bus.specs.declared.writing.Drawn.{Drawn}
 use Rattle.diag_bus.proofs.Texts.{lines_more}
 use Rattle.diag_bus.proofs.writing.write_batch.Goals as goal

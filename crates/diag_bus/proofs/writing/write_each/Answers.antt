@@ -1,6 +1,6 @@
 use Rattle.std.proofs.Common.{◌+◌, ◌∙◌, subst, sym}
-use Rattle.diag_bus.specs.Requests.{AreNamesOf}
 use Rattle.diag_bus.specs.Text.{drawn_for, line_of}
+use Rattle.diag_bus.specs.Writing.{AreNamesOf}
 use Rattle.diag_bus.proofs.Texts.{lines_more}
 use Rattle.diag_bus.proofs.writing.write_each.Goals as goal
 

@@ -7,7 +7,7 @@ use Rattle.std.specs.Prelude.{◌++◌, map, option_copied, slice_get}
 use Rattle.diag_setup.specs.Setup.{ids_of}
 use Rattle.diag_world.proofs.Worlds.{who_found}
 use Rattle.diag_bus.specs.Events.{frame_said}
-use Rattle.diag_bus.specs.Requests.{IsWithin}
+use Rattle.diag_bus.specs.RequestIds.{IsWithin}
 use Rattle.diag_judge.specs.Judging.{JudgesLine}
 use Rattle.diag_judge.specs.declared.tester.Tester.{Tester}
 use Rattle.diag_pdu.specs.Cut.{counted_from}

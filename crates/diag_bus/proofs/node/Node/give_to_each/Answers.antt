@@ -2,8 +2,8 @@ use Rattle.std.proofs.Common.{◌≡◌, ◌+◌, ◌-◌, length, subst, sym, a
 use Rattle.diag_world.proofs.Waiting.{each_more}
 use Rattle.diag_world.proofs.Worlds.{who_found}
 use Rattle.diag_world.specs.Server.{each_of}
-use Rattle.diag_bus.specs.Batch.{Gave}
-use Rattle.diag_bus.proofs.Batches.{gave_more, gave_none, same_more, same_none}
+use Rattle.diag_bus.specs.Node.{Gave}
+use Rattle.diag_bus.proofs.Nodes.{gave_more, gave_none, same_more, same_none}
 use Rattle.diag_bus.proofs.Passing.{stays_kept}
 use Rattle.diag_bus.proofs.Paces.{lasts, sent_none, sent_some, some_all, some_more, some_none}
 use Rattle.diag_bus.proofs.node.Node.give_to_each.Goals as goal

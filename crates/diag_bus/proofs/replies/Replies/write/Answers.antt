@@ -8,8 +8,8 @@ use Rattle.std.specs.Option.{option_map}
 use Rattle.std.specs.Prelude.{slice_get}
 use Rattle.diag_tp.specs.declared.sent.Sent.{Sent}
 use Rattle.diag_world.specs.Server.{closing_time}
-use Rattle.diag_bus.specs.Batch.{lists_of}
-use Rattle.diag_bus.specs.Requests.{AreFilled}
+use Rattle.diag_bus.specs.Filled.{AreFilled}
+use Rattle.diag_bus.specs.Node.{lists_of}
 use Rattle.diag_bus.specs.Text.{own_text}
 use Rattle.diag_bus.specs.declared.filled.Filled.{Filled}
 use Rattle.diag_bus.specs.declared.filled.Filled.TheVariants.{At}

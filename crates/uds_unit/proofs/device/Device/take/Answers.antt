@@ -4,8 +4,8 @@ use Rattle.std.specs.List.{flat_map}
 use Rattle.diag_can.specs.Log.{waited}
 use Rattle.diag_pdu.specs.Cut.{counted_from}
 use Rattle.diag_world.specs.Server.{each_of}
-use Rattle.diag_bus.specs.Batch.{TookTime}
 use Rattle.diag_bus.specs.Events.{frame_to}
+use Rattle.diag_bus.specs.Node.{TookTime}
 use Rattle.uds_unit.specs.Device.{AreSound, DeviceState, TookCall}
 use Rattle.uds_unit.specs.Node.{Gave, IsReady}
 use Rattle.uds_unit.specs.History.{At}

@@ -1,6 +1,6 @@
 use Rattle.std.proofs.Common.{Ok}
 use Rattle.std.specs.declared.alloc.AllocError.{AllocError}
-use Rattle.diag_bus.specs.Requests.{functional_to_all}
+use Rattle.diag_bus.specs.RequestIds.{functional_to_all}
 use Rattle.uds_unit.specs.Node.{Passed}
 use Rattle.uds_unit.proofs.node.Node.give_functional.Given as goal
 

@@ -4,7 +4,7 @@ use Rattle.std.proofs.lemmas.Result.{on_ok_weaker}
 use Rattle.diag_can.specs.declared.frame.Event.TheVariants.{Functional}
 use Rattle.diag_can.specs.declared.frame.Ids.{Ids}
 use Rattle.diag_setup.specs.Setup.{ids_of}
-use Rattle.diag_bus.specs.Requests.{functional_to}
+use Rattle.diag_bus.specs.RequestIds.{functional_to}
 use Rattle.uds_unit.specs.Node.{Gave}
 use Rattle.uds_unit.proofs.Passing.{passed_as, passed_one}
 use Rattle.uds_unit.proofs.node.Node.give_functional_to.Goals as goal

@@ -1,6 +1,6 @@
 use Rattle.std.proofs.Common.{ℕ}
 use Rattle.diag_world.specs.Server.{each_of}
-use Rattle.diag_bus.specs.Batch.{Lasts}
+use Rattle.diag_bus.specs.Node.{Lasts}
 use Rattle.diag_bus.proofs.Paces.{SomeWentOn}
 use Rattle.uds_unit.specs.Node.{Gave, SameShape}
 use Rattle.uds_unit.proofs.node.Node.give_to_each.Given as goal

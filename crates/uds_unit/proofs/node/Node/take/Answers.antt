@@ -2,7 +2,7 @@ use Rattle.std.proofs.Common.{◌≡◌, refl, ap, length, sym, ◌∙◌, arith
 use Rattle.std.specs.List.{flat_map}
 use Rattle.diag_pdu.specs.Cut.{counted_from}
 use Rattle.diag_bus.specs.Events.{frame_to}
-use Rattle.diag_bus.specs.Requests.{IsOwner, given}
+use Rattle.diag_bus.specs.RequestIds.{IsOwner, given}
 use Rattle.diag_bus.proofs.Paces.{has_left}
 use Rattle.uds_unit.proofs.Passing.{passed_as, passed_quiet, passed_then}
 use Rattle.uds_unit.proofs.node.Node.take.Goals as goal

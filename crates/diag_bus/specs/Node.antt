@@ -1,20 +1,15 @@
--- What the server stands for in the midst of a line, beside what the line has drawn so far; and between two lines.
-use Rattle.std.specs.Prelude.{◌≡◌, ◌≤◌, ◌<◌, ◌⊎◌, ◌^◌, ℕ, ◌+◌, IfSome, OnOk, List, [], ◌∷◌, ◌++◌, length, map, Option, Some, None, Result, Ok, slice_get}
+-- What the server stands for in the midst of a line, beside what the line has drawn so far.
+use Rattle.std.specs.Prelude.{◌≡◌, ◌≤◌, ◌⊎◌, ℕ, ◌+◌, OnOk, List, ◌++◌, length, map, Some, Result, slice_get}
 use Rattle.std.specs.List.{All}
-use Rattle.diag_can.specs.declared.bus_line.BusLine.{BusLine}
-use Rattle.diag_can.specs.declared.bus_line.BusLine.TheVariants.{Empty, Ticks, Stamped}
 use Rattle.diag_can.specs.declared.frame.Event.{Event}
-use Rattle.diag_can.specs.Reading.{later}
 use Rattle.diag_tp.specs.declared.sent.Sent.{Sent}
 use Rattle.diag_setup.specs.declared.raw.RawSetup.{RawSetup}
 use Rattle.diag_desk.specs.declared.entry.Entry.{Entry}
 use Rattle.diag_port.specs.Port.{PortState, time_after}
-use Rattle.diag_world.specs.Server.{ServerState, ServerView, Serves, closing_time, quiet_of, sent_to, server_of}
-use Rattle.diag_bus.specs.Events.{clock_of, events_of, moment_said, reference, span_said}
-use Rattle.diag_bus.specs.Requests.{AreFilled, AreNamesOf}
-use Rattle.diag_bus.specs.Text.{run_of, sent_of, start_after, start_said}
-use Rattle.diag_bus.specs.declared.clock.Clock.{Clock}
-use Rattle.diag_bus.specs.declared.clock.Start.{Start}
+use Rattle.diag_world.specs.Server.{ServerView, Serves, closing_time, quiet_of, sent_to, server_of}
+use Rattle.diag_bus.specs.Events.{events_of}
+use Rattle.diag_bus.specs.Filled.{AreFilled}
+use Rattle.diag_bus.specs.Text.{run_of}
 use Rattle.diag_bus.specs.declared.line_frames.LineFrames.{LineFrames}
 use Rattle.diag_bus.specs.declared.node.Node.{Node}
 
@@ -119,72 +114,3 @@ pub record Passed {S A E : Type 0} (took : S → RawSetup → List (List ℕ) �
   pub shape : SameShape old new
   pub pace : TookTime old.server new.server span
   pub sent : OnOk result (SentIn old new span)
-
--- ---- moments
-
--- a line's moment is below this: its seconds have at most twelve digits
-abbrev pub moment_end : ℕ
-moment_end = 10 ^ 15
-
--- the moment that a line says, if any, is below this
-abbrev pub SaidBelow : BusLine → ℕ → Type 0
-SaidBelow Empty most = Unit {0}
-SaidBelow (Ticks count) most = Unit {0}
-SaidBelow (Stamped moment frame) most = moment < most
-
--- the moment of the first stamped line, if there was one, is below this
-abbrev pub StartsBelow : Option Start → ℕ → Type 0
-StartsBelow start most = IfSome start (λ s. s.moment < most)
-
--- frames of the tester at this index, from 0, are written by the writers of these names
-pub record AreWritable (setup : RawSetup) (begins : Option Start) (writers : List (List ℕ)) (index : ℕ)
-    (frames : List Sent) : Type 0 where
-  pub names : AreNamesOf setup writers
-  pub tester : index < length setup.testers
-  pub start : StartsBelow begins moment_end
-  pub sent : All (λ f. f.at ≤ closing_time) frames
-
--- ---- the clock
-
--- the start, where it is known, or as further lines have it
-abbrev pub resumed : RawSetup → Option Start → ℕ → List (List ℕ) → Option Start
-resumed setup (Some start) before next = Some start
-resumed setup None before next = start_after setup before next
-
--- the same where a line that says this stands before them
-abbrev pub resumed_by : RawSetup → Option Start → ℕ → BusLine → List (List ℕ) → Option Start
-resumed_by setup (Some start) before said next = Some start
-resumed_by setup None before said next = start_said before (Ok said) (λ sum. start_after setup sum next)
-
--- where the bus's time begins, once a line of this moment came
-abbrev pub started_at : Option Start → ℕ → ℕ → Option Start
-started_at None moment before = Some (record { moment = moment; before = before })
-started_at (Some start) moment before = Some start
-
--- the clock after a line that says this
-pub record GoesOn (setup : RawSetup) (old : Clock) (said : BusLine) (new : Clock) : Type 0 where
-  pub reference : new.reference ≡ later old.reference (moment_said (Ok said))
-  pub time : new.time ≡ old.time + span_said old.reference (Ok said)
-  pub start : (next : List (List ℕ)) → resumed_by setup old.start old.time said next
-      ≡ resumed setup new.start new.time next
-
--- ---- between lines
-
--- the server and the clock took these lines
-pub record BusStands (setup : RawSetup) (server : ServerState) (clock : Clock)
-    (lines : List (List ℕ)) : Type 0 where
-  pub journal : List Entry
-  pub serves : Serves setup server (events_of setup lines) journal
-  pub reference : clock.reference ≡ reference setup lines
-  pub time : clock.time ≡ clock_of setup lines
-  pub start : (next : List (List ℕ)) → start_after setup 0 (lines ++ next)
-      ≡ resumed setup clock.start clock.time next
-
--- they took this line after these, and each tester's list has the frames that it draws
-pub record LineTaken (setup : RawSetup) (lines : List (List ℕ)) (line : List ℕ)
-    (server : ServerState) (drawn : List (List Sent)) (clock : Clock) : Type 0 where
-  pub stands : BusStands setup server clock (lines ++ line ∷ [])
-  pub lists : length drawn ≡ length setup.testers
-  pub frames : (i : ℕ) (frames : List Sent) → slice_get drawn i ≡ Some frames
-      → sent_of setup (events_of setup (lines ++ line ∷ [])) (i + 1)
-      ≡ sent_of setup (events_of setup lines) (i + 1) ++ frames

@@ -1,4 +1,4 @@
--- How a batch goes on.
+-- How a node goes on.
 use Rattle.std.proofs.lemmas.Bool.{cases_eq, eq-eqb}
 use Rattle.std.proofs.lemmas.Bool.Decides.{nat_tests}
 use Rattle.std.specs.Prelude.{if◌then◌else◌, ◌/◌, ◌%◌}
@@ -20,7 +20,7 @@ use Rattle.diag_world.proofs.Waiting.{counted_more}
 use Rattle.std.proofs.lemmas.Grind.{flat_map-append}
 use Rattle.std.specs.List.{flat_map}
 use Rattle.diag_can.specs.declared.frame.Frame.{Frame}
-use Rattle.diag_bus.specs.Batch.{Drew, Gave, SameShape, lists_of}
+use Rattle.diag_bus.specs.Node.{Drew, Gave, SameShape, lists_of}
 use Rattle.diag_bus.specs.Sink.{journal_of}
 use Rattle.diag_bus.specs.declared.line_frames.LineFrames.{LineFrames}
 use Rattle.diag_bus.specs.declared.node.Node.{Node}
@@ -31,7 +31,7 @@ use Rattle.diag_tp.specs.Link.{last_tick}
 use Rattle.diag_world.specs.Weaving.{items_of}
 use Rattle.diag_world.proofs.Times.{ticks_served}
 use Rattle.diag_bus.specs.Events.{frame_to}
-use Rattle.diag_bus.specs.Requests.{functional_to, functional_to_all}
+use Rattle.diag_bus.specs.RequestIds.{functional_to, functional_to_all}
 
 -- one event more: the tester's list has grown by the frames, and the others are as they were; the sink took the entry
 pub drew_more : {S : Type 0} (took : S → RawSetup → List (List ℕ) → List Entry → Type 0) (setup : RawSetup) (old new : Node) (sink sink' : S)
