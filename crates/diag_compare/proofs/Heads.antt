@@ -23,10 +23,10 @@ use Rattle.diag_exchange.specs.declared.happening.Expected.{Expected}
 use Rattle.diag_exchange.specs.declared.happening.Happening.{Happening}
 use Rattle.diag_exchange.specs.declared.happening.Happening.TheVariants.{Came}
 use Rattle.diag_exchange.specs.declared.happening.Heard.{Heard}
-use Rattle.diag_exchange.specs.declared.happening.Place.{Place}
+use Rattle.diag_exchange.specs.declared.happening.CaptureLine.{CaptureLine}
 use Rattle.diag_exchange.specs.declared.happening.Start.{Start}
 use Rattle.diag_exchange.proofs.Lists.{Each}
-use Rattle.diag_compare.specs.Hearing.{asks, entries_by, entry_happens, happen_after, happenings, is_of, line_happens, place_of, time_of_line, unit_events, unit_frame, unit_side}
+use Rattle.diag_compare.specs.Hearing.{asks, capture_line_of, entries_by, entry_happens, happen_after, happenings, is_of, line_happens, time_of_line, unit_events, unit_frame, unit_side}
 use Rattle.diag_listen.specs.Listening.{all_happen, began, breaks, came, frame_happens, lost_if, receives, unit_happens}
 use Rattle.diag_compare.specs.Meaning.{IsHeaded, messages, messages_after}
 use Rattle.diag_compare.proofs.FirstFrames.{HasHead, IsFirst, first_of_kind}
@@ -57,14 +57,14 @@ lost_heads None true o k = (tt, tt)
 lost_heads (Some s) true o k = (tt, tt)
 lost_heads c false o k = (tt, k)
 
-began_heads : (c : Option Start) (b : Bool) (at : Place) (len t : ℕ) (head : List ℕ) → HasHead len head
+began_heads : (c : Option Start) (b : Bool) (at : CaptureLine) (len t : ℕ) (head : List ℕ) → HasHead len head
     → Heads c (lost_if b ++ began at head ∷ []) (Some (record { len = len; head = head; parts = []; last = t }))
 began_heads None true at len t head h = (tt, record { has = h; first = refl; second = refl })
 began_heads (Some s) true at len t head h = (tt, record { has = h; first = refl; second = refl })
 began_heads None false at len t head h = (tt, record { has = h; first = refl; second = refl })
 began_heads (Some s) false at len t head h = (tt, record { has = h; first = refl; second = refl })
 
-single_heads : (c : Option Start) (b : Bool) (at : Place) (bytes : List ℕ) → Heads c (lost_if b ++ began at bytes ∷ Came bytes ∷ []) None
+single_heads : (c : Option Start) (b : Bool) (at : CaptureLine) (bytes : List ℕ) → Heads c (lost_if b ++ began at bytes ∷ Came bytes ∷ []) None
 single_heads None true at bytes = ((record { first = refl; second = refl }, tt), tt)
 single_heads (Some s) true at bytes = ((record { first = refl; second = refl }, tt), tt)
 single_heads None false at bytes = ((record { first = refl; second = refl }, tt), tt)
@@ -124,7 +124,7 @@ part_heads c (Some r) t sequence_number part b k = next_case (is_next r sequence
 
 -- ---- an event
 
-module _ (s : LinkSetup) (at : Place) (E : List Event) (c : Option Start) (known : Known c (open_at s (history E))) where
+module _ (s : LinkSetup) (at : CaptureLine) (E : List Event) (c : Option Start) (known : Known c (open_at s (history E))) where
   module _ (bytes : List ℕ) where
     open_is : (k : Kind) → kind bytes s.max_request ≡ k → open_at s (history (E ++ Physical bytes ∷ [])) ≡ with_frame (now (history E)) k (open_at s (history E))
     unfolding open_at
@@ -188,7 +188,7 @@ heads_then c xs ys o first rest = (
   subst (λ (d : Option Start). Known d o) (sym (coming_append c xs ys)) rest.1,
 )
 
-all_heads : (s : LinkSetup) (at : Place) (E es : List Event) (c : Option Start) → Known c (open_at s (history E)) → Each IsOfUnit es
+all_heads : (s : LinkSetup) (at : CaptureLine) (E es : List Event) (c : Option Start) → Known c (open_at s (history E)) → Each IsOfUnit es
     → Heads c (all_happen s at E es) (open_at s (history (E ++ es)))
 all_heads s at E [] c k u = (tt, subst (λ (w : List Event). Known c (open_at s (history w))) (sym (append-nil E)) k)
 all_heads s at E (e ∷ es) c k u =
@@ -203,12 +203,12 @@ module _ (expects : State → Entry → Expected) (setup : RawSetup) (t : ℕ) w
   abbrev side : LinkSetup
   side = unit_side setup t
 
-  asked_heads : (at : Place) (c : Option Start) (x : Step) (e : Expected) (o : Option Reception) → Known c o → Heads c (asks at x e) o
+  asked_heads : (at : CaptureLine) (c : Option Start) (x : Step) (e : Expected) (o : Option Reception) → Known c o → Heads c (asks at x e) o
   asked_heads at None (step.Request r) e o k = (tt, k)
   asked_heads at (Some s) (step.Request r) e o k = (tt, k)
   asked_heads at c (step.Ticks n) e o k = (tt, k)
 
-  entries_heads : (at : Place) (c : Option Start) (es : List (State × Entry)) (o : Option Reception) → Known c o
+  entries_heads : (at : CaptureLine) (c : Option Start) (es : List (State × Entry)) (o : Option Reception) → Known c o
       → Heads c (flat_map (entry_happens expects setup t at) es) o
   entries_heads at c [] o k = (tt, k)
   entries_heads at c (e ∷ es) o k =
@@ -219,7 +219,7 @@ module _ (expects : State → Entry → Expected) (setup : RawSetup) (t : ℕ) w
   line_heads : (past : List (List ℕ)) (line : List ℕ) (c : Option Start) → Known c (open_at side (history (unit_events setup t past)))
       → Heads c (line_happens expects setup t past line) (open_at side (history (unit_events setup t (past ++ line ∷ []))))
   line_heads past line c k =
-      let at = place_of setup past line in
+      let at = capture_line_of setup past line in
       let E = unit_events setup t past in
       let time = time_of_line setup past (line_said setup line) in
       let frame = unit_frame setup t (line_said setup line) in

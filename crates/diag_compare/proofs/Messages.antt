@@ -7,8 +7,8 @@ use Rattle.std.specs.List.{filter, flat_map}
 use Rattle.std.specs.Option.{option_to_list}
 use Rattle.std.specs.Prelude.{Result, Ok, Err, if◌then◌else◌, is_some, nat_lt, not, option_and_then, ◌==◌, ◌&&◌}
 use Rattle.diag_can.specs.Log.{silence, waited}
-use Rattle.diag_can.specs.declared.bus.BusLine.{BusLine}
-use Rattle.diag_can.specs.declared.bus.BusLine.TheVariants as said
+use Rattle.diag_can.specs.declared.bus_line.BusLine.{BusLine}
+use Rattle.diag_can.specs.declared.bus_line.BusLine.TheVariants as said
 use Rattle.diag_can.specs.declared.fault.LineFault.{LineFault}
 use Rattle.diag_can.specs.declared.frame.Event.{Event}
 use Rattle.diag_can.specs.declared.frame.Event.TheVariants.{Physical, Functional, Ticks}
@@ -33,10 +33,10 @@ use Rattle.diag_exchange.specs.Asking.{comes_in, coming_after, completes}
 use Rattle.diag_exchange.specs.declared.happening.Expected.{Expected}
 use Rattle.diag_exchange.specs.declared.happening.Happening.{Happening}
 use Rattle.diag_exchange.specs.declared.happening.Happening.TheVariants.{Came}
-use Rattle.diag_exchange.specs.declared.happening.Place.{Place}
+use Rattle.diag_exchange.specs.declared.happening.CaptureLine.{CaptureLine}
 use Rattle.diag_exchange.specs.declared.happening.Start.{Start}
 use Rattle.diag_exchange.proofs.Lists.{Each}
-use Rattle.diag_compare.specs.Hearing.{asks, entries_by, entry_happens, frame_with, happen_after, happenings, is_of, line_happens, place_of, time_of_line, unit_after, unit_events, unit_frame, unit_side}
+use Rattle.diag_compare.specs.Hearing.{asks, capture_line_of, entries_by, entry_happens, frame_with, happen_after, happenings, is_of, line_happens, time_of_line, unit_after, unit_events, unit_frame, unit_side}
 use Rattle.diag_listen.specs.Listening.{all_happen, began, breaks, came, frame_happens, is_unfinished, lost_if, receives, unit_happens}
 use Rattle.diag_compare.proofs.FirstFrames.{IsFirst, first_of_kind}
 use Rattle.diag_compare.specs.Meaning.{bytes_heard, message_given, messages_after}
@@ -75,13 +75,13 @@ lost_coming : (c : Option Start) (b : Bool) → is_some c ≡ b → is_some (com
 lost_coming c true e = refl
 lost_coming c false e = e
 
-lost_begins : (c : Option Start) (b : Bool) (at : Place) (bytes : List ℕ) → Gives c (lost_if b ++ began at bytes ∷ []) None true
+lost_begins : (c : Option Start) (b : Bool) (at : CaptureLine) (bytes : List ℕ) → Gives c (lost_if b ++ began at bytes ∷ []) None true
 lost_begins None true at bytes = (refl, refl)
 lost_begins (Some s) true at bytes = (refl, refl)
 lost_begins None false at bytes = (refl, refl)
 lost_begins (Some s) false at bytes = (refl, refl)
 
-lost_single : (c : Option Start) (b : Bool) (at : Place) (bytes : List ℕ) → Gives c (lost_if b ++ began at bytes ∷ Came bytes ∷ [])
+lost_single : (c : Option Start) (b : Bool) (at : CaptureLine) (bytes : List ℕ) → Gives c (lost_if b ++ began at bytes ∷ Came bytes ∷ [])
     (Some (step.Request (request_of false bytes))) false
 lost_single None true at bytes = (refl, refl)
 lost_single (Some s) true at bytes = (refl, refl)
@@ -142,7 +142,7 @@ module _ (t sequence_number : ℕ) (part : List ℕ) where
 
 -- ---- a frame
 
-module _ (s : LinkSetup) (at : Place) (E : List Event) (c : Option Start) (own : is_some c ≡ receives s E) where
+module _ (s : LinkSetup) (at : CaptureLine) (E : List Event) (c : Option Start) (own : is_some c ≡ receives s E) where
   abbrev Steps : Event → List Happening → Type 0
   Steps e hs = Gives c hs (gives s E e) (receives s (E ++ e ∷ []))
 
@@ -232,7 +232,7 @@ IsOfUnit (Physical bytes) = Unit {0}
 IsOfUnit (Functional bytes) = ⊥
 IsOfUnit (Ticks n) = Unit {0}
 
-of_unit : (s : LinkSetup) (at : Place) (E : List Event) (c : Option Start) → is_some c ≡ receives s E → (e : Event) → IsOfUnit e
+of_unit : (s : LinkSetup) (at : CaptureLine) (E : List Event) (c : Option Start) → is_some c ≡ receives s E → (e : Event) → IsOfUnit e
     → Gives c (unit_happens s at E e) (gives s E e) (receives s (E ++ e ∷ []))
 of_unit s at E c own (Physical bytes) u = unit_gives s at E c own (Physical bytes) tt
 of_unit s at E c own (Functional bytes) u = absurd u
@@ -246,7 +246,7 @@ flat_append f (x ∷ xs) ys = ap (λ w. f x ++ w) (flat_append f xs ys) ∙ sym 
 abbrev GivesAll : LinkSetup → Option Start → List Happening → List Event → List Event → Type 0
 GivesAll s c hs E es = (heard c hs ≡ flat_map message_given (steps_after s E es)) × (is_some (coming_after c hs) ≡ receives s (E ++ es))
 
-all_give : (s : LinkSetup) (at : Place) (E es : List Event) (c : Option Start) → is_some c ≡ receives s E → Each IsOfUnit es
+all_give : (s : LinkSetup) (at : CaptureLine) (E es : List Event) (c : Option Start) → is_some c ≡ receives s E → Each IsOfUnit es
     → GivesAll s c (all_happen s at E es) E es
 all_give s at E [] c own u = (refl, own ∙ ap (receives s) (sym (append-nil E)))
 all_give s at E (e ∷ es) c own u =
@@ -306,12 +306,12 @@ module _ (expects : State → Entry → Expected) (setup : RawSetup) (t : ℕ) w
   abbrev side : LinkSetup
   side = unit_side setup t
 
-  asked_heard : (at : Place) (c : Option Start) (x : Step) (e : Expected) → (heard c (asks at x e) ≡ []) × (coming_after c (asks at x e) ≡ c)
+  asked_heard : (at : CaptureLine) (c : Option Start) (x : Step) (e : Expected) → (heard c (asks at x e) ≡ []) × (coming_after c (asks at x e) ≡ c)
   asked_heard at None (step.Request r) e = (refl, refl)
   asked_heard at (Some s) (step.Request r) e = (refl, refl)
   asked_heard at c (step.Ticks n) e = (refl, refl)
 
-  entries_heard : (at : Place) (c : Option Start) (es : List (State × Entry))
+  entries_heard : (at : CaptureLine) (c : Option Start) (es : List (State × Entry))
       → (heard c (flat_map (entry_happens expects setup t at) es) ≡ []) × (coming_after c (flat_map (entry_happens expects setup t at) es) ≡ c)
   entries_heard at c [] = (refl, refl)
   entries_heard at c (e ∷ es) =
@@ -337,7 +337,7 @@ module _ (expects : State → Entry → Expected) (setup : RawSetup) (t : ℕ) w
   line_heard : (past : List (List ℕ)) (line : List ℕ) (c : Option Start) → is_some c ≡ receives side (unit_events setup t past)
       → GivesAll side c (line_happens expects setup t past line) (unit_events setup t past) (line_gives past line)
   line_heard past line c own =
-      let at = place_of setup past line in
+      let at = capture_line_of setup past line in
       let E = unit_events setup t past in
       let time = time_of_line setup past (line_said setup line) in
       let frame = unit_frame setup t (line_said setup line) in

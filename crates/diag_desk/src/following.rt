@@ -15,7 +15,7 @@ ghost use Rattle.diag_desk.specs.Line.{HasHex, IsHex, IsHexReply, decoded, front
 ghost use Rattle.diag_desk.specs.declared.line.Kind.TheVariants as kind;
 ghost use Rattle.diag_desk.specs.PartRead.{HasNoNext};
 ghost use Rattle.diag_can.specs.Pieces.{TakesLines};
-ghost use Rattle.diag_can.specs.Bus.{HasNoFeed};
+ghost use Rattle.diag_can.specs.BusLine.{HasNoFeed};
 
 use crate::clocks::Clocks;
 use crate::entry::MOST_ENTRIES;

@@ -3,10 +3,10 @@
 ghost use Rattle.std.specs.Prelude.{◌≡◌, ◌+◌, true, None, [], ◌∷◌, ◌++◌, List, map, option_copied, OnOk, IfOk};
 ghost use Rattle.diag_exchange.specs.Agreeing.{agrees};
 ghost use Rattle.diag_exchange.specs.declared.happening.Over.{Over as AnOver};
-ghost use Rattle.diag_judge.specs.Judging.{AreCounts, EndsCounted, EndsTold, HearsLine, HearsRequests, Judges, JudgesLine, told_for};
+ghost use Rattle.diag_judge.specs.Judging.{AreCounts, EndsCounted, EndsJudged, HearsLine, HearsRequests, Judges, JudgesLine, judged_for};
 
 use diag_can::FrameBytes;
-use diag_exchange::{Over, Place};
+use diag_exchange::{CaptureLine, Over};
 use diag_expect::Entered;
 use diag_listen::Listener;
 use diag_pdu::LinkSetup;
@@ -15,7 +15,7 @@ use std::alloc::{AllocError, Global};
 
 /// An exchange of a tester that is over.
 #[derive(Drop)]
-pub struct Told {
+pub struct Judged {
     /// The tester.
     pub who: TesterId,
     /// The exchange.
@@ -53,7 +53,7 @@ fn hear_requests(
     listener: &mut Listener,
     alloc: Global,
     setup: &Setup,
-    at: Place,
+    at: CaptureLine,
     entered: &mut Vec<Entered>,
     over: &mut Vec<Over>,
 ) -> Result<(), AllocError>
@@ -109,7 +109,7 @@ impl Tester {
     }
 
     /// Takes the end of a line: so many milliseconds, the requests that were entered, and a frame of the unit, where the
-    /// line has one. What is over with it is put behind `told`.
+    /// line has one. What is over with it is put behind `judged`.
     ///
     /// # Errors
     /// `AllocError` where memory is refused; of what was taken nothing is said then.
@@ -119,12 +119,12 @@ impl Tester {
         alloc: Global,
         setup: &Setup,
         who: TesterId,
-        at: Place,
+        at: CaptureLine,
         span: u64,
         frame: Option<&FrameBytes>,
-        told: &mut Vec<Told>,
+        judged: &mut Vec<Judged>,
     ) -> Result<(), AllocError>
-        ensures judges { OnOk result (JudgesLine setup.now at who self.old self.new told.old.items told.new.items span
+        ensures judges { OnOk result (JudgesLine setup.now at who self.old self.new judged.old.items judged.new.items span
             (option_copied frame.entry)) }
         ensures entered { OnOk result (self.new.entered.items ≡ []) }
         ensures link_setup { self.new.listener.setup ≡ self.old.listener.setup }
@@ -132,7 +132,7 @@ impl Tester {
         if frame.is_none() && self.is_idle() {
             return Ok(());
         }
-        self.take(alloc, setup, who, at, span, frame, told)
+        self.take(alloc, setup, who, at, span, frame, judged)
     }
 
     /// Whether time alone changes nothing: no request was entered, and no message is coming in.
@@ -151,12 +151,12 @@ impl Tester {
         alloc: Global,
         setup: &Setup,
         who: TesterId,
-        at: Place,
+        at: CaptureLine,
         span: u64,
         frame: Option<&FrameBytes>,
-        told: &mut Vec<Told>,
+        judged: &mut Vec<Judged>,
     ) -> Result<(), AllocError>
-        ensures judges { OnOk result (JudgesLine setup.now at who self.old self.new told.old.items told.new.items span
+        ensures judges { OnOk result (JudgesLine setup.now at who self.old self.new judged.old.items judged.new.items span
             (option_copied frame.entry)) }
         ensures entered { OnOk result (self.new.entered.items ≡ []) }
         ensures link_setup { self.new.listener.setup ≡ self.old.listener.setup }
@@ -165,7 +165,7 @@ impl Tester {
         if self.over.is_empty() {
             return Ok(());
         }
-        self.counts.judge(alloc, who, &mut self.over, told)
+        self.counts.judge(alloc, who, &mut self.over, judged)
     }
 
     /// Hears a line, and keeps what is over with it.
@@ -174,7 +174,7 @@ impl Tester {
         &mut self,
         alloc: Global,
         setup: &Setup,
-        at: Place,
+        at: CaptureLine,
         span: u64,
         frame: Option<&FrameBytes>,
     ) -> Result<(), AllocError>
@@ -200,7 +200,7 @@ impl Tester {
         }
     }
 
-    /// Where all was taken, what is counted of all exchanges; those that aren't over are put behind `told`.
+    /// Where all was taken, what is counted of all exchanges; those that aren't over are put behind `judged`.
     ///
     /// # Errors
     /// `AllocError` where memory is refused.
@@ -208,15 +208,15 @@ impl Tester {
         &self,
         alloc: Global,
         who: TesterId,
-        told: &mut Vec<Told>,
+        judged: &mut Vec<Judged>,
     ) -> Result<Counts, AllocError>
-        ensures told { OnOk result (EndsTold self.now who told.old.items told.new.items) }
+        ensures judged { OnOk result (EndsJudged self.now who judged.old.items judged.new.items) }
         ensures counts { IfOk result (EndsCounted self.now) }
     {
         let mut over = Vec::new(alloc);
         self.listener.left(alloc, &mut over)?;
         let mut counts = self.counts;
-        counts.judge(alloc, who, &mut over, told)?;
+        counts.judge(alloc, who, &mut over, judged)?;
         Ok(counts)
     }
 }
@@ -233,26 +233,26 @@ impl Counts {
         }
     }
 
-    /// Counts what is over, and tells it.
+    /// Counts what is over, and judges it.
     fn judge(
         &mut self,
         alloc: Global,
         who: TesterId,
         over: &mut Vec<Over>,
-        told: &mut Vec<Told>,
+        judged: &mut Vec<Judged>,
     ) -> Result<(), AllocError>
-        ensures told { OnOk result
-            (told.new.items ≡ told.old.items ++ map (told_for who) over.old.items) }
+        ensures judged { OnOk result
+            (judged.new.items ≡ judged.old.items ++ map (judged_for who) over.old.items) }
         ensures counts { OnOk result ((before : List AnOver) → AreCounts self.old before
             → AreCounts self.new (before ++ over.old.items)) }
     {
-        told.reserve(over.len())?;
+        judged.reserve(over.len())?;
         over.reverse();
         for _turn in 0..over.len() {
             let one = over.take_last();
             let agrees = one.agrees(alloc)?;
             self.note(&one, agrees)?;
-            told.push_reserved(Told {
+            judged.push_reserved(Judged {
                 who,
                 over: one,
                 agrees,

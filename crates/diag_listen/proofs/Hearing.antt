@@ -21,7 +21,7 @@ use Rattle.diag_exchange.specs.declared.exchanges.Exchanges.{Exchanges}
 use Rattle.diag_exchange.specs.declared.happening.Happening.{Happening}
 use Rattle.diag_exchange.specs.declared.happening.Happening.TheVariants.{Began, Came, Lost}
 use Rattle.diag_exchange.specs.declared.happening.Over.{Over}
-use Rattle.diag_exchange.specs.declared.happening.Place.{Place}
+use Rattle.diag_exchange.specs.declared.happening.CaptureLine.{CaptureLine}
 use Rattle.diag_listen.specs.Listening.{HasMoved, Hears, Listens, Moves, TookEach, after_ticks, all_happen, began, breaks, came, came_by, frame_happens, is_unfinished, kind_happens, lost_if, part_happens, partial_of, receives, ticks_happen, unit_happens}
 use Rattle.diag_listen.specs.declared.listener.Listener.{Listener}
 
@@ -68,7 +68,7 @@ came_so : (o : Option (List ℕ)) (b : Bool) → came (asked_of (ask_of false o)
 came_so None b = refl
 came_so (Some message) b = refl
 
-pub kind_is : (s : LinkSetup) (at : Place) (E : List Event) (bytes : List ℕ) → IsRead s.max_request (kind bytes s.max_request)
+pub kind_is : (s : LinkSetup) (at : CaptureLine) (E : List Event) (bytes : List ℕ) → IsRead s.max_request (kind bytes s.max_request)
     → unit_happens s at E (Physical bytes) ≡ kind_happens (partial_of s E) at (kind bytes s.max_request)
 kind_is s at E bytes read = of_kind (kind bytes s.max_request) refl
   where
@@ -84,7 +84,7 @@ kind_is s at E bytes read = of_kind (kind bytes s.max_request) refl
     of_kind (FlowControl flow_status block_size st_min) e = refl
     of_kind Ignored e = refl
 
-pub ticks_are : (s : LinkSetup) (at : Place) (E : List Event) (n : ℕ)
+pub ticks_are : (s : LinkSetup) (at : CaptureLine) (E : List Event) (n : ℕ)
     → unit_happens s at E (Ticks (suc n)) ≡ ticks_happen s (suc n) (partial_of s E)
 ticks_are s at E n = ap lost_if (broken s E (Ticks (suc n)) (after_ticks s (suc n) (partial_of s E)) (ticks_more s E n))
 
@@ -135,7 +135,7 @@ has_moved old new out out' happened wanted partial took same is coming hs s =
 -- ---- the listener
 
 -- it heard an event, where what is kept moved so
-pub hears_one : (old new : Listener) (out out' : List Over) (at : Place) (e : Event) (E : List Event) (hs happened : List Happening) (partial : Option Receiving)
+pub hears_one : (old new : Listener) (out out' : List Over) (at : CaptureLine) (e : Event) (E : List Event) (hs happened : List Happening) (partial : Option Receiving)
     → Listens old E hs → new.setup ≡ old.setup → Moves old new out out' happened partial → happened ≡ unit_happens old.setup at E e
     → partial ≡ partial_of old.setup (E ++ e ∷ [])
     → Listens new (E ++ e ∷ []) (hs ++ unit_happens old.setup at E e) × (out' ≡ out ++ over_after hs (unit_happens old.setup at E e))
@@ -156,7 +156,7 @@ with_nil new out out' E hs xs h =
     let n = sym (append-nil xs) in (subst (λ w. Listens new E (hs ++ w)) n h.0, h.1 ∙ ap (λ w. out ++ over_after hs w) n)
 
 -- it heard a frame of this kind
-pub hears_frame : (old new : Listener) (out out' : List Over) (at : Place) (bytes : List ℕ) (k : Kind) → k ≡ kind bytes old.setup.max_request
+pub hears_frame : (old new : Listener) (out out' : List Over) (at : CaptureLine) (bytes : List ℕ) (k : Kind) → k ≡ kind bytes old.setup.max_request
     → IsRead old.setup.max_request k → new.setup ≡ old.setup
     → Moves old new out out' (kind_happens old.receiver.partial at k) (open_after old.receiver.partial k) → Hears old new out out' at (Physical bytes ∷ [])
 hears_frame old new out out' at bytes k is read setup moves E hs l =
@@ -195,7 +195,7 @@ abbrev rest_of : ℕ → List Event
 rest_of ms = if ms % 60000 == 0 then [] else Ticks (ms % 60000) ∷ []
 
 -- where no message is coming in, time is nothing
-silent : (s : LinkSetup) (at : Place) (E es : List Event) → AreTicks es → partial_of s E ≡ None
+silent : (s : LinkSetup) (at : CaptureLine) (E es : List Event) → AreTicks es → partial_of s E ≡ None
     → (all_happen s at E es ≡ []) × (partial_of s (E ++ es) ≡ None)
 silent s at E [] t none = (refl, ap (partial_of s) (append-nil E) ∙ none)
 silent s at E (Physical bytes ∷ es) t none = elim t.0 [ ]
@@ -213,7 +213,7 @@ silent s at E (Ticks n ∷ es) t none =
     )
 
 -- and it goes by
-goes_by : (own : Listener) (out : List Over) (at : Place) (E es : List Event) (hs : List Happening) → AreTicks es → own.receiver.partial ≡ None
+goes_by : (own : Listener) (out : List Over) (at : CaptureLine) (E es : List Event) (hs : List Happening) → AreTicks es → own.receiver.partial ≡ None
     → Listens own E hs → Listens own (E ++ es) (hs ++ all_happen own.setup at E es) × (out ≡ out ++ over_after hs (all_happen own.setup at E es))
 goes_by own out at E es hs t none l =
     let q = silent own.setup at E es t (sym l.partial ∙ none) in (
@@ -228,7 +228,7 @@ goes_by own out at E es hs t none l =
 waited_ticks : (ms : ℕ) → AreTicks (waited ms)
 waited_ticks ms = same_ticks (ms / 60000) 60000 (rest_of ms) (omega arith) (rest_ticks (ms % 60000) (ms % 60000 == 0) refl)
 
-pub waits_none : (own : Listener) (out : List Over) (at : Place) (ms : ℕ) → own.exchanges.coming ≡ None → Hears own own out out at (waited ms)
+pub waits_none : (own : Listener) (out : List Over) (at : CaptureLine) (ms : ℕ) → own.exchanges.coming ≡ None → Hears own own out out at (waited ms)
 waits_none own out at ms none E hs l = goes_by own out at E (waited ms) hs (waited_ticks ms) (no_partial own.receiver.partial (sym l.coming ∙ ap is_some none)) l
   where
     no_partial : (o : Option Receiving) → is_some o ≡ false → o ≡ None
@@ -236,7 +236,7 @@ waits_none own out at ms none E hs l = goes_by own out at E (waited ms) hs (wait
     no_partial (Some p) e = cc
 
 -- ticks, and where they end the message any more
-hears_ticks : (old new : Listener) (out out' : List Over) (at : Place) (m : ℕ) (es : List Event) → AreTicks es
+hears_ticks : (old new : Listener) (out out' : List Over) (at : CaptureLine) (m : ℕ) (es : List Event) → AreTicks es
     → (es ≡ []) ⊎ (after_ticks old.setup (suc m) old.receiver.partial ≡ None)
     → new.setup ≡ old.setup
     → Moves old new out out' (ticks_happen old.setup (suc m) old.receiver.partial) (after_ticks old.setup (suc m) old.receiver.partial)
@@ -268,7 +268,7 @@ ends_within : (s : LinkSetup) (o : Option Receiving) → s.n_cr ≤ 60000 → af
 ends_within s None le = refl
 ends_within s (Some p) le = grind (arith, nat_tests)
 
-pub waits_some : (old new : Listener) (out out' : List Over) (at : Place) (ms count : ℕ) → count ≡ min ms 60000 → 1 ≤ count → old.setup.n_cr ≤ 60000
+pub waits_some : (old new : Listener) (out out' : List Over) (at : CaptureLine) (ms count : ℕ) → count ≡ min ms 60000 → 1 ≤ count → old.setup.n_cr ≤ 60000
     → new.setup ≡ old.setup → Moves old new out out' (ticks_happen old.setup count old.receiver.partial) (after_ticks old.setup count old.receiver.partial)
     → Hears old new out out' at (waited ms)
 waits_some old new out out' at ms count is some le setup moves = of_count count is some moves

@@ -11,7 +11,7 @@ ghost use Rattle.diag_exchange.specs.declared.happening.Happening.TheVariants.{B
 ghost use Rattle.diag_listen.specs.Listening.{Hears, HearsRequest, Listens, Moves, TookEach, after_ticks, began, kind_happens, lost_if, part_happens, ticks_happen};
 
 use diag_can::{FrameBytes, TickCount};
-use diag_exchange::{Exchanges, Over, Place, Request, Start};
+use diag_exchange::{AskedRequest, CaptureLine, Exchanges, Over, Start};
 use diag_pdu::{LinkSetup, Message, Pci};
 use diag_sides::Receiver;
 use std::alloc::{AllocError, Global};
@@ -31,7 +31,7 @@ pub struct Listener {
 }
 
 /// The first frame of a message, which has these bytes of it.
-fn start_of(at: Place, bytes: &[u8]) -> Start
+fn start_of(at: CaptureLine, bytes: &[u8]) -> Start
     requires { 1 ≤ length bytes.now }
     ensures { Began result ≡ began at bytes.now }
 {
@@ -60,12 +60,12 @@ impl Listener {
     /// # Errors
     /// `AllocError` where memory is refused; of what was heard nothing is said then.
     #[inline(always)]
-    pub fn wait(&mut self, at: Place, ms: u64, over: &mut Vec<Over>) -> Result<(), AllocError>
+    pub fn wait(&mut self, at: CaptureLine, ms: u64, over: &mut Vec<Over>) -> Result<(), AllocError>
         ensures heard { OnOk result
             (Hears self.old self.new over.old.items over.new.items at (waited ms)) }
         ensures setup { self.new.setup ≡ self.old.setup }
     {
-        // (for its contract: the time is that of this place, and N_Cr is within the longest count)
+        // (for its contract: the time is that of this line, and N_Cr is within the longest count)
         let _ = at;
         let _n_cr = self.setup.n_cr.get();
         if self.exchanges.coming.is_none() {
@@ -98,7 +98,7 @@ impl Listener {
     /// As `wait`.
     pub fn take(
         &mut self,
-        at: Place,
+        at: CaptureLine,
         frame: &FrameBytes,
         over: &mut Vec<Over>,
     ) -> Result<(), AllocError>
@@ -118,7 +118,7 @@ impl Listener {
     /// # Errors
     /// As `wait`.
     #[inline(always)]
-    pub fn ask(&mut self, request: Request, over: &mut Vec<Over>) -> Result<(), AllocError>
+    pub fn ask(&mut self, request: AskedRequest, over: &mut Vec<Over>) -> Result<(), AllocError>
         ensures heard { OnOk result
             (HearsRequest self.old self.new over.old.items over.new.items request) }
         ensures setup { self.new.setup ≡ self.old.setup }
@@ -137,7 +137,7 @@ impl Listener {
     }
 
     /// Hears a frame of this kind.
-    fn take_pci(&mut self, at: Place, pci: Pci<'_>, over: &mut Vec<Over>) -> Result<(), AllocError>
+    fn take_pci(&mut self, at: CaptureLine, pci: Pci<'_>, over: &mut Vec<Over>) -> Result<(), AllocError>
         requires { IsRead self.old.setup.max_request (says pci) }
         ensures moves { OnOk result (Moves self.old self.new over.old.items over.new.items
             (kind_happens self.old.receiver.partial at (says pci.entry))
@@ -159,7 +159,7 @@ impl Listener {
     /// A message of one frame.
     fn take_single(
         &mut self,
-        at: Place,
+        at: CaptureLine,
         payload: &[u8],
         over: &mut Vec<Over>,
     ) -> Result<(), AllocError>
@@ -177,7 +177,7 @@ impl Listener {
     /// The first frame of a message of several frames.
     fn take_first(
         &mut self,
-        at: Place,
+        at: CaptureLine,
         len: u16,
         head: &[u8],
         over: &mut Vec<Over>,

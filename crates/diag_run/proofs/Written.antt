@@ -33,13 +33,13 @@ use Rattle.diag_port.specs.Standing.{HasKept}
 use Rattle.diag_world.specs.Server.{IsEarly, ServerState, ServerTook, ServerView, Serves, Settled, sent_to, server_of}
 use Rattle.diag_world.specs.World.{Stands, WorldState}
 use Rattle.diag_world.proofs.Worlds.{other_place, set_cases}
-use Rattle.diag_bus.specs.Batch.{IsBy}
-use Rattle.diag_bus.proofs.Batches.{clock_told}
+use Rattle.diag_bus.specs.Node.{IsBy}
+use Rattle.diag_bus.proofs.Nodes.{clock_told}
 use Rattle.diag_text.specs.Text.{end_text, journal_part, lines_from, lines_of}
 use Rattle.diag_text.proofs.Lines.{concat_more}
 use Rattle.diag_run.specs.Playing.{AreTexts, AreUnwritten, Enters, EntersMore, EntersOne, IsReady, Plays, Replies, Terms, Took, WroteTo, version_of, parts_text}
 use Rattle.diag_run.specs.Run.{played_text}
-use Rattle.diag_run.specs.declared.entering.JournalLines.{JournalLines}
+use Rattle.diag_run.specs.declared.journal_lines.JournalLines.{JournalLines}
 use Rattle.diag_run.specs.declared.replies.ReplyLines.{ReplyLines}
 use Rattle.diag_run.specs.declared.playing.Playing.{Playing}
 
