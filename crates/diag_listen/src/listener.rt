@@ -137,7 +137,12 @@ impl Listener {
     }
 
     /// Hears a frame of this kind.
-    fn take_pci(&mut self, at: CaptureLine, pci: Pci<'_>, over: &mut Vec<Over>) -> Result<(), AllocError>
+    fn take_pci(
+        &mut self,
+        at: CaptureLine,
+        pci: Pci<'_>,
+        over: &mut Vec<Over>,
+    ) -> Result<(), AllocError>
         requires { IsRead self.old.setup.max_request (says pci) }
         ensures moves { OnOk result (Moves self.old self.new over.old.items over.new.items
             (kind_happens self.old.receiver.partial at (says pci.entry))
