@@ -75,12 +75,26 @@ def rows_of(rows):
     return [line for name, what in rows for line in (".TP", f".B {roff(name)}", roff(what))]
 
 
+def sharers(commands):
+    """The rows that several commands have, each with the names of these."""
+    found = {}
+    for name, parts in commands.items():
+        for row in parts["Arguments"] + parts["Options"]:
+            found.setdefault(row, []).append(name)
+    return {row: names for row, names in found.items() if len(names) > 1}
+
+
 def page(whole, commands):
+    """The man page. It tells a row that several commands have once; the usage of a command shows its arguments."""
+    shared = sharers(commands)
+    arguments = [row for row in shared if not row[0].startswith("-")]
+    options = [(row[0], f"{row[1]} ({', '.join(names)})") for row, names in shared.items() if row not in arguments + whole["Options"]]
     lines = ['.TH UDS_PLAY 1 "" "uds_play" "User Commands"', ".SH NAME", f"uds_play \\- {roff(whole['about'][0].lower() + whole['about'][1:])}"]
-    lines += [".SH SYNOPSIS", f".B {roff(whole['usage'])}", ".SH OPTIONS", *rows_of(whole["Options"]), ".SH COMMANDS"]
+    lines += [".SH SYNOPSIS", f".B {roff(whole['usage'])}", ".SH ARGUMENTS", *rows_of(arguments)]
+    lines += [".SH OPTIONS", *rows_of(whole["Options"] + options), ".SH COMMANDS"]
     for name, parts in commands.items():
         lines += [f".SS {roff(name)}", f".B {roff(parts['usage'])}", ".PP", f"{roff(parts['about'])}."]
-        lines += rows_of(parts["Arguments"]) + rows_of(parts["Options"])
+        lines += rows_of(row for row in parts["Arguments"] + parts["Options"] if row not in shared)
         lines += [".PP", "Example:", ".PP", ".nf", *(f".B {roff(row)}" for row in parts["Example"]), ".fi"]
     return "\n".join([*lines, ".SH EXIT STATUS", *rows_of(STATUS), ""])
 
