@@ -9,7 +9,7 @@ use Rattle.diag_run.proofs.bus_run.run_bus.Goals as goal
 pub returns-in_err-setup-clause-fault : goal.returns-in_err-setup-clause-fault
 returns-in_err-setup-clause-fault g c =
     let p = err_from_is_err_and c.from_residual.result c.from_residual.ensures.1 in
-    rw (p.1, p.2) (inl (record { ends = c.in_err-setup.ensures.ends; untouched = refl; nothing = Keeps-refl (g.W.Write.contents c.args.out.now) }))
+    rw (p.1, p.2) (inl (record { ends = c.in_err-setup.ensures.ends; untouched = refl; nothing = Keeps-refl (g.W.Target.contents c.args.out.now) }))
 
 pub returns-in_err-bus-clause-fault : goal.returns-in_err-bus-clause-fault
 returns-in_err-bus-clause-fault g c =

@@ -8,9 +8,9 @@ use Rattle.diag_run.specs.Wanted.{wanted}
 
 pub returns-in-Err-clause-err : goal.returns-in-Err-clause-err
 returns-in-Err-clause-err g c = (
-  c.stop.ensures.0,
-  c.stop.ensures.1,
-  end_halts g.S.Sink g.S.Sink.took g.S.Sink.aim g.S.Sink.written g.S.Ending.ends c.args.self.now c.in-Err.fault c.stop.result c.add_end.new.text.items c.stop.ensures.0 c.in-Err.ensures.kept c.in-Err.ensures.err c.stop.ensures.2,
+  c.stop.ensures.sent.0,
+  c.stop.ensures.sent.1,
+  end_halts g.S.Sink g.S.Sink.took g.S.Sink.aim g.S.Sink.written g.S.Ending.ends c.args.self.now c.in-Err.fault c.stop.result c.add_end.new.text.items c.stop.ensures.sent.0 c.in-Err.ensures.kept c.in-Err.ensures.err c.stop.ensures.sent.2,
 )
 
 pub returns-in_ok-write_out-in-Ok-clause-ok : goal.returns-in_ok-write_out-in-Ok-clause-ok

@@ -15,10 +15,10 @@ returns-in-Err-clause-err g c =
     let kept : HaltsIn g.S.Sink.took (wanted g.S.Sink.written g.S.Ending.ends g.S.Sink.aim) capture c.fault_at.result bytes capture.text.items =
     subst (λ (f : CaptureFault). HaltsIn g.S.Sink.took (wanted g.S.Sink.written g.S.Ending.ends g.S.Sink.aim) capture f bytes capture.text.items) (sym c.fault_at.ensures)
     (subst (λ (b : List ℕ). HaltsIn g.S.Sink.took (wanted g.S.Sink.written g.S.Ending.ends g.S.Sink.aim) capture (fault_at (capture.lines + 1) c.in-Err.fault) b capture.text.items) (append-nil bytes)
-    (keep_halts g.S.Sink g.S.Sink.took g.S.Sink.aim g.S.Sink.written g.S.Ending.ends capture bytes [] c.in-Err.fault c.requires.line c.in-Err.ensures.err)) in (
-      c.stop.ensures.0,
-      c.stop.ensures.1,
-      answered_halts g.S.Sink g.S.Sink.took g.S.Sink.aim g.S.Sink.written g.S.Ending.ends capture c.fault_at.result c.stop.result bytes capture.text.items c.stop.ensures.0 kept c.stop.ensures.2,
+    (keep_halts g.S.Sink g.S.Sink.took g.S.Sink.aim g.S.Sink.written g.S.Ending.ends capture bytes [] c.in-Err.fault c.requires.line c.in-Err.ensures.some c.in-Err.ensures.err)) in (
+      c.stop.ensures.sent.0,
+      c.stop.ensures.sent.1,
+      answered_halts g.S.Sink g.S.Sink.took g.S.Sink.aim g.S.Sink.written g.S.Ending.ends capture c.fault_at.result c.stop.result bytes capture.text.items c.stop.ensures.sent.0 kept c.stop.ensures.sent.2,
     )
 
 pub returns-clause-ok : goal.returns-clause-ok

@@ -7,7 +7,7 @@ pub returns-in_err-keep-clause-err : goal.returns-in_err-keep-clause-err
 returns-in_err-keep-clause-err g c =
     let p = err_from_is_err_and c.from_residual.result c.from_residual.ensures.1 in
     rw (p.1, p.2)
-    (keep_halts g.S.Sink g.S.Sink.took g.S.Sink.aim g.S.Sink.written g.S.Ending.ends c.args.self.now c.args.bytes.now (10 ∷ []) c.in_err-keep.field-0.0 c.requires.line c.in_err-keep.ensures.err)
+    (keep_halts g.S.Sink g.S.Sink.took g.S.Sink.aim g.S.Sink.written g.S.Ending.ends c.args.self.now c.args.bytes.now (10 ∷ []) c.in_err-keep.field-0.0 c.requires.line c.in_err-keep.ensures.some c.in_err-keep.ensures.err)
 
 pub returns-in_err-take_line-clause-err : goal.returns-in_err-take_line-clause-err
 returns-in_err-take_line-clause-err g c =

@@ -9,12 +9,12 @@ use Rattle.diag_run.specs.Wanted.{wanted}
 
 pub returns-in-Err-clause-err : goal.returns-in-Err-clause-err
 returns-in-Err-clause-err g c = (
-  c.stop.ensures.0,
-  c.stop.ensures.1,
-  answered_halts g.S.Sink g.S.Sink.took g.S.Sink.aim g.S.Sink.written g.S.Ending.ends c.args.self.now c.fault_at.result c.stop.result (c.args.bytes.now ++ 10 ∷ []) c.end_line.new.self.text.items c.stop.ensures.0
+  c.stop.ensures.sent.0,
+  c.stop.ensures.sent.1,
+  answered_halts g.S.Sink g.S.Sink.took g.S.Sink.aim g.S.Sink.written g.S.Ending.ends c.args.self.now c.fault_at.result c.stop.result (c.args.bytes.now ++ 10 ∷ []) c.end_line.new.self.text.items c.stop.ensures.sent.0
       (subst (λ (f : CaptureFault). HaltsIn g.S.Sink.took (wanted g.S.Sink.written g.S.Ending.ends g.S.Sink.aim) c.args.self.now f (c.args.bytes.now ++ 10 ∷ []) c.end_line.new.self.text.items) (sym c.fault_at.ensures)
       c.in-Err.ensures.err)
-      c.stop.ensures.2,
+      c.stop.ensures.sent.2,
 )
 
 pub returns-then-len-gt-TEXT_LIMIT-clause-ok : goal.returns-then-len-gt-TEXT_LIMIT-clause-ok
