@@ -4,7 +4,7 @@ use Rattle.std.specs.Io.KnownBytes.{Appends, Consumes, IsAtEnd, Keeps}
 use Rattle.std.proofs.KnownBytes.{Appends-nil, Appends-trans, Consumes-kept, Consumes-nil, Consumes-trans}
 use Rattle.diag_setup.specs.declared.raw.RawSetup.{RawSetup}
 use Rattle.diag_desk.specs.declared.entry.Entry.{Entry}
-use Rattle.diag_can.specs.Bus.{bus_lines}
+use Rattle.diag_can.specs.BusLine.{bus_lines}
 use Rattle.diag_bus.specs.Bus.{BusState}
 use Rattle.diag_bus.specs.declared.sink.Sink.{Ghosts}
 use Rattle.diag_bus.specs.Events.{events_of, unless_fault}
