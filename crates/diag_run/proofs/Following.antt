@@ -37,7 +37,7 @@ module _ {S A : Type 0} (g : Ghosts S) (took : S → RawSetup → List (List ℕ
     pub none : new.text.items ≡ []
 
   module _ (old mid : Capture S g) (r r' r'' w w' w'' : Option (List ℕ)) (so_far : ReadSoFar old mid r r' w w') where
-    pub one_piece_more : (new : Capture S g) (piece : List ℕ) → Consumes r' r'' piece → Sends w' w'' (GoesOn took want_of mid new piece) → new.text.items ≡ []
+    unfoldable pub one_piece_more : (new : Capture S g) (piece : List ℕ) → Consumes r' r'' piece → Sends w' w'' (GoesOn took want_of mid new piece) → new.text.items ≡ []
         → ReadSoFar old new r r'' w w''
     one_piece_more new piece read sends none = record {
       bytes = so_far.bytes ++ piece;

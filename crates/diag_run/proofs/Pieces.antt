@@ -45,10 +45,14 @@ ok_is_no_fault {X} {E} result x fault ok is = let clash : (let r : Result X E = 
 pub err_same : {X E : Type 0} (a b : E) → (let r : Result X E = Err a in r) ≡ Err b → a ≡ b
 err_same {X} {E} a b is = cc
 
+-- another fault than the one that was answered
+pub other_fault : {X E : Type 0} (result : Result X E) (a b c : E) → result ≡ Err a → a ≡ b → b ≢ c → result ≢ Err c
+other_fault {X} {E} result a b c was same other is = other (sym same ∙ err_same {X = X} {E = E} a c (sym was ∙ is))
+
 -- a fault that is passed on is the one that was answered
 pub same_fault : {X Y E : Type 0} (told : Result X E) (passed : Result Y E) (a b c : E) → told ≡ Err a → passed ≡ Err b → a ≡ b → passed ≡ Err c → told ≡ Err c
 same_fault {X} {Y} {E} told passed a b c was is same other =
-    was ∙ ap (λ (e : E). (let r : Result X E = Err e in r)) (same ∙ err_same {Y} {E} b c (sym is ∙ other))
+    was ∙ ap (λ (e : E). (let r : Result X E = Err e in r)) (same ∙ err_same {X = Y} {E = E} b c (sym is ∙ other))
 
 module _ {S A : Type 0} (g : Ghosts S) (took : S → RawSetup → List (List ℕ) → List Entry → Type 0) (aim : S → A) (written : A → RawSetup → List (List ℕ) → List ℕ)
     (ends : S → RawSetup → List (List ℕ) → Result End (List ℕ)) where
@@ -213,6 +217,7 @@ module _ {S A : Type 0} (g : Ghosts S) (took : S → RawSetup → List (List ℕ
 
     -- memory was refused for a line that has bytes
     pub memory_halts : (bytes tail : List ℕ) → HasNoFeed bytes → 0 < length bytes → HaltsIn took want_of capture Memory (bytes ++ tail) capture.text.items
+    unfolding cut_here begun_line cut_at
     memory_halts bytes tail none some = λ seen wrote s.
         let line = begun_line seen ++ bytes in
         let plain : HasNoFeed line = subst HasNoFeed (begun_line-begun seen bytes none) (no_feed_in_begun (seen ++ bytes)) in
@@ -232,6 +237,7 @@ module _ {S A : Type 0} (g : Ghosts S) (took : S → RawSetup → List (List ℕ
 
     -- memory was refused for a line that was ended
     pub memory_halts_line : (bytes : List ℕ) → HasNoFeed bytes → HaltsIn took want_of capture Memory (bytes ++ 10 ∷ []) capture.text.items
+    unfolding cut_here begun_line cut_at
     memory_halts_line bytes none = λ seen wrote s.
         let plain : HasNoFeed (begun_line seen ++ bytes) = subst HasNoFeed (begun_line-begun seen bytes none) (no_feed_in_begun (seen ++ bytes)) in
         let text : (rest : List ℕ) → begun_line seen ++ ((bytes ++ 10 ∷ []) ++ rest) ≡ (begun_line seen ++ bytes) ++ 10 ∷ rest =
@@ -484,6 +490,14 @@ module _ {S A : Type 0} (g : Ghosts S) (took : S → RawSetup → List (List ℕ
     end_stops Read h = absurd h
     end_stops Write h = absurd h
 
+    -- it is no failed read or write
+    pub end_own : (fault : CaptureFault) → IsEndFault Ends Well fault → (fault ≢ Read) × (fault ≢ Write)
+    end_own Memory h = (λ is. cc, λ is. cc)
+    end_own (Otherwise told) h = (λ is. cc, λ is. cc)
+    end_own (Line n f) h = absurd h
+    end_own Read h = absurd h
+    end_own Write h = absurd h
+
     pub end_halts : (fault result : CaptureFault) (text sent : List ℕ) → text ≡ capture.text.items → IsEndFault Ends Well fault
         → Answered fault text result sent → HaltsEnded took want_of capture result sent
     end_halts fault result text sent is h (inl same) =
@@ -564,6 +578,7 @@ module _ {S A : Type 0} (g : Ghosts S) (took : S → RawSetup → List (List ℕ
 
   -- memory was refused before a line was taken
   pub refused_at : (want : Wanted) (setup : RawSetup) (seen : List ℕ) (left : Option (List ℕ)) → StopsAt want setup left (fault_of Memory) seen []
+  unfolding cut_at
   refused_at want setup seen left = stops_at want setup seen [] Memory left
       (λ rest. record {
         cut = cut_at want setup [] (bus_lines (seen ++ rest)) (bus_lines (seen ++ rest)) [] refl refl (want.written setup [], refl);
@@ -700,18 +715,11 @@ fault_at_own n bus.Memory = (λ is. cc, λ is. cc)
 fault_at_own n (bus.Line f) = (λ is. cc, λ is. cc)
 fault_at_own n bus.Late = (λ is. cc, λ is. cc)
 
-pub end_fault_own : (P : Result End (List ℕ) → Type 0) (Q : Type 0) (fault : CaptureFault) → IsEndFault P Q fault → (fault ≢ Read) × (fault ≢ Write)
-end_fault_own P Q Memory h = (λ is. cc, λ is. cc)
-end_fault_own P Q (Otherwise told) h = (λ is. cc, λ is. cc)
-end_fault_own P Q (Line n f) h = absurd h
-end_fault_own P Q Read h = absurd h
-end_fault_own P Q Write h = absurd h
-
 -- ---- what the writer is seen to have done
 
 -- the fault of a line is told, unless the writing before it failed
 pub told_stop : {X : Type 0} (n : ℕ) (fault told : BusFault) (at result : CaptureFault) (text sent : List ℕ) → at ≡ fault_at n fault
-    → ((result ≡ at) × (sent ≡ text)) ⊎ ((result ≡ Write) × IsFrontOf sent text) → fault ≡ told → IsTold {X} n (Err result) told
+    → ((result ≡ at) × (sent ≡ text)) ⊎ ((result ≡ Write) × IsFrontOf sent text) → fault ≡ told → IsTold {X = X} n (Err result) told
 told_stop {X} n fault told at result text sent is (inl same) own =
     inl (ap (λ (f : CaptureFault). (let r : Result X CaptureFault = Err f in r)) (same.0 ∙ is ∙ ap (fault_at n) own))
 told_stop {X} n fault told at result text sent is (inr failed) own = inr (ap (λ (f : CaptureFault). (let r : Result X CaptureFault = Err f in r)) failed.0)
@@ -724,25 +732,25 @@ module _ {W X : Type 0} (failed sound : W → Type 0) (old new : W) where
   pub writings_stop : (fault result : CaptureFault) (text sent : List ℕ) → (fault ≢ Read) × (fault ≢ Write)
       → ((result ≡ fault) × (sent ≡ text)) ⊎ ((result ≡ Write) × IsFrontOf sent text)
       → (result ≡ Write → fault ≢ Write → failed new) → (result ≢ Write → sound old → sound new)
-      → IsWritings {W} {X} failed sound old new (Err result)
+      → IsWritings {W = W} {X = X} failed sound old new (Err result)
   writings_stop fault result text sent own how fails stays = (
-    λ is. fails (err_same {X} {CaptureFault} result Write is) own.1,
+    λ is. fails (err_same {X = X} {E = CaptureFault} result Write is) own.1,
     λ other. stays (λ is. other (ap (λ (f : CaptureFault). (let r : Result X CaptureFault = Err f in r)) is)),
-    λ is. read how (err_same {X} {CaptureFault} result Read is),
+    λ is. read how (err_same {X = X} {E = CaptureFault} result Read is),
   )
     where
       read : ((result ≡ fault) × (sent ≡ text)) ⊎ ((result ≡ Write) × IsFrontOf sent text) → result ≡ Read → ⊥
       read (inl same) is = own.0 (sym same.0 ∙ is)
       read (inr same) is = let clash : Write ≡ Read = sym same.0 ∙ is in cc
 
-  pub writings_failed : (fault : CaptureFault) → fault ≡ Write → failed new → IsWritings {W} {X} failed sound old new (Err fault)
+  pub writings_failed : (fault : CaptureFault) → fault ≡ Write → failed new → IsWritings {W = W} {X = X} failed sound old new (Err fault)
   writings_failed fault is fails = (
     λ _. fails,
     λ other. absurd (other (ap (λ (f : CaptureFault). (let r : Result X CaptureFault = Err f in r)) is)),
-    λ read. let clash : Write ≡ Read = sym is ∙ err_same {X} {CaptureFault} fault Read read in cc,
+    λ read. let clash : Write ≡ Read = sym is ∙ err_same {X = X} {E = CaptureFault} fault Read read in cc,
   )
 
-  pub writings_ok : (x : X) → (sound old → sound new) → IsWritings {W} {X} failed sound old new (Ok x)
+  pub writings_ok : (x : X) → (sound old → sound new) → IsWritings {W = W} {X = X} failed sound old new (Ok x)
   writings_ok x stays = (λ is. cc, λ _. stays, λ is. cc)
 
 -- what was to be written was written, or it failed
@@ -753,11 +761,11 @@ writings_out failed sound old new (Err fault) stays fails is = writings_failed f
 
 -- a fault that is passed on
 pub writings_passed : {W X Y : Type 0} (failed sound : W → Type 0) (old new : W) (told : Result X CaptureFault) (fault : CaptureFault) → told ≡ Err fault
-    → IsWritings failed sound old new told → IsWritings {W} {Y} failed sound old new (Err fault)
+    → IsWritings failed sound old new told → IsWritings {W = W} {X = Y} failed sound old new (Err fault)
 writings_passed {W} {X} {Y} failed sound old new told fault was writings = (
-  λ is. writings.0 (was ∙ ap (λ (f : CaptureFault). (let r : Result X CaptureFault = Err f in r)) (err_same {Y} {CaptureFault} fault Write is)),
-  λ other. writings.1 (λ is. other (ap (λ (f : CaptureFault). (let r : Result Y CaptureFault = Err f in r)) (err_same {X} {CaptureFault} fault Write (sym was ∙ is)))),
-  λ is. writings.2 (was ∙ ap (λ (f : CaptureFault). (let r : Result X CaptureFault = Err f in r)) (err_same {Y} {CaptureFault} fault Read is)),
+  λ is. writings.0 (was ∙ ap (λ (f : CaptureFault). (let r : Result X CaptureFault = Err f in r)) (err_same {X = Y} {E = CaptureFault} fault Write is)),
+  λ other. writings.1 (λ is. other (ap (λ (f : CaptureFault). (let r : Result Y CaptureFault = Err f in r)) (err_same {X = X} {E = CaptureFault} fault Write (sym was ∙ is)))),
+  λ is. writings.2 (was ∙ ap (λ (f : CaptureFault). (let r : Result X CaptureFault = Err f in r)) (err_same {X = Y} {E = CaptureFault} fault Read is)),
 )
 
 -- what was written before stayed sound

@@ -4,7 +4,7 @@ use Rattle.std.proofs.lemmas.List.{length-take-le}
 use Rattle.std.proofs.lemmas.Result.{err_from_is_err_and}
 use Rattle.diag_run.specs.declared.capture.CaptureFault.TheVariants.{Read, Write}
 use Rattle.diag_run.proofs.Following.{one_piece_more, so_far_fails, so_far_stops}
-use Rattle.diag_run.proofs.Pieces.{err_same, ok_is_no_fault, same_fault}
+use Rattle.diag_run.proofs.Pieces.{ok_is_no_fault, other_fault, same_fault}
 use Rattle.diag_run.proofs.bus_run.follow.Goals as goal
 
 pub returns-in_err-count-clause-err : goal.returns-in_err-count-clause-err
@@ -23,6 +23,7 @@ pub returns-clause-err : goal.returns-clause-err
 returns-clause-err g c = so_far_fails g.S.Sink g.S.Sink.took g.S.Sink.aim g.S.Sink.written g.S.Ending.ends _ _ _ _ _ _ _ c.loop-turn.invariant.so_far Read refl (Keeps-refl (g.R.Source.remaining c.loop-turn.capture))
 
 pub loop-turn-preserved : goal.loop-turn-preserved
+unfolding one_piece_more
 loop-turn-preserved g c =
     let was = c.loop-turn.invariant in
     let piece = take c.in_ok-count.count c.read_next.new.buffer in
@@ -51,8 +52,7 @@ returns-in_err-count-clause-sound g c =
 pub returns-in_err-count-clause-write : goal.returns-in_err-count-clause-write
 returns-in_err-count-clause-write g c =
     let p = err_from_is_err_and c.from_residual.result c.from_residual.ensures.1 in
-    let read = c.in_err-count.ensures.err.0 in
-    λ is. let clash : Read ≡ Write = sym read ∙ sym p.2 ∙ err_same p.0 Write (sym p.1 ∙ is) in cc
+    λ is. absurd (other_fault c.from_residual.result p.0 Read Write p.1 (p.2 ∙ c.in_err-count.ensures.err.0) (λ same. cc) is)
 
 pub returns-in_err-count-clause-unfailed : goal.returns-in_err-count-clause-unfailed
 returns-in_err-count-clause-unfailed g c = λ other. c.loop-turn.invariant.unfailed

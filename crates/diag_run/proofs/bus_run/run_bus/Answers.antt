@@ -1,6 +1,6 @@
 use Rattle.diag_run.specs.Wanted.{wanted}
-use Rattle.diag_run.proofs.Pieces.{err_same, ok_is_no_fault, same_fault, want_same}
-use Rattle.std.proofs.Common.{◌≡◌, inl, inr, refl, sym, ◌∙◌}
+use Rattle.diag_run.proofs.Pieces.{err_same, ok_is_no_fault, other_fault, same_fault, want_same}
+use Rattle.std.proofs.Common.{◌≡◌, arith, inl, inr, refl, sym, ◌∙◌}
 use Rattle.std.proofs.KnownBytes.{Keeps-refl}
 use Rattle.std.proofs.lemmas.Result.{err_from_is_err_and}
 use Rattle.diag_run.proofs.Following.{config_writes_not, followed, of_the_capture, read_is, refused_behind, stops_reading, write_is}
@@ -38,7 +38,8 @@ returns-in_err-setup-clause-config g c =
 pub returns-in_err-setup-clause-read : goal.returns-in_err-setup-clause-read
 returns-in_err-setup-clause-read g c =
     let p = err_from_is_err_and c.from_residual.result c.from_residual.ensures.1 in
-    λ is. let clash : 1 ≡ 0 = c.read_config.ensures.device 1 (same_fault c.read_config.result c.from_residual.result _ _ (run_fault.Read 1) c.in_err-setup.was p.1 (sym p.2) is) in cc
+    λ is. absurd (let clash : 1 ≡ 0 = c.read_config.ensures.device 1 (same_fault c.read_config.result c.from_residual.result _ _ (run_fault.Read 1) c.in_err-setup.was p.1 (sym p.2) is) in
+    omega (arith, clash))
 
 pub returns-in_err-setup-clause-write : goal.returns-in_err-setup-clause-write
 returns-in_err-setup-clause-write g c =
@@ -49,17 +50,17 @@ returns-in_err-setup-clause-write g c =
 pub returns-in_err-bus-clause-config : goal.returns-in_err-bus-clause-config
 returns-in_err-bus-clause-config g c =
     let p = err_from_is_err_and c.from_residual-in_err-bus.result c.from_residual-in_err-bus.ensures.1 in
-    λ is. let clash : run_fault.Memory ≡ run_fault.Read 0 = sym p.2 ∙ err_same p.0 (run_fault.Read 0) (sym p.1 ∙ is) in cc
+    λ is. absurd (other_fault c.from_residual-in_err-bus.result p.0 run_fault.Memory (run_fault.Read 0) p.1 p.2 (λ same. cc) is)
 
 pub returns-in_err-bus-clause-read : goal.returns-in_err-bus-clause-read
 returns-in_err-bus-clause-read g c =
     let p = err_from_is_err_and c.from_residual-in_err-bus.result c.from_residual-in_err-bus.ensures.1 in
-    λ is. let clash : run_fault.Memory ≡ run_fault.Read 1 = sym p.2 ∙ err_same p.0 (run_fault.Read 1) (sym p.1 ∙ is) in cc
+    λ is. absurd (other_fault c.from_residual-in_err-bus.result p.0 run_fault.Memory (run_fault.Read 1) p.1 p.2 (λ same. cc) is)
 
 pub returns-in_err-bus-clause-write : goal.returns-in_err-bus-clause-write
 returns-in_err-bus-clause-write g c =
     let p = err_from_is_err_and c.from_residual-in_err-bus.result c.from_residual-in_err-bus.ensures.1 in
-    λ is. let clash : run_fault.Memory ≡ run_fault.Write = sym p.2 ∙ err_same p.0 run_fault.Write (sym p.1 ∙ is) in cc
+    λ is. absurd (other_fault c.from_residual-in_err-bus.result p.0 run_fault.Memory run_fault.Write p.1 p.2 (λ same. cc) is)
 
 -- the capture went by
 pub returns-in-Ok-clause-sound : goal.returns-in-Ok-clause-sound

@@ -1,7 +1,7 @@
 use Rattle.std.proofs.Common.{◌≡◌, ◌≤◌, length, take, inl, refl, sym, ◌∙◌, arith}
 use Rattle.std.proofs.lemmas.Result.{IfErr-weaker, IfOk-weaker, err_from_is_err_and}
 use Rattle.diag_run.proofs.Following.{first_read_fails, first_refused, followed_from, given_up, stops_from, stops_from_end, then_on, then_stops}
-use Rattle.diag_run.proofs.Pieces.{err_same, halts_within, ok_is_no_fault, same_fault}
+use Rattle.diag_run.proofs.Pieces.{halts_within, ok_is_no_fault, other_fault, same_fault}
 use Rattle.diag_run.specs.Capturing.{most_counted}
 use Rattle.diag_run.specs.declared.capture.CaptureFault.TheVariants.{Memory, Read, Write}
 use Rattle.diag_run.proofs.bus_run.run_capture.Goals as goal
@@ -79,19 +79,18 @@ returns-in_err-count-clause-sound g c =
 pub returns-in_err-count-clause-write : goal.returns-in_err-count-clause-write
 returns-in_err-count-clause-write g c =
     let p = err_from_is_err_and c.from_residual.result c.from_residual.ensures.1 in
-    let read = c.in_err-count.ensures.err.0 in
-    λ is. let clash : Read ≡ Write = sym read ∙ sym p.2 ∙ err_same p.0 Write (sym p.1 ∙ is) in cc
+    λ is. absurd (other_fault c.from_residual.result p.0 Read Write p.1 (p.2 ∙ c.in_err-count.ensures.err.0) (λ same. cc) is)
 
 -- memory was refused before a line was taken
 pub returns-in_err-taking-clause-read : goal.returns-in_err-taking-clause-read
 returns-in_err-taking-clause-read g c =
     let p = err_from_is_err_and c.from_residual-in_err-taking.result c.from_residual-in_err-taking.ensures.1 in
-    λ is. let clash : Memory ≡ Read = sym p.2 ∙ err_same p.0 Read (sym p.1 ∙ is) in cc
+    λ is. absurd (other_fault c.from_residual-in_err-taking.result p.0 Memory Read p.1 p.2 (λ same. cc) is)
 
 pub returns-in_err-taking-clause-write : goal.returns-in_err-taking-clause-write
 returns-in_err-taking-clause-write g c =
     let p = err_from_is_err_and c.from_residual-in_err-taking.result c.from_residual-in_err-taking.ensures.1 in
-    λ is. let clash : Memory ≡ Write = sym p.2 ∙ err_same p.0 Write (sym p.1 ∙ is) in cc
+    λ is. absurd (other_fault c.from_residual-in_err-taking.result p.0 Memory Write p.1 p.2 (λ same. cc) is)
 
 -- the first piece was not taken
 pub returns-in_err-take_piece-clause-read : goal.returns-in_err-take_piece-clause-read

@@ -2,7 +2,7 @@ use Rattle.std.proofs.Common.{refl, sym, subst}
 use Rattle.std.proofs.lemmas.Result.{err_from_is_err_and}
 use Rattle.diag_run.specs.declared.capture.CaptureFault.{CaptureFault}
 use Rattle.diag_run.specs.Capturing.{HaltsEnded}
-use Rattle.diag_run.proofs.Pieces.{close_front, close_whole, end_fault_own, end_halts, writings_failed, writings_ok, writings_stop}
+use Rattle.diag_run.proofs.Pieces.{close_front, close_whole, end_halts, end_own, writings_failed, writings_ok, writings_stop}
 use Rattle.diag_run.proofs.capture.Capture.close.Goals as goal
 use Rattle.diag_run.specs.Wanted.{wanted}
 
@@ -36,7 +36,7 @@ returns-in_err-write_out-in-Ok-clause-err g c =
 pub returns-in-Err-clause-device : goal.returns-in-Err-clause-device
 returns-in-Err-clause-device g c =
     writings_stop g.W.Target.failed g.W.Target.sound c.args.out.now c.stop.new.out c.in-Err.fault c.stop.result c.add_end.new.text.items c.stop.ensures.sent.0
-    (end_fault_own _ _ c.in-Err.fault c.in-Err.ensures.err) c.stop.ensures.sent.2 c.stop.ensures.failed c.stop.ensures.sound
+    (end_own g.S.Sink g.S.Sink.took g.S.Sink.aim g.S.Sink.written g.S.Ending.ends c.args.self.now c.in-Err.fault c.in-Err.ensures.err) c.stop.ensures.sent.2 c.stop.ensures.failed c.stop.ensures.sound
 
 pub returns-in_ok-write_out-in-Ok-clause-device : goal.returns-in_ok-write_out-in-Ok-clause-device
 returns-in_ok-write_out-in-Ok-clause-device g c = writings_ok g.W.Target.failed g.W.Target.sound c.args.out.now c.write_out.new.out _ c.in_ok-write_out-in-Ok.ensures.sound
