@@ -1,5 +1,5 @@
 -- A live run from its begin to its end.
-use Rattle.std.proofs.Common.{◌≡◌, ◌⊎◌, ℕ, ◌<◌, true, false, List, [], ◌∷◌, ◌++◌, length, Option, None, Some, IfSome, inl, inr, refl, sym, ap, subst, ◌∙◌, arith}
+use Rattle.std.proofs.Common.{◌≡◌, ◌⊎◌, ℕ, ◌-◌, ◌<◌, ◌≤◌, ◌^◌, max, Bool, true, false, List, [], ◌∷◌, ◌++◌, length, Option, None, Some, IfSome, inl, inr, refl, sym, ap, subst, ◌∙◌, append_assoc, arith}
 use Rattle.std.proofs.lemmas.List.{append-nil}
 use Rattle.std.specs.Io.KnownBytes.{Appends, IsAtEnd, Keeps}
 use Rattle.std.proofs.KnownBytes.{Appends-kept, Appends-nil, Appends-trans, Consumes-kept, Consumes-nil, Consumes-trans}
@@ -12,8 +12,14 @@ use Rattle.diag_bus.specs.Text.{text_of}
 use Rattle.diag_bus.proofs.Runs.{run}
 use Rattle.diag_text.specs.declared.fault.RunFault.{RunFault}
 use Rattle.diag_text.specs.declared.fault.RunFault.TheVariants as fault
-use Rattle.diag_live.specs.Live.{AreGood, capture_of, record_text}
-use Rattle.diag_live.specs.Serving.{CannotHear, HaltsWith, SoFar, ServingStands, Turned, last_feed}
+use Rattle.diag_bus.specs.Bus.{TookLines}
+use Rattle.diag_run.specs.Wanted.{any_lines}
+use Rattle.diag_live.specs.Live.{AreGood, Taken, capture_of, record_text}
+use Rattle.diag_live.specs.Pace.{Did, GaveUp, IsAsked, KeepsPace, Paced, began, given, last_feed, taken_at, turned}
+use Rattle.diag_live.specs.Story.{Asked, Step, Told, Turn, steps_of}
+use Rattle.diag_live.specs.declared.bench.Heard.{Heard as AHeard}
+use Rattle.diag_live.specs.declared.bench.Heard.TheVariants as heard
+use Rattle.diag_live.specs.Serving.{AsksUntilDue, CannotHear, HaltsWith, ServingGoesOn, SoFar, ServingStands, Turned}
 use Rattle.diag_live.specs.Stops.{IsLiveCutShort, Lived, Stopped, LiveStopsAt, LiveStopsOn, TookSoFar}
 use Rattle.diag_live.specs.declared.serving.Serving.{Serving}
 use Rattle.diag_live.proofs.Records.{plain_capture, record_lines}
@@ -112,9 +118,10 @@ module _ (setup : RawSetup) where
     stops = stops_at fault.Memory i' [] [] [] (nothing_cut (bus_lines [])) (if_left fault.Memory i' [] [] [] (λ rest. nothing_cut (bus_lines rest)));
   })
 
-  pub begun : (serving : Serving) (i i' o r : Option (List ℕ)) → Keeps i i' → ServingStands serving [] [] [] → serving.capture.bus.setup ≡ setup
-      → SoFar setup serving i i' o o r r
-  begun serving i i' o r kept s same =
+  pub begun : (Does : List Step → Type 0) (serving : Serving) (now : ℕ) (i i' o r : Option (List ℕ)) → Keeps i i' → (s : ServingStands serving [] [] [])
+      → s.taken ≡ [] → serving.told ≡ now → Does (Told now ∷ []) → serving.capture.bus.setup ≡ setup
+      → SoFar Does setup serving i i' o o r r
+  begun Does serving now i i' o r kept s none told did same =
       record {
         set = same;
         seen = [];
@@ -125,35 +132,79 @@ module _ (setup : RawSetup) where
         kept =
             Appends-nil r;
         stands = s;
+        steps = Told now ∷ [];
+        did = did;
+        paced = subst (λ (t : List Taken). Paced setup (Told now ∷ []) serving.told [] t) (sym none)
+            (subst (λ (m : ℕ). Paced setup (Told now ∷ []) m [] []) (sym told) began);
       }
 
 -- ---- a run goes on
 
-module _ (setup : RawSetup) (old new : Serving) (i i' i'' o o' o'' r r' r'' : Option (List ℕ)) (so_far : SoFar setup old i i' o o' r r') where
-  pub turned_on : Turned old new i' i'' o' o'' r' r'' true → SoFar setup new i i'' o o'' r r''
+module _ {B : Type 0} (story : B → List Step → Type 0) (first was is : B) (setup : RawSetup) (old new : Serving) (i i' i'' o o' o'' r r' r'' : Option (List ℕ))
+    (so_far : SoFar (Did story first was) setup old i i' o o' r r') where
+  -- what the bench did goes on
+  did_more : (more : List Step) → Did story was is more → Did story first is (so_far.steps ++ more)
+  did_more more did = λ past h. subst (story is) (append_assoc past so_far.steps more) (did (past ++ so_far.steps) (so_far.did past h))
+
+  -- and so do the ticks
+  paced_more : (turn : Turn) → AsksUntilDue (Did story was is) old turn → (bytes sent noted : List ℕ) → bytes ≡ given so_far.seen turn.heard
+      → (on : ServingGoesOn old new turn.now bytes sent noted)
+      → Paced setup (so_far.steps ++ steps_of turn) new.told (so_far.seen ++ bytes)
+      (on.stands so_far.seen so_far.wrote so_far.recorded so_far.stands).0.taken
+  paced_more turn asks bytes sent noted same on =
+      let s = so_far.stands in
+      let seen = so_far.seen in
+      let steps = so_far.steps ++ steps_of turn in
+      let told = max old.told turn.now in
+      let asked : IsAsked setup old.told s.taken turn = record {
+        bus = old.capture.bus;
+        set = so_far.set;
+        took = subst (TookLines any_lines old.capture.bus) s.lines s.capture.took_lines;
+        until = asks.until;
+        block = asks.block;
+      } in
+      let first : Paced setup steps told (seen ++ given seen turn.heard) (s.taken ++ taken_at old.told turn.now seen (given seen turn.heard)) =
+      turned so_far.paced turn asked in
+      let second : Paced setup steps told (seen ++ bytes) (s.taken ++ taken_at old.told turn.now seen bytes) =
+      subst (λ (b : List ℕ). Paced setup steps told (seen ++ b) (s.taken ++ taken_at old.told turn.now seen b)) (sym same) first in
+      let third : Paced setup steps new.told (seen ++ bytes) (s.taken ++ taken_at old.told turn.now seen bytes) =
+      subst (λ (m : ℕ). Paced setup steps m (seen ++ bytes) (s.taken ++ taken_at old.told turn.now seen bytes)) (sym on.told) second in
+      subst (λ (t : List Taken). Paced setup steps new.told (seen ++ bytes) t) (sym (on.stands seen so_far.wrote so_far.recorded s).1) third
+
+  abbrev pub turned_on : Turned (Did story was is) old new i' i'' o' o'' r' r'' true → SoFar (Did story first is) setup new i i'' o o'' r r''
   turned_on t =
-      let on = t.2.2.2 in
+      let turn = t.0 in
+      let bytes = t.2.0 in
+      let sent = t.2.2.0 in
+      let noted = t.2.2.2.0 in
+      let same = t.2.2.2.2.0 so_far.seen in
+      let on = t.2.2.2.2.1 in
       record {
         set = on.setup ∙ so_far.set;
-        seen = so_far.seen ++ t.0;
-        read = Consumes-trans i i' i'' so_far.seen t.0 so_far.read t.1;
-        wrote = so_far.wrote ++ t.2.0;
-        sent = Appends-trans o o' o'' so_far.wrote t.2.0 so_far.sent t.2.1;
-        recorded = so_far.recorded ++ t.2.2.0;
-        kept = Appends-trans r r' r'' so_far.recorded t.2.2.0 so_far.kept t.2.2.1;
-        stands = on.stands so_far.seen so_far.wrote so_far.recorded so_far.stands;
+        seen = so_far.seen ++ bytes;
+        read = Consumes-trans i i' i'' so_far.seen bytes so_far.read t.2.1;
+        wrote = so_far.wrote ++ sent;
+        sent = Appends-trans o o' o'' so_far.wrote sent so_far.sent t.2.2.1;
+        recorded = so_far.recorded ++ noted;
+        kept = Appends-trans r r' r'' so_far.recorded noted so_far.kept t.2.2.2.1;
+        stands = (on.stands so_far.seen so_far.wrote so_far.recorded so_far.stands).0;
+        steps = so_far.steps ++ steps_of turn;
+        did = did_more (steps_of turn) t.1.did;
+        paced = paced_more turn t.1 bytes sent noted same on;
       }
 
   -- the input has ended
-  pub turned_off : Turned old new i' i'' o' o'' r' r'' false → Lived setup i i'' o o'' r r''
+  pub turned_off : Turned (Did story was is) old new i' i'' o' o'' r' r'' false → Lived (KeepsPace story setup first is) setup i i'' o o'' r r''
   turned_off t =
-      let end = t.1 in
-      let sent = t.2.0 in
-      let noted = t.2.2.0 in
-      let on = t.2.2.2 in
+      let turn = t.0 in
+      let end = t.4 in
+      let sent = t.5.0 in
+      let noted = t.5.2.0 in
+      let on = t.5.2.2 in
       let feed = last_feed old.hearing.kept.items in
       let before = so_far.stands in
-      let s = on.stands so_far.seen so_far.wrote so_far.recorded before in
+      let s = (on.stands so_far.seen so_far.wrote so_far.recorded before).0 in
+      let same_feed : feed ≡ given so_far.seen turn.heard = ap last_feed before.follows.kept ∙ sym (ap (given so_far.seen) t.2) in
       let kept = before.follows.kept in
       let lines : bus_lines so_far.seen ≡ ended_lines (so_far.seen ++ feed) =
       sym (end_lines so_far.seen old.hearing.kept.items kept) ∙ bus_lines-ended (so_far.seen ++ feed) (end_begun so_far.seen old.hearing.kept.items kept) in
@@ -164,22 +215,29 @@ module _ (setup : RawSetup) (old new : Serving) (i i' i'' o o' o'' r r' r'' : Op
       let M = events_of setup (bus_lines (record_text (capture_of s.taken))) in
       record {
         bytes = so_far.seen;
-        read = Consumes-kept i i' i'' so_far.seen so_far.read t.0;
+        read = Consumes-kept i i' i'' so_far.seen so_far.read t.3;
         end = end;
         taken = s.taken;
         heard = s.heard ∙ sym lines;
         good = subst (λ (u : RawSetup). AreGood (known_ids u) s.taken) same s.good;
+        paced = record {
+          steps = so_far.steps ++ steps_of turn;
+          did = did_more (steps_of turn) t.1.did;
+          told = new.told;
+          seen = so_far.seen ++ feed;
+          paced = paced_more turn t.1 feed sent noted same_feed on;
+        };
         M = M;
         events = ap (unless_fault M) (ap (first_fault setup) read ∙ well);
         run = run setup M;
         text = subst (Appends o o'') (written_now setup new (so_far.seen ++ feed) (so_far.wrote ++ sent) (so_far.recorded ++ noted) s same)
-            (Appends-trans o o' o'' so_far.wrote sent so_far.sent t.2.1);
+            (Appends-trans o o' o'' so_far.wrote sent so_far.sent t.5.1);
         lines = read;
-        recorded = subst (Appends r r'') s.recorded (Appends-trans r r' r'' so_far.recorded noted so_far.kept t.2.2.1);
+        recorded = subst (Appends r r'') s.recorded (Appends-trans r r' r'' so_far.recorded noted so_far.kept t.5.2.1);
       }
 
   -- it can't be heard further
-  pub unheard : (came : RunFault) → CannotHear i' i'' o' o'' r' r'' came → Stopped setup i i'' o o'' r r'' came
+  pub unheard : (came : RunFault) → CannotHear (Did story was is) i' i'' o' o'' r' r'' came → Stopped setup i i'' o o'' r r'' came
   unheard came c = subst (Stopped setup i i'' o o'' r r'') (sym c.0) (record {
     seen = so_far.seen;
     read = Consumes-kept i i' i'' so_far.seen so_far.read c.1;
@@ -232,8 +290,49 @@ module _ (setup : RawSetup) (old new : Serving) (i i' i'' o o' o'' r r' r'' : Op
             (at_end setup came i'' so_far.seen (so_far.wrote ++ sent) (so_far.recorded ++ noted) t.1 here);
       }
 
+-- ---- what a turn asks
+
+abbrev pub turn_with : ℕ → Bool → AHeard → ℕ → Turn
+turn_with until in_block heard now = record { until = until; in_block = in_block; heard = heard; now = now }
+
+-- the bench was asked what comes, and then for the moment
+pub did_turn : {B : Type 0} (story : B → List Step → Type 0) (b0 b1 b2 : B) (until : ℕ) (in_block : Bool) (heard : AHeard) (now : ℕ)
+    → ((past : List Step) → story b0 past → story b1 (past ++ Asked until in_block heard ∷ []))
+    → ((past : List Step) → story b1 past → story b2 (past ++ Told now ∷ []))
+    → Did story b0 b2 (steps_of (turn_with until in_block heard now))
+did_turn {B} story b0 b1 b2 until in_block heard now asked told =
+    λ past h. subst (story b2) (append_assoc past (Asked until in_block heard ∷ []) (Told now ∷ [])) (told (past ++ Asked until in_block heard ∷ []) (asked past h))
+
+-- ---- where it gives up
+
+module _ {B : Type 0} (story : B → List Step → Type 0) (first was is : B) (setup : RawSetup) (old : Serving) (i i' i'' o o' o'' r r' r'' : Option (List ℕ))
+    (so_far : SoFar (Did story first was) setup old i i' o o' r r') where
+  gave_up : (more : List Step) → Did story was is more → (turn : Turn) → turn.heard ≡ heard.Fault → more ≡ steps_of turn → GaveUp story first is
+  gave_up more did turn unheard are = record {
+    steps = so_far.steps ++ more;
+    did = λ past h. subst (story is) (append_assoc past so_far.steps more) (did (past ++ so_far.steps) (so_far.did past h));
+    why = inl (so_far.steps, turn, unheard, ap (λ (l : List Step). so_far.steps ++ l) are);
+  }
+
+  -- no line says that the input can't be heard
+  pub gives_up : (came : RunFault) → HaltsWith old i' i'' o' o'' r' r'' came ⊎ CannotHear (Did story was is) i' i'' o' o'' r' r'' came → came ≡ fault.Read 1
+      → GaveUp story first is
+  gives_up came (inl h) same = absurd (subst (λ (f : RunFault). LiveStopsOn setup f (bus_lines (so_far.seen)) so_far.wrote so_far.recorded) same (no_read h))
+    where
+      no_read : HaltsWith old i' i'' o' o'' r' r'' came → LiveStopsOn setup came (bus_lines (so_far.seen)) so_far.wrote so_far.recorded
+      no_read (inl t) = absurd (subst (λ (f : RunFault). LiveStopsOn old.capture.bus.setup f (bus_lines ((so_far.seen ++ t.0) ++ [])) (so_far.wrote ++ t.2.0) (so_far.recorded ++ t.2.2.0)) same
+          (t.2.2.2 so_far.seen so_far.wrote so_far.recorded so_far.stands []))
+      no_read (inr t) = absurd (subst (λ (f : RunFault). LiveStopsOn old.capture.bus.setup f (bus_lines ((so_far.seen ++ last_feed old.hearing.kept.items) ++ [])) (so_far.wrote ++ t.2.0) (so_far.recorded ++ t.2.2.0)) same
+          (t.2.2.2 so_far.seen so_far.wrote so_far.recorded so_far.stands []))
+  gives_up came (inr c) same = gave_up (steps_of c.4.0) c.4.2 c.4.0 c.4.1 refl
+
+  -- after so many turns
+  pub gives_up_behind : 2 ^ 64 - 1 ≤ length so_far.steps → was ≡ is → GaveUp story first is
+  gives_up_behind many same = subst (GaveUp story first) same (record { steps = so_far.steps; did = so_far.did; why = inr many })
+
 -- ---- a turn
 
 -- memory was refused where the input is heard
-pub turn_refused : (old : Serving) (i i' o r : Option (List ℕ)) → Keeps i i' → HaltsWith old i i' o o r r fault.Memory ⊎ CannotHear i i' o o r r fault.Memory
-turn_refused old i i' o r kept = inl (inl ([], Consumes-kept i i i' [] (Consumes-nil i) kept, ([], Appends-nil o, ([], Appends-nil r, refused_halts old []))))
+pub turn_refused : (Does : List Step → Type 0) (old : Serving) (i i' o r : Option (List ℕ)) → Keeps i i'
+    → HaltsWith old i i' o o r r fault.Memory ⊎ CannotHear Does i i' o o r r fault.Memory
+turn_refused Does old i i' o r kept = inl (inl ([], Consumes-kept i i i' [] (Consumes-nil i) kept, ([], Appends-nil o, ([], Appends-nil r, refused_halts old []))))

@@ -2,7 +2,7 @@
 use Rattle.std.proofs.Common.{◌≡◌, ◌⊎◌, ℕ, ◌+◌, ◌-◌, ◌<◌, ◌≤◌, ◌^◌, min, max, List, [], ◌∷◌, ◌++◌, length, map, take, drop, None, Some, inl, inr, Ok, Err, refl, sym, ap, subst, ◌∙◌, append_assoc, length-append, suc, zero, arith}
 use Rattle.std.proofs.lemmas.List.{append-nil, length-map, length-take, take-append-drop, take-map}
 use Rattle.std.proofs.lemmas.List.Concat.{flat_map-cons}
-use Rattle.std.proofs.Math.Seq.{take-append_seam}
+use Rattle.std.proofs.Math.Seq.{drop-append_seam, take-append_seam}
 use Rattle.diag_can.specs.BusLine.{begun_line, bus_line, bus_lines, ended_lines}
 use Rattle.diag_can.specs.declared.fault.LineFault.{LineFault}
 use Rattle.diag_can.proofs.BusLines.{bus_lines-ended, bus_lines-more}
@@ -23,7 +23,8 @@ use Rattle.diag_run.proofs.Pieces.{IsFrontOf-refl}
 use Rattle.diag_live.specs.Live.{AreGood, Heard, Taken, Ticked, capture_of, capture_line, lines_of, record_text, passed, with_feed}
 use Rattle.diag_live.specs.Hearing.{EndsBefore, HasHeard, HeardLines}
 use Rattle.diag_live.specs.Stops.{AreFront, IsBadLine, IsFaulty, IsLiveCutShort, LiveStopsOn}
-use Rattle.diag_live.specs.Serving.{Delivered, ServingGoesOn, ServingHalts, ServingStands, Undelivered, input_number, last_feed, numbered}
+use Rattle.diag_live.specs.Pace.{last_feed, lines_behind, taken_at}
+use Rattle.diag_live.specs.Serving.{Delivered, ServingGoesOn, ServingHalts, ServingStands, Undelivered, input_number, numbered}
 use Rattle.diag_live.specs.declared.serving.Serving.{Serving}
 use Rattle.diag_live.specs.declared.hearing.Hearing.{Hearing}
 use Rattle.diag_port.specs.Port.{Grew}
@@ -55,7 +56,7 @@ pub record Brings (known text : List ℕ) (ticks : ℕ) (seen piece : List ℕ) 
 text_join : (a b : List Taken) → record_text (capture_of (a ++ b)) ≡ record_text (capture_of a) ++ record_text (capture_of b)
 text_join a b = ap record_text (capture_of-append a b) ∙ record_text-append (capture_of a) (capture_of b)
 
-pub fresh_lines : (known : List ℕ) (span : ℕ) (ticks : ℕ) (before text more : List ℕ) (lines : List (List ℕ)) → before ≡ record_text (capture_of (passed span))
+abbrev pub fresh_lines : (known : List ℕ) (span : ℕ) (ticks : ℕ) (before text more : List ℕ) (lines : List (List ℕ)) → before ≡ record_text (capture_of (passed span))
     → ticks ≡ length (passed span) → text ≡ before ++ more
     → AreGood known (map Heard lines) → more ≡ record_text (capture_of (map Heard lines)) → Fresh known ticks text lines
 fresh_lines known span ticks before text more lines was count is good said = record {
@@ -281,11 +282,11 @@ module _ (old : Serving) (piece text : List ℕ) (ticks : ℕ) (brings : (seen :
             (wrote ++ sent)
             → LiveStopsOn old.capture.bus.setup (numbered heard first came) (bus_lines ((seen ++ piece) ++ rest)) (wrote ++ sent) (noted ++ text)
         on seen wrote noted s rest b capture.Memory stops =
-            cut_within old seen wrote noted s text ticks b.lines b.fresh sent (bus_lines ((seen ++ piece) ++ rest)) (b.front rest) stops
+            cut_within old seen wrote noted s text ticks b.lines b.fresh sent (bus_lines ((seen ++ piece) ++ rest)) (b.front rest) stops.cut
         on seen wrote noted s rest b capture.Write stops =
             cut_within old seen wrote noted s text ticks b.lines b.fresh sent (bus_lines ((seen ++ piece) ++ rest)) (b.front rest) stops
         on seen wrote noted s rest b capture.Read stops = absurd stops
-        on seen wrote noted s rest b (capture.Otherwise told) stops = absurd (no_end_told (end_with [] 0) told.items stops.told)
+        on seen wrote noted s rest b (capture.Otherwise told) stops = absurd (no_end_told (end_with [] 0) stops.0 stops.2.told)
         on seen wrote noted s rest b (capture.Line m x) stops =
             let f = b.fresh in
             let lines = b.lines in
@@ -312,10 +313,10 @@ module _ (old : Serving) (piece text : List ℕ) (ticks : ℕ) (brings : (seen :
           (unrecorded_halts (numbered heard first u.came) noted (kind u.came h.of) h.front)
     ])
       where
-        kind : (c : CaptureFault) → (c ≡ capture.Write) ⊎ (c ≡ capture.Memory)
+        kind : (c : CaptureFault) → (c ≡ capture.Write) ⊎ ((c ≡ capture.Memory) × (2 ^ 64 ≤ old.capture.lines + length text + 1))
             → (numbered heard first c ≡ fault.Write) ⊎ (numbered heard first c ≡ fault.Memory)
         kind c (inl is) = inl (ap (numbered heard first) is)
-        kind c (inr is) = inr (ap (numbered heard first) is)
+        kind c (inr is) = inr (ap (numbered heard first) is.0)
 
 -- ---- a delivery that succeeds
 
@@ -343,7 +344,7 @@ module _ (old new : Serving) (text sent noted : List ℕ) (ticks : ℕ) (seen wr
   delivered_noted = noted_here ∙ all_noted old seen wrote before s text ticks lines f
 
   -- and the lines that are heard go on
-  pub delivered_stands : (piece : List ℕ) → ended_lines (seen ++ piece) ≡ ended_lines seen ++ lines → HasHeard new.hearing (seen ++ piece)
+  abbrev pub delivered_stands : (piece : List ℕ) → ended_lines (seen ++ piece) ≡ ended_lines seen ++ lines → HasHeard new.hearing (seen ++ piece)
       → ServingStands new (seen ++ piece) (wrote ++ sent) (before ++ noted)
   delivered_stands piece ended follows = record {
     taken = all old seen wrote before s text ticks lines f;
@@ -357,6 +358,18 @@ module _ (old new : Serving) (text sent noted : List ℕ) (ticks : ℕ) (seen wr
     capture = subst (λ (t : List ℕ). Stands any_lines replies_wanted new.capture t (wrote ++ sent)) (sym noted_here) on_from;
     sent = d.none;
   }
+
+  -- behind the ticks of the time that was passed
+  pub delivered_on : (now : ℕ) (piece : List ℕ) → f.time ≡ passed (now - old.told) → (ended : ended_lines (seen ++ piece) ≡ ended_lines seen ++ lines)
+      → HasHeard new.hearing (seen ++ piece)
+      → (n : ServingStands new (seen ++ piece) (wrote ++ sent) (before ++ noted))
+      × (n.taken ≡ s.taken ++ taken_at old.told now seen piece)
+  delivered_on now piece timed ended follows =
+      let are : lines_behind seen piece ≡ lines = ap (drop (length (ended_lines seen))) ended ∙ drop-append_seam (ended_lines seen) lines in (
+        delivered_stands piece ended follows,
+        ap (λ (t : List Taken). s.taken ++ (t ++ map Heard lines)) timed
+            ∙ ap (λ (l : List (List ℕ)). s.taken ++ (passed (now - old.told) ++ map Heard l)) (sym are),
+      )
 
   -- or a line at fault comes behind them
   pub delivered_bad : (n : ℕ) (bad : LineFault) (given others : List (List ℕ)) (line : List ℕ) → given ≡ (ended_lines seen ++ lines) ++ line ∷ others
@@ -414,17 +427,21 @@ module _ (known : List ℕ) (h : Hearing) (span ticks : ℕ) (text text' piece :
     follows_h : (seen : List ℕ) → HasHeard old.hearing seen → HasHeard h seen
     follows_h seen f = subst (λ (x : Hearing). HasHeard x seen) (sym hearing) f
 
-    pub serve_goes_on : (new : Serving) (next : Hearing) → Grew text text' (HeardLines known h next piece) → new.hearing ≡ next → (sent noted : List ℕ)
+    pub serve_goes_on : (now : ℕ) → span ≡ now - old.told → (new : Serving) → new.told ≡ max old.told now → (next : Hearing)
+        → Grew text text' (HeardLines known h next piece) → new.hearing ≡ next → (sent noted : List ℕ)
         → Delivered k new.capture text' sent noted
-        → ServingGoesOn old new piece sent noted
-    serve_goes_on new next grew same sent noted d =
+        → ServingGoesOn old new now piece sent noted
+    serve_goes_on now spanned new told next grew same sent noted d =
         let here : Delivered old.capture new.capture text' sent noted = subst (λ (x : type_of old.capture). Delivered x new.capture text' sent noted) capture_same d in
         record {
           setup = here.on.setup;
+          told = told;
           stands = λ seen wrote before s.
               let e = grew.holds seen (follows_h seen s.follows) in
-              delivered_stands old new text' sent noted ticks seen wrote before s e.lines
-              (fresh_by_setup e.lines (fresh_lines known span ticks text text' grew.more e.lines was count grew.grown e.good e.text)) here piece e.ended
+              let good = subst (λ k. AreGood k (map Heard e.lines)) is_known e.good in
+              delivered_on old new text' sent noted ticks seen wrote before s e.lines
+              (fresh_lines (known_ids old.capture.bus.setup) span ticks text text' grew.more e.lines was count grew.grown good e.text) here now piece
+              (ap passed spanned) e.ended
               (subst (λ (x : Hearing). HasHeard x (seen ++ piece)) (sym same) e.follows);
         }
 

@@ -1,5 +1,7 @@
 pub mod Bench
 pub mod Hearing
 pub mod Live
+pub mod Pace
 pub mod Serving
 pub mod Stops
+pub mod Story

@@ -18,14 +18,15 @@ use Rattle.diag_live.specs.Live.{AreGood, Taken, capture_of, lines_of, record_te
 
 -- The input was heard to its end, and no line of it is at fault. Its lines, in their order, with ticks between them, are
 -- one capture, of which there is one legal run. The record has this capture and nothing else, and what the bus writes of
--- it was written and nothing else: the frames of that run.
-pub record Lived (setup : RawSetup) (input input' out out' noted noted' : Option (List ℕ)) : Type 0 where
+-- it was written and nothing else: the frames of that run. The ticks keep the pace that is asked.
+pub record Lived (Paces : List Taken → Type 0) (setup : RawSetup) (input input' out out' noted noted' : Option (List ℕ)) : Type 0 where
   pub bytes : List ℕ
   pub read : Consumes input input' bytes
   pub end : IsAtEnd input'
   pub taken : List Taken
   pub heard : lines_of taken ≡ bus_lines bytes
   pub good : AreGood (known_ids setup) taken
+  pub paced : Paces taken
   pub M : List (ℕ × Event)
   pub events : bus_events (record_text (capture_of taken)) setup ≡ Ok M
   pub run : IsRun setup M (run_of setup M) (sent_of setup M)
@@ -134,10 +135,10 @@ pub record Stopped (setup : RawSetup) (input input' out out' noted noted' : Opti
 -- ---- behind the config
 
 -- the config was read whole, and says a setup that was lived with
-pub record LivedWith (config config' input input' out out' noted noted' : Option (List ℕ)) : Type 0 where
+pub record LivedWith (Paces : RawSetup → List Taken → Type 0) (config config' input input' out out' noted noted' : Option (List ℕ)) : Type 0 where
   pub setup : RawSetup
   pub says : SaysSetup config config' setup
-  pub lived : Lived setup input input' out out' noted noted'
+  pub lived : Lived (Paces setup) setup input input' out out' noted noted'
 
 -- the fault came with the config: nothing was heard, written or recorded
 pub record StoppedBefore {B : Type 0} (config config' : Option (List ℕ)) (bench bench' : B)

@@ -1,6 +1,7 @@
 //! A live run: the config, then the bus as it goes.
 
-ghost use Rattle.std.specs.Prelude.{◌≡◌, ◌⊎◌, IfOk, IfErr, OnOk};
+ghost use Rattle.std.specs.Prelude.{◌≡◌, ◌⊎◌, Err, IfOk, IfErr, OnOk};
+ghost use Rattle.diag_live.specs.Pace.{Did, GaveUp, KeepsPace};
 ghost use Rattle.diag_live.specs.Serving.{CannotHear, HaltsWith, Turned};
 ghost use Rattle.diag_live.specs.Stops.{Lived, LivedWith, Stopped, StoppedWith};
 ghost use Rattle.diag_run.specs.Run.{DoneOf, TellsOf};
@@ -17,13 +18,15 @@ use std::io::{Read, Write};
 /// Serves a bus until the input ends. The time passes as the bench's clock tells it, also while nothing is heard.
 ///
 /// What was heard and how the time passed is one capture, which the recorder gets: each line with the null stamp in
-/// place of its own, and `tick` lines between them. What is written is what the bus writes of that capture. Before each
+/// place of its own, and `tick` lines between them: turn by turn, a tick for each millisecond that the clock told since it
+/// told last, and then the lines that were heard. Each `hear` is asked until the moment at which something falls due or ends
+/// for the unit. What is written is what the bus writes of that capture. Before each
 /// `hear` the capture so far was recorded and flushed, and then what it draws.
 ///
 /// # Errors
 /// `Capture` with the number of the first line of the input at fault, or of the line by which, or before which, a
-/// tester's clock would pass 2^63 ms; `Read(1)` where the bench can't hear further; `Memory`; and `Write` where the
-/// output or the record can't be written.
+/// tester's clock would pass 2^63 ms; `Read(1)` where the bench can't hear further, and only there (or behind 2^64 - 1
+/// turns); `Memory`; and `Write` where the output or the record can't be written.
 pub fn live<B: Bench, W: Write, R: Write>(
     alloc: Global,
     setup: Setup,
@@ -31,14 +34,16 @@ pub fn live<B: Bench, W: Write, R: Write>(
     out: &mut W,
     recorder: &mut R,
 ) -> Result<(), RunFault>
-    ensures done { OnOk result (Lived setup (B.remaining bench.old) (B.remaining bench.new)
+    ensures done { OnOk result (Lived (KeepsPace B.story setup bench.old bench.new) setup
+        (B.remaining bench.old) (B.remaining bench.new)
         (W.contents out.old) (W.contents out.new) (R.contents recorder.old) (R.contents recorder.new)) }
     ensures fault { IfErr result (Stopped setup (B.remaining bench.old) (B.remaining bench.new)
         (W.contents out.old) (W.contents out.new) (R.contents recorder.old) (R.contents recorder.new)) }
+    ensures unheard { result ≡ Err (RunFault.Read 1) → GaveUp B.story bench.old bench.new }
 {
     let bus = Bus::new(alloc, setup, Replies::new(alloc))?;
     let mut serving = Serving::begin(alloc, bus, bench.now())?;
-    for _ in 0..u64::MAX {
+    for turn_number in 0..u64::MAX {
         match turn(&mut serving, bench, out, recorder) {
             Ok(true) => {}
             Ok(false) => return Ok(()),
@@ -55,13 +60,13 @@ fn turn<B: Bench, W: Write, R: Write>(
     out: &mut W,
     recorder: &mut R,
 ) -> Result<bool, RunFault>
-    ensures ok { IfOk result (Turned serving.old serving.new (B.remaining bench.old) (B.remaining bench.new)
+    ensures ok { IfOk result (Turned (Did B.story bench.old bench.new) serving.old serving.new (B.remaining bench.old) (B.remaining bench.new)
         (W.contents out.old) (W.contents out.new) (R.contents recorder.old) (R.contents recorder.new)) }
     ensures err { IfErr result (λ fault. HaltsWith serving.old
         (B.remaining bench.old) (B.remaining bench.new)
         (W.contents out.old) (W.contents out.new)
         (R.contents recorder.old) (R.contents recorder.new) fault
-        ⊎ CannotHear (B.remaining bench.old) (B.remaining bench.new)
+        ⊎ CannotHear (Did B.story bench.old bench.new) (B.remaining bench.old) (B.remaining bench.new)
         (W.contents out.old) (W.contents out.new)
         (R.contents recorder.old) (R.contents recorder.new) fault) }
 {
@@ -96,7 +101,7 @@ fn run_live<C: Read, B: Bench, W: Write, R: Write>(
     out: &mut W,
     recorder: &mut R,
 ) -> Result<(), RunFault>
-    ensures done { OnOk result (LivedWith (C.remaining config.old) (C.remaining config.new)
+    ensures done { OnOk result (LivedWith (λ setup. KeepsPace B.story setup bench.old bench.new) (C.remaining config.old) (C.remaining config.new)
         (B.remaining bench.old) (B.remaining bench.new)
         (W.contents out.old) (W.contents out.new) (R.contents recorder.old) (R.contents recorder.new)) }
     ensures fault { IfErr result (StoppedWith B.remaining (C.remaining config.old) (C.remaining config.new)
@@ -120,7 +125,7 @@ pub fn run_live_and_tell<C: Read + Drop, B: Bench + Drop, W: Write, R: Write>(
 ) -> Outcome
     ensures status { DoneOf (λ status. status ≡ 0) result }
     ensures done { DoneOf (λ _. (config' : C) × (bench' : B)
-        × LivedWith (C.remaining config) (C.remaining config') (B.remaining bench) (B.remaining bench')
+        × LivedWith (λ setup. KeepsPace B.story setup bench bench') (C.remaining config) (C.remaining config') (B.remaining bench) (B.remaining bench')
         (W.contents out.old) (W.contents out.new) (R.contents recorder.old) (R.contents recorder.new)) result }
     ensures fault { TellsOf (λ fault. (config' : C) × (bench' : B)
         × StoppedWith B.remaining (C.remaining config) (C.remaining config') bench bench'

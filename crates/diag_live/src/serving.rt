@@ -29,14 +29,15 @@ pub(crate) struct Serving {
 }
 
 impl Serving {
-    ghost use Rattle.diag_live.specs.Serving.{Delivered, ServingGoesOn, ServingHalts, ServingStands, Undelivered, last_feed};
+    ghost use Rattle.diag_live.specs.Serving.{Delivered, ServingGoesOn, ServingHalts, ServingStands, Undelivered};
+    ghost use Rattle.diag_live.specs.Pace.{last_feed};
 
     /// A run that begins at this moment.
     pub(crate) fn begin(alloc: Global, bus: Bus<Replies>, now: u64) -> Result<Serving, AllocError>
         requires { TookLines any_lines bus [] }
-        ensures stands { IfOk result (λ serving. ServingStands serving [] [] []) }
-        ensures setup { IfOk result (λ serving. serving.capture.bus.setup ≡ bus.setup) }
+        ensures stands { IfOk result (λ serving. (s : ServingStands serving [] [] []) × (s.taken ≡ [])) }
         ensures told { IfOk result (λ serving. serving.told ≡ now) }
+        ensures setup { IfOk result (λ serving. serving.capture.bus.setup ≡ bus.setup) }
     {
         let capture = Capture::begin(alloc, bus)?;
         Ok(Serving {
@@ -73,7 +74,7 @@ impl Serving {
     ) -> Result<(), RunFault>
         ensures ok { OnOk result (Sends (W.contents out.old) (W.contents out.new) (λ sent.
             Sends (R.contents recorder.old) (R.contents recorder.new) (λ noted.
-            ServingGoesOn self.old self.new piece.now sent noted))) }
+            ServingGoesOn self.old self.new now piece.now sent noted))) }
         ensures err { IfErr result (λ fault. Sends (W.contents out.old) (W.contents out.new) (λ sent.
             Sends (R.contents recorder.old) (R.contents recorder.new) (λ noted.
             ServingHalts self.old fault piece.now sent noted))) }
@@ -103,7 +104,7 @@ impl Serving {
     ) -> Result<(), RunFault>
         ensures ok { OnOk result (Sends (W.contents out.old) (W.contents out.new) (λ sent.
             Sends (R.contents recorder.old) (R.contents recorder.new) (λ noted.
-            ServingGoesOn self.old self.new (last_feed self.old.hearing.kept.items) sent noted))) }
+            ServingGoesOn self.old self.new now (last_feed self.old.hearing.kept.items) sent noted))) }
         ensures err { IfErr result (λ fault. Sends (W.contents out.old) (W.contents out.new) (λ sent.
             Sends (R.contents recorder.old) (R.contents recorder.new) (λ noted.
             ServingHalts self.old fault (last_feed self.old.hearing.kept.items) sent noted))) }
@@ -117,11 +118,9 @@ impl Serving {
 
     /// Begins what the capture grows by, with the time up to this moment; answers how many lines that are.
     fn pass(&mut self, now: u64) -> Result<u64, AllocError>
-        ensures text { IfOk result (λ ticks. (span : ℕ)
-            × (self.new.text.items ≡ record_text (capture_of (passed span)))
-            × (ticks ≡ length (passed span))) }
-        ensures span { IfOk result (λ _.
-            self.new.text.items ≡ record_text (capture_of (passed (now - self.old.told)))) }
+        ensures text { IfOk result (λ ticks.
+            (self.new.text.items ≡ record_text (capture_of (passed (now - self.old.told))))
+            × (ticks ≡ length (passed (now - self.old.told)))) }
         ensures told { IfOk result (λ _. self.new.told ≡ max self.old.told now) }
         ensures hearing { self.new.hearing ≡ self.old.hearing }
         ensures capture { self.new.capture ≡ self.old.capture }
@@ -148,6 +147,7 @@ impl Serving {
             Sends (R.contents recorder.old) (R.contents recorder.new) (λ noted.
             Undelivered self.old.capture heard first self.old.text.items sent noted fault))) }
         ensures hearing { self.new.hearing ≡ self.old.hearing }
+        ensures told { self.new.told ≡ self.old.told }
     {
         if !is_countable(self.capture.lines(), self.text.len()) {
             return Err(RunFault::Memory);

@@ -1,6 +1,7 @@
 -- What the verdict says of a recording that is judged.
-use Rattle.std.proofs.Common.{◌≡◌, ◌≢◌, ℕ, Bool, true, false, List, [], ◌++◌, Err, append-nil, inl, inr, refl, ap, ap₂, sym, subst, ◌∙◌}
+use Rattle.std.proofs.Common.{◌≡◌, ◌≢◌, ℕ, Bool, true, false, List, [], ◌++◌, Ok, Err, IfOk, IfSome, Result, Vec, Global, append-nil, inl, inr, refl, ap, ap₂, sym, subst, ◌∙◌}
 use Rattle.std.specs.Prelude.{if◌then◌else◌}
+use Rattle.std.specs.Result.{result_ok}
 use Rattle.diag_setup.specs.declared.raw.RawSetup.{RawSetup}
 use Rattle.diag_bus.specs.Verdict.{Means, agreement_text, verdict, verdict_text}
 use Rattle.diag_bus.specs.declared.verdict.Verdict.{Verdict}
@@ -51,3 +52,8 @@ pub told_otherwise : (setup : RawSetup) (lines : List (List ℕ)) (v : Verdict) 
 told_otherwise setup lines Agrees other = absurd (other refl)
 told_otherwise setup lines (Differs t d) other = refl
 told_otherwise setup lines (Lacks t count next) other = refl
+
+-- what is told, where there was memory for it
+pub ok_line : {E : Type 0} (r : Result (Vec ℕ Global) E) (line : List ℕ) → IfOk r (λ t. t.items ≡ line) → IfSome (result_ok r) (λ t. t.items ≡ line)
+ok_line (Ok t) line h = h
+ok_line (Err e) line h = tt

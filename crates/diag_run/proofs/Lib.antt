@@ -8,6 +8,7 @@ pub mod Order
 pub mod Pieces
 pub mod Plays
 pub mod Reading
+pub mod Replays
 pub mod Runs
 pub mod Told
 pub mod Written

@@ -1,5 +1,5 @@
 -- What a run of a whole bus's recording reads and writes; and what it has read and written where it ends by a fault.
-use Rattle.std.specs.Prelude.{◌≡◌, ◌⊎◌, ℕ, ◌-◌, List, [], ◌++◌, take, Option, Some, None, Result, Ok, Err, IfSome}
+use Rattle.std.specs.Prelude.{◌≡◌, ◌≢◌, ◌⊎◌, ℕ, ◌-◌, List, [], ◌++◌, take, Option, Some, None, Result, Ok, Err, IfSome}
 use Rattle.std.specs.Io.KnownBytes.{Appends, Consumes, IsAtEnd, Keeps}
 use Rattle.diag_can.specs.BusLine.{bus_lines, ended_lines}
 use Rattle.diag_can.specs.declared.frame.Event.{Event}
@@ -61,6 +61,12 @@ pub record IsCutShort (want : Wanted) (setup : RawSetup) (lines : List (List ℕ
   pub front : IsFrontOf wrote (want.written setup taken)
       ⊎ ((others ≡ []) × IsFrontOf wrote (capture_text want setup taken))
 
+-- Memory was refused. Where the lines end with what is told, one of them was still to be taken then, or none had been.
+pub record IsOutOfMemory (want : Wanted) (setup : RawSetup) (lines : List (List ℕ))
+    (wrote : List ℕ) : Type 0 where
+  pub cut : IsCutShort want setup lines wrote
+  pub before : (told : List ℕ) → want.ends setup lines ≡ Err told → (cut.others ≢ []) ⊎ (cut.taken ≡ [])
+
 -- No line is at fault, and what they write was written; in place of what the end adds this is told, as of the first frame of the
 -- recording that isn't the one that the server sends.
 pub record IsOtherwise (want : Wanted) (setup : RawSetup) (line : List ℕ) (lines : List (List ℕ))
@@ -72,9 +78,10 @@ pub record IsOtherwise (want : Wanted) (setup : RawSetup) (line : List ℕ) (lin
 -- the fault is one of a capture of these lines, of which this was written
 abbrev pub StopsOn : Wanted → RawSetup → RunFault → List (List ℕ) → List ℕ → Type 0
 StopsOn want setup (Capture n fault) lines wrote = IsFaultyLine want setup n fault lines wrote
-StopsOn want setup Memory lines wrote = IsCutShort want setup lines wrote
+StopsOn want setup Memory lines wrote = IsOutOfMemory want setup lines wrote
 StopsOn want setup Write lines wrote = IsCutShort want setup lines wrote
-StopsOn want setup (Otherwise told) lines wrote = IsOtherwise want setup told.items lines wrote
+StopsOn want setup (Otherwise told) lines wrote =
+    (line : List ℕ) × IfSome told (λ t. t.items ≡ line) × IsOtherwise want setup line lines wrote
 StopsOn want setup (Files wanted given) lines wrote = ⊥
 StopsOn want setup (Config fault) lines wrote = ⊥
 StopsOn want setup ConfigLong lines wrote = ⊥

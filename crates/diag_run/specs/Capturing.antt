@@ -1,11 +1,15 @@
 -- What is kept of a capture between two reads, and how a step of it goes.
-use Rattle.std.specs.Prelude.{◌≡◌, ℕ, List, ◌++◌, [], length, None, Option}
+use Rattle.std.specs.Prelude.{◌≡◌, ◌≢◌, ◌⊎◌, ◌<◌, ◌+◌, ◌^◌, ◌-◌, ℕ, List, ◌++◌, [], length, None, Option, Result, Err, IfSome}
 use Rattle.std.specs.Io.KnownBytes.{Appends, Consumes, IsAtEnd}
 use Rattle.diag_can.specs.BusLine.{begun_line, bus_lines, ended_lines}
 use Rattle.diag_bus.specs.Bus.{TookLines}
-use Rattle.diag_bus.specs.Events.{first_fault}
+use Rattle.diag_bus.specs.Events.{first_fault, line_fault}
+use Rattle.diag_bus.specs.declared.fault.BusFault.{BusFault}
+use Rattle.diag_bus.specs.declared.fault.BusFault.TheVariants as bus
+use Rattle.diag_can.specs.declared.fault.LineFault.TheVariants.{BadLine}
 use Rattle.diag_bus.specs.declared.sink.Sink.{Ghosts}
 use Rattle.diag_setup.specs.declared.raw.RawSetup.{RawSetup}
+use Rattle.diag_run.specs.Faults.{fault_at}
 use Rattle.diag_run.specs.Capture.{IsCutShort, StopsAt, StopsIn, StopsOn, capture_text}
 use Rattle.diag_run.specs.Wanted.{EndsWith, Wanted}
 use Rattle.diag_desk.specs.declared.entry.Entry.{Entry}
@@ -89,6 +93,28 @@ StopsAfter want setup Read seen wrote = (first_fault setup (ended_lines seen) �
     × (wrote ≡ want.written setup (ended_lines seen))
 StopsAfter want setup fault seen wrote =
     (rest : List ℕ) → StopsIn want setup (fault_of fault) (seen ++ rest) wrote
+
+-- A line that is seen to be at fault isn't taken, and that is told, whatever memory there is: one that came as one piece,
+-- or is longer than a line may be.
+abbrev pub SeesFault : {S : Type 0} → {g : Ghosts S} → (S → RawSetup → List (List ℕ) → List Entry → Type 0)
+    → Capture S g → List ℕ → (BusFault → Type 0) → Type 0
+SeesFault took capture bytes Told = (lines : List (List ℕ)) → TookLines took capture.bus lines
+    → (capture.kept.items ≡ [] → IfSome (line_fault capture.bus.setup lines bytes) Told)
+    × (4096 < length capture.kept.items + length bytes → Told (bus.Line BadLine))
+
+-- the fault of the line of this number is answered, unless the writing before it failed
+abbrev pub IsTold : {X : Type 0} → ℕ → Result X CaptureFault → BusFault → Type 0
+IsTold number result fault = (result ≡ Err (fault_at number fault)) ⊎ (result ≡ Err Write)
+
+-- The fault of a writing comes where a write or a flush failed, and only there; and a failed read isn't told, for nothing is read.
+abbrev pub IsWritings : {W X : Type 0} → (W → Type 0) → (W → Type 0) → W → W → Result X CaptureFault → Type 0
+IsWritings failed sound old new result = (result ≡ Err Write → failed new)
+    × (result ≢ Err Write → sound old → sound new)
+    × (result ≢ Err Read)
+
+-- so many bytes may have more lines than are counted
+abbrev pub most_counted : ℕ
+most_counted = 2 ^ 64 - 65538
 
 -- the fault came when these bytes more had been read, and these more written
 abbrev pub StopsWithin : {S : Type 0} → {g : Ghosts S} → (S → RawSetup → List (List ℕ) → List Entry → Type 0) → (S → Wanted)

@@ -1,5 +1,5 @@
 -- What a run writes for its config and its files, or the fault that it answers.
-use Rattle.std.specs.Prelude.{◌≡◌, ◌≢◌, ◌≤◌, ◌<◌, ◌⊎◌, ℕ, Bool, if◌then◌else◌, List, [], ◌∷◌, length, map, Option, Some, Result, Ok, Err, IsOk, IsOkAnd, IfSome}
+use Rattle.std.specs.Prelude.{◌≡◌, ◌≢◌, ◌≤◌, ◌<◌, ◌⊎◌, ℕ, Bool, if◌then◌else◌, List, [], ◌∷◌, length, map, Option, Some, Result, Ok, Err, IsOk, IsOkAnd, IfSome, IsSome, true}
 use Rattle.std.specs.Global.{Vec}
 use Rattle.std.specs.Io.KnownBytes.{Appends, IsAtEnd, Keeps}
 use Rattle.std.specs.List.{concat}
@@ -20,7 +20,7 @@ use Rattle.diag_world.specs.Headline.{IsPlay}
 use Rattle.diag_world.specs.Weaving.{steps_of, turns, weave}
 use Rattle.diag_config.specs.Key.{◌>>=◌}
 use Rattle.diag_text.specs.Bytes.{AppendsFront, ReadWhole}
-use Rattle.diag_text.specs.Faults.{fault_text, status}
+use Rattle.diag_text.specs.Faults.{fault_text, is_fixed, line_bytes, status}
 use Rattle.diag_text.specs.Taking.{LinesTaken}
 use Rattle.diag_run.specs.Files.{Refusal, Fails, AreKnown, ConfigEnds, FilesEnd, FilesRead, ReadEach, SaysSetup, config_of, counted, files_from, or_bad_log}
 use Rattle.diag_workers.specs.Play.{logs_of}
@@ -144,7 +144,14 @@ GivesWoven only_journal timing setup said (Ok text) =
 GivesWoven only_journal timing setup said (Err JournalFull) = IsOk said
 GivesWoven only_journal timing setup said (Err fault) = Fails fault said
 
--- the bytes are the text of these entries, which are legal for the setup
+-- the bytes are the text of these entries, which are legal for the setup: the replay goes through
+pub record IsReplayable (setup : RawSetup) (bytes : List ℕ) : Type 0 where
+  pub entries : List Entry
+  pub journal : IsJournal entries
+  pub read : IsTextOf bytes entries
+  pub run : IsLegalFor setup entries
+
+-- and this is what is told of it
 pub record IsReplayedText (setup : RawSetup) (bytes : List ℕ) (text : List ℕ) : Type 0 where
   pub entries : List Entry
   pub journal : IsJournal entries
@@ -156,7 +163,7 @@ abbrev pub GivesReplayed : RawSetup → List ℕ → Result (List ℕ) RunFault 
 GivesReplayed setup bytes (Ok text) = IsReplayedText setup bytes text
 GivesReplayed setup bytes (Err (JournalLine n)) = FaultAt bytes n
 GivesReplayed setup bytes (Err (Differs n)) = TextDiffers setup bytes n
-GivesReplayed setup bytes (Err Memory) = Unit {0}
+GivesReplayed setup bytes (Err Memory) = IsReplayable setup bytes
 GivesReplayed setup bytes (Err fault) = ⊥
 
 -- the one text was taken up to these bytes of a line that no line feed ended
@@ -272,11 +279,14 @@ abbrev pub DoneOf : (ℕ → Type 0) → Outcome → Type 0
 DoneOf P (outcome.Done status) = P status
 DoneOf P (outcome.Fault told number) = Unit {0}
 
--- it ended by this fault: the line, unless there was no memory for it, and the status are the fault's
+-- it ended by this fault: the line, unless there was no memory for it, which a fixed one doesn't take, and the status are
+-- the fault's
 abbrev pub Tells : RunFault → Outcome → Type 0
 Tells fault (outcome.Done number) = ⊥
 Tells fault (outcome.Fault told number) =
-    IfSome told (λ line. line.items ≡ fault_text fault) × (number ≡ status fault)
+    IfSome told (λ line. line_bytes line ≡ fault_text fault)
+    × (is_fixed fault ≡ true → IsSome told)
+    × (number ≡ status fault)
 
 -- where it ended by a fault, it was one of which P holds
 abbrev pub TellsOf : (RunFault → Type 0) → Outcome → Type 0

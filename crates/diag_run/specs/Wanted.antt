@@ -1,6 +1,6 @@
 -- What is wanted of a capture: what is written while it goes by, and how it ends: what its end adds and with which status, or what
 -- is told in place of that.
-use Rattle.std.specs.Prelude.{◌≡◌, ◌≢◌, ◌⊎◌, ℕ, List, [], ◌++◌, Result, Ok, Err}
+use Rattle.std.specs.Prelude.{◌≡◌, ◌≢◌, ◌⊎◌, ℕ, List, [], ◌++◌, Result, Ok, Err, IfSome, IsOk}
 use Rattle.diag_setup.specs.declared.raw.RawSetup.{RawSetup}
 use Rattle.diag_ecu.specs.State.{State}
 use Rattle.diag_desk.specs.declared.entry.Entry.{Entry}
@@ -55,13 +55,19 @@ abbrev pub EndsAs : {S : Type 0} → (S → RawSetup → List (List ℕ) → Lis
 EndsAs took ends sink setup ecu result = (lines : List (List ℕ)) → took sink setup lines [] → ecu ≡ ecu_after setup lines
     → ends sink setup lines ≡ result
 
--- memory was refused, or this is told in place of what the end adds
-abbrev pub IsEndFault : (Result End (List ℕ) → Type 0) → CaptureFault → Type 0
-IsEndFault Ends fault.Memory = Unit {0}
-IsEndFault Ends (fault.Otherwise told) = Ends (Err told.items)
-IsEndFault Ends (fault.Line n f) = ⊥
-IsEndFault Ends fault.Read = ⊥
-IsEndFault Ends fault.Write = ⊥
+-- where they do, it ends well with them
+abbrev pub EndsWell : {S : Type 0} → (S → RawSetup → List (List ℕ) → List Entry → Type 0)
+    → (S → RawSetup → List (List ℕ) → Result End (List ℕ)) → S → RawSetup → State → Type 0
+EndsWell took ends sink setup ecu = (lines : List (List ℕ)) → took sink setup lines [] → ecu ≡ ecu_after setup lines
+    → IsOk (ends sink setup lines)
+
+-- memory was refused for what a capture adds that ends well; or this is told in place of that, where there was memory for it
+abbrev pub IsEndFault : (Result End (List ℕ) → Type 0) → Type 0 → CaptureFault → Type 0
+IsEndFault Ends Well fault.Memory = Well
+IsEndFault Ends Well (fault.Otherwise told) = (line : List ℕ) × IfSome told (λ t. t.items ≡ line) × Ends (Err line)
+IsEndFault Ends Well (fault.Line n f) = ⊥
+IsEndFault Ends Well fault.Read = ⊥
+IsEndFault Ends Well fault.Write = ⊥
 
 -- ---- a verdict
 

@@ -13,7 +13,7 @@ use crate::files::{LOG_LIMIT, read_each};
 use crate::logs::{LogLines, finish_logs, read_logs};
 use crate::serial::serial_text;
 use diag_can::Timing;
-use diag_desk::{TextFault, TextReplay};
+use diag_desk::TextReplay;
 use diag_setup::Setup;
 use diag_text::{
     LineTaker, RunFault, TakeLines, counted_text, journal_part, one_part, play_parts_beside,
@@ -203,7 +203,6 @@ fn told_replay(
             let text = counted_text(alloc, setup, replayed.entries, &replayed.ecu)?;
             Ok(one_part(alloc, text)?)
         }
-        Err(TextFault::Line(n)) => Err(RunFault::JournalLine(n)),
-        Err(TextFault::Differs(n)) => Err(RunFault::Differs(n)),
+        Err(fault) => Err(RunFault::from(fault)),
     }
 }

@@ -1,11 +1,11 @@
 //! A run of a whole bus's recording: the config and the capture in, what is due out, as it falls due.
 
-ghost use Rattle.std.specs.Prelude.{◌≡◌, ◌+◌, ◌<◌, ◌≤◌, ◌^◌, [], length, take, IfOk, IfErr, OnOk};
+ghost use Rattle.std.specs.Prelude.{◌≡◌, ◌≢◌, ◌⊎◌, ◌+◌, ◌<◌, ◌≤◌, ◌^◌, [], length, take, Err, IfOk, IfErr, OnErr, OnOk};
 ghost use Rattle.std.specs.Io.KnownBytes.{Consumes, IsAtEnd, Keeps};
 ghost use Rattle.diag_bus.specs.Bus.{TookLines};
 ghost use Rattle.diag_text.specs.Bytes.{Sends, Takes};
 ghost use Rattle.diag_run.specs.Capture.{Followed, Stops};
-ghost use Rattle.diag_run.specs.Capturing.{GoesOn, StopsWithin, fault_of, FollowedFrom, StopsFrom};
+ghost use Rattle.diag_run.specs.Capturing.{GoesOn, IsWritings, StopsWithin, fault_of, most_counted, FollowedFrom, StopsFrom};
 ghost use Rattle.diag_run.specs.Run.{DoneOf, TellsOf};
 ghost use Rattle.diag_run.specs.Wanted.{wanted};
 
@@ -14,7 +14,7 @@ use crate::ending::Ending;
 use crate::file_run::Outcome;
 use crate::files::read_config;
 use diag_bus::Bus;
-use diag_text::RunFault;
+use diag_text::{RunFault, Source, Target};
 use std::alloc::Global;
 use std::io::{Read, Write};
 
@@ -32,8 +32,9 @@ const LINES_BEFORE_A_READ: u64 = u64::MAX - 65_537;
 /// The first fault in this order: the config, the capture in the order of its bytes, and last, where a verdict is wanted,
 /// that the unit answered otherwise. After a fault of the config nothing was written, nor before the `Otherwise` of a verdict.
 /// Before a fault of a line, and after a read that failed, what the lines before write was written; after `Memory` and `Write`
-/// a front of it. `Read(0)` is the config, `Read(1)` the capture.
-pub fn run_bus<S: Ending, R: Read, W: Write>(
+/// a front of it. `Read(0)` is the config, `Read(1)` the capture: each only where a read of it failed, or behind so many
+/// bytes of a capture that the lines of more can't be counted. `Write` only where a write or a flush failed.
+pub fn run_bus<S: Ending, R: Source, W: Target>(
     alloc: Global,
     sink: S,
     config: &mut R,
@@ -45,6 +46,13 @@ pub fn run_bus<S: Ending, R: Read, W: Write>(
         (W.contents out.old) (W.contents out.new)) }
     ensures fault { IfErr result (Stops R.remaining (wanted S.written S.ends S.aim sink) config.old config.new
         capture.old capture.new (W.contents out.old) (W.contents out.new)) }
+    ensures config { result ≡ Err (RunFault.Read 0) → R.failed config.new }
+    ensures read { result ≡ Err (RunFault.Read 1) → R.failed capture.new
+        ⊎ Takes (R.remaining capture.old) (R.remaining capture.new) (λ bytes. most_counted < length bytes) }
+    ensures sound { result ≢ Err (RunFault.Read 1) → R.sound capture.old → R.sound capture.new }
+    ensures write { result ≡ Err RunFault.Write → W.failed out.new }
+    ensures unfailed { result ≢ Err RunFault.Write → W.sound out.old → W.sound out.new }
+    ensures flushed { IfOk result (λ _. W.flushed out.new) }
 {
     let setup = read_config(alloc, config)?;
     let bus = Bus::new(alloc, setup, sink)?;
@@ -68,7 +76,11 @@ pub fn run_fault(fault: CaptureFault) -> RunFault
 }
 
 /// Runs a capture from its first read to its end, and answers the status of the run.
-fn run_capture<S: Ending, R: Read, W: Write>(
+///
+/// # Errors
+/// As those of `run_bus` behind the config. `Read` only where a read failed, or behind so many lines that those of a next
+/// piece can't be counted; and `Write` only where the writing failed.
+fn run_capture<S: Ending, R: Source, W: Target>(
     alloc: Global,
     bus: Bus<S>,
     capture: &mut R,
@@ -81,6 +93,12 @@ fn run_capture<S: Ending, R: Read, W: Write>(
     ensures fault { IfErr result (StopsFrom (wanted S.written S.ends S.aim bus.sink) bus.setup
         (R.remaining capture.old) (R.remaining capture.new)
         (W.contents out.old) (W.contents out.new)) }
+    ensures read { result ≡ Err CaptureFault.Read → R.failed capture.new
+        ⊎ Takes (R.remaining capture.old) (R.remaining capture.new) (λ bytes. most_counted < length bytes) }
+    ensures sound { result ≢ Err CaptureFault.Read → R.sound capture.old → R.sound capture.new }
+    ensures write { result ≡ Err CaptureFault.Write → W.failed out.new }
+    ensures unfailed { result ≢ Err CaptureFault.Write → W.sound out.old → W.sound out.new }
+    ensures flushed { IfOk result (λ _. W.flushed out.new) }
 {
     let mut buffer = [0u8; PIECE];
     let count = read_piece(capture, &mut buffer)?;
@@ -93,13 +111,17 @@ fn run_capture<S: Ending, R: Read, W: Write>(
     taking.finish(alloc, out)
 }
 
-/// Reads a capture further, to its end.
-fn follow<S: Ending, R: Read, W: Write>(
+/// Reads a capture further, to its end. Before each read what the whole lines so far write was written and flushed.
+///
+/// # Errors
+/// Those of `take_piece`, and `Read` where a read failed, or where the lines of a next piece can't be counted.
+fn follow<S: Ending, R: Source, W: Target>(
     taking: &mut Capture<S>,
     capture: &mut R,
     out: &mut W,
 ) -> Result<(), CaptureFault>
-    requires { taking.old.text.items ≡ [] }
+    requires written { taking.old.text.items ≡ [] }
+    requires flushed { W.flushed out.old }
     ensures ok { OnOk result (Takes (R.remaining capture.old) (R.remaining capture.new) (λ bytes.
         Sends (W.contents out.old) (W.contents out.new) (GoesOn S.took (wanted S.written S.ends S.aim) taking.old taking.new bytes))) }
     ensures end { OnOk result (IsAtEnd (R.remaining capture.new)) }
@@ -107,13 +129,19 @@ fn follow<S: Ending, R: Read, W: Write>(
     ensures err { IfErr result (λ fault.
         Takes (R.remaining capture.old) (R.remaining capture.new) (λ bytes.
         Sends (W.contents out.old) (W.contents out.new) (StopsWithin S.took (wanted S.written S.ends S.aim) taking.old fault bytes))) }
+    ensures read { result ≡ Err CaptureFault.Read → R.failed capture.new
+        ⊎ Takes (R.remaining capture.old) (R.remaining capture.new) (λ bytes. most_counted < taking.old.lines + length bytes) }
+    ensures sound { result ≢ Err CaptureFault.Read → R.sound capture.old → R.sound capture.new }
+    ensures write { result ≡ Err CaptureFault.Write → W.failed out.new }
+    ensures unfailed { result ≢ Err CaptureFault.Write → W.sound out.old → W.sound out.new }
+    ensures flushed { OnOk result (W.flushed out.new) }
 {
     let mut buffer = [0u8; PIECE];
-    for _ in 0..u64::MAX {
+    for turn in 0..u64::MAX {
         if taking.lines() > LINES_BEFORE_A_READ {
-            break;
+            return Err(CaptureFault::Read);
         }
-        let count = read_piece(capture, &mut buffer)?;
+        let count = read_next(capture, &mut buffer, out)?;
         if count == 0 {
             return Ok(());
         }
@@ -122,8 +150,33 @@ fn follow<S: Ending, R: Read, W: Write>(
     Err(CaptureFault::Read)
 }
 
+/// Reads a next piece of the capture: no byte at its end. All that was written was flushed.
+fn read_next<R: Source, W: Target>(
+    capture: &mut R,
+    buffer: &mut [u8],
+    out: &W,
+) -> Result<usize, CaptureFault>
+    requires room { 0 < length buffer.old }
+    requires flushed { W.flushed out.now }
+    ensures read { IfOk result (λ count.
+        Consumes (R.remaining capture.old) (R.remaining capture.new) (take count buffer.new)) }
+    ensures within { IfOk result (λ count. count ≤ length buffer.new) }
+    ensures end { IfOk result (λ count. count ≡ 0 → IsAtEnd (R.remaining capture.new)) }
+    ensures err { IfErr result (λ fault. (fault ≡ CaptureFault.Read)
+        × Keeps (R.remaining capture.old) (R.remaining capture.new)) }
+    ensures failed { OnErr result (R.failed capture.new) }
+    ensures sound { IfOk result (λ _. R.sound capture.old → R.sound capture.new) }
+{
+    // (for its contract: what was written was flushed)
+    let _ = out;
+    read_piece(capture, buffer)
+}
+
 /// Reads a piece of the capture: no byte at its end.
-fn read_piece<R: Read>(capture: &mut R, buffer: &mut [u8]) -> Result<usize, CaptureFault>
+///
+/// # Errors
+/// `Read` where the read failed.
+fn read_piece<R: Source>(capture: &mut R, buffer: &mut [u8]) -> Result<usize, CaptureFault>
     requires { 0 < length buffer.old }
     ensures read { IfOk result (λ count.
         Consumes (R.remaining capture.old) (R.remaining capture.new) (take count buffer.new)) }
@@ -131,8 +184,10 @@ fn read_piece<R: Read>(capture: &mut R, buffer: &mut [u8]) -> Result<usize, Capt
     ensures end { IfOk result (λ count. count ≡ 0 → IsAtEnd (R.remaining capture.new)) }
     ensures err { IfErr result (λ fault. (fault ≡ CaptureFault.Read)
         × Keeps (R.remaining capture.old) (R.remaining capture.new)) }
+    ensures failed { OnErr result (R.failed capture.new) }
+    ensures sound { IfOk result (λ _. R.sound capture.old → R.sound capture.new) }
 {
-    match capture.read(buffer) {
+    match capture.read_some(buffer) {
         Ok(count) => Ok(count),
         Err(_) => Err(CaptureFault::Read),
     }

@@ -1,6 +1,6 @@
 //! A capture that comes piece by piece: its lines go to the bus, and what they write goes out.
 
-ghost use Rattle.std.specs.Prelude.{◌≡◌, ◌⊎◌, ◌+◌, ◌<◌, ◌≤◌, ◌^◌, ◌∷◌, [], ◌++◌, ℕ, List, length, vec_len, Ok, Err, IfOk, IfSome, IfErr, OnErr, OnOk};
+ghost use Rattle.std.specs.Prelude.{◌≡◌, ◌≢◌, ◌⊎◌, ◌+◌, ◌<◌, ◌≤◌, ◌^◌, ◌∷◌, [], ◌++◌, ℕ, List, length, vec_len, Ok, Err, IsOk, IfOk, IfSome, IfErr, OnErr, OnOk};
 ghost use Rattle.std.specs.Io.KnownBytes.{Appends};
 ghost use Rattle.diag_can.specs.BusLine.{HasNoFeed, bus_line, ended_lines};
 ghost use Rattle.diag_bus.specs.Bus.{AnswersLine, TookLines};
@@ -15,9 +15,8 @@ ghost use Rattle.diag_port.specs.Port.{Grew};
 use crate::ending::Ending;
 use diag_bus::{Bus, BusFault, Sink};
 use diag_can::{BusLine, LONGEST_LINE, LineFault, first_line};
-use diag_text::write_text;
+use diag_text::{Target, write_text};
 use std::alloc::{AllocError, Global};
-use std::io::Write;
 
 /// The most bytes of text that wait for the end of a piece.
 const TEXT_LIMIT: usize = 65_536;
@@ -33,8 +32,9 @@ pub enum CaptureFault {
     Read,
     /// The text could not be written.
     Write,
-    /// The unit in the recording answered otherwise than the server: what is told of the first difference.
-    Otherwise(Vec<u8>),
+    /// The unit in the recording answered otherwise than the server: what is told of the first difference, where there
+    /// was memory for it.
+    Otherwise(Option<Vec<u8>>),
 }
 
 impl From<AllocError> for CaptureFault {
@@ -61,7 +61,7 @@ pub struct Capture<S: Sink> {
 }
 
 impl<S: Ending> Capture<S> {
-    ghost use Rattle.diag_run.specs.Capturing.{Closes, ClosesEnded, GoesOn, HaltsAtEnd, HaltsEnded, HaltsIn, Stands};
+    ghost use Rattle.diag_run.specs.Capturing.{Closes, ClosesEnded, GoesOn, HaltsAtEnd, HaltsEnded, HaltsIn, IsTold, IsWritings, SeesFault, Stands};
 
     /// A capture of which nothing was read. What stands before its first line is still to be written.
     ///
@@ -110,7 +110,7 @@ impl<S: Ending> Capture<S> {
     /// # Errors
     /// `Line` with the first line at fault, behind what the lines before it write; `Memory`, and `Write`, behind a front
     /// of what the lines so far write. Whatever follows the piece, that is the fault. Nothing is told of the capture then.
-    pub fn take_piece<W: Write>(&mut self, piece: &[u8], out: &mut W) -> Result<(), CaptureFault>
+    pub fn take_piece<W: Target>(&mut self, piece: &[u8], out: &mut W) -> Result<(), CaptureFault>
         requires { self.old.lines + length piece.now + 1 < 2 ^ 64 }
         ensures ok { OnOk result (Sends (W.contents out.old) (W.contents out.new)
             (GoesOn S.took (wanted S.written S.ends S.aim) self.old self.new piece.now)) }
@@ -118,6 +118,8 @@ impl<S: Ending> Capture<S> {
         ensures lines { OnOk result (self.new.lines ≤ self.old.lines + length piece.now) }
         ensures err { IfErr result (λ fault. Sends (W.contents out.old) (W.contents out.new)
             (HaltsIn S.took (wanted S.written S.ends S.aim) self.old fault piece.now)) }
+        ensures device { IsWritings W.failed W.sound out.old out.new result }
+        ensures flushed { OnOk result (W.flushed out.new) }
     {
         let mut rest = piece;
         while let Some(first) = first_line(rest) {
@@ -132,7 +134,7 @@ impl<S: Ending> Capture<S> {
     /// Takes the line that these bytes and an LF end, which say this alone, where that is known. What is to be written is
     /// written where it is much.
     #[inline(always)]
-    fn take_line<W: Write>(
+    fn take_line<W: Target>(
         &mut self,
         bytes: &[u8],
         said: Option<BusLine>,
@@ -147,6 +149,8 @@ impl<S: Ending> Capture<S> {
         ensures kept { OnOk result (self.new.kept.items ≡ []) }
         ensures err { IfErr result (λ fault. Sends (W.contents out.old) (W.contents out.new)
             (HaltsIn S.took (wanted S.written S.ends S.aim) self.old fault (bytes.now ++ 10 ∷ []))) }
+        ensures seen { SeesFault S.took self.old bytes.now (IsTold (self.old.lines + 1) result) }
+        ensures device { IsWritings W.failed W.sound out.old out.new result }
     {
         let number = self.lines + 1;
         if let Err(fault) = self.end_line(bytes, said) {
@@ -159,7 +163,7 @@ impl<S: Ending> Capture<S> {
     }
 
     /// Keeps the bytes behind the last LF of a piece, and writes what is to be written.
-    fn take_begun<W: Write>(&mut self, bytes: &[u8], out: &mut W) -> Result<(), CaptureFault>
+    fn take_begun<W: Target>(&mut self, bytes: &[u8], out: &mut W) -> Result<(), CaptureFault>
         requires room { self.old.lines + 1 < 2 ^ 64 }
         requires line { HasNoFeed bytes.now }
         ensures ok { OnOk result (Sends (W.contents out.old) (W.contents out.new)
@@ -168,6 +172,10 @@ impl<S: Ending> Capture<S> {
         ensures lines { OnOk result (self.new.lines ≡ self.old.lines) }
         ensures err { IfErr result (λ fault. Sends (W.contents out.old) (W.contents out.new)
             (HaltsIn S.took (wanted S.written S.ends S.aim) self.old fault bytes.now)) }
+        ensures long { 4096 < length self.old.kept.items + length bytes.now
+            → IsTold (self.old.lines + 1) result (BusFault.Line LineFault.BadLine) }
+        ensures device { IsWritings W.failed W.sound out.old out.new result }
+        ensures flushed { OnOk result (W.flushed out.new) }
     {
         let number = self.lines + 1;
         if let Err(fault) = keep(&mut self.kept, bytes) {
@@ -188,6 +196,7 @@ impl<S: Ending> Capture<S> {
         ensures kept { OnOk result (self.new.kept.items ≡ []) }
         ensures err { IfErr result (λ fault.
             HaltsIn S.took (wanted S.written S.ends S.aim) self.old (fault_at (self.old.lines + 1) fault) (bytes.now ++ 10 ∷ []) self.new.text.items) }
+        ensures seen { SeesFault S.took self.old bytes.now (λ fault. result ≡ Err fault) }
     {
         match said {
             Some(said) if self.kept.is_empty() => self.take_told(bytes, said),
@@ -207,6 +216,7 @@ impl<S: Ending> Capture<S> {
         ensures kept { OnOk result (self.new.kept.items ≡ []) }
         ensures err { IfErr result (λ fault.
             HaltsIn S.took (wanted S.written S.ends S.aim) self.old (fault_at (self.old.lines + 1) fault) (line.now ++ 10 ∷ []) self.new.text.items) }
+        ensures seen { SeesFault S.took self.old line.now (λ fault. result ≡ Err fault) }
     {
         if let Err(fault) = give(&mut self.bus, line, said, &mut self.text) {
             return Err(fault);
@@ -225,6 +235,7 @@ impl<S: Ending> Capture<S> {
         ensures kept { OnOk result (self.new.kept.items ≡ []) }
         ensures err { IfErr result (λ fault.
             HaltsIn S.took (wanted S.written S.ends S.aim) self.old (fault_at (self.old.lines + 1) fault) (bytes.now ++ 10 ∷ []) self.new.text.items) }
+        ensures seen { SeesFault S.took self.old bytes.now (λ fault. result ≡ Err fault) }
     {
         if self.kept.is_empty() {
             self.take_untold(bytes)
@@ -243,6 +254,7 @@ impl<S: Ending> Capture<S> {
         ensures kept { OnOk result (self.new.kept.items ≡ []) }
         ensures err { IfErr result (λ fault.
             HaltsIn S.took (wanted S.written S.ends S.aim) self.old (fault_at (self.old.lines + 1) fault) (bytes.now ++ 10 ∷ []) self.new.text.items) }
+        ensures seen { SeesFault S.took self.old bytes.now (λ fault. result ≡ Err fault) }
     {
         self.bus.take_line(bytes, &mut self.text)?;
         self.lines += 1;
@@ -251,6 +263,7 @@ impl<S: Ending> Capture<S> {
 
     /// Gives the bus the line that is kept and that these bytes end.
     fn take_kept(&mut self, bytes: &[u8]) -> Result<(), BusFault>
+        requires begun { 0 < length self.old.kept.items }
         requires room { self.old.lines + 1 < 2 ^ 64 }
         requires line { HasNoFeed bytes.now }
         ensures ok { OnOk result (GoesOn S.took (wanted S.written S.ends S.aim) self.old self.new (bytes.now ++ 10 ∷ []) []) }
@@ -258,6 +271,7 @@ impl<S: Ending> Capture<S> {
         ensures kept { OnOk result (self.new.kept.items ≡ []) }
         ensures err { IfErr result (λ fault.
             HaltsIn S.took (wanted S.written S.ends S.aim) self.old (fault_at (self.old.lines + 1) fault) (bytes.now ++ 10 ∷ []) self.new.text.items) }
+        ensures seen { SeesFault S.took self.old bytes.now (λ fault. result ≡ Err fault) }
     {
         keep(&mut self.kept, bytes)?;
         self.bus.take_line(self.kept.as_slice(), &mut self.text)?;
@@ -272,12 +286,14 @@ impl<S: Ending> Capture<S> {
     /// # Errors
     /// Those of `take_piece`, `Line` with the line that is begun; and `Otherwise` with what is told in place of what the end adds,
     /// behind what the lines write.
-    pub fn finish<W: Write>(&mut self, alloc: Global, out: &mut W) -> Result<u8, CaptureFault>
+    pub fn finish<W: Target>(&mut self, alloc: Global, out: &mut W) -> Result<u8, CaptureFault>
         requires { self.old.lines + 1 < 2 ^ 64 }
         ensures ok { IfOk result (λ status. Sends (W.contents out.old) (W.contents out.new)
             (Closes S.took (wanted S.written S.ends S.aim) self.old self.new status)) }
         ensures err { IfErr result (λ fault. Sends (W.contents out.old) (W.contents out.new)
             (HaltsAtEnd S.took (wanted S.written S.ends S.aim) self.old fault)) }
+        ensures device { IsWritings W.failed W.sound out.old out.new result }
+        ensures flushed { IfOk result (λ _. W.flushed out.new) }
     {
         if self.kept.is_empty() {
             return self.close(alloc, out);
@@ -287,11 +303,13 @@ impl<S: Ending> Capture<S> {
     }
 
     /// Writes what is to be written and what the capture's end adds; answers the status of the run.
-    fn close<W: Write>(&mut self, alloc: Global, out: &mut W) -> Result<u8, CaptureFault>
+    fn close<W: Target>(&mut self, alloc: Global, out: &mut W) -> Result<u8, CaptureFault>
         ensures ok { IfOk result (λ status. Sends (W.contents out.old) (W.contents out.new)
             (ClosesEnded S.took (wanted S.written S.ends S.aim) self.old self.new status)) }
         ensures err { IfErr result (λ fault. Sends (W.contents out.old) (W.contents out.new)
             (HaltsEnded S.took (wanted S.written S.ends S.aim) self.old fault)) }
+        ensures device { IsWritings W.failed W.sound out.old out.new result }
+        ensures flushed { IfOk result (λ _. W.flushed out.new) }
     {
         match add_end(alloc, &self.bus, &mut self.text) {
             Ok(status) => {
@@ -315,8 +333,10 @@ fn add_end<S: Ending>(alloc: Global, bus: &Bus<S>, text: &mut Vec<u8>) -> Result
     ensures ok { IfOk result (λ status. Grew text.old.items text.new.items (λ more.
         (lines : List (List ℕ)) → TookLines S.took bus.now lines
         → S.ends bus.now.sink bus.now.setup lines ≡ Ok (end_with more status))) }
-    ensures err { IfErr result (IsEndFault (λ result. (lines : List (List ℕ)) → TookLines S.took bus.now lines
-        → S.ends bus.now.sink bus.now.setup lines ≡ result)) }
+    ensures err { IfErr result (IsEndFault
+        (λ result. (lines : List (List ℕ)) → TookLines S.took bus.now lines
+        → S.ends bus.now.sink bus.now.setup lines ≡ result)
+        ((lines : List (List ℕ)) → TookLines S.took bus.now lines → IsOk (S.ends bus.now.sink bus.now.setup lines))) }
     ensures kept { OnErr result (text.new.items ≡ text.old.items) }
 {
     bus.sink().add_end(alloc, bus.setup(), bus.ecu(), text)
@@ -373,11 +393,14 @@ fn fault_at(number: u64, fault: BusFault) -> CaptureFault
 }
 
 /// Writes what is to be written, and flushes.
-fn write_out<W: Write>(text: &mut Vec<u8>, out: &mut W) -> Result<(), CaptureFault>
+fn write_out<W: Target>(text: &mut Vec<u8>, out: &mut W) -> Result<(), CaptureFault>
     ensures ok { OnOk result (Appends (W.contents out.old) (W.contents out.new) text.old.items) }
     ensures none { OnOk result (text.new.items ≡ []) }
     ensures err { IfErr result (λ fault. (fault ≡ CaptureFault.Write)
         × AppendsFront (W.contents out.old) (W.contents out.new) text.old.items) }
+    ensures flushed { OnOk result (W.flushed out.new) }
+    ensures failed { OnErr result (W.failed out.new) }
+    ensures sound { OnOk result (W.sound out.old → W.sound out.new) }
 {
     if write_text(out, text.as_slice()).is_err() {
         return Err(CaptureFault::Write);
@@ -387,10 +410,12 @@ fn write_out<W: Write>(text: &mut Vec<u8>, out: &mut W) -> Result<(), CaptureFau
 }
 
 /// Writes what is to be written before a fault is answered; the fault of the writing goes before it.
-fn stop<W: Write>(fault: CaptureFault, text: &mut Vec<u8>, out: &mut W) -> CaptureFault
-    ensures { Sends (W.contents out.old) (W.contents out.new) (λ sent.
+fn stop<W: Target>(fault: CaptureFault, text: &mut Vec<u8>, out: &mut W) -> CaptureFault
+    ensures sent { Sends (W.contents out.old) (W.contents out.new) (λ sent.
         ((result ≡ fault) × (sent ≡ text.old.items))
         ⊎ ((result ≡ CaptureFault.Write) × IsFrontOf sent text.old.items)) }
+    ensures failed { result ≡ CaptureFault.Write → fault ≢ CaptureFault.Write → W.failed out.new }
+    ensures sound { result ≢ CaptureFault.Write → W.sound out.old → W.sound out.new }
 {
     match write_out(text, out) {
         Ok(()) => fault,

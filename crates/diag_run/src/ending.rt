@@ -2,7 +2,7 @@
 
 ghost use Rattle.std.specs.Prelude.{◌≡◌, Ok, IfErr, IfOk, OnErr};
 ghost use Rattle.diag_port.specs.Port.{Grew};
-ghost use Rattle.diag_run.specs.Wanted.{EndsAs, IsEndFault, end_with};
+ghost use Rattle.diag_run.specs.Wanted.{EndsAs, EndsWell, IsEndFault, end_with};
 
 use crate::capture::CaptureFault;
 use diag_bus::{Comparisons, Journal, NoText, Replies, Sink, Verdict};
@@ -23,7 +23,8 @@ pub trait Ending: Sink {
     /// Adds what the capture's end adds, where the ECU is this, and answers the status of the run.
     ///
     /// # Errors
-    /// `Memory`; and `Otherwise` with what is told in place of that. The text is as it was.
+    /// `Memory`, and only where the run ends well; and `Otherwise` exactly where something is told in place of that, with
+    /// what is told, where there is memory for it. The text is as it was.
     fn add_end(
         &self,
         alloc: Global,
@@ -34,7 +35,8 @@ pub trait Ending: Sink {
         requires begun { Self.is_for self.now setup.now }
         ensures ok { IfOk result (λ status. Grew text.old.items text.new.items (λ more.
             EndsAs Self.took ends self.now setup.now ecu.now (Ok (end_with more status)))) }
-        ensures err { IfErr result (IsEndFault (EndsAs Self.took ends self.now setup.now ecu.now)) }
+        ensures err { IfErr result (IsEndFault (EndsAs Self.took ends self.now setup.now ecu.now)
+            (EndsWell Self.took ends self.now setup.now ecu.now)) }
         ensures kept { OnErr result (text.new.items ≡ text.old.items) };
 
     /// It is that of what the sink is asked for.
@@ -112,7 +114,7 @@ impl Ending for Comparisons {
                 Ok(agreement_status(setup, self))
             }
             verdict => {
-                let told = verdict_text(alloc, setup, &verdict)?;
+                let told = verdict_text(alloc, setup, &verdict).ok();
                 Err(CaptureFault::Otherwise(told))
             }
         }

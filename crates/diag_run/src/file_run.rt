@@ -9,7 +9,7 @@ use crate::answer::{played_text, read_texts, replayed_text, woven_text};
 use crate::files::read_config;
 use diag_can::Timing;
 use diag_setup::Setup;
-use diag_text::{RunFault, fault_text, status, write_whole};
+use diag_text::{FaultLine, RunFault, fault_text, status, write_whole};
 use std::alloc::Global;
 use std::io::{Read, Write};
 use std::sync::Wait;
@@ -283,8 +283,8 @@ pub fn run<T: Threads + Wait + Sync, R: Read + Drop, W: Write>(
 pub enum Outcome {
     /// The whole text was written, and the status is this.
     Done { status: u8 },
-    /// The fault's line, unless there was no memory for it, and its status.
-    Fault { told: Option<Vec<u8>>, status: u8 },
+    /// The fault's line, unless there was no memory for it, which a fixed one doesn't take, and its status.
+    Fault { told: Option<FaultLine>, status: u8 },
 }
 
 impl Outcome {

@@ -1,15 +1,14 @@
 //! Reading the files of a run, in order.
 
-ghost use Rattle.std.specs.Prelude.{◌≡◌, ℕ, ◌<◌, ◌^◌, [], map, length, IfOk, IfErr, IfSome, OnOk};
+ghost use Rattle.std.specs.Prelude.{◌≡◌, ◌≢◌, ℕ, ◌<◌, ◌^◌, [], map, length, IfOk, IfErr, IfSome, OnOk};
 ghost use Rattle.std.specs.Io.KnownBytes.{IsAtEnd};
 ghost use Rattle.std.specs.List.{All};
 ghost use Rattle.diag_run.specs.Files.{AreTaken, ConfigEnds, FilesEnd, FilesRead, Gives, SaysSetup, config_of};
 
 use diag_config::{ConfigFault, read_setup};
 use diag_setup::Setup;
-use diag_text::{ReadFault, RunFault, TakePieces, read_into, read_whole};
+use diag_text::{ReadFault, RunFault, Source, TakePieces, read_into, read_whole};
 use std::alloc::Global;
-use std::io::Read;
 
 /// The most bytes of a config.
 const CONFIG_LIMIT: usize = 1_048_576;
@@ -19,14 +18,19 @@ pub(crate) const LOG_LIMIT: usize = 67_108_864;
 
 /// The setup that the config says, or why there is none: a config that can't be read, which is file 0, one that is too
 /// long, the first fault of its text, or want of memory.
+///
+/// # Errors
+/// `Read(0)` exactly where a read failed; `ConfigLong` exactly where more than the limit was read; `Config`; `Memory`.
 #[tactic(auto, unfolding(crate::specs::Files::config_of))]
-pub fn read_config<R: Read>(alloc: Global, config: &mut R) -> Result<Setup, RunFault>
+pub fn read_config<R: Source>(alloc: Global, config: &mut R) -> Result<Setup, RunFault>
     ensures read { IfSome (R.remaining config.old) (λ bytes.
         Gives (λ setup. setup) result (config_of bytes)) }
     ensures device { (n : ℕ) → result ≡ Err (RunFault.Read n) → n ≡ 0 }
     ensures end { IfOk result (λ _. IsAtEnd (R.remaining config.new)) }
     ensures says { IfOk result (SaysSetup (R.remaining config.old) (R.remaining config.new)) }
     ensures ends { IfErr result (ConfigEnds (R.remaining config.old) (R.remaining config.new)) }
+    ensures failed { (n : ℕ) → result ≡ Err (RunFault.Read n) → R.failed config.new }
+    ensures sound { ((n : ℕ) → result ≢ Err (RunFault.Read n)) → R.sound config.old → R.sound config.new }
 {
     let text = match read_whole(alloc, config, CONFIG_LIMIT) {
         Ok(text) => text,
@@ -42,7 +46,11 @@ pub fn read_config<R: Read>(alloc: Global, config: &mut R) -> Result<Setup, RunF
 }
 
 /// Reads each file, in order: its taker takes all that it has.
-pub(crate) fn read_each<R: Read, P: TakePieces>(
+///
+/// # Errors
+/// `FileLong` where more than the limit was read of a file, `Read` where a read of one failed, and `Memory` where a taker
+/// was refused memory.
+pub(crate) fn read_each<R: Source, P: TakePieces>(
     files: &mut [R],
     takers: &mut [P],
     limit: usize,
@@ -55,6 +63,8 @@ pub(crate) fn read_each<R: Read, P: TakePieces>(
     ensures aims { OnOk result (map P.aim takers.new ≡ map P.aim takers.old) }
     ensures as_many { length takers.new ≡ length takers.old }
     ensures ends { IfErr result (FilesEnd R.remaining limit files.old files.new) }
+    ensures failed { (n : ℕ) → result ≡ Err (RunFault.Read n) → (file : R) × R.failed file }
+    ensures memory { result ≡ Err RunFault.Memory → (taker : P) × P.refused taker }
 {
     for (index, file) in files.iter_mut().enumerate() {
         match read_into(file, &mut takers[index], limit) {

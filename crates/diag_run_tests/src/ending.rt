@@ -1,6 +1,7 @@
 //! How a run ended, and why a test did not come to its end.
 
 use diag_run::Outcome;
+use diag_text::FaultLine;
 use std::alloc::{AllocError, AllocFailed};
 
 /// How a run ends: the line that it tells of a fault, and its status.
@@ -28,7 +29,7 @@ pub fn is_end(outcome: &Outcome, end: End<'_>) -> Result<bool, AllocError> {
 
 /// Whether a fault of this line and this status ends it. A line that had no memory, or told want of memory, is an
 /// error.
-fn is_fault(told: &Option<Vec<u8>>, status: u8, end: End<'_>) -> Result<bool, AllocError> {
+fn is_fault(told: &Option<FaultLine>, status: u8, end: End<'_>) -> Result<bool, AllocError> {
     match told {
         Some(line) if status != 4 => Ok(status == end.status && line.as_slice() == end.line),
         _ => Err(AllocError),

@@ -1,5 +1,5 @@
 -- What is printed for a fault, and the status that the program ends with.
-use Rattle.std.specs.Prelude.{ℕ, codes, List, ◌++◌}
+use Rattle.std.specs.Prelude.{ℕ, codes, Bool, true, false, List, ◌++◌, Some}
 use Rattle.std.specs.Fmt.{decimal}
 use Rattle.diag_bus.specs.declared.fault.BusFault.{BusFault}
 use Rattle.diag_bus.specs.declared.fault.BusFault.TheVariants as bus
@@ -11,8 +11,14 @@ use Rattle.diag_config.specs.declared.fault.ConfigFault.{ConfigFault}
 use Rattle.diag_config.specs.declared.fault.ConfigFault.TheVariants as config
 use Rattle.diag_desk.specs.declared.desk.StepFault.{StepFault}
 use Rattle.diag_desk.specs.declared.desk.StepFault.TheVariants as step
+use Rattle.diag_desk.specs.declared.following.TextFault.{TextFault}
+use Rattle.diag_desk.specs.declared.following.TextFault.TheVariants as text
 use Rattle.diag_workers.specs.declared.playing.PlayFault.{PlayFault}
 use Rattle.diag_workers.specs.declared.playing.PlayFault.TheVariants as play
+use Rattle.diag_text.specs.declared.fault.FaultLine.{FaultLine}
+use Rattle.diag_text.specs.declared.fault.FaultLine.TheVariants as line
+use Rattle.diag_text.specs.declared.fault.FixedLine.{FixedLine}
+use Rattle.diag_text.specs.declared.fault.FixedLine.TheVariants as fixed
 use Rattle.diag_text.specs.declared.fault.RunFault.{RunFault}
 use Rattle.diag_text.specs.declared.fault.RunFault.TheVariants.{Files, Config, ConfigLong, Log, JournalLine, FileLong, Memory, JournalFull, RecordsDisagree, Read, Write, Differs, Capture, Otherwise}
 
@@ -27,6 +33,15 @@ run_fault (play.RecordsDisagree who) = RecordsDisagree who
 abbrev pub step_fault : StepFault → RunFault
 step_fault step.Memory = Memory
 step_fault step.JournalFull = JournalFull
+
+abbrev pub config_fault : ConfigFault → RunFault
+config_fault config.Memory = Memory
+config_fault fault = Config fault
+
+-- a journal's text
+abbrev pub text_fault : TextFault → RunFault
+text_fault (text.Line n) = JournalLine n
+text_fault (text.Differs n) = Differs n
 
 abbrev pub config_text : ConfigFault → List ℕ
 config_text config.Memory = codes "memory"
@@ -66,7 +81,7 @@ run_fault_text (Otherwise told) = codes "the unit answered otherwise"
 
 -- what is told of a fault: of a unit that answered otherwise, its first difference
 abbrev pub told_text : RunFault → List ℕ
-told_text (Otherwise told) = told.items
+told_text (Otherwise (Some told)) = told.items
 told_text fault = run_fault_text fault
 
 -- the whole line on standard error
@@ -100,3 +115,25 @@ status Write = 7
 status (Differs n) = 8
 status (Capture n fault) = bus_status fault
 status (Otherwise told) = 8
+
+-- ---- what is told without memory
+
+-- the text has no number and no key in it, and memory is not asked for it
+abbrev pub is_fixed : RunFault → Bool
+is_fixed ConfigLong = true
+is_fixed Memory = true
+is_fixed JournalFull = true
+is_fixed Write = true
+is_fixed fault = false
+
+-- the bytes of such a line
+abbrev pub fixed_bytes : FixedLine → List ℕ
+fixed_bytes fixed.ConfigLong = fault_text ConfigLong
+fixed_bytes fixed.Memory = fault_text Memory
+fixed_bytes fixed.JournalFull = fault_text JournalFull
+fixed_bytes fixed.Write = fault_text Write
+
+-- the bytes of a line
+abbrev pub line_bytes : FaultLine → List ℕ
+line_bytes (line.Fixed l) = fixed_bytes l
+line_bytes (line.Made bytes) = bytes.items

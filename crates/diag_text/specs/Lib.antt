@@ -1,5 +1,6 @@
 pub mod Agreed
 pub mod Bytes
+pub mod Devices
 pub mod Faults
 pub mod Taking
 pub mod Text

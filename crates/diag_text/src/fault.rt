@@ -1,13 +1,14 @@
 //! Why a run could not be done, how it is told, and the status that the program ends with.
 
-ghost use Rattle.std.specs.Prelude.{◌≡◌, ◌++◌, codes, IfOk, Some};
-ghost use Rattle.diag_text.specs.Faults.{run_fault, step_fault, run_fault_text, fault_text, status};
-ghost use Rattle.diag_text.specs.declared.fault.RunFault.TheVariants.{Memory};
+ghost use Rattle.std.specs.Prelude.{◌≡◌, ◌++◌, codes, true, IfOk, IsOk, Some};
+ghost use Rattle.diag_text.specs.Faults.{config_fault, fixed_bytes, is_fixed, line_bytes, run_fault, step_fault, text_fault, run_fault_text, fault_text, status};
+ghost use Rattle.diag_text.specs.declared.fault.RunFault.TheVariants.{Memory, Write};
 
+use crate::io::WriteFault;
 use diag_bus::BusFault;
 use diag_can::LogFault;
 use diag_config::ConfigFault;
-use diag_desk::StepFault;
+use diag_desk::{StepFault, TextFault};
 use diag_setup::TesterId;
 use diag_workers::PlayFault;
 use std::alloc::{AllocError, AllocFailed, Global};
@@ -44,8 +45,9 @@ pub enum RunFault {
     Differs(usize),
     /// The capture's line of that number, from 1, is the first at fault.
     Capture(u64, BusFault),
-    /// The unit in the recording answered otherwise than the server: what is told of the first difference.
-    Otherwise(Vec<u8>),
+    /// The unit in the recording answered otherwise than the server: what is told of the first difference, where there
+    /// was memory for it.
+    Otherwise(Option<Vec<u8>>),
 }
 
 impl From<AllocError> for RunFault {
@@ -85,6 +87,36 @@ impl From<StepFault> for RunFault {
             StepFault::Memory => RunFault::Memory,
             StepFault::JournalFull => RunFault::JournalFull,
         }
+    }
+}
+
+impl From<ConfigFault> for RunFault {
+    ghost from_gives = { λ fault e. e ≡ config_fault fault };
+
+    fn from(fault: ConfigFault) -> RunFault {
+        match fault {
+            ConfigFault::Memory => RunFault::Memory,
+            fault => RunFault::Config(fault),
+        }
+    }
+}
+
+impl From<TextFault> for RunFault {
+    ghost from_gives = { λ fault e. e ≡ text_fault fault };
+
+    fn from(fault: TextFault) -> RunFault {
+        match fault {
+            TextFault::Line(n) => RunFault::JournalLine(n),
+            TextFault::Differs(n) => RunFault::Differs(n),
+        }
+    }
+}
+
+impl From<WriteFault> for RunFault {
+    ghost from_gives = { λ _ e. e ≡ Write };
+
+    fn from(_failed: WriteFault) -> RunFault {
+        RunFault::Write
     }
 }
 
@@ -133,18 +165,75 @@ impl fmt::Display for RunFault {
 
 impl Error for RunFault {}
 
+/// A fault's line with no number, no key and no frame in it.
+#[derive(Clone, Copy, Debug, PartialEq, Eq)]
+pub enum FixedLine {
+    /// The config is too long.
+    ConfigLong,
+    /// Memory was refused.
+    Memory,
+    /// The journal is full.
+    JournalFull,
+    /// The text could not be written.
+    Write,
+}
+
+impl FixedLine {
+    /// Its bytes.
+    fn bytes(&self) -> &[u8]
+        ensures { result.now ≡ fixed_bytes self.now }
+    {
+        match self {
+            FixedLine::ConfigLong => b"uds_play: config: too long\n",
+            FixedLine::Memory => b"uds_play: memory\n",
+            FixedLine::JournalFull => b"uds_play: journal full\n",
+            FixedLine::Write => b"uds_play: cannot write\n",
+        }
+    }
+}
+
+/// The line of a fault.
+#[derive(Debug, PartialEq, Eq, Drop)]
+pub enum FaultLine {
+    /// One that is the same each time, and takes no memory.
+    Fixed(FixedLine),
+    /// One with a number, a key or a frame in it.
+    Made(Vec<u8>),
+}
+
+impl FaultLine {
+    /// Its bytes.
+    pub fn as_slice(&self) -> &[u8]
+        ensures { result.now ≡ line_bytes self.now }
+    {
+        match self {
+            FaultLine::Fixed(line) => line.bytes(),
+            FaultLine::Made(bytes) => bytes.as_slice(),
+        }
+    }
+}
+
 /// The whole line that is printed for a fault.
 ///
 /// # Errors
-/// `AllocError` where memory is refused.
-pub fn fault_text(alloc: Global, fault: &RunFault) -> Result<Vec<u8>, AllocError>
-    ensures { IfOk result (λ t. t.items ≡ fault_text fault.now) }
+/// `AllocError` where memory is refused, which a fixed text never asks for, or was refused for what is told of a difference.
+pub fn fault_text(alloc: Global, fault: &RunFault) -> Result<FaultLine, AllocError>
+    ensures text { IfOk result (λ line. line_bytes line ≡ fault_text fault.now) }
+    ensures fixed { is_fixed fault.now ≡ true → IsOk result }
 {
     match fault {
-        RunFault::Otherwise(told) => otherwise_text(alloc, told.as_slice()),
+        RunFault::ConfigLong => Ok(FaultLine::Fixed(FixedLine::ConfigLong)),
+        RunFault::Memory => Ok(FaultLine::Fixed(FixedLine::Memory)),
+        RunFault::JournalFull => Ok(FaultLine::Fixed(FixedLine::JournalFull)),
+        RunFault::Write => Ok(FaultLine::Fixed(FixedLine::Write)),
+        RunFault::Otherwise(Some(told)) => {
+            let text = otherwise_text(alloc, told.as_slice())?;
+            Ok(FaultLine::Made(text))
+        }
+        RunFault::Otherwise(None) => Err(AllocError),
         fault => {
             let text = format!(in alloc; "uds_play: {fault}\n")?;
-            Ok(text.into_bytes())
+            Ok(FaultLine::Made(text.into_bytes()))
         }
     }
 }

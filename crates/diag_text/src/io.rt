@@ -1,40 +1,63 @@
 //! Reading a whole file and writing a whole text, by loops of their own.
 
-ghost use Rattle.std.specs.Prelude.{◌≡◌, ◌+◌, ◌++◌, ◌<◌, ◌^◌, ◌≤◌, ℕ, List, length, map, IfOk, IfSome, OnOk, OnErr, IsOk, IsErr, Err};
+ghost use Rattle.std.specs.Prelude.{◌≡◌, ◌≢◌, ◌+◌, ◌++◌, ◌<◌, ◌^◌, ◌≤◌, ℕ, List, length, map, IfOk, IfSome, OnOk, OnErr, IsOk, IsErr, Err, Some};
 ghost use Rattle.std.specs.Io.KnownBytes.{Appends, Consumes, IsAtEnd};
 ghost use Rattle.std.specs.List.{concat};
 ghost use Rattle.diag_text.specs.Bytes.{AppendsFront, Takes};
+ghost use Rattle.diag_text.specs.Devices.{read_fault_text, write_fault_text};
 
+use crate::source::Source;
 use crate::taking::TakePieces;
+use crate::target::Target;
 use std::alloc::Global;
-use std::io;
-use std::io::{Read, Write};
-use thiserror::Error;
+use std::error::Error;
+use std::{fmt, io};
 
 /// Why a file was not read whole.
-#[derive(Clone, Copy, Debug, PartialEq, Eq, Error)]
+#[derive(Clone, Copy, Debug, PartialEq, Eq)]
 pub enum ReadFault {
     /// A read failed.
-    #[error("cannot read")]
     Device,
     /// The file is longer than its limit.
-    #[error("too long")]
     Long,
     /// There was no memory.
-    #[error("memory")]
     Memory,
 }
 
+impl fmt::Display for ReadFault {
+    ghost output = { λ fault. Some (read_fault_text fault) };
+
+    fn fmt<W: fmt::Write>(&self, f: &mut fmt::Formatter<W>) -> fmt::Result {
+        match self {
+            ReadFault::Device => write!(f, "cannot read"),
+            ReadFault::Long => write!(f, "too long"),
+            ReadFault::Memory => write!(f, "memory"),
+        }
+    }
+}
+
+impl Error for ReadFault {}
+
 /// A write or a flush failed, or a write took no byte.
-#[derive(Clone, Copy, Debug, PartialEq, Eq, Error)]
-#[error("cannot write")]
+#[derive(Clone, Copy, Debug, PartialEq, Eq)]
 pub struct WriteFault;
+
+impl fmt::Display for WriteFault {
+    ghost output = { λ _. Some write_fault_text };
+
+    fn fmt<W: fmt::Write>(&self, f: &mut fmt::Formatter<W>) -> fmt::Result {
+        write!(f, "cannot write")
+    }
+}
+
+impl Error for WriteFault {}
 
 /// Has a taker take all that a reader has left, in at most limit + 1 reads.
 ///
 /// # Errors
-/// `Long` where more than the limit was read, and only then; `Device` where a read failed before; `Memory`.
-pub fn read_into<R: Read, P: TakePieces>(
+/// `Long` where more than the limit was read, and only then; `Device` where a read failed before, and only then;
+/// `Memory` where the taker was refused memory.
+pub fn read_into<R: Source, P: TakePieces>(
     reader: &mut R,
     taker: &mut P,
     limit: usize,
@@ -52,11 +75,14 @@ pub fn read_into<R: Read, P: TakePieces>(
         → Takes (R.remaining reader.old) (R.remaining reader.new) (λ bytes. length bytes ≤ limit) }
     ensures refused { result ≡ Err ReadFault.Memory
         → Takes (R.remaining reader.old) (R.remaining reader.new) (λ bytes. length bytes ≤ limit) }
+    ensures failed { result ≡ Err ReadFault.Device → R.failed reader.new }
+    ensures sound { result ≢ Err ReadFault.Device → R.sound reader.old → R.sound reader.new }
+    ensures memory { result ≡ Err ReadFault.Memory → P.refused taker.new }
 {
     let mut buffer = [0u8; 65_536];
     let mut taken = 0;
     for turn in 0..limit + 1 {
-        let Ok(count) = reader.read(&mut buffer) else {
+        let Ok(count) = reader.read_some(&mut buffer) else {
             return Err(ReadFault::Device);
         };
         if count == 0 {
@@ -76,8 +102,9 @@ pub fn read_into<R: Read, P: TakePieces>(
 /// All that a reader has left, in at most limit + 1 reads.
 ///
 /// # Errors
-/// `Long` where more than the limit was read, and only then; `Device` where a read failed before; `Memory`.
-pub fn read_whole<R: Read>(
+/// `Long` where more than the limit was read, and only then; `Device` where a read failed before, and only then;
+/// `Memory`.
+pub fn read_whole<R: Source>(
     alloc: Global,
     reader: &mut R,
     limit: usize,
@@ -96,6 +123,8 @@ pub fn read_whole<R: Read>(
         → Takes (R.remaining reader.old) (R.remaining reader.new) (λ bytes. length bytes ≤ limit) }
     ensures refused { result ≡ Err ReadFault.Memory
         → Takes (R.remaining reader.old) (R.remaining reader.new) (λ bytes. length bytes ≤ limit) }
+    ensures failed { result ≡ Err ReadFault.Device → R.failed reader.new }
+    ensures sound { result ≢ Err ReadFault.Device → R.sound reader.old → R.sound reader.new }
 {
     let mut bytes = Vec::new(alloc);
     read_into(reader, &mut bytes, limit)?;
@@ -103,25 +132,37 @@ pub fn read_whole<R: Read>(
 }
 
 /// Writes the parts of a text, one behind the other, and flushes. After a fault a front of the text went out.
-pub fn write_whole<W: Write>(out: &mut W, parts: &[Vec<u8>]) -> Result<(), WriteFault>
+///
+/// # Errors
+/// A write or the flush failed, or a write took no byte.
+pub fn write_whole<W: Target>(out: &mut W, parts: &[Vec<u8>]) -> Result<(), WriteFault>
     ensures whole { OnOk result (Appends (W.contents out.old) (W.contents out.new)
         (concat (map (λ part. part.items) parts.now))) }
     ensures front { OnErr result (AppendsFront (W.contents out.old) (W.contents out.new)
         (concat (map (λ part. part.items) parts.now))) }
+    ensures flushed { OnOk result (W.flushed out.new) }
+    ensures failed { OnErr result (W.failed out.new) }
+    ensures sound { OnOk result (W.sound out.old → W.sound out.new) }
 {
     for part in parts {
         write_part(out, part.as_slice())?;
     }
-    flushed(out.flush())
+    flushed(out.flush_all())
 }
 
 /// Writes a text and flushes. After a fault a front of the text went out.
-pub fn write_text<W: Write>(out: &mut W, text: &[u8]) -> Result<(), WriteFault>
+///
+/// # Errors
+/// A write or the flush failed, or a write took no byte.
+pub fn write_text<W: Target>(out: &mut W, text: &[u8]) -> Result<(), WriteFault>
     ensures whole { OnOk result (Appends (W.contents out.old) (W.contents out.new) text.now) }
     ensures front { OnErr result (AppendsFront (W.contents out.old) (W.contents out.new) text.now) }
+    ensures flushed { OnOk result (W.flushed out.new) }
+    ensures failed { OnErr result (W.failed out.new) }
+    ensures sound { OnOk result (W.sound out.old → W.sound out.new) }
 {
     write_part(out, text)?;
-    flushed(out.flush())
+    flushed(out.flush_all())
 }
 
 /// What a flush said: well only where it was.
@@ -136,13 +177,15 @@ fn flushed(said: io::Result<()>) -> Result<(), WriteFault>
 }
 
 /// Writes all of a part. After a fault a front of it went out.
-fn write_part<W: Write>(out: &mut W, text: &[u8]) -> Result<(), WriteFault>
+fn write_part<W: Target>(out: &mut W, text: &[u8]) -> Result<(), WriteFault>
     ensures whole { OnOk result (Appends (W.contents out.old) (W.contents out.new) text.now) }
     ensures front { OnErr result (AppendsFront (W.contents out.old) (W.contents out.new) text.now) }
+    ensures failed { OnErr result (W.failed out.new) }
+    ensures sound { OnOk result (W.sound out.old → W.sound out.new) }
 {
     let mut written = 0;
     while written < text.len() {
-        let count = match out.write(&text[written..]) {
+        let count = match out.write_some(&text[written..]) {
             Ok(count) => count,
             Err(_) => return Err(WriteFault),
         };

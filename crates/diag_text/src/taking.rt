@@ -9,7 +9,7 @@ use std::alloc::AllocError;
 
 /// What takes the bytes of a file as they come.
 pub trait TakePieces {
-    ghost use Rattle.std.specs.Prelude.{ℕ, List};
+    ghost use Rattle.std.specs.Prelude.{ℕ, List, OnErr};
 
     /// What it takes the bytes for, which stays as it is.
     ghost Aim: { Type 0 };
@@ -18,6 +18,9 @@ pub trait TakePieces {
 
     /// It has taken these bytes, in however many pieces.
     ghost took: { Self → List ℕ → Type 0 };
+
+    /// It was refused memory.
+    ghost refused: { Self → Type 0 } = { λ _. Unit {0} };
 
     /// Takes the bytes that follow.
     ///
@@ -28,6 +31,7 @@ pub trait TakePieces {
         ensures took { OnOk result ((seen : List ℕ)
             → took self.old seen
             → took self.new (seen ++ piece.now)) }
+        ensures refused { OnErr result (refused self.new) }
         ensures aim { OnOk result (aim self.new ≡ aim self.old) };
 }
 

@@ -1,10 +1,11 @@
 -- The logs of all testers, as they are read: in order, and the first that is at fault decides.
-use Rattle.std.specs.Prelude.{◌≡◌, ◌≤◌, ℕ, ◌+◌, List, [], ◌∷◌, length, map, Result, Ok, Err, vec_len}
+use Rattle.std.specs.Prelude.{◌≡◌, ◌≤◌, ◌⊎◌, ℕ, ◌+◌, IsOk, List, [], ◌∷◌, length, map, Result, Ok, Err, vec_len}
 use Rattle.std.specs.Global.{Vec}
 use Rattle.std.specs.List.{AllByRecursion}
 use Rattle.diag_can.specs.declared.frame.Event.{Event}
 use Rattle.diag_can.specs.declared.log.Timing.{Timing}
 use Rattle.diag_can.specs.declared.fault.LogFault.{LogFault}
+use Rattle.diag_can.specs.Growing.{HasEvent}
 use Rattle.diag_can.specs.Log.{events, most_events}
 use Rattle.diag_setup.specs.declared.raw.RawSetup.{RawSetup}
 use Rattle.diag_setup.specs.Setup.{ids_of}
@@ -28,6 +29,17 @@ logs_from n setup timing (text ∷ texts) =
 -- the events of each tester's log, or the first tester whose log is at fault, and its fault
 abbrev pub logs_of : RawSetup → Timing → List (List ℕ) → Result (List (List Event)) (ℕ × LogFault)
 logs_of setup timing texts = logs_from 1 setup timing texts
+
+-- reading the logs of tester n and those after it asks for memory: one of them gives an event, before which no line is at
+-- fault, in it or in a log before it; or all are well
+abbrev pub AsksFrom : ℕ → RawSetup → Timing → List (List ℕ) → Type 0
+AsksFrom n setup timing [] = Unit {0}
+AsksFrom n setup timing (text ∷ texts) = HasEvent timing (ids_of setup n) text
+    ⊎ (IsOk (events text (ids_of setup n) timing) × AsksFrom (n + 1) setup timing texts)
+
+-- the same of all testers' logs
+abbrev pub LogsAsk : RawSetup → Timing → List (List ℕ) → Type 0
+LogsAsk setup timing texts = AsksFrom 1 setup timing texts
 
 -- what reading a tester's log answers, where this is what it says
 abbrev pub ReadsOne : ℕ → Result (List Event) LogFault → Result (Vec Event) PlayFault → Type 0

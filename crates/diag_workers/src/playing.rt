@@ -1,5 +1,5 @@
 //! All testers' logs at the same time, over one gate.
-ghost use Rattle.std.specs.Prelude.{◌≡◌, ◌≢◌, ◌≤◌, ℕ, List, length, map, IfOk, vec_len, Ok, Err};
+ghost use Rattle.std.specs.Prelude.{◌≡◌, ◌≢◌, ◌≤◌, ℕ, List, length, map, IfOk, vec_len, Ok, Err, Some};
 ghost use Rattle.std.specs.List.{AllByRecursion};
 ghost use Rattle.diag_can.specs.Log.{most_events};
 ghost use Rattle.diag_can.specs.declared.frame.Event.{Event as AnEvent};
@@ -7,7 +7,8 @@ ghost use Rattle.diag_can.specs.declared.fault.LogFault.{LogFault as ALogFault};
 ghost use Rattle.diag_setup.specs.Setup.{link_of};
 ghost use Rattle.diag_world.specs.Headline.{IsPlay};
 ghost use Rattle.diag_world.specs.Weaving.{weave};
-ghost use Rattle.diag_workers.specs.Play.{logs_of};
+ghost use Rattle.diag_workers.specs.Fault.{play_fault, play_fault_text};
+ghost use Rattle.diag_workers.specs.Play.{LogsAsk, logs_of};
 
 use crate::crewing::crew_keeping;
 use crate::keeping::Unkept;
@@ -20,25 +21,48 @@ use diag_gate::Gate;
 use diag_setup::{Setup, TesterId};
 use diag_world::{Played, weaving_law};
 use std::alloc::Global;
+use std::error::Error;
+use std::fmt;
 use std::sync::Wait;
 use std::thread::Threads;
-use thiserror::Error;
 
 /// Why a play was not made.
-#[derive(Clone, Copy, Debug, PartialEq, Eq, Error)]
+#[derive(Clone, Copy, Debug, PartialEq, Eq)]
 pub enum PlayFault {
     /// Memory was refused.
-    #[error("memory")]
     Memory,
     /// The log of this tester is at fault, and all logs before it are well.
-    #[error("a log is at fault")]
     Log(TesterId, LogFault),
     /// The journal has 1,000,000 entries.
-    #[error("the journal is full")]
     JournalFull,
     /// Never answered: that the workers' records are the journal's entries is proved.
-    #[error("the records disagree")]
     RecordsDisagree(TesterId),
+}
+
+impl fmt::Display for PlayFault {
+    ghost output = { λ x. Some (play_fault_text x) };
+
+    fn fmt<W: fmt::Write>(&self, f: &mut fmt::Formatter<W>) -> fmt::Result {
+        match self {
+            PlayFault::Memory => write!(f, "memory"),
+            PlayFault::Log(..) => write!(f, "a log is at fault"),
+            PlayFault::JournalFull => write!(f, "the journal is full"),
+            PlayFault::RecordsDisagree(_) => write!(f, "the records disagree"),
+        }
+    }
+}
+
+impl Error for PlayFault {}
+
+impl From<StepFault> for PlayFault {
+    ghost from_gives = { λ fault e. e ≡ play_fault fault };
+
+    fn from(fault: StepFault) -> PlayFault {
+        match fault {
+            StepFault::Memory => PlayFault::Memory,
+            StepFault::JournalFull => PlayFault::JournalFull,
+        }
+    }
 }
 
 /// Plays all logs at the same time, over one desk behind a gate: the last on the calling thread, each other in a thread
@@ -51,7 +75,8 @@ pub enum PlayFault {
 ///
 /// # Errors
 /// `Log` for the first log that is at fault, in order; `JournalFull` at the step that the journal has no room for;
-/// `Memory` where memory is refused.
+/// `Memory` where memory is refused: reading asks for it at an event, before which no line is at fault, in its log or in one
+/// before it.
 pub fn play<W: Watch + Sync, R: Threads + Wait + Sync>(
     rt: &R,
     alloc: Global,
@@ -71,15 +96,13 @@ pub fn play<W: Watch + Sync, R: Threads + Wait + Sync>(
     ensures full { result ≡ Err PlayFault.JournalFull
         → (logs : List (List AnEvent))
         × (logs_of setup.now timing (map (λ text. text.items) texts.now) ≡ Ok logs) }
+    ensures memory { result ≡ Err PlayFault.Memory
+        → LogsAsk setup.now timing (map (λ text. text.items) texts.now) }
     ensures agree { (who : ℕ) → result ≢ Err (PlayFault.RecordsDisagree who) }
 {
     let _at_most_8 = setup.testers();
     let logs = read_beside(rt, alloc, setup, 1, texts, timing)?;
-    match play_logs(rt, alloc, setup, logs.as_slice(), watch) {
-        Ok(played) => Ok(played),
-        Err(StepFault::Memory) => Err(PlayFault::Memory),
-        Err(StepFault::JournalFull) => Err(PlayFault::JournalFull),
-    }
+    Ok(play_logs(rt, alloc, setup, logs.as_slice(), watch)?)
 }
 
 /// Lets a crew play the logs, each tester through a seat of its own, and takes all seats back.

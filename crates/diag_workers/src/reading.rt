@@ -1,9 +1,10 @@
 //! All testers' logs, read at the same time.
-ghost use Rattle.std.specs.Prelude.{◌≡◌, ◌+◌, ◌≤◌, length, map, IfOk, IfErr, ◌∷◌};
+ghost use Rattle.std.specs.Prelude.{◌≡◌, ◌+◌, ◌≤◌, length, map, Err, IfOk, IfErr, ◌∷◌};
 ghost use Rattle.std.specs.Thread.{IsSync};
+ghost use Rattle.diag_can.specs.Growing.{HasEvent};
 ghost use Rattle.diag_can.specs.Log.{events};
 ghost use Rattle.diag_setup.specs.Setup.{ids_of};
-ghost use Rattle.diag_workers.specs.Play.{Reads, ReadsOne, logs_from};
+ghost use Rattle.diag_workers.specs.Play.{AsksFrom, Reads, ReadsOne, logs_from};
 
 use crate::playing::PlayFault;
 use diag_can::{Event, LogFault, Timing, read_log};
@@ -15,7 +16,8 @@ use std::thread::{Threads, join};
 /// other in a thread of its own, or on the calling thread where none can be started.
 ///
 /// # Errors
-/// `Log` for a log that is at fault, `Memory` where memory is refused: the first that refuses, in order, decides.
+/// `Log` for a log that is at fault, `Memory` where memory is refused, which is asked for an event, and once all are well:
+/// the first that refuses, in order, decides.
 pub(crate) fn read_beside<R: Threads + Sync>(
     rt: &R,
     alloc: Global,
@@ -26,8 +28,10 @@ pub(crate) fn read_beside<R: Threads + Sync>(
 ) -> Result<Vec<Vec<Event>>, PlayFault>
     requires place { (1 ≤ place) × (place + length texts.now ≤ 9) }
     requires in_setup { place + length texts.now ≤ length setup.now.testers + 1 }
-    ensures { Reads (logs_from place setup.now timing (map (λ text. text.items) texts.now))
+    ensures reads { Reads (logs_from place setup.now timing (map (λ text. text.items) texts.now))
         (length texts.now) result }
+    ensures memory { result ≡ Err PlayFault.Memory
+        → AsksFrom place setup.now timing (map (λ text. text.items) texts.now) }
 {
     let Some((text, rest)) = texts.split_first() else {
         return Ok(Vec::new(alloc));
@@ -41,7 +45,9 @@ pub(crate) fn read_beside<R: Threads + Sync>(
         move || -> Result<Vec<Event>, PlayFault>
             requires { (1 ≤ place) × (place ≤ 8) × (place ≤ length setup.now.testers) }
             ensures { ReadsOne place
-                (events text.entry.now.items (ids_of setup.entry.now place) timing) result }
+                (events text.entry.now.items (ids_of setup.entry.now place) timing) result
+                × (result ≡ Err PlayFault.Memory
+                → HasEvent timing (ids_of setup.entry.now place) text.entry.now.items) }
         { read_one(alloc, setup, place, text.as_slice(), timing) },
         move || -> Result<Vec<Vec<Event>>, PlayFault>
             requires { IsSync R.row
@@ -49,7 +55,9 @@ pub(crate) fn read_beside<R: Threads + Sync>(
                 × (place + 1 + length rest.now ≤ 9)
                 × (place + 1 + length rest.now ≤ length setup.now.testers + 1) }
             ensures { Reads (logs_from (place + 1) setup.entry.now timing
-                (map (λ text. text.items) rest.entry.now)) (length rest.entry.now) result }
+                (map (λ text. text.items) rest.entry.now)) (length rest.entry.now) result
+                × (result ≡ Err PlayFault.Memory
+                → AsksFrom (place + 1) setup.entry.now timing (map (λ text. text.items) rest.entry.now)) }
         { read_beside(rt, alloc, setup, place + 1, rest, timing) },
     );
     in_front(one?, others?)
@@ -76,7 +84,9 @@ fn read_one(
 ) -> Result<Vec<Event>, PlayFault>
     requires place { (1 ≤ place) × (place ≤ 8) }
     requires in_setup { place ≤ length setup.now.testers }
-    ensures { ReadsOne place (events text.now (ids_of setup.now place) timing) result }
+    ensures reads { ReadsOne place (events text.now (ids_of setup.now place) timing) result }
+    ensures memory { result ≡ Err PlayFault.Memory
+        → HasEvent timing (ids_of setup.now place) text.now }
 {
     let Some(who) = TesterId::new(place) else {
         unreachable!()

@@ -24,7 +24,7 @@ loop-index-preserved g c =
       takers = length-set _ index _ ∙ so_far.takers;
       rest = drop-set-lt (index + 1) c.loop-index.files index _ (omega arith) ∙ drop_more_same _ _ index so_far.rest;
       texts = so_far.texts ++ read.0 ∷ [];
-      each = one_read_more g.R.Read.remaining c.args.files.now c.loop-index.files index _ _ _ so_far.same so_far.rest _ (omega (arith, so_far.same))
+      each = one_read_more g.R.Source.remaining c.args.files.now c.loop-index.files index _ _ _ so_far.same so_far.rest _ (omega (arith, so_far.same))
           so_far.each (read.1, c.in-Ok.ensures.end);
       within = All-push (λ text. length text ≤ c.args.limit) _ read.0 so_far.within read.2.0;
       taken = one_taken_more g.P.TakePieces.took c.loop-index.takers index _ so_far.texts read.0 lt so_far.taken
@@ -48,20 +48,26 @@ returns-clause-read g c =
 
 pub returns-in-Err-Long-clause-ends : goal.returns-in-Err-Long-clause-ends
 returns-in-Err-Long-clause-ends g c =
-    ends_at g.R.Read.remaining c.args.limit c.args.files.now c.loop-index.files c.loop-index.index _ _ c.loop-index.invariant.same
+    ends_at g.R.Source.remaining c.args.limit c.args.files.now c.loop-index.files c.loop-index.index _ _ c.loop-index.invariant.same
     c.loop-index.invariant.rest _ (omega (arith, c.loop-index.invariant.same)) c.loop-index.invariant.each c.loop-index.invariant.within _
     (c.in-Err-Long.ensures.seen (search rules))
 
 pub returns-in-Err-Device-clause-ends : goal.returns-in-Err-Device-clause-ends
 returns-in-Err-Device-clause-ends g c =
-    ends_at g.R.Read.remaining c.args.limit c.args.files.now c.loop-index.files c.loop-index.index _ _ c.loop-index.invariant.same
+    ends_at g.R.Source.remaining c.args.limit c.args.files.now c.loop-index.files c.loop-index.index _ _ c.loop-index.invariant.same
     c.loop-index.invariant.rest _ (omega (arith, c.loop-index.invariant.same)) c.loop-index.invariant.each c.loop-index.invariant.within _
     (c.in-Err-Device.ensures.unread (search rules))
 
 pub returns-in-Err-Memory-clause-ends : goal.returns-in-Err-Memory-clause-ends
 returns-in-Err-Memory-clause-ends g c = (
   c.loop-index.index + 1,
-  ends_at g.R.Read.remaining c.args.limit c.args.files.now c.loop-index.files c.loop-index.index _ _ c.loop-index.invariant.same
+  ends_at g.R.Source.remaining c.args.limit c.args.files.now c.loop-index.files c.loop-index.index _ _ c.loop-index.invariant.same
       c.loop-index.invariant.rest _ (omega (arith, c.loop-index.invariant.same)) c.loop-index.invariant.each c.loop-index.invariant.within _
       (c.in-Err-Memory.ensures.refused (search rules)),
 )
+
+pub returns-in-Err-Device-clause-failed : goal.returns-in-Err-Device-clause-failed
+returns-in-Err-Device-clause-failed g c = λ n is. (c.read_into.new.reader, c.in-Err-Device.ensures.failed (search rules))
+
+pub returns-in-Err-Memory-clause-memory : goal.returns-in-Err-Memory-clause-memory
+returns-in-Err-Memory-clause-memory g c = λ is. (c.read_into.new.taker, c.in-Err-Memory.ensures.memory (search rules))

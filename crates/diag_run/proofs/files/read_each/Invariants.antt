@@ -10,7 +10,7 @@ invariant-loop-index g l = record {
   takers : length l.takers ≡ length l.initial.files;
   rest : drop l.index l.files ≡ drop l.index l.initial.files;
   texts : List (List ℕ);
-  each : ReadEach g.R.Read.remaining (take l.index l.initial.files) (take l.index l.files) texts;
+  each : ReadEach g.R.Source.remaining (take l.index l.initial.files) (take l.index l.files) texts;
   within : All (λ text. length text ≤ l.limit) texts;
   taken : AreTaken g.P.TakePieces.took (take l.index l.takers) texts;
   begun : All (λ taker. g.P.TakePieces.took taker []) (drop l.index l.takers);

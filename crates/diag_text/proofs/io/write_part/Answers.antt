@@ -6,6 +6,7 @@ pub loop-written-preserved : goal.loop-written-preserved
 loop-written-preserved g c = record {
   sent = Appends-more _ _ _ c.args.text.now c.loop-written.written c.loop-written.invariant.sent c.in-Ok.count c.in-Ok.ensures.bytes;
   within = grind (arith, c.in-Ok.ensures.bound, length-take, length-drop);
+  sound = λ sound. c.in-Ok.ensures.sound (c.loop-written.invariant.sound sound);
 }
 
 pub returns-in-Err-clause-front : goal.returns-in-Err-clause-front

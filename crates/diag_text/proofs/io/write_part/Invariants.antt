@@ -4,8 +4,9 @@ use Rattle.diag_text.proofs.io.write_part.Given as goal
 
 abbrev pub invariant-loop-written : goal.invariant-loop-written
 invariant-loop-written g l = record {
-  sent : Appends (g.W.Write.contents l.initial.out) (g.W.Write.contents l.out) (take l.written l.text);
+  sent : Appends (g.W.Target.contents l.initial.out) (g.W.Target.contents l.out) (take l.written l.text);
   within : l.written ≤ length l.text;
+  sound : g.W.Target.sound l.initial.out → g.W.Target.sound l.out;
 }
 
 abbrev pub decreases-loop-written : goal.decreases-loop-written

@@ -1,4 +1,4 @@
-use Rattle.std.proofs.Common.{◌≡◌, ◌+◌, ◌-◌, ◌^◌, ℕ, List, min, [], ap, ◌∙◌, subst, arith}
+use Rattle.std.proofs.Common.{◌≡◌, ◌+◌, ◌-◌, ◌^◌, ℕ, List, min, [], refl, ap, ◌∙◌, subst, arith}
 use Rattle.std.proofs.KnownBytes.{Appends-nil}
 use Rattle.std.proofs.lemmas.Result.{IfErr-weaker, err_from_is_err_and, on_ok_weaker}
 use Rattle.diag_setup.specs.Setup.{known_ids}
@@ -40,8 +40,9 @@ returns-in-Ok-clause-ok g c =
       (
         d.2.0,
         d.2.1,
-        serve_goes_on c.known-known.result.now c.pass.new.self.hearing t.0 c.in_ok-ticks.ticks c.pass.new.self.text.items c.take_piece.new.text.items c.args.piece.now t.1 t.2
-            c.args.self.now (known_is _ _ _ _ c.known-known.ensures c.bus.ensures c.pass.ensures.capture) c.pass.new.self.capture c.pass.ensures.hearing c.pass.ensures.capture c.deliver.new.self c.take_piece.new.self
+        serve_goes_on c.known-known.result.now c.pass.new.self.hearing (c.args.now - c.args.self.now.told) c.in_ok-ticks.ticks c.pass.new.self.text.items c.take_piece.new.text.items c.args.piece.now t.0 t.1
+            c.args.self.now (known_is _ _ _ _ c.known-known.ensures c.bus.ensures c.pass.ensures.capture) c.pass.new.self.capture c.pass.ensures.hearing c.pass.ensures.capture
+            c.args.now refl c.deliver.new.self (c.deliver.ensures.told ∙ c.in_ok-ticks.ensures.told) c.take_piece.new.self
             c.in-Ok.ensures.ok c.deliver.ensures.hearing d.0 d.2.0 d.2.2,
       ),
     ))
@@ -58,7 +59,7 @@ returns-in-Ok-clause-err g c =
       (
         u.2.0,
         u.2.1,
-        serve_halts c.known-known.result.now c.pass.new.self.hearing t.0 c.in_ok-ticks.ticks c.pass.new.self.text.items c.take_piece.new.text.items c.args.piece.now t.1 t.2
+        serve_halts c.known-known.result.now c.pass.new.self.hearing (c.args.now - c.args.self.now.told) c.in_ok-ticks.ticks c.pass.new.self.text.items c.take_piece.new.text.items c.args.piece.now t.0 t.1
             c.args.self.now (known_is _ _ _ _ c.known-known.ensures c.bus.ensures c.pass.ensures.capture) c.pass.new.self.capture c.pass.ensures.hearing c.pass.ensures.capture c.take_piece.new.self c.in-Ok.ensures.ok
             c.lines-heard.result c.saturating_add-first.result c.lines-heard.ensures place u.0 u.2.0 came u.2.2,
       ),
@@ -76,7 +77,7 @@ returns-in-Err-clause-err g c =
       (
         u.2.0,
         u.2.1,
-        bad_serve_halts c.known-known.result.now c.pass.new.self.hearing t.0 c.in_ok-ticks.ticks c.pass.new.self.text.items c.take_piece.new.text.items c.args.piece.now t.1 t.2
+        bad_serve_halts c.known-known.result.now c.pass.new.self.hearing (c.args.now - c.args.self.now.told) c.in_ok-ticks.ticks c.pass.new.self.text.items c.take_piece.new.text.items c.args.piece.now t.0 t.1
             c.args.self.now (known_is _ _ _ _ c.known-known.ensures c.bus.ensures c.pass.ensures.capture) c.pass.new.self.capture c.pass.ensures.hearing c.pass.ensures.capture c.in-Err-Line.number c.in-Err-Line.fault
             (subst (Refuses c.known-known.result.now c.pass.new.self.hearing c.args.piece.now c.pass.new.self.text.items c.take_piece.new.text.items) c.in-Err-Line.field-0-is
             c.in-Err-Line.ensures.err)
@@ -93,7 +94,7 @@ returns-in_default-clause-err g c =
       (
         d.2.0,
         d.2.1,
-        bad_line_halts c.known-known.result.now c.pass.new.self.hearing t.0 c.in_ok-ticks.ticks c.pass.new.self.text.items c.take_piece.new.text.items c.args.piece.now t.1 t.2
+        bad_line_halts c.known-known.result.now c.pass.new.self.hearing (c.args.now - c.args.self.now.told) c.in_ok-ticks.ticks c.pass.new.self.text.items c.take_piece.new.text.items c.args.piece.now t.0 t.1
             c.args.self.now (known_is _ _ _ _ c.known-known.ensures c.bus.ensures c.pass.ensures.capture) c.pass.new.self.capture c.pass.ensures.hearing c.pass.ensures.capture c.deliver-in-Err-Line.new.self c.in-Err-Line.number
             c.in-Err-Line.fault
             (subst (Refuses c.known-known.result.now c.pass.new.self.hearing c.args.piece.now c.pass.new.self.text.items c.take_piece.new.text.items) c.in-Err-Line.field-0-is

@@ -1,5 +1,7 @@
-use Rattle.std.proofs.Common.{ℕ, List, ◌++◌, Ok, ap, ap₂, sym, ◌∙◌}
+use Rattle.std.proofs.Common.{◌≡◌, ℕ, List, ◌++◌, Ok, IfSome, ap, ap₂, refl, subst, sym, ◌∙◌}
+use Rattle.diag_bus.specs.Verdict.{verdict_text}
 use Rattle.diag_run.specs.Wanted.{end_with, judged_by}
+use Rattle.diag_run.proofs.Judging.{ok_line, told_otherwise}
 use Rattle.diag_run.proofs.ending.ComparisonsEnding.add_end.Goals as goal
 
 pub returns-in_ok-extend_from_slice-in-Agrees-clause-ok : goal.returns-in_ok-extend_from_slice-in-Agrees-clause-ok
@@ -11,4 +13,20 @@ returns-in_ok-extend_from_slice-in-Agrees-clause-ok c =
       grown = c.in_ok-extend_from_slice-in-Agrees.ensures.items ∙ ap (λ w. c.args.text.now.items ++ w) c.as_slice.ensures.value;
       holds = λ lines took ecu. ap (judged_by setup lines) (sym (c.in-Agrees.ensures lines took))
           ∙ ap₂ (λ (w : List ℕ) n. Ok (end_with w n)) (sym (c.in_ok-agreed-in-Agrees.ensures lines took)) (sym (c.agreement_status.ensures lines took));
+    }
+
+pub returns-in_default : goal.returns-in_default
+returns-in_default c =
+    let setup = c.args.setup.now in
+    let v = c.in_default.verdict in
+    let is = c.in_default.verdict-is in
+    let same : c.verdict.result ≡ v = cc in
+    record {
+      ok = tt;
+      err = (
+        verdict_text setup v,
+        subst (λ o. IfSome o (λ t. t.items ≡ verdict_text setup v)) (sym c.ok-told.ensures.value) (ok_line c.verdict_text.result (verdict_text setup v) c.verdict_text.ensures),
+        λ lines took ecu. ap (judged_by setup lines) (sym (sym same ∙ c.verdict.ensures lines took)) ∙ told_otherwise setup lines v c.in_default.not-Agrees,
+      );
+      kept = refl;
     }
