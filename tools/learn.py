@@ -17,17 +17,18 @@ something does, which is told on standard error, exchange by exchange; 9 where n
 program's fault. No part of what is proved."""
 import argparse
 import os
+import re
 import shutil
 import subprocess
 import sys
 import tempfile
 import time
 from dataclasses import replace
-from typing import Iterable, Iterator, Optional
+from typing import Iterable, Iterator, NoReturn, Optional
 
 sys.dont_write_bytecode = True
 sys.path.append(os.path.join(os.path.dirname(os.path.abspath(__file__)), "parts"))
-from learn_bus import MOST_TESTERS, Pair, Sending, functional_of, look, pair_of, pairs_of, sending_of
+from learn_bus import MOST_TESTERS, Broken, Pair, Sending, functional_of, look, pair_of, pairs_of, sending_of
 from learn_judge import AGREES, DIFFERS, NOTHING, Judge, Program, Refused, Verdict
 from learn_model import learn_model
 from learn_rows import Plan
@@ -44,7 +45,7 @@ BLOCK = 1 << 22
 MOST_ROUNDS, MOST_IDLE = 16, 4
 # the most differences that are told one by one
 MOST_TOLD = 1000
-MOST_OF_11_BITS = 0x7FF
+MOST_OF_11_BITS, MOST_OF_29_BITS = 0x7FF, 0x1FFFFFFF
 
 
 class Progress:
@@ -172,6 +173,16 @@ def tell(verdict: Verdict, varies: bool) -> None:
         say("nothing was compared: no exchange of these testers is in the recording")
 
 
+def tell_broken(broken: Broken) -> None:
+    """Tells of the unit's messages that the recording doesn't have whole."""
+    at = f"{broken.first // 1000}.{broken.first % 1000:03d}"
+    why = "a frame is missing, or out of order; what was asked is learned as unanswered"
+    if broken.count == 1:
+        say(f"a message of the unit breaks off, begun at {at}: {why}")
+    elif broken.count:
+        say(f"{broken.count} messages of the unit break off, the first begun at {at}: {why}")
+
+
 # ---- the tool
 
 
@@ -210,10 +221,24 @@ def program() -> str:
     return PROGRAM if path == "none" else f"{TOP}/{path}"
 
 
+def identifier_of(text: str) -> int:
+    """An identifier of the command line."""
+    if not re.fullmatch("(0[xX])?[0-9A-Fa-f]{1,8}", text) or int(text, 16) > MOST_OF_29_BITS:
+        raise argparse.ArgumentTypeError(f"{text} is no identifier: hex digits, up to {MOST_OF_29_BITS:X}")
+    return int(text, 16)
+
+
+class CommandLine(argparse.ArgumentParser):
+    """The words of the command line; where they are at fault the status is 1, as that of the program."""
+
+    def exit(self, status: int = 0, message: Optional[str] = None) -> NoReturn:
+        super().exit(min(status, 1), message)
+
+
 def arguments(given: Optional[list[str]]) -> argparse.Namespace:
-    words = argparse.ArgumentParser(description=__doc__, formatter_class=argparse.RawDescriptionHelpFormatter)
+    words = CommandLine(description=__doc__, formatter_class=argparse.RawDescriptionHelpFormatter)
     words.add_argument("--pair", action="append", default=[], metavar="REQUEST:RESPONSE[=NAME]", help="a tester; may stand several times")
-    words.add_argument("--functional", type=lambda it: int(it, 16), metavar="ID", help="the functional identifier, in hex")
+    words.add_argument("--functional", type=identifier_of, metavar="ID", help="the functional identifier, in hex")
     words.add_argument("--varies", action="store_true", help="values and seeds that change aren't compared")
     words.add_argument("--program", help=argparse.SUPPRESS)
     words.add_argument("capture", metavar="CAPTURE")
@@ -252,12 +277,21 @@ def main(given: Optional[list[str]] = None) -> int:
             say("this form of recording wants python-can (Debian's python3-can)")
             return 7
         except Refused as fault:
-            say(fault.told)
+            for line in fault.told.splitlines():
+                say(line)
             return fault.status
         finally:
             progress.end()
-    sys.stdout.write(text)
+    try:
+        sys.stdout.write(text)
+        sys.stdout.flush()
+    except OSError as fault:
+        say(f"cannot write: {fault.strerror}")
+        # (what is left isn't tried again at the exit)
+        sys.stdout = None
+        return 7
     tell(verdict, words.varies)
+    tell_broken(unit.sending.broken)
     return verdict.status if verdict.status in (DIFFERS, NOTHING) else AGREES
 
 

@@ -48,7 +48,7 @@ class Verdict:
 
 
 class Refused(Exception):
-    """The program doesn't take the recording, or the setup; with its status and what it tells."""
+    """The program doesn't take the recording, or the setup; with its status and what it tells, its notes too."""
 
     def __init__(self, status: int, told: str):
         super().__init__(told)
@@ -93,10 +93,11 @@ class Program:
         with open(path, "w", encoding="utf-8") as it:
             it.write(setup)
         with open(f"{self.room}/told", "w+", encoding="utf-8", errors="replace") as told:
-            words = [self.program, "--quiet", "compare", path, self.capture]
+            words = [self.program, "compare", path, self.capture]
             with subprocess.Popen(words, stdout=subprocess.PIPE, stderr=told, encoding="utf-8") as child:
                 found = read_exchanges(child.stdout, self.names)
             told.seek(0)
             if child.returncode not in (AGREES, DIFFERS, NOTHING):
-                raise Refused(child.returncode, told.read().strip())
+                # (no file of this tool's own is named)
+                raise Refused(child.returncode, told.read().strip().replace(f"{self.room}/", ""))
         return Verdict(found, child.returncode)
