@@ -304,9 +304,16 @@ def show_exchanges(setup, name, text, title, as_text):
         sys.stdout.write(page(exchanges_data(setup, report, name, title), "exchanges"))
 
 
+class CommandLine(argparse.ArgumentParser):
+    """The words of the command line; where they are at fault the status is 1."""
+
+    def exit(self, status=0, message=None):
+        super().exit(min(status, 1), message)
+
+
 def main(given=None):
     """Runs the tool by these words, or by those of the command line; returns its status."""
-    words = argparse.ArgumentParser(description=__doc__, formatter_class=argparse.RawDescriptionHelpFormatter)
+    words = CommandLine(description=__doc__, formatter_class=argparse.RawDescriptionHelpFormatter)
     words.add_argument("--text", action="store_true", help="the journal in words, in place of the page")
     words.add_argument("setup", metavar="SETUP")
     words.add_argument("run", metavar="RUN", nargs="+")
