@@ -115,6 +115,9 @@ class ProgramTests(unittest.TestCase):
             ran = self.run_program("--interface", "virtual", "--channel", "x", "--seconds", "0.3", "--journal", f"{room}/j", str(SETUP))
             self.assertEqual((ran.returncode, ran.stdout, ran.stderr), (0, "", ""))
             self.assertTrue(Path(f"{room}/j").read_text().startswith("diag-journal 2\n"))
+            # a journal that can't be written is told at once, and not behind the run
+            ran = self.run_program("--interface", "virtual", "--channel", "x", "--journal", f"{room}/none/j", str(SETUP))
+            self.assertEqual((ran.returncode, "No such file" in ran.stderr), (1, True), ran.stderr)
 
     def test_faults(self) -> None:
         with tempfile.NamedTemporaryFile("w", suffix=".toml") as it:
