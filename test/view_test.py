@@ -422,7 +422,9 @@ def faults(room):
         told(ran.returncode == 1 and ran.stderr.startswith(b"view: config: "), f"a fault: {name}", ran)
     ran = subprocess.run([VIEW, config], capture_output=True, timeout=60)
     told(ran.returncode == 1 and b"required: RUN" in ran.stderr, "a word too few", ran)
-    for name, setup in [("standard input", config), ("a byte order mark", put(f"{room}/0", f"\ufeff{bus.SETUP}"))]:
+    newer = 'tester = [{ name = "A", # one\n request = 0x7E0,\n response = 0x7E8,\n}]\n'
+    forms = [("standard input", config), ("a byte order mark", put(f"{room}/0", f"\ufeff{bus.SETUP}")), ("TOML 1.1", put(f"{room}/1", newer))]
+    for name, setup in forms:
         ran = subprocess.run([VIEW, "--text", setup, "-"], input=journal.encode(), capture_output=True, timeout=60)
         told((ran.returncode, ran.stdout) == (0, b"0.000 A  3E 00 TesterPresent zeroSubFunction -> 7E 00\n"), name, ran)
 

@@ -6,8 +6,7 @@
 
 RUN is what `serial`, `play`, `bus` or `bus --journal` wrote. The frames and the journal of one run may stand in two
 files, as `bus` writes them; without a journal the messages of the frames are shown. Of what `compare` wrote the page has
-the recorded unit and the server side by side. `-` is standard input. SETUP is read
-as TOML 1.0.
+the recorded unit and the server side by side. `-` is standard input.
 """
 import argparse
 import html
