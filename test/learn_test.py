@@ -640,6 +640,14 @@ class OfRecordings(unittest.TestCase):
         for text, lines in (("no FlowControl", long[:2]), ("the tester has no room", [*long[:2], (4, "7E0#320000")]), ("it begins within one", long[3:4])):
             self.assertNotIn("break", learned_of(frames(*lines, *long[-2:])).told, text)
 
+    def test_an_answer_too_long_for_a_row(self) -> None:
+        message = "620101" + "41" * 4997
+        rest = [f"7E8#2{number % 16:X}{message[at : at + 14]}" for number, at in enumerate(range(4, len(message), 14), 1)]
+        found = learned_of(frames((0, "7E0#03220101"), (1, f"7E8#100000001388{message[:4]}"), (2, "7E0#300000"), *((3, it) for it in rest)), "--pair", "7E0:7E8=A")
+        shown = f"{message[:48]}.. (5000 bytes)"
+        told = f"learn: line 1: A was sent {shown} to 220101, expected 7F2231; no row has an answer of more than 4095 bytes\n"
+        self.assertEqual((8, told), (found.status, found.told))
+
     def test_a_wrong_key_where_seeds_vary(self) -> None:
         """The wrong key has a row, and nothing else does: behind the right one the level is unlocked."""
         asks = [

@@ -29,9 +29,9 @@ from typing import Iterable, Iterator, NoReturn, Optional
 sys.dont_write_bytecode = True
 sys.path.append(os.path.join(os.path.dirname(os.path.abspath(__file__)), "parts"))
 from learn_bus import MOST_TESTERS, Broken, Pair, Sending, functional_of, look, pair_of, pairs_of, sending_of
-from learn_judge import AGREES, DIFFERS, NOTHING, Judge, Program, Refused, Verdict
+from learn_judge import AGREES, DIFFERS, NOTHING, Exchange, Judge, Program, Refused, Verdict
 from learn_model import learn_model
-from learn_rows import Plan
+from learn_rows import MOST_BYTES, Plan
 from learn_setup import Unit, setup_text
 
 TOP = os.path.dirname(os.path.dirname(os.path.abspath(__file__)))
@@ -160,13 +160,18 @@ def learned(unit: Unit, judge: Judge, source: str, progress: Progress) -> tuple[
     return best
 
 
+def is_too_long(it: Exchange) -> bool:
+    """Whether a row can't have what the unit sent."""
+    return len(it.sent or b"") > MOST_BYTES
+
+
 def tell(verdict: Verdict, varies: bool) -> None:
     """Tells what differs."""
     differing = verdict.differing()
-    if not varies and any(it.request[:1] == b"\x22" for it in differing):
+    if not varies and any(it.request[:1] == b"\x22" and not is_too_long(it) for it in differing):
         say("with --varies the values that change aren't compared")
     for it in differing[:MOST_TOLD]:
-        say(it.told())
+        say(f"{it.told()}{f'; no row has an answer of more than {MOST_BYTES} bytes' if is_too_long(it) else ''}")
     if len(differing) > MOST_TOLD:
         say(f"and {len(differing) - MOST_TOLD} more")
     if verdict.status == NOTHING:

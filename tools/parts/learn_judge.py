@@ -6,6 +6,13 @@ from dataclasses import dataclass
 from typing import Callable, Iterable, Optional
 
 AGREES, DIFFERS, NOTHING = 0, 8, 9
+# the most digits of a message that is told
+MOST_DIGITS = 64
+
+
+def shortened(digits: str) -> str:
+    """A message's digits, of many the first ones and how many bytes there are."""
+    return digits if len(digits) <= MOST_DIGITS else f"{digits[: MOST_DIGITS - 16]}.. ({len(digits) // 2} bytes)"
 
 
 @dataclass(slots=True)
@@ -30,9 +37,9 @@ class Exchange:
 
     def told(self) -> str:
         """The difference in words."""
-        sent = "nothing" if self.sent is None else self.sent.hex().upper()
-        expected = "nothing" if self.expected == "-" else self.expected
-        asked = "which nobody asked for" if self.kind == "U" else f"to {self.request.hex().upper()}, expected {expected}"
+        sent = "nothing" if self.sent is None else shortened(self.sent.hex().upper())
+        expected = "nothing" if self.expected == "-" else shortened(self.expected)
+        asked = "which nobody asked for" if self.kind == "U" else f"to {shortened(self.request.hex().upper())}, expected {expected}"
         return f"line {self.line}: {self.name} was sent {sent} {asked}"
 
 
