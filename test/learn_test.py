@@ -640,6 +640,17 @@ class OfRecordings(unittest.TestCase):
         for text, lines in (("no FlowControl", long[:2]), ("the tester has no room", [*long[:2], (4, "7E0#320000")]), ("it begins within one", long[3:4])):
             self.assertNotIn("break", learned_of(frames(*lines, *long[-2:])).told, text)
 
+    def test_one_interface(self) -> None:
+        lines = frames((0, "7E0#0322F195"), (3, "7E8#0562F1950203"), (100, "7E0#0322F195"), (103, "7E8#0562F1950204")).splitlines(keepends=True)
+        both = "".join(lines[:2]) + "".join(it.replace("can0", "can1") for it in lines[2:])
+        found = learned_of(both)
+        self.assertEqual((0, {"22F195": ["62F1950203", "62F1950204"]}), (found.status, rows_of(found)))
+        self.assertIn("learn: uds_play: note: frames of more than one interface count: can0 2, can1 2", found.told)
+        for interface, value in (("can0", "0203"), ("can1", "0204")):
+            found = learned_of(both, "--interface", interface)
+            self.assertEqual((0, "", [{"id": 0xF195, "value": value}]), (found.status, found.told, found.tree()["did"]))
+        self.assertEqual(9, self.told(both, "--interface", "can.")[0])
+
     def test_an_answer_too_long_for_a_row(self) -> None:
         message = "620101" + "41" * 4997
         rest = [f"7E8#2{number % 16:X}{message[at : at + 14]}" for number, at in enumerate(range(4, len(message), 14), 1)]
@@ -762,6 +773,9 @@ class OfOtherForms(unittest.TestCase):
         except ImportError:
             print("learn: there is no python-can here: recordings of other tools aren't learned", flush=True)
             return
+        names = [(None, "can0"), (1, "can1"), ("1", "can1"), ("vcan0", "vcan0"), ("PCAN USB 1", "PCANUSB1"), (" ", "can0")]
+        told = [learn.line_of(can.Message(arbitration_id=0x7E0, data=b"\x01", is_extended_id=False, channel=it)) for it, _ in names]
+        self.assertEqual([f"(0000000000.000000) {it} 7E0#01\n" for _, it in names], told)
         want = learned(f"{TOP}/demo/bus.log").tree()
         for form in ("asc", "blf", "csv"):
             with tempfile.TemporaryDirectory() as room:

@@ -2,13 +2,13 @@
 """Makes the setup by which the server answers as the unit in a recording did, and says of what it can't explain where it
 stands.
 
-    tools/learn.py [--pair REQUEST:RESPONSE[=NAME]].. [--varies] CAPTURE > unit.toml
+    tools/learn.py [--pair REQUEST:RESPONSE[=NAME]].. [--interface NAME] [--varies] CAPTURE > unit.toml
 
 Example:
     tools/learn.py --pair 7E0:7E8=workshop --pair 7A0:7A8=end_of_line demo/other_unit.log > unit.toml
 
 CAPTURE is a recording of `candump -L`, or, where python-can is installed, one of ASC, BLF, TRC, CSV or MF4. The testers are
-the pairs that are given, or those that are found. With `--varies` an identifier that was read with different values, and
+the pairs that are given, or those that are found. With `--interface` the frames of one interface count. With `--varies` an identifier that was read with different values, and
 seeds that differ, aren't compared; without it their values come one after the other, round and round.
 
 The judge is `compare` of the program that ./uds_play starts: a setup is made, compared with the recording, and what differs
@@ -109,7 +109,9 @@ def line_of(message) -> str:
     data = bytes(message.data).hex().upper()
     rest = f"#R{message.dlc}" if message.is_remote_frame else f"##0{data}" if message.is_fd else f"#{data}"
     us = round(message.timestamp * 1_000_000)
-    return "" if message.is_error_frame else f"({us // 1_000_000:010d}.{us % 1_000_000:06d}) can0 {identifier}{rest}\n"
+    channel = 0 if message.channel is None else message.channel
+    name = f"can{channel}" if str(channel).isdigit() else "".join(str(channel).split()) or "can0"
+    return "" if message.is_error_frame else f"({us // 1_000_000:010d}.{us % 1_000_000:06d}) {name} {identifier}{rest}\n"
 
 
 # ---- the testers
@@ -174,6 +176,8 @@ def tell(verdict: Verdict, varies: bool) -> None:
         say(f"{it.told()}{f'; no row has an answer of more than {MOST_BYTES} bytes' if is_too_long(it) else ''}")
     if len(differing) > MOST_TOLD:
         say(f"and {len(differing) - MOST_TOLD} more")
+    for line in verdict.notes.splitlines():
+        say(line)
     if verdict.status == NOTHING:
         say("nothing was compared: no exchange of these testers is in the recording")
 
@@ -202,17 +206,18 @@ def refuse(program: str, path: str, room: str) -> None:
     raise NoTester
 
 
-def unit_of(path: str, given: list[Pair], functional: Optional[int], varies: bool, progress: Progress) -> Unit:
-    """What the frames tell of the unit. NoTester where there is none."""
-    sight = look(progress.through(path, 0, 0.12, "the testers"))
+def unit_of(path: str, given: list[Pair], words: argparse.Namespace, progress: Progress) -> Unit:
+    """What the frames tell of the unit, by the words of the command line. NoTester where there is none."""
+    functional, interface = words.functional, words.interface
+    sight = look(progress.through(path, 0, 0.12, "the testers"), interface)
     pairs = testers_of(given, pairs_of(sight))
     if not pairs:
         raise NoTester
     narrow, wide = functional_of(sight, pairs), functional_of(sight, pairs, True)
     if functional is not None:
         narrow, wide = (functional, wide) if functional <= MOST_OF_11_BITS else (narrow, functional)
-    sending = sending_of(progress.through(path, 0.12, 0.2, "how they send"), pairs)
-    return Unit(pairs, narrow, sending, varies=varies, functional_29=wide)
+    sending = sending_of(progress.through(path, 0.12, 0.2, "how they send"), pairs, interface)
+    return Unit(pairs, narrow, sending, varies=words.varies, functional_29=wide)
 
 
 def program() -> str:
@@ -244,6 +249,7 @@ def arguments(given: Optional[list[str]]) -> argparse.Namespace:
     words = CommandLine(description=__doc__, formatter_class=argparse.RawDescriptionHelpFormatter)
     words.add_argument("--pair", action="append", default=[], metavar="REQUEST:RESPONSE[=NAME]", help="a tester; may stand several times")
     words.add_argument("--functional", type=identifier_of, metavar="ID", help="the functional identifier, in hex")
+    words.add_argument("--interface", metavar="NAME", help="takes the frames of this interface alone")
     words.add_argument("--varies", action="store_true", help="values and seeds that change aren't compared")
     words.add_argument("--program", help=argparse.SUPPRESS)
     words.add_argument("capture", metavar="CAPTURE")
@@ -266,11 +272,11 @@ def main(given: Optional[list[str]] = None) -> int:
         try:
             path = converted(words.capture, room)
             try:
-                unit = unit_of(path, pairs, words.functional, words.varies, progress)
+                unit = unit_of(path, pairs, words, progress)
             except NoTester:
                 refuse(words.program, path, room)
             progress.at(0.2, "the exchanges")
-            judge = Program(words.program, path, room, [it.name for it in unit.pairs])
+            judge = Program(words.program, path, room, [it.name for it in unit.pairs], words.interface)
             text, verdict = learned(unit, judge, plain(os.path.basename(words.capture)), progress)
         except NoTester:
             say("no tester was found: --pair REQUEST:RESPONSE names one")

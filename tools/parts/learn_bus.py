@@ -69,11 +69,12 @@ def pair_of(text: str) -> Pair:
     return Pair(int(request, 16), int(response, 16), len(request) == 8, found["name"] or "")
 
 
-def frames_of(blocks: Iterable[str], identifiers: str, data: str) -> Iterator[tuple[int, str, str]]:
-    """The classic frames in blocks of whole lines whose identifier and data fit these patterns: each frame's moment in
-    milliseconds, its identifier, and its data, as upper-case digits."""
+def frames_of(blocks: Iterable[str], identifiers: str, data: str, interface: Optional[str] = None) -> Iterator[tuple[int, str, str]]:
+    """The classic frames in blocks of whole lines whose identifier and data fit these patterns, of one interface or of any:
+    each frame's moment in milliseconds, its identifier, and its data, as upper-case digits."""
+    name = r"\S+" if interface is None else re.escape(interface)
     # (a pattern that begins with letters is looked for more quickly than one that begins with a line's start)
-    pattern = re.compile(rf"\n\((\d{{1,12}})\.(\d{{3}})\d*\) +\S+ +((?i:{identifiers}))#((?i:{data})(?:[0-9A-Fa-f]{{2}})*)")
+    pattern = re.compile(rf"\n\((\d{{1,12}})\.(\d{{3}})\d*\) +{name} +((?i:{identifiers}))#((?i:{data})(?:[0-9A-Fa-f]{{2}})*)")
     for block in blocks:
         for found in pattern.finditer("\n" + block):
             seconds, parts, identifier, digits = found.groups()
@@ -93,10 +94,10 @@ class Sight:
     present: Counter = field(default_factory=Counter)
 
 
-def look(blocks: Iterable[str]) -> Sight:
+def look(blocks: Iterable[str], interface: Optional[str] = None) -> Sight:
     """Looks at all frames that can be a SingleFrame, or the FirstFrame of an answer."""
     sight, recent = Sight(), defaultdict(dict)
-    for now, identifier, data in frames_of(blocks, "[0-9A-F]{3}|[0-9A-F]{8}", "0[1-7]|1[0-9A-F][0-9A-F]{2}"):
+    for now, identifier, data in frames_of(blocks, "[0-9A-F]{3}|[0-9A-F]{8}", "0[1-7]|1[0-9A-F][0-9A-F]{2}", interface):
         at = 2 if data[0] == "0" else 4
         if at == 2 and len(data) < 2 + 2 * int(data[1]):
             continue
@@ -240,13 +241,13 @@ class Sending:
     broken: Broken = field(default_factory=Broken)
 
 
-def sending_of(blocks: Iterable[str], pairs: list[Pair]) -> Sending:
+def sending_of(blocks: Iterable[str], pairs: list[Pair], interface: Optional[str] = None) -> Sending:
     """How the frames of these pairs are sent."""
     found, fills, flows = Sending(), Counter(), Counter()
     requests = dict(it.texts() for it in pairs)
     responses = set(requests.values())
     last, waits = {}, {}
-    for now, identifier, data in frames_of(blocks, "|".join([*requests, *responses]), ""):
+    for now, identifier, data in frames_of(blocks, "|".join([*requests, *responses]), "", interface):
         kind = data[:1]
         if kind == "3" and identifier in requests:
             found.broken.let(requests[identifier], data)

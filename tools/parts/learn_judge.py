@@ -45,10 +45,11 @@ class Exchange:
 
 @dataclass
 class Verdict:
-    """What the judge says of a setup: its exchanges in the order of their lines, and the status."""
+    """What the judge says of a setup: its exchanges in the order of their lines, the status, and its notes."""
 
     exchanges: list[Exchange]
     status: int
+    notes: str = ""
 
     def differing(self) -> list[Exchange]:
         return [it for it in self.exchanges if it.differs()]
@@ -90,21 +91,23 @@ def read_exchanges(lines: Iterable[str], names: Iterable[str]) -> list[Exchange]
 
 
 class Program:
-    """`compare` of the built program, on a recording."""
+    """`compare` of the built program, on a recording, or on one interface of it."""
 
-    def __init__(self, program: str, capture: str, room: str, names: list[str]):
+    def __init__(self, program: str, capture: str, room: str, names: list[str], interface: Optional[str] = None):
         self.program, self.capture, self.room, self.names = program, capture, room, names
+        self.flags = [] if interface is None else [f"--interface={interface}"]
 
     def __call__(self, setup: str) -> Verdict:
         path = f"{self.room}/setup.toml"
         with open(path, "w", encoding="utf-8") as it:
             it.write(setup)
         with open(f"{self.room}/told", "w+", encoding="utf-8", errors="replace") as told:
-            words = [self.program, "compare", path, self.capture]
+            words = [self.program, "compare", *self.flags, path, self.capture]
             with subprocess.Popen(words, stdout=subprocess.PIPE, stderr=told, encoding="utf-8") as child:
                 found = read_exchanges(child.stdout, self.names)
             told.seek(0)
-            if child.returncode not in (AGREES, DIFFERS, NOTHING):
-                # (no file of this tool's own is named)
-                raise Refused(child.returncode, told.read().strip().replace(f"{self.room}/", ""))
-        return Verdict(found, child.returncode)
+            # (no file of this tool's own is named)
+            notes = told.read().strip().replace(f"{self.room}/", "")
+        if child.returncode not in (AGREES, DIFFERS, NOTHING):
+            raise Refused(child.returncode, notes)
+        return Verdict(found, child.returncode, notes)
