@@ -119,6 +119,15 @@ def of_program() -> None:
         told(ended == (3 if ran.stderr else ran.returncode) and not wrong and not tells, f"of the program: {case.name}", f"{ended}, {tells}, {ran}, {wrong}")
 
 
+def of_the_end() -> None:
+    """What can't be written, and words that the tool doesn't take, have a status of their own and no trace of Python."""
+    with open("/dev/full", "wb") as full:
+        ran = subprocess.run([sys.executable, TOOL], input=TEXTS[0][1].encode(), stdout=full, stderr=subprocess.PIPE, timeout=60)
+    told((ran.returncode, ran.stderr) == (7, b"junit: cannot write: No space left on device\n"), "a full device", ran)
+    ran = subprocess.run([sys.executable, TOOL, "file"], stdin=subprocess.DEVNULL, capture_output=True, timeout=60)
+    told(ran.returncode == 1 and ran.stdout == b"" and b"It reads standard input" in ran.stderr, "a word too many", ran)
+
+
 def by_parser() -> None:
     """The same by junitparser, as a build server's script would read it."""
     if DEBIAN not in sys.path:
@@ -142,7 +151,7 @@ def by_parser() -> None:
 
 def main() -> int:
     told.needs_program()
-    for group in (by_schema, words, of_program, by_parser):
+    for group in (by_schema, words, of_program, of_the_end, by_parser):
         group()
     return told.ended()
 

@@ -10,6 +10,7 @@ import io
 import os
 import random
 import re
+import subprocess
 import sys
 import tempfile
 import time
@@ -621,6 +622,53 @@ class OfRecordings(unittest.TestCase):
             self.assertEqual([0xF190, 0xF195], [it["id"] for it in found.tree()["did"]])
         self.assertEqual({"14FFFFFF": ["54"], "31010203": None}, rows_of(found))
 
+    def test_broken_messages_are_told(self) -> None:
+        long = [(0, "7E0#0322F190"), (3, "7E8#100C62F190313233"), (4, "7E0#300000"), (5, "7E8#21343536373839AA"), (100, "7E0#023E00"), (105, "7E8#027E00")]
+        asked = "what was asked is learned as unanswered"
+        whole = learned_of(frames(*long))
+        self.assertEqual((0, "", {}), (whole.status, whole.told, rows_of(whole)))
+        for text, lines in (
+            ("a Consecutive frame is missing", long[:3] + long[4:]),
+            ("it has another number", long[:3] + [(5, "7E8#22343536373839AA")] + long[4:]),
+        ):
+            found = learned_of(frames(*lines))
+            told = f"learn: a message of the unit breaks off, begun at 100.003: a frame is missing, or out of order; {asked}\n"
+            self.assertEqual((0, told, {"22F190": [""]}), (found.status, found.told, rows_of(found)), text)
+            self.assertIn("# ReadDataByIdentifier VIN, no answer: seen once, first at line 1\n", found.text)
+        found = learned_of(frames(*long[-2:], *((at + 200, it) for at, it in (long[:1] + long[2:4] + long[:3] + long[4:]))))
+        self.assertIn("learn: 2 messages of the unit break off, the first begun at 100.205: ", found.told)
+        for text, lines in (("no FlowControl", long[:2]), ("the tester has no room", [*long[:2], (4, "7E0#320000")]), ("it begins within one", long[3:4])):
+            self.assertNotIn("break", learned_of(frames(*lines, *long[-2:])).told, text)
+
+    def test_one_interface(self) -> None:
+        lines = frames((0, "7E0#0322F195"), (3, "7E8#0562F1950203"), (100, "7E0#0322F195"), (103, "7E8#0562F1950204")).splitlines(keepends=True)
+        both = "".join(lines[:2]) + "".join(it.replace("can0", "can1") for it in lines[2:])
+        found = learned_of(both)
+        self.assertEqual((0, {"22F195": ["62F1950203", "62F1950204"]}), (found.status, rows_of(found)))
+        self.assertIn("learn: uds_play: note: frames of more than one interface count: can0 2, can1 2", found.told)
+        for interface, value in (("can0", "0203"), ("can1", "0204")):
+            found = learned_of(both, "--interface", interface)
+            self.assertEqual((0, "", [{"id": 0xF195, "value": value}]), (found.status, found.told, found.tree()["did"]))
+        self.assertEqual(9, self.told(both, "--interface", "can.")[0])
+
+    def test_an_answer_too_long_for_a_row(self) -> None:
+        message = "620101" + "41" * 4997
+        rest = [f"7E8#2{number % 16:X}{message[at : at + 14]}" for number, at in enumerate(range(4, len(message), 14), 1)]
+        found = learned_of(frames((0, "7E0#03220101"), (1, f"7E8#100000001388{message[:4]}"), (2, "7E0#300000"), *((3, it) for it in rest)), "--pair", "7E0:7E8=A")
+        shown = f"{message[:48]}.. (5000 bytes)"
+        told = f"learn: line 1: A was sent {shown} to 220101, expected 7F2231; no row has an answer of more than 4095 bytes\n"
+        self.assertEqual((8, told), (found.status, found.told))
+
+    def test_a_wrong_key_where_seeds_vary(self) -> None:
+        """The wrong key has a row, and nothing else does: behind the right one the level is unlocked."""
+        asks = [
+            ("021003", "065003003201F4"), ("022701", "066701AABBCCDD"), ("062702DEADBEEF", "037F2735"), ("022701", "066701AABBCC01"),
+            ("06270211223344", "026702"), ("0431010203", "0471010203"), ("021003", "065003003201F4"), ("0431010203", "037F3133"),
+        ]
+        lines = [it for at, (ask, sent) in enumerate(asks) for it in ((at * 100, f"7E0#{ask}"), (at * 100 + 4, f"7E8#{sent}"))]
+        found = learned_of(frames(*lines), "--varies")
+        self.assertEqual((0, "", {"2702DEADBEEF": ["7F2735"]}), (found.status, found.told, rows_of(found)))
+
     def test_measured_values_come_in_order(self) -> None:
         reads = [(at, it) for ms, value in enumerate(("0B54", "0B70", "0B2E")) for at, it in ((ms * 100, "7E0#0322F40C"), (ms * 100 + 5, f"7E8#0562F40C{value}"))]
         found = learned_of(frames(*reads))
@@ -678,17 +726,41 @@ class OfRecordings(unittest.TestCase):
         self.assertEqual([tester], found.tree()["tester"])
 
     def test_faults(self) -> None:
-        self.assertEqual((3, "learn: uds_play: capture line 3: bad line\n"), self.told(frames((0, "7E0#023E00"), (5, "7E8#027E00")) + "x\n"))
+        self.assertEqual((3, "learn: uds_play: capture line 3: bad line\n"), self.fault(frames((0, "7E0#023E00"), (5, "7E8#027E00")) + "x\n"))
         for line in ("(1,5) can0 7E0#023E00", "(1.500000) can0 7E0#032", "(1.000000) can0 zz#023E00", "can0  7E0   [2]  3E 00", "\0\xff", "7E0#023E00"):
-            self.assertEqual((3, "learn: uds_play: capture line 1: bad line\n"), self.told(f"{line}\n"), line)
+            self.assertEqual((3, "learn: uds_play: capture line 1: bad line\n"), self.fault(f"{line}\n"), line)
+        self.assertIn("learn: uds_play: note: it is what candump shows on the screen", self.told("can0  7E0   [2]  3E 00\n")[1])
         self.assertEqual(9, self.told("")[0])
-        self.assertEqual(1, self.told("", "--pair", "7E0:7E8=a b")[0])
         self.assertEqual(7, learned("/none").status)
+
+    def test_words(self) -> None:
+        status, told = self.told("", "--pair", "7E0:7E8=a b")
+        self.assertEqual((1, True), (status, "a name of 1 to 16 letters, digits or _" in told))
+        status, told = self.told("", "--pair", "7E0:7E8=a", "--pair", "7E0:7E9=b")
+        self.assertEqual((2, True), (status, "note: setup.toml: line " in told and "request of [[tester]] 2 is 0x7E0" in told), told)
+        for words, wanted in (
+            (["--functional", "zz"], "zz is no identifier"),
+            (["--functional", "20000000"], "20000000 is no identifier"),
+            (["--other"], "unrecognized arguments: --other"),
+        ):
+            err = io.StringIO()
+            with redirect_stderr(err), self.assertRaises(SystemExit) as ended:
+                learn.main([*words, "none"])
+            self.assertEqual((1, True), (ended.exception.code, wanted in err.getvalue()), err.getvalue())
+
+    def test_a_full_device(self) -> None:
+        ran = subprocess.run([sys.executable, learn.__file__, *OPTIONS, f"{TOP}/demo/bus.log"], stdout=open("/dev/full", "wb"), stderr=subprocess.PIPE)
+        self.assertEqual((7, True), (ran.returncode, ran.stderr.endswith(b"learn: cannot write: No space left on device\n")), ran.stderr)
 
     @staticmethod
     def told(lines: str, *words: str) -> tuple[int, str]:
         found = learned_of(lines, *words)
         return found.status, found.told
+
+    def fault(self, lines: str) -> tuple[int, str]:
+        """The status, and what was told but for the program's notes."""
+        status, told = self.told(lines)
+        return status, re.sub("learn: uds_play: note: .*\n", "", told)
 
 
 class OfOtherForms(unittest.TestCase):
@@ -701,6 +773,9 @@ class OfOtherForms(unittest.TestCase):
         except ImportError:
             print("learn: there is no python-can here: recordings of other tools aren't learned", flush=True)
             return
+        names = [(None, "can0"), (1, "can1"), ("1", "can1"), ("vcan0", "vcan0"), ("PCAN USB 1", "PCANUSB1"), (" ", "can0")]
+        told = [learn.line_of(can.Message(arbitration_id=0x7E0, data=b"\x01", is_extended_id=False, channel=it)) for it, _ in names]
+        self.assertEqual([f"(0000000000.000000) {it} 7E0#01\n" for _, it in names], told)
         want = learned(f"{TOP}/demo/bus.log").tree()
         for form in ("asc", "blf", "csv"):
             with tempfile.TemporaryDirectory() as room:

@@ -385,6 +385,20 @@ def beside(room):
 # ---- faults
 
 
+def parted(_):
+    """Messages of service 19 are parted by their sub-function, also those that a row of answers brings."""
+    for journal, want in [
+        ("190405620001 59040562002F0102F40C0B54", "19 04 056200 01 ReadDTCInformation -> 59 04 056200 2F 01 02F40C0B54"),
+        ("1906056200FF 59060562002F01020304", "19 06 056200 FF ReadDTCInformation -> 59 06 056200 2F 01 020304"),
+        ("1906056200FF 5906056200", "19 06 056200 FF ReadDTCInformation -> 59 06 056200"),
+        ("19022F 5902FF0562002FC1000004", "19 02 2F ReadDTCInformation reportDTCByStatusMask -> 59 02 FF 056200 2F C10000 04"),
+        ("19420033FF08 59420033FF", "19 42 0033FF08 ReadDTCInformation -> 59 42 0033FF"),
+        ("19 -", "19 ReadDTCInformation -> no reply (by its row)"),
+    ]:
+        setup = f'tester = [{{ name = "A", request = 0x7E0, response = 0x7E8 }}]\nanswer = [{{ request = "19*", reply = [""] }}]\n'
+        told(text_of(setup, f"diag-journal 1\n1 P {journal}\n") == f"0.000 A  {want}\n", f"parts: {want}", text_of(setup, f"diag-journal 1\n1 P {journal}\n"))
+
+
 def faults(room):
     """What isn't of a run is told, and the place."""
     config, journal = f"{TOP}/runs/setup.toml", "diag-journal 1\n1 P 3E00 7E00\n"
@@ -406,7 +420,11 @@ def faults(room):
     for name, setup in [("a setup", 'tester = "x"'), ("lists within lists", "x = " + "[" * 9999)]:
         ran = subprocess.run([VIEW, put(f"{room}/0", setup), paths[0]], capture_output=True, timeout=60)
         told(ran.returncode == 1 and ran.stderr.startswith(b"view: config: "), f"a fault: {name}", ran)
-    for name, setup in [("standard input", config), ("a byte order mark", put(f"{room}/0", f"\ufeff{bus.SETUP}"))]:
+    ran = subprocess.run([VIEW, config], capture_output=True, timeout=60)
+    told(ran.returncode == 1 and b"required: RUN" in ran.stderr, "a word too few", ran)
+    newer = 'tester = [{ name = "A", # one\n request = 0x7E0,\n response = 0x7E8,\n}]\n'
+    forms = [("standard input", config), ("a byte order mark", put(f"{room}/0", f"\ufeff{bus.SETUP}")), ("TOML 1.1", put(f"{room}/1", newer))]
+    for name, setup in forms:
         ran = subprocess.run([VIEW, "--text", setup, "-"], input=journal.encode(), capture_output=True, timeout=60)
         told((ran.returncode, ran.stdout) == (0, b"0.000 A  3E 00 TesterPresent zeroSubFunction -> 7E 00\n"), name, ran)
 
@@ -677,7 +695,7 @@ def main():
     if sys.argv[1:] == ["--pictures"]:
         return make_pictures()
     told.needs_program()
-    told.in_rooms(names, texts, lines_a_step, sessions, silence, late, beside, faults, pages)
+    told.in_rooms(names, texts, lines_a_step, sessions, silence, late, beside, parted, faults, pages)
     return told.ended()
 
 

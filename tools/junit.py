@@ -6,7 +6,8 @@ the difference as the failure's text. It reads standard input and writes standar
 
 The status is the one that the text tells: 0 where nothing differs, 8 where something does, 9 where nothing was compared,
 3 where the testers' lines are missing, for then the run ended by a fault. With 9 and 3 the report has an error, so it isn't
-green either. An exchange that is ignored is a test case that was skipped. No part of what is proved."""
+green either. An exchange that is ignored is a test case that was skipped. The status is 7 where the report couldn't be
+written, and 1 where a word stands behind the tool's name. No part of what is proved."""
 import os
 import signal
 import sys
@@ -18,6 +19,7 @@ sys.path.append(os.path.join(os.path.dirname(os.path.abspath(__file__)), "parts"
 import uds_words
 from uds_compared import FAULT, NOT_COMPARED, NOTHING, Compared, Report, read_report
 
+CANNOT_WRITE = 7
 # the most digits of a message in the name of a test case
 MOST_DIGITS = 32
 # the lines of an element
@@ -129,8 +131,13 @@ def main() -> int:
         print(__doc__, file=sys.stderr)
         return 0 if sys.argv[1] in ("-h", "--help") else 1
     report = read_report(sys.stdin)
-    for line in xml_of(report):
-        print(line)
+    try:
+        print("\n".join(xml_of(report)), flush=True)
+    except OSError as fault:
+        print(f"junit: cannot write: {fault.strerror}", file=sys.stderr)
+        # (what is left isn't tried again at the exit)
+        sys.stdout = None
+        return CANNOT_WRITE
     if report.stray:
         print(f"junit: {errors_of(report)[0]}", file=sys.stderr)
     return report.status()

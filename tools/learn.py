@@ -2,13 +2,13 @@
 """Makes the setup by which the server answers as the unit in a recording did, and says of what it can't explain where it
 stands.
 
-    tools/learn.py [--pair REQUEST:RESPONSE[=NAME]].. [--varies] CAPTURE > unit.toml
+    tools/learn.py [--pair REQUEST:RESPONSE[=NAME]].. [--interface NAME] [--varies] CAPTURE > unit.toml
 
 Example:
     tools/learn.py --pair 7E0:7E8=workshop --pair 7A0:7A8=end_of_line demo/other_unit.log > unit.toml
 
 CAPTURE is a recording of `candump -L`, or, where python-can is installed, one of ASC, BLF, TRC, CSV or MF4. The testers are
-the pairs that are given, or those that are found. With `--varies` an identifier that was read with different values, and
+the pairs that are given, or those that are found. With `--interface` the frames of one interface count. With `--varies` an identifier that was read with different values, and
 seeds that differ, aren't compared; without it their values come one after the other, round and round.
 
 The judge is `compare` of the program that ./uds_play starts: a setup is made, compared with the recording, and what differs
@@ -17,20 +17,21 @@ something does, which is told on standard error, exchange by exchange; 9 where n
 program's fault. No part of what is proved."""
 import argparse
 import os
+import re
 import shutil
 import subprocess
 import sys
 import tempfile
 import time
 from dataclasses import replace
-from typing import Iterable, Iterator, Optional
+from typing import Iterable, Iterator, NoReturn, Optional
 
 sys.dont_write_bytecode = True
 sys.path.append(os.path.join(os.path.dirname(os.path.abspath(__file__)), "parts"))
-from learn_bus import MOST_TESTERS, Pair, Sending, functional_of, look, pair_of, pairs_of, sending_of
-from learn_judge import AGREES, DIFFERS, NOTHING, Judge, Program, Refused, Verdict
+from learn_bus import MOST_TESTERS, Broken, Pair, Sending, functional_of, look, pair_of, pairs_of, sending_of
+from learn_judge import AGREES, DIFFERS, NOTHING, Exchange, Judge, Program, Refused, Verdict
 from learn_model import learn_model
-from learn_rows import Plan
+from learn_rows import MOST_BYTES, Plan
 from learn_setup import Unit, setup_text
 
 TOP = os.path.dirname(os.path.dirname(os.path.abspath(__file__)))
@@ -44,7 +45,7 @@ BLOCK = 1 << 22
 MOST_ROUNDS, MOST_IDLE = 16, 4
 # the most differences that are told one by one
 MOST_TOLD = 1000
-MOST_OF_11_BITS = 0x7FF
+MOST_OF_11_BITS, MOST_OF_29_BITS = 0x7FF, 0x1FFFFFFF
 
 
 class Progress:
@@ -108,7 +109,9 @@ def line_of(message) -> str:
     data = bytes(message.data).hex().upper()
     rest = f"#R{message.dlc}" if message.is_remote_frame else f"##0{data}" if message.is_fd else f"#{data}"
     us = round(message.timestamp * 1_000_000)
-    return "" if message.is_error_frame else f"({us // 1_000_000:010d}.{us % 1_000_000:06d}) can0 {identifier}{rest}\n"
+    channel = 0 if message.channel is None else message.channel
+    name = f"can{channel}" if str(channel).isdigit() else "".join(str(channel).split()) or "can0"
+    return "" if message.is_error_frame else f"({us // 1_000_000:010d}.{us % 1_000_000:06d}) {name} {identifier}{rest}\n"
 
 
 # ---- the testers
@@ -159,17 +162,34 @@ def learned(unit: Unit, judge: Judge, source: str, progress: Progress) -> tuple[
     return best
 
 
+def is_too_long(it: Exchange) -> bool:
+    """Whether a row can't have what the unit sent."""
+    return len(it.sent or b"") > MOST_BYTES
+
+
 def tell(verdict: Verdict, varies: bool) -> None:
     """Tells what differs."""
     differing = verdict.differing()
-    if not varies and any(it.request[:1] == b"\x22" for it in differing):
+    if not varies and any(it.request[:1] == b"\x22" and not is_too_long(it) for it in differing):
         say("with --varies the values that change aren't compared")
     for it in differing[:MOST_TOLD]:
-        say(it.told())
+        say(f"{it.told()}{f'; no row has an answer of more than {MOST_BYTES} bytes' if is_too_long(it) else ''}")
     if len(differing) > MOST_TOLD:
         say(f"and {len(differing) - MOST_TOLD} more")
+    for line in verdict.notes.splitlines():
+        say(line)
     if verdict.status == NOTHING:
         say("nothing was compared: no exchange of these testers is in the recording")
+
+
+def tell_broken(broken: Broken) -> None:
+    """Tells of the unit's messages that the recording doesn't have whole."""
+    at = f"{broken.first // 1000}.{broken.first % 1000:03d}"
+    why = "a frame is missing, or out of order; what was asked is learned as unanswered"
+    if broken.count == 1:
+        say(f"a message of the unit breaks off, begun at {at}: {why}")
+    elif broken.count:
+        say(f"{broken.count} messages of the unit break off, the first begun at {at}: {why}")
 
 
 # ---- the tool
@@ -186,17 +206,18 @@ def refuse(program: str, path: str, room: str) -> None:
     raise NoTester
 
 
-def unit_of(path: str, given: list[Pair], functional: Optional[int], varies: bool, progress: Progress) -> Unit:
-    """What the frames tell of the unit. NoTester where there is none."""
-    sight = look(progress.through(path, 0, 0.12, "the testers"))
+def unit_of(path: str, given: list[Pair], words: argparse.Namespace, progress: Progress) -> Unit:
+    """What the frames tell of the unit, by the words of the command line. NoTester where there is none."""
+    functional, interface = words.functional, words.interface
+    sight = look(progress.through(path, 0, 0.12, "the testers"), interface)
     pairs = testers_of(given, pairs_of(sight))
     if not pairs:
         raise NoTester
     narrow, wide = functional_of(sight, pairs), functional_of(sight, pairs, True)
     if functional is not None:
         narrow, wide = (functional, wide) if functional <= MOST_OF_11_BITS else (narrow, functional)
-    sending = sending_of(progress.through(path, 0.12, 0.2, "how they send"), pairs)
-    return Unit(pairs, narrow, sending, varies=varies, functional_29=wide)
+    sending = sending_of(progress.through(path, 0.12, 0.2, "how they send"), pairs, interface)
+    return Unit(pairs, narrow, sending, varies=words.varies, functional_29=wide)
 
 
 def program() -> str:
@@ -210,10 +231,25 @@ def program() -> str:
     return PROGRAM if path == "none" else f"{TOP}/{path}"
 
 
+def identifier_of(text: str) -> int:
+    """An identifier of the command line."""
+    if not re.fullmatch("(0[xX])?[0-9A-Fa-f]{1,8}", text) or int(text, 16) > MOST_OF_29_BITS:
+        raise argparse.ArgumentTypeError(f"{text} is no identifier: hex digits, up to {MOST_OF_29_BITS:X}")
+    return int(text, 16)
+
+
+class CommandLine(argparse.ArgumentParser):
+    """The words of the command line; where they are at fault the status is 1, as that of the program."""
+
+    def exit(self, status: int = 0, message: Optional[str] = None) -> NoReturn:
+        super().exit(min(status, 1), message)
+
+
 def arguments(given: Optional[list[str]]) -> argparse.Namespace:
-    words = argparse.ArgumentParser(description=__doc__, formatter_class=argparse.RawDescriptionHelpFormatter)
+    words = CommandLine(description=__doc__, formatter_class=argparse.RawDescriptionHelpFormatter)
     words.add_argument("--pair", action="append", default=[], metavar="REQUEST:RESPONSE[=NAME]", help="a tester; may stand several times")
-    words.add_argument("--functional", type=lambda it: int(it, 16), metavar="ID", help="the functional identifier, in hex")
+    words.add_argument("--functional", type=identifier_of, metavar="ID", help="the functional identifier, in hex")
+    words.add_argument("--interface", metavar="NAME", help="takes the frames of this interface alone")
     words.add_argument("--varies", action="store_true", help="values and seeds that change aren't compared")
     words.add_argument("--program", help=argparse.SUPPRESS)
     words.add_argument("capture", metavar="CAPTURE")
@@ -236,11 +272,11 @@ def main(given: Optional[list[str]] = None) -> int:
         try:
             path = converted(words.capture, room)
             try:
-                unit = unit_of(path, pairs, words.functional, words.varies, progress)
+                unit = unit_of(path, pairs, words, progress)
             except NoTester:
                 refuse(words.program, path, room)
             progress.at(0.2, "the exchanges")
-            judge = Program(words.program, path, room, [it.name for it in unit.pairs])
+            judge = Program(words.program, path, room, [it.name for it in unit.pairs], words.interface)
             text, verdict = learned(unit, judge, plain(os.path.basename(words.capture)), progress)
         except NoTester:
             say("no tester was found: --pair REQUEST:RESPONSE names one")
@@ -252,12 +288,21 @@ def main(given: Optional[list[str]] = None) -> int:
             say("this form of recording wants python-can (Debian's python3-can)")
             return 7
         except Refused as fault:
-            say(fault.told)
+            for line in fault.told.splitlines():
+                say(line)
             return fault.status
         finally:
             progress.end()
-    sys.stdout.write(text)
+    try:
+        sys.stdout.write(text)
+        sys.stdout.flush()
+    except OSError as fault:
+        say(f"cannot write: {fault.strerror}")
+        # (what is left isn't tried again at the exit)
+        sys.stdout = None
+        return 7
     tell(verdict, words.varies)
+    tell_broken(unit.sending.broken)
     return verdict.status if verdict.status in (DIFFERS, NOTHING) else AGREES
 
 

@@ -6,8 +6,7 @@
 
 RUN is what `serial`, `play`, `bus` or `bus --journal` wrote. The frames and the journal of one run may stand in two
 files, as `bus` writes them; without a journal the messages of the frames are shown. Of what `compare` wrote the page has
-the recorded unit and the server side by side. `-` is standard input. SETUP is read
-as TOML 1.0.
+the recorded unit and the server side by side. `-` is standard input.
 """
 import argparse
 import html
@@ -304,9 +303,16 @@ def show_exchanges(setup, name, text, title, as_text):
         sys.stdout.write(page(exchanges_data(setup, report, name, title), "exchanges"))
 
 
+class CommandLine(argparse.ArgumentParser):
+    """The words of the command line; where they are at fault the status is 1."""
+
+    def exit(self, status=0, message=None):
+        super().exit(min(status, 1), message)
+
+
 def main(given=None):
     """Runs the tool by these words, or by those of the command line; returns its status."""
-    words = argparse.ArgumentParser(description=__doc__, formatter_class=argparse.RawDescriptionHelpFormatter)
+    words = CommandLine(description=__doc__, formatter_class=argparse.RawDescriptionHelpFormatter)
     words.add_argument("--text", action="store_true", help="the journal in words, in place of the page")
     words.add_argument("setup", metavar="SETUP")
     words.add_argument("run", metavar="RUN", nargs="+")

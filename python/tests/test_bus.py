@@ -74,6 +74,31 @@ class BusTests(unittest.TestCase):
             time.sleep(0.5)
             self.assertEqual(unit.session, "default")
 
+    def test_silence_makes_no_entries(self) -> None:
+        self.ask("021003")
+        self.assertEqual(self.hear(), "7E8#065003003201F4CC")
+        time.sleep(1.0)
+        self.ask("023E00")
+        self.assertEqual(self.hear(), "7E8#027E00CCCCCCCCCC")
+        lines = self.unit.journal().splitlines()
+        # (a silent second would be twenty looks of the thread, each with an entry of either tester)
+        self.assertEqual([it.split(" ", 3)[2] for it in lines[1:]].count("P"), 2)
+        self.assertLess(len(lines), 14, lines)
+        self.assertGreater(int(lines[-1].split()[0]), 999)
+
+    def test_a_look_before_the_start(self) -> None:
+        from uds_unit.bus import UnitBus
+
+        self.unit.stop()
+        unit = UnitBus(self.far, SETUP, journal=True)
+        time.sleep(0.3)
+        self.assertEqual((unit.session, unit.holder, unit.journal()), ("default", None, "diag-journal 2\n"))
+        with unit:
+            self.ask("021003")
+            self.assertEqual(self.hear(), "7E8#065003003201F4CC")
+            time.sleep(0.2)
+            self.assertGreater(int(unit.journal().splitlines()[-1].split()[0]), 199)
+
     def test_29_bits(self) -> None:
         from uds_unit.bus import UnitBus
 
@@ -115,6 +140,9 @@ class ProgramTests(unittest.TestCase):
             ran = self.run_program("--interface", "virtual", "--channel", "x", "--seconds", "0.3", "--journal", f"{room}/j", str(SETUP))
             self.assertEqual((ran.returncode, ran.stdout, ran.stderr), (0, "", ""))
             self.assertTrue(Path(f"{room}/j").read_text().startswith("diag-journal 2\n"))
+            # a journal that can't be written is told at once, and not behind the run
+            ran = self.run_program("--interface", "virtual", "--channel", "x", "--journal", f"{room}/none/j", str(SETUP))
+            self.assertEqual((ran.returncode, "No such file" in ran.stderr), (1, True), ran.stderr)
 
     def test_faults(self) -> None:
         with tempfile.NamedTemporaryFile("w", suffix=".toml") as it:

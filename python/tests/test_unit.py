@@ -3,7 +3,7 @@ import os
 import unittest
 from pathlib import Path
 
-from uds_unit import ClosedFault, Frame, FrameFault, SetupFault, Unit, UnitFault
+from uds_unit import ClosedFault, Frame, FrameFault, SetupFault, Unit, UnitFault, toml
 
 SETUP = Path(__file__).resolve().parent.parent.parent / "demo/setup.toml"
 EXTENDED = bytes.fromhex("021003")
@@ -144,6 +144,33 @@ class SetupTests(unittest.TestCase):
         for setup in (str(SETUP), SETUP, os.fspath(SETUP), SETUP.read_bytes()):
             with Unit(setup) as unit:
                 self.assertEqual(unit.testers, ("workshop", "end_of_line"))
+
+
+class TomlTests(unittest.TestCase):
+    def test_a_setup_of_toml_1_1(self) -> None:
+        text = b"""tester = [
+          {   # an inline table of several lines, with a comma at its end
+            name = "\\x41",
+            request = 0x7E0, response = 0x7E8,
+          },
+        ]
+        """
+        for setup in (text, text.replace(b"\n", b"\r\n"), b"\xef\xbb\xbf" + text):
+            with Unit(setup) as unit:
+                self.assertEqual(unit.testers, ("A",))
+                self.assertEqual(unit.frame(0.0, 0x7E0, bytes.fromhex("023E00"))[0].tester, "A")
+
+    def test_text(self) -> None:
+        for text, wanted in (
+            ("a = { b = 1,\n c = [1,\n2, # x }\n],\n # y\n}\nz = '#{,}'\n", {"a": {"b": 1, "c": [1, 2]}, "z": "#{,}"}),
+            ('s = "a\\x41\\e\\\\x41"\nt = \'\\x41\'\n', {"s": "aA\x1b\\x41", "t": "\\x41"}),
+            ('s = """a\n\\x41 "" "\n\\""""\n[[x]]\ny = { }\n', {"s": 'a\nA "" "\n"', "x": [{"y": {}}]}),
+            ("y = {\n b = \"}\\\"\",\n c = \'\'\'q\n,}\'\'\',\n}\n", {"y": {"b": '}"', "c": "q\n,}"}}),
+        ):
+            self.assertEqual(toml.loads(text), wanted)
+        for text in ("a = { b = 1,, }", "a = 1,\nb", "a = {\nb = 1", "[a\n]"):
+            with self.assertRaises(ValueError):
+                toml.loads(text)
 
 
 if __name__ == "__main__":

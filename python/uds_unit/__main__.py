@@ -1,5 +1,6 @@
 """A unit on a bus of python-can, as a program: python -m uds_unit --interface socketcan --channel can0 setup.toml"""
 import argparse
+import os
 import sys
 import time
 
@@ -31,13 +32,13 @@ def main(words: list[str] | None = None) -> int:
     try:
         with can.Bus(interface=given.interface, channel=given.channel, **more) as bus:
             unit = UnitBus(bus, given.setup, journal=given.journal is not None)
-            try:
-                with unit:
-                    _wait(unit, given.seconds)
-            finally:
-                if given.journal is not None:
-                    with open(given.journal, "w", encoding="ascii") as file:
-                        file.write(unit.journal())
+            # (it is opened first: a path that can't be written is told before the run, and not behind it)
+            with open(os.devnull if given.journal is None else given.journal, "w", encoding="ascii") as file:
+                try:
+                    with unit:
+                        _wait(unit, given.seconds)
+                finally:
+                    file.write(unit.journal())
     except UnitFault as fault:
         print(f"uds_unit: {fault}", file=sys.stderr)
         return 2

@@ -52,6 +52,7 @@ class UnitBus:
             self._thread.join()
         with self._lock:
             if not self._closed:
+                self._catch_up()
                 self._told += self._unit.journal()
                 self._unit.close()
                 self._closed = True
@@ -68,42 +69,56 @@ class UnitBus:
     def session(self) -> str:
         """The session, as `Unit.session`."""
         with self._lock:
+            self._catch_up()
             return self._unit.session
 
     @property
     def holder(self) -> str | None:
         """The tester in a session other than the default one, as `Unit.holder`."""
         with self._lock:
+            self._catch_up()
             return self._unit.holder
 
     @property
     def codes(self) -> Mapping[int, int]:
         """The DTCs with their status, as they are now."""
         with self._lock:
+            self._catch_up()
             return dict(self._unit.codes)
 
     @property
     def values(self) -> Mapping[int, bytes]:
         """The values of the data identifiers, as they are now."""
         with self._lock:
+            self._catch_up()
             return dict(self._unit.values)
 
     def set_value(self, id: int, value: bytes) -> None:
         """Sets the value of a data identifier, as the ECU's own software does."""
         with self._lock:
+            self._catch_up()
             self._unit.values[id] = value
 
     def set_code(self, code: int, status: int) -> None:
         """Sets the status of a DTC, as the ECU's own software does."""
         with self._lock:
+            self._catch_up()
             self._unit.codes[code] = status
 
     def journal(self) -> str:
         """The whole journal so far; empty where the unit keeps none."""
         with self._lock:
             if not self._closed:
+                self._catch_up()
                 self._told += self._unit.journal()
             return self._told
+
+    def _catch_up(self) -> None:
+        """Lets the unit's time pass up to now, where it was started and no frame is due before: those are the thread's. While
+        nothing comes and nothing is asked no time passes, so a silent bus makes no entries of a journal."""
+        due, now = self._unit.due, self._now()
+        if self._thread is not None and (due is None or now < due):
+            self._unit.advance(now)
 
     # ---- the thread
 
@@ -127,11 +142,8 @@ class UnitBus:
         with self._lock:
             while (due := self._unit.due) is not None and due <= self._now():
                 self._send(self._unit.advance(due))
-            now = self._now()
-            if heard is None or not _is_classic(heard):
-                self._send(self._unit.advance(now))
-            else:
-                self._send(self._unit.frame(now, heard.arbitration_id, heard.data, extended=heard.is_extended_id))
+            if heard is not None and _is_classic(heard):
+                self._send(self._unit.frame(self._now(), heard.arbitration_id, heard.data, extended=heard.is_extended_id))
 
     def _send(self, frames: list[Frame]) -> None:
         for frame in frames:

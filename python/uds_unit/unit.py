@@ -1,11 +1,10 @@
 """The unit: frames and moments go in, frames come out."""
 import os
-import tomllib
 from collections.abc import Iterator, MutableMapping
 from ctypes import byref, c_size_t, c_uint16, c_uint64, create_string_buffer
 from typing import NamedTuple, Self
 
-from . import library
+from . import library, toml
 from .faults import ClosedFault, FrameFault, MemoryFault, SetupFault
 from .library import CLOSED, DONE, LENGTH, MEMORY, NO_FRAME, NONE, ROOM, UNKNOWN, Code, Handle, Reply, State
 
@@ -67,7 +66,7 @@ class Unit:
             raise MemoryFault("memory")
         if status != DONE:
             raise SetupFault(text.value.decode().strip().removeprefix("uds_play: "))
-        tree = tomllib.loads(config.decode().removeprefix("\ufeff"))
+        tree = toml.loads(config.decode().removeprefix("\ufeff"))
         self.testers: tuple[str, ...] = tuple(tester["name"] for tester in tree["tester"])
         """The testers' names, in the order of the setup."""
         self.codes: Codes = Codes(self)

@@ -62,18 +62,19 @@ def pair_of(text: str) -> Pair:
     CAN FD (REQUEST:RESPONSE:fd), which a setup can't have."""
     found = PAIR.fullmatch(text)
     if not found or len(found["request"]) != len(found["response"]):
-        raise ValueError(f"{text}: it is REQUEST:RESPONSE=NAME, with identifiers of 3 hex digits, or of 8")
+        raise ValueError(f"{text}: it is REQUEST:RESPONSE=NAME, with identifiers of 3 hex digits, or of 8, and a name of 1 to 16 letters, digits or _")
     if found["fd"]:
         raise ValueError(f"{text}: CAN FD can't be learned yet")
     request, response = found["request"], found["response"]
     return Pair(int(request, 16), int(response, 16), len(request) == 8, found["name"] or "")
 
 
-def frames_of(blocks: Iterable[str], identifiers: str, data: str) -> Iterator[tuple[int, str, str]]:
-    """The classic frames in blocks of whole lines whose identifier and data fit these patterns: each frame's moment in
-    milliseconds, its identifier, and its data, as upper-case digits."""
+def frames_of(blocks: Iterable[str], identifiers: str, data: str, interface: Optional[str] = None) -> Iterator[tuple[int, str, str]]:
+    """The classic frames in blocks of whole lines whose identifier and data fit these patterns, of one interface or of any:
+    each frame's moment in milliseconds, its identifier, and its data, as upper-case digits."""
+    name = r"\S+" if interface is None else re.escape(interface)
     # (a pattern that begins with letters is looked for more quickly than one that begins with a line's start)
-    pattern = re.compile(rf"\n\((\d{{1,12}})\.(\d{{3}})\d*\) +\S+ +((?i:{identifiers}))#((?i:{data})(?:[0-9A-Fa-f]{{2}})*)")
+    pattern = re.compile(rf"\n\((\d{{1,12}})\.(\d{{3}})\d*\) +{name} +((?i:{identifiers}))#((?i:{data})(?:[0-9A-Fa-f]{{2}})*)")
     for block in blocks:
         for found in pattern.finditer("\n" + block):
             seconds, parts, identifier, digits = found.groups()
@@ -93,10 +94,10 @@ class Sight:
     present: Counter = field(default_factory=Counter)
 
 
-def look(blocks: Iterable[str]) -> Sight:
+def look(blocks: Iterable[str], interface: Optional[str] = None) -> Sight:
     """Looks at all frames that can be a SingleFrame, or the FirstFrame of an answer."""
     sight, recent = Sight(), defaultdict(dict)
-    for now, identifier, data in frames_of(blocks, "[0-9A-F]{3}|[0-9A-F]{8}", "0[1-7]|1[0-9A-F][0-9A-F]{2}"):
+    for now, identifier, data in frames_of(blocks, "[0-9A-F]{3}|[0-9A-F]{8}", "0[1-7]|1[0-9A-F][0-9A-F]{2}", interface):
         at = 2 if data[0] == "0" else 4
         if at == 2 and len(data) < 2 + 2 * int(data[1]):
             continue
@@ -190,10 +191,46 @@ def functional_of(sight: Sight, pairs: list[Pair], is_extended: bool = False) ->
 
 
 @dataclass
+class Broken:
+    """Messages of several frames of the unit of which a frame isn't in the recording, or has another sequence number: how
+    many, and when the first one began, in milliseconds. What a tester didn't let come isn't among them."""
+
+    count: int = 0
+    first: int = 0
+    # of each identifier: when the message began, how many bytes are wanted still, the next sequence number, and whether the
+    # tester let them come; and the kind of its latest frame
+    open: dict[str, tuple[int, int, int, bool]] = field(default_factory=dict)
+    last: dict[str, str] = field(default_factory=dict)
+
+    def take(self, now: int, identifier: str, data: str) -> None:
+        """A frame of the unit."""
+        kind, size = data[:1], len(data) // 2
+        if kind not in ("0", "1", "2"):
+            return
+        begun, wanted, number, is_let = self.open.pop(identifier, (now, 0, 0, False))
+        if wanted and kind == "2" and int(data[1], 16) == number:
+            if wanted > size - 1:
+                self.open[identifier] = begun, wanted - (size - 1), (number + 1) % 16, True
+        elif is_let if wanted else kind == "2" and self.last.get(identifier, "2") != "2":
+            self.first = self.first if self.count else begun
+            self.count += 1
+        if kind == "1" and size == 8:
+            self.open[identifier] = now, length_of(data) - (6 if int(data[1:4], 16) else 2), 1, False
+        self.last[identifier] = kind
+
+    def let(self, identifier: str, data: str) -> None:
+        """FlowControl of the tester that has the answers of this identifier."""
+        if identifier in self.open:
+            begun, wanted, number, _ = self.open.pop(identifier)
+            if data[1:2] in ("0", "1"):
+                self.open[identifier] = begun, wanted, number, True
+
+
+@dataclass
 class Sending:
     """How the unit and its testers send: the padding byte, None for none; block size and STmin of the unit's flow control;
     the longest request; the longest time within a request, and from an answer's FirstFrame to its flow control, in
-    milliseconds."""
+    milliseconds; and which messages of the unit are broken."""
 
     pad: Optional[int] = 0xCC
     block_size: int = 0
@@ -201,17 +238,21 @@ class Sending:
     longest: int = 0
     n_cr: int = 0
     n_bs: int = 0
+    broken: Broken = field(default_factory=Broken)
 
 
-def sending_of(blocks: Iterable[str], pairs: list[Pair]) -> Sending:
+def sending_of(blocks: Iterable[str], pairs: list[Pair], interface: Optional[str] = None) -> Sending:
     """How the frames of these pairs are sent."""
     found, fills, flows = Sending(), Counter(), Counter()
     requests = dict(it.texts() for it in pairs)
     responses = set(requests.values())
     last, waits = {}, {}
-    for now, identifier, data in frames_of(blocks, "|".join([*requests, *responses]), ""):
+    for now, identifier, data in frames_of(blocks, "|".join([*requests, *responses]), "", interface):
         kind = data[:1]
+        if kind == "3" and identifier in requests:
+            found.broken.let(requests[identifier], data)
         if identifier in responses:
+            found.broken.take(now, identifier, data)
             count_filling(fills, data)
             if kind == "3" and len(data) >= 6:
                 flows[int(data[2:4], 16), int(data[4:6], 16)] += 1

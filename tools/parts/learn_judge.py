@@ -6,6 +6,13 @@ from dataclasses import dataclass
 from typing import Callable, Iterable, Optional
 
 AGREES, DIFFERS, NOTHING = 0, 8, 9
+# the most digits of a message that is told
+MOST_DIGITS = 64
+
+
+def shortened(digits: str) -> str:
+    """A message's digits, of many the first ones and how many bytes there are."""
+    return digits if len(digits) <= MOST_DIGITS else f"{digits[: MOST_DIGITS - 16]}.. ({len(digits) // 2} bytes)"
 
 
 @dataclass(slots=True)
@@ -30,25 +37,26 @@ class Exchange:
 
     def told(self) -> str:
         """The difference in words."""
-        sent = "nothing" if self.sent is None else self.sent.hex().upper()
-        expected = "nothing" if self.expected == "-" else self.expected
-        asked = "which nobody asked for" if self.kind == "U" else f"to {self.request.hex().upper()}, expected {expected}"
+        sent = "nothing" if self.sent is None else shortened(self.sent.hex().upper())
+        expected = "nothing" if self.expected == "-" else shortened(self.expected)
+        asked = "which nobody asked for" if self.kind == "U" else f"to {shortened(self.request.hex().upper())}, expected {expected}"
         return f"line {self.line}: {self.name} was sent {sent} {asked}"
 
 
 @dataclass
 class Verdict:
-    """What the judge says of a setup: its exchanges in the order of their lines, and the status."""
+    """What the judge says of a setup: its exchanges in the order of their lines, the status, and its notes."""
 
     exchanges: list[Exchange]
     status: int
+    notes: str = ""
 
     def differing(self) -> list[Exchange]:
         return [it for it in self.exchanges if it.differs()]
 
 
 class Refused(Exception):
-    """The program doesn't take the recording, or the setup; with its status and what it tells."""
+    """The program doesn't take the recording, or the setup; with its status and what it tells, its notes too."""
 
     def __init__(self, status: int, told: str):
         super().__init__(told)
@@ -83,20 +91,23 @@ def read_exchanges(lines: Iterable[str], names: Iterable[str]) -> list[Exchange]
 
 
 class Program:
-    """`compare` of the built program, on a recording."""
+    """`compare` of the built program, on a recording, or on one interface of it."""
 
-    def __init__(self, program: str, capture: str, room: str, names: list[str]):
+    def __init__(self, program: str, capture: str, room: str, names: list[str], interface: Optional[str] = None):
         self.program, self.capture, self.room, self.names = program, capture, room, names
+        self.flags = [] if interface is None else [f"--interface={interface}"]
 
     def __call__(self, setup: str) -> Verdict:
         path = f"{self.room}/setup.toml"
         with open(path, "w", encoding="utf-8") as it:
             it.write(setup)
         with open(f"{self.room}/told", "w+", encoding="utf-8", errors="replace") as told:
-            words = [self.program, "--quiet", "compare", path, self.capture]
+            words = [self.program, "compare", *self.flags, path, self.capture]
             with subprocess.Popen(words, stdout=subprocess.PIPE, stderr=told, encoding="utf-8") as child:
                 found = read_exchanges(child.stdout, self.names)
             told.seek(0)
-            if child.returncode not in (AGREES, DIFFERS, NOTHING):
-                raise Refused(child.returncode, told.read().strip())
-        return Verdict(found, child.returncode)
+            # (no file of this tool's own is named)
+            notes = told.read().strip().replace(f"{self.room}/", "")
+        if child.returncode not in (AGREES, DIFFERS, NOTHING):
+            raise Refused(child.returncode, notes)
+        return Verdict(found, child.returncode, notes)

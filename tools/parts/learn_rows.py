@@ -226,6 +226,12 @@ def fewest(unit: Unit, cases: list[Case]) -> list[Row]:
 # ---- the rows of a unit
 
 
+def is_refused_key(it: Exchange) -> bool:
+    """Whether the unit refused a key that the server takes."""
+    is_key = len(it.request) > 2 and it.request[0] == 0x27 and sub_of(it) % 2 == 0
+    return is_key and it.expected.startswith("67") and (it.sent or b"").startswith(b"\x7f")
+
+
 class Plan:
     """Which requests have rows, at which stage, and the rows that come of it."""
 
@@ -243,10 +249,14 @@ class Plan:
         own = [it for it in differing if it[0] not in lacking and self.stages.get(it) != Stage.IN_ORDER_ALONE]
         # what the others are answered depends on the session: as long as that isn't explained, they are looked at anew
         first = [it for it in own if it not in self.stages or it[0] in OF_THE_SESSION]
+        # a wrong key that any key's level takes unlocks: what differs behind that may differ for this alone
+        refused = {it.request[: MOST_ITEMS + 1] for it in exchanges if it.differs() and is_refused_key(it)} - set(self.stages)
+        if refused:
+            first, lacking = sorted(refused), set()
         self.services |= lacking
         for request in first or own:
             self.stages[request] = self.stage_behind(request)
-        return bool(lacking or own)
+        return bool(lacking or first or own)
 
     def stage_behind(self, request: bytes) -> Stage:
         """How a request is explained that differs as it is explained now."""

@@ -1,12 +1,15 @@
 """Reads a setup and what the program wrote of a run, and follows the session through the journal: who holds it, which
 session it is, which level is unlocked, which routines run, and which row of answers decides. For tools/view.py and the
 slow twin; no part of what is proved."""
+import os
 import re
-import tomllib
+import sys
 from dataclasses import dataclass, field
 
+sys.path.append(os.path.join(os.path.dirname(os.path.abspath(__file__)), "..", "..", "python"))
 from uds_names import SERVICES
 from uds_rules import rows_of, times_of
+from uds_unit import toml
 
 REPLY_LINE = re.compile(r"\((\d{10,})\.(\d{3})000\) (\S+) ([0-9A-F]{3}|[0-9A-F]{8})#((?:[0-9A-F]{2}){0,8})")
 ENTRY = re.compile(r"(?:(\d+) )?([1-8]) (?:T (\d+)|([PF]) ((?:[0-9A-F]{2})+) (-|(?:[0-9A-F]{2})+))")
@@ -44,7 +47,7 @@ def own_id(tester, key, default=None):
 def read_setup(text):
     """The setup of a TOML text. The program looks at all of it; here only what is used is read."""
     try:
-        tree = tomllib.loads(text.removeprefix("\ufeff"))
+        tree = toml.loads(text.removeprefix("\ufeff"))
         return Setup(
             [str(it["name"]) for it in tree["tester"]],
             [own_id(it, "response") for it in tree["tester"]],

@@ -7,9 +7,15 @@ from uds_names import SERVICES, negative_name, service_name, sub_name
 MOST = 64
 # the sizes of the parts behind the service identifier; what is left is one part more
 REQUEST_PARTS = {
-    0x10: (1,), 0x11: (1,), 0x14: (3,), 0x19: (1, 1), 0x27: (1,), 0x2E: (2,), 0x31: (1, 2), 0x3E: (1,), 0x85: (1, 3),
+    0x10: (1,), 0x11: (1,), 0x14: (3,), 0x27: (1,), 0x2E: (2,), 0x31: (1, 2), 0x3E: (1,), 0x85: (1, 3),
 }
 REPLY_PARTS = {0x50: (1, 2, 2), 0x51: (1,), 0x67: (1,), 0x6E: (2,), 0x71: (1, 2, 1), 0x7E: (1,), 0xC5: (1,)}
+# of service 19, by the sub-function: the parts behind it in a request, and those in a reply
+DTC_MASK, DTC_RECORD = (1,), (3, 1)
+DTC_REQUEST_PARTS = {0x01: DTC_MASK, 0x02: DTC_MASK, 0x03: (), 0x04: DTC_RECORD, 0x06: DTC_RECORD, 0x09: (3,), 0x0A: ()}
+DTC_REPLY_PARTS = {0x01: (1, 1, 2), 0x04: (3, 1, 1), 0x06: (3, 1, 1)}
+# those whose reply is a list of DTCs with their status, behind the availability
+DTC_LISTS = (0x02, 0x0A, 0x0B, 0x0C, 0x0D, 0x0E, 0x15)
 # what became of a request, where no reply stands
 WITHOUT_REPLY = {"suppressed": "no reply (suppressed)", "silent": "no reply (refused)", "empty": "no reply (by its row)"}
 # the sessions that have a name besides the default one
@@ -49,10 +55,16 @@ def join(texts):
     return " ".join(texts if len(texts) <= 24 else [*texts[:16], f".. ({len(texts) - 16} more)"])
 
 
+def request_sizes(data):
+    if data[0] != 0x19:
+        return REQUEST_PARTS.get(data[0], ())
+    return 1, *DTC_REQUEST_PARTS.get(data[1] & 0x7F if len(data) > 1 else None, ())
+
+
 def request_digits(data):
     """A request in hex, in the parts of its service."""
     sid = data[0]
-    sizes = repeat(2) if sid == 0x22 else REQUEST_PARTS.get(sid, ())
+    sizes = repeat(2) if sid == 0x22 else request_sizes(data)
     found = [digits(it) for it in parts(data[1:], sizes)]
     if sid == 0x2E and len(data) > 3:
         found[1] = value(data[3:])
@@ -74,7 +86,8 @@ def read_values(data, setup):
 def reply_sizes(data):
     if data[0] != 0x59:
         return REPLY_PARTS.get(data[0], ())
-    return (1, 1, 1, 2) if data[1:2] == b"\x01" else chain((1, 1), cycle((3, 1)))
+    sub = data[1] if len(data) > 1 else None
+    return chain((1, 1), cycle((3, 1))) if sub in DTC_LISTS else (1, *DTC_REPLY_PARTS.get(sub, ()))
 
 
 def reply_digits(data, setup):
