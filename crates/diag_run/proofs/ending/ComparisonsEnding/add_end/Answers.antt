@@ -18,15 +18,13 @@ returns-in_ok-extend_from_slice-in-Agrees-clause-ok c =
 pub returns-in_default : goal.returns-in_default
 returns-in_default c =
     let setup = c.args.setup.now in
-    let v = c.in_default.verdict in
-    let is = c.in_default.verdict-is in
-    let same : c.verdict.result ≡ v = cc in
+    let v = c.verdict.result in
     record {
       ok = tt;
       err = (
         verdict_text setup v,
         subst (λ o. IfSome o (λ t. t.items ≡ verdict_text setup v)) (sym c.ok-told.ensures.value) (ok_line c.verdict_text.result (verdict_text setup v) c.verdict_text.ensures),
-        λ lines took ecu. ap (judged_by setup lines) (sym (sym same ∙ c.verdict.ensures lines took)) ∙ told_otherwise setup lines v c.in_default.not-Agrees,
+        λ lines took ecu. ap (judged_by setup lines) (sym (c.verdict.ensures lines took)) ∙ told_otherwise setup lines v c.in_default.not-Agrees,
       );
       kept = refl;
     }
