@@ -1,5 +1,6 @@
 pub mod Ends
 pub mod Entering
+pub mod Idle
 pub mod LineEnds
 pub mod Lines
 pub mod Takings

@@ -1,7 +1,6 @@
 -- A line taken by each tester.
 use Rattle.std.proofs.Common.{◌≡◌, ◌≤◌, ◌<◌, inl, inr, ℕ, zero, suc, ◌+◌, Bool, true, false, Option, Some, None, List, [], ◌∷◌, ◌++◌, length, map, refl, ap, ap₂, subst, sym, ◌∙◌, append_assoc, arith}
 use Rattle.std.proofs.lemmas.List.{append-nil, map-append}
-use Rattle.std.proofs.lemmas.Option.{slice_get_within}
 use Rattle.std.specs.List.{filter, flat_map}
 use Rattle.std.specs.Prelude.{◌==◌, if◌then◌else◌, slice_get, slice_set}
 use Rattle.diag_can.specs.Log.{waited}
@@ -151,9 +150,6 @@ AreTakenTo setup lines line K testers index = (i : ℕ) (tester : Tester) → sl
     → (i < index → IsTester setup (lines ++ line ∷ []) [] (i + 1) tester) × (index ≤ i → IsTester setup lines K (i + 1) tester)
 
 module _ (setup : RawSetup) (lines : List (List ℕ)) (line : List ℕ) (K : List Entry) where
-  pub taken_none : (testers : List Tester) → AreTesters setup lines K testers → AreTakenTo setup lines line K testers 0
-  taken_none testers h = λ i tester is. (λ less. absurd (omega (arith, less)), λ above. h i tester is)
-
   pub taken_one : (testers : List Tester) (i : ℕ) (new : Tester) → AreTakenTo setup lines line K testers i
       → IsTester setup (lines ++ line ∷ []) [] (i + 1) new → AreTakenTo setup lines line K (slice_set testers i new) (i + 1)
   taken_one testers i new h own = λ k tester is. elim (set_cases testers i k new tester is) [
@@ -167,10 +163,6 @@ module _ (setup : RawSetup) (lines : List (List ℕ)) (line : List ℕ) (K : Lis
       λ above. (h k tester p.1).1 (omega (arith, above)),
     )
   ]
-
-  pub taken_all : (testers : List Tester) (index : ℕ) → length testers ≤ index → AreTakenTo setup lines line K testers index
-      → AreTesters setup (lines ++ line ∷ []) [] testers
-  taken_all testers index all h = λ i tester is. (h i tester is).0 (let within = slice_get_within testers i tester is in omega (arith, within, all))
 
   pub over_more : (i : ℕ) → flat_map (over_by (expects setup) setup lines line) (counted_from 1 (i + 1))
       ≡ flat_map (over_by (expects setup) setup lines line) (counted_from 1 i) ++ over_by (expects setup) setup lines line (i + 1)

@@ -1,3 +1,4 @@
 pub mod Compared
+pub mod Idle
 pub mod Keeping
 pub mod Ticks

@@ -1,6 +1,6 @@
 //! What is kept of a recording, and the lines of exchanges that are over.
 
-ghost use Rattle.std.specs.Prelude.{◌≡◌, ◌≤◌, ◌+◌, ◌∷◌, [], ◌++◌, ℕ, List, length, option_copied, option_map, IfOk, OnOk, OnErr, Ok};
+ghost use Rattle.std.specs.Prelude.{◌≡◌, ◌<◌, ◌≤◌, ◌+◌, ◌^◌, ◌∷◌, [], ◌++◌, ℕ, List, length, option_copied, option_map, IfOk, OnOk, OnErr, Ok};
 ghost use Rattle.diag_can.specs.declared.bus_line.BusLine.{BusLine as ABusLine};
 ghost use Rattle.diag_desk.specs.Entries.{asks};
 ghost use Rattle.diag_desk.specs.declared.entry.Entry.{Entry};
@@ -12,8 +12,10 @@ ghost use Rattle.diag_bus.specs.ResponseIds.{AreResponsesOf};
 ghost use Rattle.diag_bus.specs.Text.{ecu_after};
 ghost use Rattle.diag_port.specs.Port.{Grew};
 ghost use Rattle.diag_compare.specs.Hearing.{unit_side};
+ghost use Rattle.diag_comparing.specs.Idle.{AreIdleOutside, HasNoneOutside, IsIdle, IsOutside, IsWider};
 ghost use Rattle.diag_comparing.specs.Keeping.{HasTaken, IsUnitFrame, TakesEach, TakesEnd, bytes_to, sent_to};
 
+use crate::range::Range;
 use crate::stamps::Stamps;
 use crate::telling::write_batch;
 use diag_bus::{Clock, ResponseIds};
@@ -41,6 +43,8 @@ pub struct ExchangeLines {
     pub responses: ResponseIds,
     /// The testers, in the setup's order.
     pub testers: Vec<Tester>,
+    /// Outside it all testers are idle.
+    pub busy: Range,
     /// Room for what is over with a line.
     pub batch: Vec<Judged>,
     /// Room for its lines.
@@ -121,32 +125,68 @@ fn next(number: u64) -> Result<u64, AllocError>
     number.checked_add(1).ok_or(AllocError)
 }
 
-/// Gives the end of a line to each tester; what is over with it is put behind `judged`, one tester behind the other.
+/// Which testers may have something to take with a line: those that may be busy, and the one that the frame is to.
+fn asked(busy: Range, sent: Option<&UnitFrame>) -> Range
+    ensures busy { IsWider busy result }
+    ensures sent { HasNoneOutside result (option_copied sent.entry) }
+{
+    match sent {
+        Some(sent) => busy.with(sent.who.index()),
+        None => busy,
+    }
+}
+
+/// Gives the end of a line to each tester that it may concern, which are those in a range; what is over with it is put
+/// behind `judged`, one tester behind the other. The range that is returned has those that aren't idle then.
 fn take_each(
     testers: &mut Vec<Tester>,
-    responses: &ResponseIds,
+    range: Range,
+    sent: Option<&UnitFrame>,
     setup: &Setup,
     at: CaptureLine,
     said: &BusLine,
     span: u64,
     judged: &mut Vec<Judged>,
-) -> Result<(), AllocError>
+) -> Result<Range, AllocError>
     requires many { length testers.old.items ≡ length setup.now.testers }
-    requires responses { AreResponsesOf setup.now responses.now }
+    requires sent { IsUnitFrame setup.now (frame_said said.now) (option_copied sent) }
+    requires none { HasNoneOutside range (option_copied sent) }
+    requires idle { AreIdleOutside range testers.old.items }
     ensures each { OnOk result (TakesEach setup.now at said.now span
         testers.old.items testers.new.items judged.old.items judged.new.items) }
     ensures many { length testers.new.items ≡ length testers.old.items }
+    ensures left { IfOk result (λ left. AreIdleOutside left testers.new.items) }
+    ensures idle { AreIdleOutside range testers.new.items }
 {
+    // (for its contract: the frame is that of this line)
+    let _said = said;
     let alloc = *judged.allocator();
-    let sent = unit_frame(responses, setup, said);
-    for index in 0..testers.len() {
+    let end = range.end.min(testers.len());
+    let first = range.first.min(end);
+    let mut left = Range::none();
+    for index in first..end {
         let Some(who) = setup.who(index) else {
             unreachable!()
         };
-        let frame = bytes_to(sent.as_ref(), who);
+        let frame = bytes_to(sent, who);
         testers[index].take_line(alloc, setup, who, at, span, frame, judged)?;
+        left = left_with(left, index, &testers[index]);
     }
-    Ok(())
+    Ok(left)
+}
+
+/// A range that has this tester too, unless it is idle.
+#[inline(always)]
+fn left_with(left: Range, index: usize, tester: &Tester) -> Range
+    requires { index < 2 ^ 63 }
+    ensures wider { IsWider left result }
+    ensures has { IsOutside result index → IsIdle tester.now }
+{
+    if tester.is_idle() {
+        left
+    } else {
+        left.with(index)
+    }
 }
 
 impl ExchangeLines {
@@ -162,6 +202,7 @@ impl ExchangeLines {
                 testers: Vec::new(alloc),
             },
             testers: Vec::new(alloc),
+            busy: Range::none(),
             batch: Vec::new(alloc),
             text: Vec::new(alloc),
         }
@@ -174,6 +215,7 @@ impl ExchangeLines {
     pub fn set_up(&mut self, alloc: Global, setup: &Setup) -> Result<(), AllocError>
         ensures taken { OnOk result (HasTaken self.new setup.now [] []) }
         ensures responses { OnOk result (AreResponsesOf setup.now self.new.responses) }
+        ensures idle { OnOk result (AreIdleOutside self.new.busy self.new.testers.items) }
         ensures differences { self.new.differences ≡ self.old.differences }
     {
         let mut testers = Vec::new(alloc);
@@ -186,6 +228,7 @@ impl ExchangeLines {
         let responses = ResponseIds::new(alloc, setup)?;
         self.responses = responses;
         self.testers = testers;
+        self.busy = Range::none();
         self.lines = 0;
         self.stamps = Stamps::new();
         Ok(())
@@ -207,6 +250,8 @@ impl ExchangeLines {
             → HasTaken self.old setup lines K
             → HasTaken self.new setup lines (K ++ asks who request.now (option_copied reply.entry) ∷ [])) }
         ensures many { length self.new.testers.items ≡ length self.old.testers.items }
+        ensures idle { AreIdleOutside self.old.busy self.old.testers.items
+            → AreIdleOutside self.new.busy self.new.testers.items }
         ensures responses { self.new.responses ≡ self.old.responses }
         ensures differences { self.new.differences ≡ self.old.differences }
     {
@@ -216,6 +261,7 @@ impl ExchangeLines {
         }
         let alloc = *self.testers.allocator();
         let entered = Entered::of(alloc, ecu, who, request, reply)?;
+        self.busy = self.busy.with(index);
         self.testers[index].enter(entered)
     }
 
@@ -234,10 +280,12 @@ impl ExchangeLines {
     ) -> Result<(), AllocError>
         requires many { length self.old.testers.items ≡ length setup.now.testers }
         requires responses { AreResponsesOf setup.now self.old.responses }
+        requires idle { AreIdleOutside self.old.busy self.old.testers.items }
         ensures taken { OnOk result (Grew text.old.items text.new.items
             (TakesEnd setup.now self.old self.new said.now span clock.now)) }
         ensures err { OnErr result (text.new.items ≡ text.old.items) }
         ensures many { length self.new.testers.items ≡ length self.old.testers.items }
+        ensures idle { AreIdleOutside self.new.busy self.new.testers.items }
         ensures responses { self.new.responses ≡ self.old.responses }
         ensures differences { self.new.differences ≡ self.old.differences }
     {
@@ -247,10 +295,12 @@ impl ExchangeLines {
             moment: clock.time,
         };
         self.batch.clear();
-        self.text.clear();
-        take_each(
+        let sent = unit_frame(&self.responses, setup, said);
+        self.busy = asked(self.busy, sent.as_ref());
+        self.busy = take_each(
             &mut self.testers,
-            &self.responses,
+            self.busy,
+            sent.as_ref(),
             setup,
             at,
             said,
@@ -259,6 +309,10 @@ impl ExchangeLines {
         )?;
         self.stamps.take(line, clock);
         self.lines = line;
+        if self.batch.is_empty() {
+            return Ok(());
+        }
+        self.text.clear();
         write_batch(
             setup,
             &self.stamps,

@@ -4,6 +4,7 @@
 mod ending;
 mod exchange_lines;
 mod laws;
+mod range;
 mod run_end;
 mod sink;
 mod stamps;

@@ -13,11 +13,12 @@ impl Sink for ExchangeLines {
     ghost use Rattle.diag_bus.specs.ResponseIds.{AreResponsesOf};
     ghost use Rattle.diag_compare.specs.Compare.{compared};
     ghost use Rattle.diag_compare.specs.Expects.{expects};
+    ghost use Rattle.diag_comparing.specs.Idle.{AreIdleOutside};
     ghost use Rattle.diag_comparing.specs.Keeping.{HasTaken};
     ghost use Rattle.diag_comparing.specs.Ticks.{ticks_taken};
 
     ghost is_for = { λ own setup. (length own.testers.items ≡ length setup.testers)
-        × AreResponsesOf setup own.responses };
+        × AreResponsesOf setup own.responses × AreIdleOutside own.busy own.testers.items };
 
     ghost took = { HasTaken };
 

@@ -49,8 +49,8 @@ impl Entered {
             ≡ entered_of ecu.now who request.now (option_copied reply.entry)) }
     {
         let source = source_of(alloc, ecu.template_for(who, request.message.bytes()))?;
-        let bytes = Message::of(alloc, request.message.bytes())?;
-        let reply = copy_of(alloc, reply)?;
+        let bytes = request.message.try_copy()?;
+        let reply = copy_of(reply)?;
         Ok(Entered {
             functional: request.functional,
             bytes,
@@ -102,11 +102,11 @@ fn source_of(alloc: Global, items: Option<&[TemplateItem]>) -> Result<Source, Al
 }
 
 #[inline(always)]
-fn copy_of(alloc: Global, message: Option<&Message>) -> Result<Option<Message>, AllocError>
+fn copy_of(message: Option<&Message>) -> Result<Option<Message>, AllocError>
     ensures { IfOk result (λ copy. copy ≡ option_copied message.entry) }
 {
     match message {
-        Some(message) => Ok(Some(Message::of(alloc, message.bytes())?)),
+        Some(message) => Ok(Some(message.try_copy()?)),
         None => Ok(None),
     }
 }

@@ -1,10 +1,11 @@
 -- A line to a tester: its parts one behind the other.
-use Rattle.std.proofs.Common.{◌≡◌, ℕ, ◌+◌, Bool, true, false, zero, suc, Option, None, List, [], ◌∷◌, ◌++◌, length, map, take, drop, refl, ap, ap₂, subst, sym, ◌∙◌, append_assoc, arith}
-use Rattle.std.proofs.lemmas.List.{append-nil, length-append, map-append, reverse-append}
+use Rattle.std.proofs.Common.{◌≡◌, ℕ, ◌+◌, ◌-◌, Some, Vec, Global, vec_len, Bool, true, false, zero, suc, Option, None, List, [], ◌∷◌, ◌++◌, length, map, take, drop, refl, ap, ap₂, subst, sym, ◌∙◌, append_assoc, arith}
+use Rattle.std.proofs.lemmas.Bool.Decides.{nat_tests}
+use Rattle.std.proofs.lemmas.List.{append-nil, length-append, map-append, nil_from_length, reverse-append}
 use Rattle.std.proofs.lemmas.List.Elements.{filter-append}
 use Rattle.std.proofs.lemmas.List.Folds.{list_any-append}
 use Rattle.std.specs.List.{filter}
-use Rattle.std.specs.Prelude.{◌||◌, reverse}
+use Rattle.std.specs.Prelude.{◌==◌, ◌||◌, reverse, slice_get}
 use Rattle.diag_can.specs.Log.{waited}
 use Rattle.diag_can.specs.declared.frame.Event.{Event}
 use Rattle.diag_setup.specs.declared.raw.RawSetup.{RawSetup}
@@ -24,6 +25,14 @@ use Rattle.diag_judge.specs.Judging.{AreCounts, HearsLine, HearsRequests, Judges
 use Rattle.diag_judge.specs.declared.tester.Counts.{Counts}
 use Rattle.diag_judge.specs.declared.tester.Tester.{Tester}
 use Rattle.diag_judge.specs.declared.tester.Judged.{Judged}
+
+pub none_over : {empty : Bool} (over : Vec Over Global) → empty ≡ (vec_len over == 0) → empty ≡ true → over.items ≡ []
+none_over over is tested = nil_from_length over.items (grind (arith, nat_tests))
+
+-- what stands last
+pub last_at : {X : Type 0} (less : List X) (one : X) → slice_get (less ++ one ∷ []) (length less) ≡ Some one
+last_at [] one = refl
+last_at (x ∷ less) one = last_at less one
 
 -- over these, and those behind them
 pub handed_on : (hs xs ys : List Happening) (out out' out'' : List Over) → out' ≡ out ++ over_after hs xs → out'' ≡ out' ++ over_after (hs ++ xs) ys

@@ -1,6 +1,6 @@
 //! A tester of a recording.
 
-ghost use Rattle.std.specs.Prelude.{◌≡◌, ◌+◌, true, None, [], ◌∷◌, ◌++◌, List, map, option_copied, OnOk, IfOk};
+ghost use Rattle.std.specs.Prelude.{◌≡◌, ◌≤◌, ◌+◌, true, None, [], ◌∷◌, ◌++◌, List, length, map, option_copied, OnOk, IfOk};
 ghost use Rattle.diag_exchange.specs.Agreeing.{agrees};
 ghost use Rattle.diag_exchange.specs.declared.happening.Over.{Over as AnOver};
 ghost use Rattle.diag_judge.specs.Judging.{AreCounts, EndsCounted, EndsJudged, HearsLine, HearsRequests, Judges, JudgesLine, judged_for};
@@ -71,6 +71,17 @@ fn hear_requests(
     Ok(())
 }
 
+/// Lets all go that is in a list, where something is.
+#[inline(always)]
+fn empty(over: &mut Vec<Over>)
+    ensures { over.new.items ≡ [] }
+{
+    if over.is_empty() {
+        return;
+    }
+    over.clear();
+}
+
 /// The number behind this one.
 fn next(number: u64) -> Result<u64, AllocError>
     ensures { IfOk result (λ next. next ≡ number + 1) }
@@ -137,7 +148,7 @@ impl Tester {
 
     /// Whether time alone changes nothing: no request was entered, and no message is coming in.
     #[inline(always)]
-    fn is_idle(&self) -> bool
+    pub fn is_idle(&self) -> bool
         ensures entered { result ≡ true → self.now.entered.items ≡ [] }
         ensures coming { result ≡ true → self.now.listener.exchanges.coming ≡ None }
     {
@@ -184,7 +195,7 @@ impl Tester {
         ensures link_setup { self.new.listener.setup ≡ self.old.listener.setup }
         ensures counts { self.new.counts ≡ self.old.counts }
     {
-        self.over.clear();
+        empty(&mut self.over);
         self.listener.wait(at, span, &mut self.over)?;
         hear_requests(
             &mut self.listener,
@@ -249,16 +260,28 @@ impl Counts {
         judged.reserve(over.len())?;
         over.reverse();
         for _turn in 0..over.len() {
-            let one = over.take_last();
-            let agrees = one.agrees(alloc)?;
-            self.note(&one, agrees)?;
+            let agrees = self.judge_last(alloc, over.as_slice())?;
             judged.push_reserved(Judged {
                 who,
-                over: one,
+                over: over.take_last(),
                 agrees,
             });
         }
         Ok(())
+    }
+
+    /// Counts the last of some exchanges, and says whether it agrees.
+    fn judge_last(&mut self, alloc: Global, over: &[Over]) -> Result<bool, AllocError>
+        requires { 1 ≤ length over.now }
+        ensures agrees { IfOk result (λ same. (less : List AnOver) (one : AnOver) → over.now ≡ less ++ one ∷ []
+            → same ≡ agrees one) }
+        ensures counts { OnOk result ((less : List AnOver) (one : AnOver) → over.now ≡ less ++ one ∷ []
+            → (before : List AnOver) → AreCounts self.old before → AreCounts self.new (before ++ one ∷ [])) }
+    {
+        let one = &over[over.len() - 1];
+        let same = one.agrees(alloc)?;
+        self.note(one, same)?;
+        Ok(same)
     }
 
     /// Counts an exchange that is over.

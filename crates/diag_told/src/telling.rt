@@ -304,7 +304,8 @@ fn add_three(text: &mut Vec<u8>, number: u64)
     add_bytes(text, &decimal_pair(number % 100));
 }
 
-/// Adds a number, where there is room.
+/// Adds a number, where there is room. (Inlined, since most are of one digit.)
+#[inline(always)]
 #[tactic(auto, using(crate::proofs::Marked::decimal_digit))]
 fn add_number(text: &mut Vec<u8>, number: u64)
     requires { vec_len text.old + 20 ≤ vec_capacity text.old }

@@ -7,6 +7,7 @@ use Rattle.diag_expect.specs.declared.entered.Entered.{Entered}
 use Rattle.diag_judge.specs.declared.tester.Tester.{Tester}
 use Rattle.diag_comparing.specs.Keeping.{IsTester}
 use Rattle.diag_comparing.proofs.Entering.{none_entered, one_entered, own_tester}
+use Rattle.diag_comparing.proofs.Idle.{idle_wider}
 use Rattle.diag_comparing.proofs.exchange_lines.ExchangeLines.enter.Goals as goal
 
 pub returns-then-index-len-clause-taken : goal.returns-then-index-len-clause-taken
@@ -40,3 +41,8 @@ returns-clause-taken c =
       many = length-set testers i new ∙ taken.many;
       each = one_entered setup lines K who request reply testers i new is taken.each new_is;
     }) c.enter.ensures.entered
+
+pub returns-clause-idle : goal.returns-clause-idle
+returns-clause-idle c = λ idle.
+    idle_wider c.args.self.now.busy c.with-self.result c.args.self.now.testers.items c.index-index.result c.enter.new.self
+    c.with-self.ensures.wider c.with-self.ensures.has idle

@@ -33,3 +33,8 @@ returns-clause-taken c = record {
   many = omega (arith, c.loop-index.invariant.many, c.loop-index-test.false, c.loop-index.auto.index-end, c.testers-index-end.ensures.same);
   each = c.loop-index.invariant.each;
 }
+
+pub returns-clause-idle : goal.returns-clause-idle
+returns-clause-idle c = λ i own at outside.
+    let is = c.loop-index.invariant.each i own at in
+    (is.entered, is.judges.listens.stands.is_coming)

@@ -28,6 +28,7 @@ returns-clause-stays c = (
   λ setup kept. (
     c.take_end.ensures.many ∙ kept.0,
     subst (λ (ids : ResponseIds). AreResponsesOf setup ids) (sym c.take_end.ensures.responses) kept.1,
+    c.take_end.ensures.idle,
   ),
   c.take_end.ensures.differences,
 )

@@ -13,6 +13,7 @@ returns-clause-stays c = (
   λ setup kept. (
     c.enter.ensures.many ∙ kept.0,
     subst (λ (ids : ResponseIds). AreResponsesOf setup ids) (sym c.enter.ensures.responses) kept.1,
+    c.enter.ensures.idle kept.2,
   ),
   c.enter.ensures.differences,
 )

@@ -22,24 +22,25 @@ loop-turn-preserved c =
     let inv = c.loop-turn.invariant in
     let old = c.args.over.now.items in
     let n = c.loop-turn._turn in
-    let one = c.take_last-one.result in
+    let one = c.take_last.result in
     let past = take n old in
     let tell = judged_for c.args.who in
     let before = c.args.judged.now.items in
-    let next = next_of n old c.loop-turn.over.items c.take_last-one.new.self.items one inv.left c.take_last-one.ensures.items in
+    let next = next_of n old c.loop-turn.over.items c.take_last.new.self.items one inv.left c.take_last.ensures.items in
     let count : suc n ≡ n + 1 = omega arith in
+    let last = c.as_slice.ensures.value ∙ c.take_last.ensures.items in
     let more : past ++ one ∷ [] ≡ take (n + 1) old = sym next.1 ∙ ap (λ k. take k old) count in
     let is : (before ++ map tell past) ++ tell one ∷ [] ≡ before ++ map tell (past ++ one ∷ []) =
     append_assoc before (map tell past) (tell one ∷ []) ∙ ap (λ w. before ++ w) (sym (map-append tell past (one ∷ []))) in record {
       left = next.0 ∙ ap (λ k. drop k old) count;
-      many = omega (arith, inv.many, c.take_last-one.ensures.len);
-      room = omega (arith, inv.room, c.take_last-one.ensures.len, c.push_reserved.ensures.len, c.push_reserved.ensures.capacity);
+      many = omega (arith, inv.many, c.take_last.ensures.len);
+      room = omega (arith, inv.room, c.take_last.ensures.len, c.push_reserved.ensures.len, c.push_reserved.ensures.capacity);
       judged = c.push_reserved.ensures.items ∙ (ap₂
-          (λ (ts : List Judged) (b : Bool). ts ++ record { who = c.args.who; over = one; agrees = b } ∷ []) inv.judged c.in_ok-agrees.ensures ∙ is)
+          (λ (ts : List Judged) (b : Bool). ts ++ record { who = c.args.who; over = one; agrees = b } ∷ []) inv.judged (c.in_ok-agrees.ensures.agrees c.take_last.new.self.items one last) ∙ is)
           ∙ ap (λ (os : List Over). before ++ map tell os) more;
       counts = λ others h. subst
-          (λ (w : List Over). AreCounts c.note.new.self w) (append_assoc others past (one ∷ []) ∙ ap (λ (os : List Over). others ++ os) more)
-          (c.in_ok-note.ensures (others ++ past) (inv.counts others h));
+          (λ (w : List Over). AreCounts c.judge_last.new.self w) (append_assoc others past (one ∷ []) ∙ ap (λ (os : List Over). others ++ os) more)
+          (c.in_ok-agrees.ensures.counts c.take_last.new.self.items one last (others ++ past) (inv.counts others h));
     }
 
 pub returns-clause-judged : goal.returns-clause-judged

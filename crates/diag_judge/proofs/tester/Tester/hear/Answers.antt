@@ -16,7 +16,7 @@ returns-in-Some-clause-heard c =
     let later = c.hear_requests.new.over.items in
     let is : option_copied c.args.frame ≡ Some c.in-Some.frame.now = ap option_copied c.in-Some.is in
     let time = subst
-    (λ (os : List Over). Hears own c.wait.new.self os c.wait.new.over.items c.args.at (waited c.args.span)) c.clear.ensures.items c.in_ok-wait.ensures.heard in
+    (λ (os : List Over). Hears own c.wait.new.self os c.wait.new.over.items c.args.at (waited c.args.span)) c.empty.ensures c.in_ok-wait.ensures.heard in
     subst
     (λ (frame : Option (List ℕ)). OnOk c.take.result (HearsLine c.args.setup.now c.args.at own c.take.new.self [] c.take.new.over.items
     c.args.span entered frame))
@@ -33,7 +33,7 @@ returns-in-None-clause-heard c =
     let later = c.hear_requests.new.over.items in
     let is : option_copied c.args.frame ≡ None = ap option_copied c.in-None.is in
     let time = subst
-    (λ (os : List Over). Hears own c.wait.new.self os c.wait.new.over.items c.args.at (waited c.args.span)) c.clear.ensures.items c.in_ok-wait.ensures.heard in
+    (λ (os : List Over). Hears own c.wait.new.self os c.wait.new.over.items c.args.at (waited c.args.span)) c.empty.ensures c.in_ok-wait.ensures.heard in
     subst
     (λ (frame : Option (List ℕ)). HearsLine c.args.setup.now c.args.at own asked [] later c.args.span entered frame)
     (sym is)

@@ -1,16 +1,11 @@
-use Rattle.std.proofs.Common.{◌≡◌, ◌++◌, List, [], Bool, true, Vec, Global, vec_len, map, append-nil, ap, subst, sym, refl, ◌∙◌, arith}
-use Rattle.std.proofs.lemmas.Bool.Decides.{nat_tests}
-use Rattle.std.proofs.lemmas.List.{nil_from_length}
-use Rattle.std.specs.Prelude.{◌==◌, option_copied}
+use Rattle.std.proofs.Common.{◌≡◌, ◌++◌, List, [], map, append-nil, ap, subst, sym, refl, ◌∙◌}
+use Rattle.std.specs.Prelude.{option_copied}
 use Rattle.diag_exchange.specs.declared.happening.Over.{Over}
 use Rattle.diag_listen.proofs.Hearing.{both_ok}
 use Rattle.diag_judge.specs.Judging.{AreCounts, judged_for}
 use Rattle.diag_judge.specs.declared.tester.Counts.{Counts}
-use Rattle.diag_judge.proofs.Lines.{line_judged}
+use Rattle.diag_judge.proofs.Lines.{line_judged, none_over}
 use Rattle.diag_judge.proofs.tester.Tester.take.Goals as goal
-
-none_over : {empty : Bool} (over : Vec Over Global) → empty ≡ (vec_len over == 0) → empty ≡ true → over.items ≡ []
-none_over over is tested = nil_from_length over.items (grind (arith, nat_tests))
 
 pub returns-then-is_empty-clause-judges : goal.returns-then-is_empty-clause-judges
 returns-then-is_empty-clause-judges c =
