@@ -65,9 +65,15 @@ pub record KeepsPace {B : Type 0} (story : B → List Step → Type 0) (setup : 
   pub seen : List ℕ
   pub paced : Paced setup steps told seen taken
 
--- The bench could not hear further; or it was asked 2^64 - 1 times.
+-- how often the bench was asked what comes
+abbrev pub times_asked : List Step → ℕ
+times_asked [] = 0
+times_asked (Asked until in_block heard ∷ steps) = 1 + times_asked steps
+times_asked (Told now ∷ steps) = times_asked steps
+
+-- The bench could not hear further when it was asked last; or it was asked 2^64 - 1 times.
 pub record GaveUp {B : Type 0} (story : B → List Step → Type 0) (old new : B) : Type 0 where
   pub steps : List Step
   pub did : Did story old new steps
   pub why : ((front : List Step) × (turn : Turn) × (turn.heard ≡ heard.Fault) × (steps ≡ front ++ steps_of turn))
-      ⊎ (2 ^ 64 - 1 ≤ length steps)
+      ⊎ (2 ^ 64 - 1 ≤ times_asked steps)
