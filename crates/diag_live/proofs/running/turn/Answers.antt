@@ -30,9 +30,9 @@ returns-in_ok-end-in-End-clause-ok g c =
 
 pub returns-in-Fault-clause-err : goal.returns-in-Fault-clause-err
 returns-in-Fault-clause-err g c = inr (
-  turn_unheard g.B.Bench.story c.args.bench.now c.hear-heard.new.self c.now-now.new.self c.due.result c.is_in_block.result heard.Fault c.now-now.result
-      c.in-Fault.ensures.story c.now-now.ensures.story refl _ _ _ _ (rw c.now-now.ensures.remaining c.in-Fault.ensures.hears)
-)
+    turn_unheard g.B.Bench.story c.args.bench.now c.hear-heard.new.self c.now-now.new.self c.due.result c.is_in_block.result heard.Fault c.now-now.result
+    c.in-Fault.ensures.story c.now-now.ensures.story refl _ _ _ _ (rw c.now-now.ensures.remaining c.in-Fault.ensures.hears)
+    )
 
 pub returns-in-Memory-clause-err : goal.returns-in-Memory-clause-err
 returns-in-Memory-clause-err g c = rw c.now-now.ensures.remaining
