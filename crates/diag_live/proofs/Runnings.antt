@@ -18,7 +18,7 @@ use Rattle.diag_run.specs.Wanted.{any_lines}
 use Rattle.diag_world.specs.Block.{some_in_block}
 use Rattle.diag_world.specs.Server.{quiet_of}
 use Rattle.diag_live.specs.Live.{AreGood, Taken, capture_of, record_text}
-use Rattle.diag_live.specs.Pace.{Did, GaveUp, IsAsked, KeepsPace, Paced, began, given, last_feed, taken_at, times_asked, turned}
+use Rattle.diag_live.specs.Pace.{Did, GaveUp, IsAsked, KeepsPace, Paced, began, heard_bytes, last_feed, taken_at, times_asked, turned}
 use Rattle.diag_live.specs.Story.{Asked, Step, Told, Turn, steps_of}
 use Rattle.diag_live.specs.declared.bench.Heard.{Heard as AHeard}
 use Rattle.diag_live.specs.declared.bench.Heard.TheVariants as heard
@@ -149,8 +149,18 @@ module _ {B : Type 0} (story : B → List Step → Type 0) (first was is : B) (s
   pub did_more : (more : List Step) → Did story was is more → Did story first is (so_far.steps ++ more)
   did_more more did = λ past h. subst (story is) (append_assoc past so_far.steps more) (did (past ++ so_far.steps) (so_far.did past h))
 
+  -- asked until something falls due
+  asked_here : (turn : Turn) → AsksUntilDue (Did story was is) old turn → IsAsked setup old.told so_far.stands.taken turn
+  asked_here turn asks = record {
+    bus = old.capture.bus;
+    set = so_far.set;
+    took = subst (TookLines any_lines old.capture.bus) so_far.stands.lines so_far.stands.capture.took_lines;
+    until = asks.until;
+    block = asks.block;
+  }
+
   -- and so do the ticks
-  pub paced_more : (turn : Turn) → AsksUntilDue (Did story was is) old turn → (bytes sent noted : List ℕ) → bytes ≡ given so_far.seen turn.heard
+  pub paced_more : (turn : Turn) → AsksUntilDue (Did story was is) old turn → (bytes sent noted : List ℕ) → heard_bytes turn.heard ≡ Some bytes
       → (on : ServingGoesOn old new turn.now bytes sent noted)
       → Paced setup (so_far.steps ++ steps_of turn) new.told (so_far.seen ++ bytes)
       (on.stands so_far.seen so_far.wrote so_far.recorded so_far.stands).0.taken
@@ -158,21 +168,11 @@ module _ {B : Type 0} (story : B → List Step → Type 0) (first was is : B) (s
       let s = so_far.stands in
       let seen = so_far.seen in
       let steps = so_far.steps ++ steps_of turn in
-      let told = max old.told turn.now in
-      let asked : IsAsked setup old.told s.taken turn = record {
-        bus = old.capture.bus;
-        set = so_far.set;
-        took = subst (TookLines any_lines old.capture.bus) s.lines s.capture.took_lines;
-        until = asks.until;
-        block = asks.block;
-      } in
-      let first : Paced setup steps told (seen ++ given seen turn.heard) (s.taken ++ taken_at old.told turn.now seen (given seen turn.heard)) =
-      turned so_far.paced turn asked in
-      let second : Paced setup steps told (seen ++ bytes) (s.taken ++ taken_at old.told turn.now seen bytes) =
-      subst (λ (b : List ℕ). Paced setup steps told (seen ++ b) (s.taken ++ taken_at old.told turn.now seen b)) (sym same) first in
-      let third : Paced setup steps new.told (seen ++ bytes) (s.taken ++ taken_at old.told turn.now seen bytes) =
-      subst (λ (m : ℕ). Paced setup steps m (seen ++ bytes) (s.taken ++ taken_at old.told turn.now seen bytes)) (sym on.told) second in
-      subst (λ (t : List Taken). Paced setup steps new.told (seen ++ bytes) t) (sym (on.stands seen so_far.wrote so_far.recorded s).1) third
+      let first : Paced setup steps (max old.told turn.now) (seen ++ bytes) (s.taken ++ taken_at old.told turn.now seen bytes) =
+      turned so_far.paced turn (asked_here turn asks) bytes same in
+      let second : Paced setup steps new.told (seen ++ bytes) (s.taken ++ taken_at old.told turn.now seen bytes) =
+      subst (λ (m : ℕ). Paced setup steps m (seen ++ bytes) (s.taken ++ taken_at old.told turn.now seen bytes)) (sym on.told) first in
+      subst (λ (t : List Taken). Paced setup steps new.told (seen ++ bytes) t) (sym (on.stands seen so_far.wrote so_far.recorded s).1) second
 
   abbrev pub turned_on : Turned (Did story was is) old new i' i'' o' o'' r' r'' true → SoFar (Did story first is) setup new i i'' o o'' r r''
   turned_on t =
@@ -180,7 +180,7 @@ module _ {B : Type 0} (story : B → List Step → Type 0) (first was is : B) (s
       let bytes = t.2.0 in
       let sent = t.2.2.0 in
       let noted = t.2.2.2.0 in
-      let same = t.2.2.2.2.0 so_far.seen in
+      let same = t.2.2.2.2.0 in
       let on = t.2.2.2.2.1 in
       record {
         set = on.setup ∙ so_far.set;
@@ -207,7 +207,6 @@ module _ {B : Type 0} (story : B → List Step → Type 0) (first was is : B) (s
       let feed = last_feed old.hearing.kept.items in
       let before = so_far.stands in
       let s = (on.stands so_far.seen so_far.wrote so_far.recorded before).0 in
-      let same_feed : feed ≡ given so_far.seen turn.heard = ap last_feed before.follows.kept ∙ sym (ap (given so_far.seen) t.2) in
       let kept = before.follows.kept in
       let lines : bus_lines so_far.seen ≡ ended_lines (so_far.seen ++ feed) =
       sym (end_lines so_far.seen old.hearing.kept.items kept) ∙ bus_lines-ended (so_far.seen ++ feed) (end_begun so_far.seen old.hearing.kept.items kept) in
@@ -224,11 +223,17 @@ module _ {B : Type 0} (story : B → List Step → Type 0) (first was is : B) (s
         heard = s.heard ∙ sym lines;
         good = subst (λ (u : RawSetup). AreGood (known_ids u) s.taken) same s.good;
         paced = record {
-          steps = so_far.steps ++ steps_of turn;
+          steps = so_far.steps;
+          last = turn;
           did = did_more (steps_of turn) t.1.did;
-          told = new.told;
-          seen = so_far.seen ++ feed;
-          paced = paced_more turn t.1 feed sent noted same_feed on;
+          told = old.told;
+          seen = so_far.seen;
+          before = before.taken;
+          paced = so_far.paced;
+          asked = asked_here turn t.1;
+          ended = t.2;
+          all = (on.stands so_far.seen so_far.wrote so_far.recorded before).1
+              ∙ ap (λ (k : List ℕ). before.taken ++ taken_at old.told turn.now so_far.seen (last_feed k)) before.follows.kept;
         };
         M = M;
         events = ap (unless_fault M) (ap (first_fault setup) read ∙ well);
@@ -318,7 +323,7 @@ module _ {B : Type 0} (story : B → List Step → Type 0) (b0 b1 b2 : B) (until
     asks = record { did = did_turn; until = due; block = block }
 
     module _ (new : Serving) (i i' o o' r r' : Option (List ℕ)) where
-      pub turn_goes_on : (bytes : List ℕ) → Consumes i i' bytes → ((seen : List ℕ) → bytes ≡ given seen came)
+      pub turn_goes_on : (bytes : List ℕ) → Consumes i i' bytes → heard_bytes came ≡ Some bytes
           → Sends o o' (λ sent. Sends r r' (λ noted. ServingGoesOn old new now bytes sent noted))
           → Turned (Did story b0 b2) old new i i' o o' r r' true
       turn_goes_on bytes read are d = (turn_with until in_block came now, asks, (bytes, read, (d.0, d.1, (d.2.0, d.2.1, (are, d.2.2)))))

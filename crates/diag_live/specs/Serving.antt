@@ -1,5 +1,5 @@
 -- What is kept of a live run between two calls of its bench, and how a call goes.
-use Rattle.std.specs.Prelude.{◌≡◌, ◌⊎◌, ◌<◌, ◌≤◌, ◌^◌, ℕ, ◌+◌, ◌-◌, min, max, Bool, true, false, List, [], ◌∷◌, ◌++◌, length, Option}
+use Rattle.std.specs.Prelude.{◌≡◌, ◌⊎◌, ◌<◌, ◌≤◌, ◌^◌, ℕ, ◌+◌, ◌-◌, min, max, Bool, true, false, List, [], ◌∷◌, ◌++◌, length, Option, Some}
 use Rattle.std.specs.Io.KnownBytes.{Appends, Consumes, IsAtEnd, Keeps}
 use Rattle.diag_can.specs.Bus.{begun_line, bus_lines, ended_lines}
 use Rattle.diag_setup.specs.Setup.{known_ids}
@@ -17,7 +17,7 @@ use Rattle.diag_text.specs.declared.fault.RunFault.{RunFault}
 use Rattle.diag_text.specs.declared.fault.RunFault.TheVariants.{Capture as CaptureLine, Read}
 use Rattle.diag_live.specs.Hearing.{HasHeard}
 use Rattle.diag_live.specs.Live.{AreGood, Taken, capture_of, lines_of, record_text}
-use Rattle.diag_live.specs.Pace.{Paced, given, last_feed, taken_at}
+use Rattle.diag_live.specs.Pace.{Paced, heard_bytes, last_feed, taken_at}
 use Rattle.diag_live.specs.Story.{Step, Turn, steps_of}
 use Rattle.diag_live.specs.declared.bench.Heard.TheVariants as heard
 use Rattle.diag_world.specs.Block.{some_in_block}
@@ -99,7 +99,7 @@ pub record AsksUntilDue (Does : List Step → Type 0) (old : Serving) (turn : Tu
 abbrev pub Turned : (List Step → Type 0) → Serving → Serving → (input input' out out' noted noted' : Option (List ℕ)) → Bool → Type 0
 Turned Does old new input input' out out' noted noted' true = (turn : Turn) × AsksUntilDue Does old turn × Takes input input' (λ bytes.
     Sends out out' (λ sent. Sends noted noted' (λ recorded.
-    ((seen : List ℕ) → bytes ≡ given seen turn.heard) × ServingGoesOn old new turn.now bytes sent recorded)))
+    (heard_bytes turn.heard ≡ Some bytes) × ServingGoesOn old new turn.now bytes sent recorded)))
 Turned Does old new input input' out out' noted noted' false = (turn : Turn) × AsksUntilDue Does old turn × (turn.heard ≡ heard.End)
     × Keeps input input' × IsAtEnd input' × Sends out out' (λ sent. Sends noted noted' (λ recorded.
     ServingGoesOn old new turn.now (last_feed old.hearing.kept.items) sent recorded))

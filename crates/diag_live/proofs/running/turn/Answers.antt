@@ -13,13 +13,13 @@ returns-in_ok-serve-in-Piece-clause-ok g c =
     subst (λ (b : List ℕ). ServingGoesOn c.args.serving.now c.serve.new.self c.now-now.result b d.0 d.2.0) c.as_slice.ensures.value d.2.2 in
     turn_goes_on g.B.Bench.story c.args.bench.now c.hear-heard.new.self c.now-now.new.self c.due.result c.is_in_block.result (heard.Piece c.in-Piece.piece) c.now-now.result
     c.in-Piece.ensures.story c.now-now.ensures.story c.args.serving.now c.due.ensures c.is_in_block.ensures c.serve.new.self _ _ _ _ _ _ c.in-Piece.piece.items
-    (rw c.now-now.ensures.remaining c.in-Piece.ensures.hears) (λ seen. refl) (d.0, d.1, (d.2.0, d.2.1, on))
+    (rw c.now-now.ensures.remaining c.in-Piece.ensures.hears) refl (d.0, d.1, (d.2.0, d.2.1, on))
 
 pub returns-in_ok-serve-in-Silence-clause-ok : goal.returns-in_ok-serve-in-Silence-clause-ok
 returns-in_ok-serve-in-Silence-clause-ok g c =
     turn_goes_on g.B.Bench.story c.args.bench.now c.hear-heard.new.self c.now-now.new.self c.due.result c.is_in_block.result heard.Silence c.now-now.result
     c.in-Silence.ensures.story c.now-now.ensures.story c.args.serving.now c.due.ensures c.is_in_block.ensures c.serve-in-Silence.new.self _ _ _ _ _ _ []
-    (rw c.now-now.ensures.remaining (Consumes-kept _ _ _ [] (Consumes-nil _) c.in-Silence.ensures.hears)) (λ seen. refl) c.in_ok-serve-in-Silence.ensures.ok
+    (rw c.now-now.ensures.remaining (Consumes-kept _ _ _ [] (Consumes-nil _) c.in-Silence.ensures.hears)) refl c.in_ok-serve-in-Silence.ensures.ok
 
 pub returns-in_ok-end-in-End-clause-ok : goal.returns-in_ok-end-in-End-clause-ok
 returns-in_ok-end-in-End-clause-ok g c =
